@@ -1,0 +1,3 @@
+pub mod SameValues
+pub mod TableLaws
+pub mod SourceLaws

@@ -1,0 +1,79 @@
+-- The sources of a signal or port, and the value that they give it.
+use Rattle.std.specs.Prelude.{ℕ, ◌+◌, ◌≤◌, ⊤, List, [], ◌∷◌, ◌++◌}
+use Rattle.sim_logic.specs.declared.logic.Logic.{Logic}
+use Rattle.sim_logic.specs.Resolution.{resolved}
+
+-- the type of a signal or port: std_logic is resolved, std_ulogic is not
+pub data SignalType : Type 0 where
+  Std_logic : SignalType
+  Std_ulogic : SignalType
+
+-- A name (a signal or a port), with its type, its default and its sources in order: drivers, by their numbers, and
+-- ports that are associated with it (IEEE 1076, 6.4.2.3).
+mutual
+  pub data SourceTree : Type 0 where
+    Name : SignalType → Logic → Sources → SourceTree
+
+  pub data Sources : Type 0 where
+    No_more : Sources
+    Driver : ℕ → Sources → Sources
+    Port : SourceTree → Sources → Sources
+
+-- how many sources a name has
+abbrev pub count_of : Sources → ℕ
+count_of No_more = 0
+count_of (Driver number more) = count_of more + 1
+count_of (Port tree more) = count_of more + 1
+
+-- a name of this type may have so many sources
+abbrev pub AllowsSources : SignalType → ℕ → Type 0
+AllowsSources Std_logic count = ⊤
+AllowsSources Std_ulogic count = count ≤ 1
+
+-- each name of type std_ulogic has one source at most, since nothing resolves it (IEEE 1076, 6.4.2.3)
+abbrev mutual
+  pub IsResolvable : SourceTree → Type 0
+  IsResolvable (Name type default sources) = AllowsSources type (count_of sources) × AreResolvable sources
+
+  pub AreResolvable : Sources → Type 0
+  AreResolvable No_more = ⊤
+  AreResolvable (Driver number more) = AreResolvable more
+  AreResolvable (Port tree more) = IsResolvable tree × AreResolvable more
+
+-- the value of a name from the values of its sources (IEEE 1076, 14.7.3.2)
+abbrev pub driving_value : SignalType → Logic → List Logic → Logic
+driving_value type default [] = default
+driving_value Std_logic default (value ∷ values) = resolved (value ∷ values)
+driving_value Std_ulogic default (value ∷ values) = value
+
+-- the value of a name, each associated port by its own, where each driver has the value that `driving` gives
+abbrev mutual
+  pub nested : (ℕ → Logic) → SourceTree → Logic
+  nested driving (Name type default sources) = driving_value type default (values_of driving sources)
+
+  pub values_of : (ℕ → Logic) → Sources → List Logic
+  values_of driving No_more = []
+  values_of driving (Driver number more) = driving number ∷ values_of driving more
+  values_of driving (Port tree more) = nested driving tree ∷ values_of driving more
+
+-- a leaf of a source tree: a driver, or the default of a name that has no source
+pub data Leaf : Type 0 where
+  Driven : ℕ → Leaf
+  Constant : Logic → Leaf
+
+-- the leaves of a source tree from left to right
+abbrev mutual
+  pub leaves : SourceTree → List Leaf
+  leaves (Name type default No_more) = Constant default ∷ []
+  leaves (Name type default (Driver number more)) = Driven number ∷ leaves_of more
+  leaves (Name type default (Port tree more)) = leaves tree ++ leaves_of more
+
+  pub leaves_of : Sources → List Leaf
+  leaves_of No_more = []
+  leaves_of (Driver number more) = Driven number ∷ leaves_of more
+  leaves_of (Port tree more) = leaves tree ++ leaves_of more
+
+-- the value of a leaf
+abbrev pub leaf_value : (ℕ → Logic) → Leaf → Logic
+leaf_value driving (Driven number) = driving number
+leaf_value driving (Constant value) = value

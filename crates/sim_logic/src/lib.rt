@@ -1,0 +1,14 @@
+//! The values of std_logic_1164, and times in femtoseconds.
+#![tactic(auto)]
+
+pub mod laws;
+mod logic;
+mod operators;
+mod resolution;
+#[cfg(test)]
+mod tests;
+mod time;
+
+pub use logic::Logic;
+pub use resolution::resolve;
+pub use time::{LATEST, Time, Unit};

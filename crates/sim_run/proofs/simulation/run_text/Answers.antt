@@ -1,0 +1,5 @@
+use Rattle.sim_run.proofs.Simulations.{text_run}
+use Rattle.sim_run.proofs.simulation.run_text.Goals as goal
+
+pub returns : goal.returns
+returns c = text_run c.args.source.now c.args.options.now c.in_ok-design.design c.run_design.result (rw c.as_str.ensures.value at c.in_ok-design.ensures) c.run_design.ensures

@@ -1,0 +1,11 @@
+pub mod Cycle
+pub mod Form
+pub mod History
+pub mod Listing
+pub mod Options
+pub mod Outcome
+pub mod Reading
+pub mod Run
+pub mod Session
+pub mod Simulation
+pub mod Writing

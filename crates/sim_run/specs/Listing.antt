@@ -1,0 +1,27 @@
+-- The listing of a run.
+use Rattle.std.specs.Prelude.{ℕ, ◌-◌, List, [], ◌∷◌, ◌++◌, length, decimal, codes, slice_index_or, flat_map}
+use Rattle.sim_logic.specs.declared.logic.Logic.{Logic}
+use Rattle.sim_logic.specs.Logic.{byte_of}
+use Rattle.sim_run.specs.declared.record.Record.{Record}
+use Rattle.sim_run.specs.History.{event_count}
+
+-- some pieces of text, one after another
+abbrev pub joined : List (List ℕ) → List ℕ
+joined pieces = flat_map (λ (piece : List ℕ). piece) pieces
+
+-- TIME DELTA NAME VALUE
+abbrev pub line_of : List ℕ → List ℕ → List (List ℕ) → ℕ × Logic → List ℕ
+line_of time delta names change =
+    joined (time ∷ codes " " ∷ delta ∷ codes " " ∷ slice_index_or names change.0 [] ∷ codes " " ∷ (byte_of change.1 ∷ []) ∷ codes "\n" ∷ [])
+
+-- a line for each change of a cycle
+abbrev pub lines_of : List (List ℕ) → Record → List ℕ
+lines_of names r = flat_map (line_of (decimal r.time) (decimal r.delta) names) r.changes
+
+-- done CYCLES EVENTS
+abbrev pub last_line : List Record → List ℕ
+last_line records = joined (codes "done " ∷ decimal (length records - 1) ∷ codes " " ∷ decimal (event_count records) ∷ codes "\n" ∷ [])
+
+-- the lines of the initialization and of each cycle, and last how many cycles and events there were
+abbrev pub listing : List (List ℕ) → List Record → List ℕ
+listing names records = flat_map (lines_of names) records ++ last_line records

@@ -1,0 +1,40 @@
+-- A whole run of a design of the form that is run today.
+use Rattle.std.specs.Prelude.{◌≡◌, ℕ, ◌<◌, ◌≤◌, List, Option}
+use Rattle.sim_run.specs.declared.form.Source.{Source}
+use Rattle.sim_run.specs.declared.cycle.State.{State}
+use Rattle.sim_run.specs.declared.record.Record.{Record}
+use Rattle.sim_run.specs.declared.error.RunError.{RunError}
+use Rattle.sim_run.specs.declared.error.RunError.TheVariants as refusal
+use Rattle.sim_run.specs.declared.form.FormError.{FormError}
+use Rattle.sim_run.specs.declared.form.FormError.TheVariants as unread
+use Rattle.sim_run.specs.Cycle.{state_after, records_after, next_of, next_after, names_of, records_of}
+use Rattle.sim_run.specs.History.{History, event_count}
+use Rattle.sim_run.specs.Outcome.{IsOver, FinishedAfter, LimitReached, HasOutcome}
+
+-- the run of the design finished with this history
+pub record Finishes (found : Option Source) (stop limit : ℕ) (history : History) : Type 0 where
+  pub cycles : ℕ
+  pub outcome : HasOutcome (next_after found) stop limit (FinishedAfter cycles)
+  pub names : history.names ≡ names_of found
+  pub records : history.records ≡ records_of found cycles
+
+-- the refusal of a text that has no design
+abbrev pub refusal_of : FormError → RunError
+refusal_of unread.NotYet = refusal.NotYet
+refusal_of unread.Memory = refusal.Memory
+
+-- why the run of the design has no history
+abbrev pub IsRefused : Option Source → ℕ → ℕ → RunError → Type 0
+IsRefused found stop limit (refusal.CycleLimit l) = (l ≡ limit) × HasOutcome (next_after found) stop limit LimitReached
+IsRefused found stop limit refusal.NotYet = Unit {0}
+IsRefused found stop limit refusal.Memory = Unit {0}
+IsRefused found stop limit _ = ⊥
+
+-- so many cycles were carried out, and the run was not over before
+pub record IsCarried (source : Source) (stop n : ℕ) (state : State) (records : List Record) (events : ℕ) : Type 0 where
+  pub state_is : state ≡ state_after source n
+  pub records_are : records ≡ records_after source n
+  pub events_are : events ≡ event_count records
+  pub few : events ≤ n
+  pub early : state.delta ≤ n
+  pub not_over : (m : ℕ) → m < n → IsOver (next_of (state_after source m).drivers) stop → ⊥

@@ -1,0 +1,49 @@
+-- What the program promises of its words, its input and its output.
+use Rattle.std.specs.Prelude.{◌≡◌, ◌≢◌, ℕ, List, [], ◌∷◌, codes, length, Option, Some, None, ◌⊎◌}
+use Rattle.std.specs.String.{string_bytes}
+use Rattle.std.specs.Io.KnownBytes.{Keeps, Consumes, IsAtEnd}
+use Rattle.sim_run.specs.declared.error.RunError.TheVariants as refusal
+use Rattle.sim_run.specs.declared.options.Options.{Options}
+use Rattle.sim_run.specs.declared.program.Failure.{Failure}
+use Rattle.sim_run.specs.declared.program.Failure.TheVariants as failure
+use Rattle.sim_run.specs.Simulation.{Lists}
+
+-- The words ask for a run with these options: `--top NAME`, and no more.
+pub record AreRequest (words : List (List ℕ)) (options : Options) : Type 0 where
+  pub words_are : words ≡ codes "--top" ∷ string_bytes options.top ∷ []
+  pub stop : options.stop ≡ 4611686018427387903
+  pub limit : options.limit ≡ 10000
+  pub workers : options.workers ≡ 1
+
+-- the bytes that a reader had were these, if they are known
+abbrev pub IsWhole : Option (List ℕ) → List ℕ → Type 0
+IsWhole None text = Unit {0}
+IsWhole (Some bytes) text = bytes ≡ text
+
+-- What was read, up to one byte more than a text may have.
+pub record ReadsSource (old new : Option (List ℕ)) (text : List ℕ) : Type 0 where
+  pub consumed : Consumes old new text
+  pub enough : (length text ≡ 1048577) ⊎ IsAtEnd new
+
+-- The listing of the text that the reader had was written, for the top that the words name.
+pub record Succeeds (words : List (List ℕ)) (unread old new : Option (List ℕ)) : Type 0 where
+  pub options : Options
+  pub request : AreRequest words options
+  pub text : List ℕ
+  pub whole : IsWhole unread text
+  pub lists : Lists text options old new
+
+-- Where no write failed nothing was written.
+abbrev pub IsQuiet : Failure → Option (List ℕ) → Option (List ℕ) → Type 0
+IsQuiet f old new = f ≢ failure.Run refusal.Write → Keeps old new
+
+-- the status of the program (0 is success)
+abbrev pub status_of : Failure → ℕ
+status_of failure.Words = 2
+status_of failure.Read = 4
+status_of failure.Memory = 4
+status_of (failure.Run refusal.Options) = 2
+status_of (failure.Run refusal.NotYet) = 1
+status_of (failure.Run (refusal.CycleLimit limit)) = 3
+status_of (failure.Run refusal.Write) = 4
+status_of (failure.Run refusal.Memory) = 4

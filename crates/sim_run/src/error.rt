@@ -1,0 +1,56 @@
+//! Why a run has no listing.
+
+ghost use Rattle.std.specs.Prelude.{◌≡◌};
+ghost use Rattle.sim_run.specs.declared.error.RunError.TheVariants as refusal;
+ghost use Rattle.sim_run.specs.Run.{refusal_of};
+
+use crate::form::FormError;
+use std::alloc::{AllocError, AllocFailed};
+use thiserror::Error;
+
+/// A refusal of `simulate`. Its text is that of the program's line on standard error.
+#[derive(Clone, Copy, Debug, PartialEq, Eq, Error)]
+pub enum RunError {
+    /// The stop time, the cycle limit or the number of workers is out of its range.
+    #[error("Options")]
+    Options,
+    /// The text is not of the form that is run today.
+    #[error("NotYet")]
+    NotYet,
+    /// The run needs more cycles than the limit.
+    #[error("CycleLimit {limit}")]
+    CycleLimit { limit: u32 },
+    /// A write failed, or took nothing.
+    #[error("Write")]
+    Write,
+    /// No memory.
+    #[error("Memory")]
+    Memory,
+}
+
+impl From<AllocError> for RunError {
+    ghost from_gives = { λ _ e. e ≡ refusal.Memory };
+
+    fn from(_e: AllocError) -> RunError {
+        RunError::Memory
+    }
+}
+
+impl<T: Drop> From<AllocFailed<T>> for RunError {
+    ghost from_gives = { λ _ e. e ≡ refusal.Memory };
+
+    fn from(_e: AllocFailed<T>) -> RunError {
+        RunError::Memory
+    }
+}
+
+impl From<FormError> for RunError {
+    ghost from_gives = { λ f e. e ≡ refusal_of f };
+
+    fn from(e: FormError) -> RunError {
+        match e {
+            FormError::NotYet => RunError::NotYet,
+            FormError::Memory => RunError::Memory,
+        }
+    }
+}

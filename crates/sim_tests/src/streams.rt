@@ -1,0 +1,63 @@
+//! Readers and writers in memory that give and take little at a time, or fail.
+
+use std::io;
+use std::io::{ErrorKind, Read, Write};
+
+/// A writer that takes at most so many bytes a call, and fails once it has taken so many in all.
+#[derive(Drop)]
+pub struct Failing {
+    pub taken: Vec<u8>,
+    pub a_call: usize,
+    pub in_all: usize,
+}
+
+impl Write for Failing {
+    fn write(&mut self, buf: &[u8]) -> io::Result<usize> {
+        let room = self.in_all.saturating_sub(self.taken.len());
+        if room == 0 && !buf.is_empty() {
+            return Err(io::Error::from(ErrorKind::Other));
+        }
+        let count = buf.len().min(room).min(self.a_call);
+        self.taken.extend_from_slice(&buf[..count])?;
+        Ok(count)
+    }
+
+    fn flush(&mut self) -> io::Result<()> {
+        Ok(())
+    }
+}
+
+/// A reader that gives one byte a call, and fails behind the last, if it is to.
+#[derive(Drop)]
+pub struct Dripping<'a> {
+    pub rest: &'a [u8],
+    pub fails: bool,
+}
+
+impl Read for Dripping<'_> {
+    fn read(&mut self, buf: &mut [u8]) -> io::Result<usize> {
+        match self.rest.split_first() {
+            Some((first, rest)) if !buf.is_empty() => {
+                buf[0] = *first;
+                self.rest = rest;
+                Ok(1)
+            }
+            None if self.fails => Err(io::Error::from(ErrorKind::Other)),
+            _ => Ok(0),
+        }
+    }
+}
+
+/// A reader that gives blanks without an end.
+#[derive(Drop)]
+pub struct Endless;
+
+impl Read for Endless {
+    fn read(&mut self, buf: &mut [u8]) -> io::Result<usize> {
+        let count = buf.len();
+        for byte in buf.iter_mut() {
+            *byte = b' ';
+        }
+        Ok(count)
+    }
+}

@@ -1,0 +1,3 @@
+pub mod Pieces
+pub mod Cutting
+pub mod Scan

@@ -1,0 +1,16 @@
+//! The tokens of a text.
+#![tactic(auto)]
+
+mod class;
+mod error;
+mod kind;
+pub mod laws;
+mod lexer;
+mod scan;
+mod token;
+mod words;
+
+pub use error::TextError;
+pub use kind::Kind;
+pub use lexer::{MAX_BYTES, tokens};
+pub use token::Token;
