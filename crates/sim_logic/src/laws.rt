@@ -8,7 +8,8 @@ ghost use Rattle.sim_logic.specs.Tables.{resolution_table};
 
 /// Values may be resolved in any grouping.
 pub fn resolution_is_associative()
-    ensures { (a : logic.Logic) (b : logic.Logic) (c : logic.Logic) → resolution_table (resolution_table a b) c ≡ resolution_table a (resolution_table b c) }
+    ensures { (a : logic.Logic) (b : logic.Logic) (c : logic.Logic)
+        → resolution_table (resolution_table a b) c ≡ resolution_table a (resolution_table b c) }
 {}
 
 /// Values may be resolved in any order.
@@ -16,8 +17,9 @@ pub fn resolution_is_commutative()
     ensures { (a : logic.Logic) (b : logic.Logic) → resolution_table a b ≡ resolution_table b a }
 {}
 
-/// The leaves of a resolvable source tree, resolved as one flat list, have the value that resolution
-/// name by name, from the ports inward, gives the tree.
+/// The leaves of a source tree, resolved as one flat list, have the value that the tree has where
+/// each port is resolved by itself.
 pub fn leaves_resolve_as_the_nested_names()
-    ensures { (driving : ℕ → logic.Logic) (tree : SourceTree) → IsResolvable tree → resolved (map (leaf_value driving) (leaves tree)) ≡ nested driving tree }
+    ensures { (driving : ℕ → logic.Logic) (tree : SourceTree) → IsResolvable tree
+        → resolved (map (leaf_value driving) (leaves tree)) ≡ nested driving tree }
 {}

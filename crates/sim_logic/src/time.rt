@@ -62,7 +62,7 @@ impl Model for Time {
 impl Time {
     /// So many of a unit; `None` where that is later than `LATEST`.
     pub fn of(count: u64, unit: Unit) -> Option<Time>
-        ensures { SomeIff result (count * femtoseconds_in unit ≤ LATEST) (count * femtoseconds_in unit) }
+        ensures { let fs = count * femtoseconds_in unit in SomeIff result (fs ≤ LATEST) fs }
     {
         let fs = count.checked_mul(unit.femtoseconds())?;
         if fs > LATEST {

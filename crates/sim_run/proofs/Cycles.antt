@@ -6,16 +6,16 @@ use Rattle.std.proofs.Math.Decide.{dec_lt}
 use Rattle.std.specs.List.{All}
 use Rattle.sim_logic.specs.declared.logic.Logic.{Logic}
 use Rattle.sim_logic.specs.Resolution.{resolved}
-use Rattle.sim_run.specs.declared.cycle.Driver.{Driver}
-use Rattle.sim_run.specs.declared.cycle.State.{State}
+use Rattle.sim_wave.specs.Driver.{Waveform}
+use Rattle.sim_run.specs.State.{State}
 use Rattle.sim_run.specs.declared.form.Source.{Source}
 use Rattle.sim_run.specs.declared.record.Record.{Record}
-use Rattle.sim_run.specs.Cycle.{net_value, started, updated, next_of, changes_of, record_of, first_record, state_after, records_after, carried_on}
+use Rattle.sim_run.specs.Cycle.{net_value, started, updated, next_time, changes_of, record_of, first_record, state_after, records_after, carried_on}
 use Rattle.sim_run.specs.History.{History, IsNamed, IsHistory, event_count}
 use Rattle.sim_run.specs.Outcome.{IsOver}
 use Rattle.sim_run.specs.Run.{IsCarried, Finishes}
 
-pub net_value_some : (initial : Logic) (ds : List Driver) (vs : List Logic) → (ds ≡ [] → ⊥) → vs ≡ map (λ d. d.value) ds → resolved vs ≡ net_value initial ds
+pub net_value_some : (initial : Logic) (ds : List Waveform) (vs : List Logic) → (ds ≡ [] → ⊥) → vs ≡ map (λ d. d.value) ds → resolved vs ≡ net_value initial ds
 net_value_some initial [] vs h e = absurd (h refl)
 net_value_some initial (d ∷ ds) vs h e = ap resolved e
 
@@ -77,17 +77,17 @@ is_last P n m lt here below = elim (dec_lt m n) [
   | no h ↦ subst P (let e : n ≡ m = omega arith in e) here
 ]
 
-module _ (s : Source) (stop n : ℕ) (st : State) (rs : List Record) (events time : ℕ) (carried : IsCarried s stop n st rs events) (next : next_of st.drivers ≡ Some time) (within : time ≤ stop) where
+module _ (s : Source) (stop n : ℕ) (st : State) (rs : List Record) (events time : ℕ) (carried : IsCarried s stop n st rs events) (next : next_time st.drivers ≡ Some time) (within : time ≤ stop) where
   next_state : (st' : State) → st' ≡ updated s.initial time st → st' ≡ state_after s (suc n)
   unfolding state_after
-  next_state st' e = e ∙ (ap (λ (o : Option ℕ). carried_on s.initial o st) (sym next) ∙ ap (λ (x : State). carried_on s.initial (next_of x.drivers) x) carried.state_is)
+  next_state st' e = e ∙ (ap (λ (o : Option ℕ). carried_on s.initial o st) (sym next) ∙ ap (λ (x : State). carried_on s.initial (next_time x.drivers) x) carried.state_is)
 
   next_records : (st' : State) (r : Record) (rs' : List Record) → st' ≡ state_after s (suc n) → r ≡ record_of st' → rs' ≡ rs ++ r ∷ [] → rs' ≡ records_after s (suc n)
   unfolding records_after
   next_records st' r rs' e f g = g ∙ (ap (λ (l : List Record). l ++ r ∷ []) carried.records_are ∙ ap (λ (x : Record). records_after s n ++ x ∷ []) (f ∙ ap record_of e))
 
-  not_over_here : IsOver (next_of (state_after s n).drivers) stop → ⊥
-  not_over_here over = let late : stop < time = subst (λ (o : Option ℕ). IsOver o stop) (ap (λ (x : State). next_of x.drivers) (sym carried.state_is) ∙ next) over in omega arith
+  not_over_here : IsOver (next_time (state_after s n).drivers) stop → ⊥
+  not_over_here over = let late : stop < time = subst (λ (o : Option ℕ). IsOver o stop) (ap (λ (x : State). next_time x.drivers) (sym carried.state_is) ∙ next) over in omega arith
 
   pub carried_more : (st' : State) (r : Record) (rs' : List Record) → st' ≡ updated s.initial time st → r ≡ record_of st' → rs' ≡ rs ++ r ∷ [] → IsCarried s stop (n + 1) st' rs' (events + length r.changes)
   carried_more st' r rs' e f g =
@@ -100,7 +100,7 @@ module _ (s : Source) (stop n : ℕ) (st : State) (rs : List Record) (events tim
         events_are = ap (λ (k : ℕ). k + length r.changes) carried.events_are ∙ (sym (event_count-last rs r some) ∙ sym (ap event_count g));
         few = omega (arith, carried.few);
         early = subst (λ (x : State). x.delta ≤ suc n) (sym e) (let h = delta_early (time == st.time) st.delta n carried.early in omega (arith, h));
-        not_over = λ m lt. is_last (λ k. IsOver (next_of (state_after s k).drivers) stop → ⊥) n m lt not_over_here carried.not_over;
+        not_over = λ m lt. is_last (λ k. IsOver (next_time (state_after s k).drivers) stop → ⊥) n m lt not_over_here carried.not_over;
       })
 
 -- ---- a design without a signal

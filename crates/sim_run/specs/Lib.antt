@@ -8,4 +8,5 @@ pub mod Reading
 pub mod Run
 pub mod Session
 pub mod Simulation
+pub mod State
 pub mod Writing

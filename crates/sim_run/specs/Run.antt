@@ -1,15 +1,21 @@
 -- A whole run of a design of the form that is run today.
-use Rattle.std.specs.Prelude.{◌≡◌, ℕ, ◌<◌, ◌≤◌, List, Option}
+use Rattle.std.specs.Prelude.{◌≡◌, ℕ, ◌<◌, ◌≤◌, List, Option, None, Some}
 use Rattle.sim_run.specs.declared.form.Source.{Source}
-use Rattle.sim_run.specs.declared.cycle.State.{State}
+use Rattle.sim_run.specs.State.{State}
 use Rattle.sim_run.specs.declared.record.Record.{Record}
 use Rattle.sim_run.specs.declared.error.RunError.{RunError}
 use Rattle.sim_run.specs.declared.error.RunError.TheVariants as refusal
 use Rattle.sim_run.specs.declared.form.FormError.{FormError}
 use Rattle.sim_run.specs.declared.form.FormError.TheVariants as unread
-use Rattle.sim_run.specs.Cycle.{state_after, records_after, next_of, next_after, names_of, records_of}
+use Rattle.sim_run.specs.Cycle.{state_after, records_after, next_time, next_after, names_of, records_of}
+use Rattle.sim_run.specs.Form.{IsInTime}
 use Rattle.sim_run.specs.History.{History, event_count}
 use Rattle.sim_run.specs.Outcome.{IsOver, FinishedAfter, LimitReached, HasOutcome}
+
+-- the delays of the design are at most the greatest time
+abbrev pub AreInTime : Option Source → Type 0
+AreInTime None = Unit {0}
+AreInTime (Some s) = IsInTime s.elements
 
 -- the run of the design finished with this history
 pub record Finishes (found : Option Source) (stop limit : ℕ) (history : History) : Type 0 where
@@ -37,4 +43,4 @@ pub record IsCarried (source : Source) (stop n : ℕ) (state : State) (records :
   pub events_are : events ≡ event_count records
   pub few : events ≤ n
   pub early : state.delta ≤ n
-  pub not_over : (m : ℕ) → m < n → IsOver (next_of (state_after source m).drivers) stop → ⊥
+  pub not_over : (m : ℕ) → m < n → IsOver (next_time (state_after source m).drivers) stop → ⊥

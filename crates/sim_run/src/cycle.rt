@@ -1,35 +1,45 @@
 //! The simulation cycle of a design of the form that is run today, on one thread (IEEE 1076-2008, 14.7.5).
-ghost use Rattle.std.specs.Prelude.{◌≡◌, true, ◌<◌, ◌+◌, ◌^◌, map, IfOk};
+ghost use Rattle.std.specs.Prelude.{◌≡◌, true, ◌<◌, ◌≤◌, ◌+◌, ◌^◌, map, IfOk, OnOk};
+ghost use Rattle.sim_logic.specs.Logic.{is_same};
+ghost use Rattle.sim_wave.specs.Driver.{taken};
 ghost use Rattle.sim_run.specs.Cycle as spec;
+ghost use Rattle.sim_run.specs.Form.{IsInTime};
 
 use crate::form::Source;
 use crate::record::Record;
-use sim_logic::{Logic, resolve};
+use sim_logic::{LATEST, Logic, resolve};
+use sim_wave::{Delay, Driver};
 use sqlite_items::Items;
 use std::alloc::{AllocError, Global};
+use std::marker::Model;
 
-/// A driver: its value, and the transaction that it has yet to take.
-#[derive(Clone, Copy, Debug)]
-pub struct Driver {
-    pub value: Logic,
-    pub pending: Option<(u64, Logic)>,
+/// The signal and its drivers between two cycles.
+#[derive(Drop)]
+pub struct Net {
+    time: u64,
+    delta: u64,
+    value: Logic,
+    event: bool,
+    drivers: Vec<Driver>,
 }
 
-/// The state of the signal and its drivers.
-#[derive(Debug, Drop)]
-pub struct State {
-    pub time: u64,
-    pub delta: u64,
-    pub value: Logic,
-    pub event: bool,
-    pub drivers: Items<Driver>,
+impl Model for Net {
+    ghost use Rattle.sim_run.specs.State.{State};
+
+    ghost Value = { State };
+
+    ghost view = { λ n. record { time = n.time; delta = n.delta; value = n.value; event = n.event; drivers = n.drivers.items } };
 }
 
 /// The drivers' values.
 fn values_of(alloc: Global, drivers: &[Driver]) -> Result<Vec<Logic>, AllocError>
     ensures { IfOk result (λ v. v.items ≡ map (λ d. d.value) drivers.now) }
 {
-    drivers.iter().map(|driver| driver.value).collect(alloc)
+    let mut values = Vec::new(alloc);
+    for driver in drivers {
+        values.push(driver.value())?;
+    }
+    Ok(values)
 }
 
 /// The value of the net.
@@ -43,50 +53,39 @@ fn net_value(alloc: Global, initial: Logic, drivers: &[Driver]) -> Result<Logic,
     Ok(resolve(values.as_slice()))
 }
 
-/// The drivers before their processes assign to them.
+/// A driver for each element, with the signal's first value.
 fn idle(alloc: Global, source: &Source) -> Result<Vec<Driver>, AllocError>
-    ensures { IfOk result (λ v. v.items ≡ spec.idle source.now) }
+    ensures { IfOk result (λ v. v.items ≡ map (spec.undriven source.now.initial) source.now.elements) }
 {
-    let value = source.initial;
+    let initial = source.initial;
     let elements = source.elements.as_slice();
-    elements
-        .iter()
-        .map(|_element| Driver {
-            value,
-            pending: None,
-        })
-        .collect(alloc)
+    elements.iter().map(|_element| Driver::new(alloc, initial)).collect(alloc)
+}
+
+/// A driver once its process assigned an element to it at the start, with inertial delay.
+fn driven(alloc: Global, initial: Logic, element: (u64, Logic)) -> Result<Driver, AllocError>
+    requires { element.0 ≤ LATEST }
+    ensures { IfOk result (λ d. d ≡ spec.driven initial element) }
+{
+    let mut driver = Driver::new(alloc, initial);
+    driver.edit(0, Delay::Inertial { reject: element.0 }, &[element])?;
+    Ok(driver)
 }
 
 /// The drivers as their processes leave them at the start.
-fn assigned(alloc: Global, source: &Source) -> Result<Vec<Driver>, AllocError>
-    ensures { IfOk result (λ v. v.items ≡ spec.assigned source.now) }
+fn all_driven(
+    alloc: Global,
+    default: Logic,
+    elements: &[(u64, Logic)],
+) -> Result<Vec<Driver>, AllocError>
+    requires { IsInTime elements.now }
+    ensures { IfOk result (λ v. v.items ≡ map (spec.driven default) elements.now) }
 {
-    let value = source.initial;
-    let elements = source.elements.as_slice();
-    elements
-        .iter()
-        .map(|element| Driver {
-            value,
-            pending: Some(*element),
-        })
-        .collect(alloc)
-}
-
-/// The state after the initialization.
-pub fn started(alloc: Global, source: &Source) -> Result<State, AllocError>
-    ensures { IfOk result (λ s. s ≡ spec.started source.now) }
-{
-    let idle = idle(alloc, source)?;
-    let value = net_value(alloc, source.initial, idle.as_slice())?;
-    let drivers = assigned(alloc, source)?;
-    Ok(State {
-        time: 0,
-        delta: 0,
-        value,
-        event: false,
-        drivers: Items::from_vec(drivers),
-    })
+    let mut drivers = Vec::new(alloc);
+    for element in elements {
+        drivers.push(driven(alloc, default, *element)?)?;
+    }
+    Ok(drivers)
 }
 
 fn earlier(a: Option<u64>, b: Option<u64>) -> Option<u64>
@@ -99,80 +98,41 @@ fn earlier(a: Option<u64>, b: Option<u64>) -> Option<u64>
     }
 }
 
-fn pending_time(driver: Driver) -> Option<u64>
-    ensures { result ≡ spec.pending_time driver }
+/// The time of the next transaction of any driver.
+fn next_time(drivers: &[Driver]) -> Option<u64>
+    ensures { result ≡ spec.next_time drivers.now }
 {
-    match driver.pending {
-        None => None,
-        Some((time, _)) => Some(time),
+    drivers.iter().fold(None, |found, driver| earlier(found, driver.next()))
+}
+
+/// Each driver takes its first transaction, if its time has come.
+fn take_due(drivers: &mut Vec<Driver>, time: u64)
+    ensures { drivers.new.items ≡ map (taken time) drivers.old.items }
+{
+    for driver in drivers.iter_mut() {
+        driver.take(time);
     }
-}
-
-/// The time of the next transaction.
-pub fn next_of(drivers: &[Driver]) -> Option<u64>
-    ensures { result ≡ spec.next_of drivers.now }
-{
-    drivers.iter().fold(None, |found, driver| earlier(found, pending_time(*driver)))
-}
-
-/// The driver once it took its transaction, if its time has come.
-fn taken(time: u64, driver: Driver) -> Driver
-    ensures { result ≡ spec.taken time driver }
-{
-    match driver.pending {
-        Some((at, value)) if at == time => Driver {
-            value,
-            pending: None,
-        },
-        _ => driver,
-    }
-}
-
-/// All drivers once those took their transactions whose time has come.
-fn all_taken(alloc: Global, time: u64, drivers: &[Driver]) -> Result<Vec<Driver>, AllocError>
-    ensures { IfOk result (λ v. v.items ≡ map (spec.taken time) drivers.now) }
-{
-    drivers
-        .iter()
-        .map(|driver| taken(time, *driver))
-        .collect(alloc)
 }
 
 fn is_same(a: Logic, b: Logic) -> bool
-    ensures { result ≡ spec.is_same a b }
+    ensures { result ≡ is_same a b }
 {
-    a.to_byte() == b.to_byte()
+    a == b
 }
 
-/// The delta number of the next cycle.
-fn next_delta(time: u64, state: &State) -> u64
-    requires { state.now.delta + 1 < 2 ^ 64 }
-    ensures { result ≡ spec.next_delta time state.now }
+/// The delta number of a cycle at `time`, behind one at `last`.
+fn next_delta(time: u64, last: u64, delta: u64) -> u64
+    requires { delta + 1 < 2 ^ 64 }
+    ensures { result ≡ spec.next_delta time last delta }
 {
-    if time == state.time {
-        state.delta + 1
-    } else {
-        0
-    }
+    if time == last { delta + 1 } else { 0 }
 }
 
-/// The state after the cycle at this time.
-pub fn updated(alloc: Global, initial: Logic, time: u64, state: &State) -> Result<State, AllocError>
-    requires { state.now.delta + 1 < 2 ^ 64 }
-    ensures { IfOk result (λ s. s ≡ spec.updated initial time state.now) }
-{
-    let drivers = all_taken(alloc, time, state.drivers.as_slice())?;
-    let value = net_value(alloc, initial, drivers.as_slice())?;
-    Ok(State {
-        time,
-        delta: next_delta(time, state),
-        value,
-        event: !is_same(state.value, value),
-        drivers: Items::from_vec(drivers),
-    })
-}
-
-fn changes_of(alloc: Global, event: bool, value: Logic) -> Result<Items<(usize, Logic)>, AllocError>
+fn changes_of(
+    alloc: Global,
+    event: bool,
+    value: Logic,
+) -> Result<Items<(usize, Logic)>, AllocError>
     ensures { IfOk result (λ found. found ≡ spec.changes_of event value) }
 {
     let mut found = Items::new(alloc);
@@ -182,24 +142,64 @@ fn changes_of(alloc: Global, event: bool, value: Logic) -> Result<Items<(usize, 
     Ok(found)
 }
 
-/// What the initialization made.
-pub fn first_record(alloc: Global, state: &State) -> Result<Record, AllocError>
-    ensures { IfOk result (λ r. r ≡ record { time = 0; delta = 0; changes = spec.changes_of true state.now.value }) }
-{
-    Ok(Record {
-        time: 0,
-        delta: 0,
-        changes: changes_of(alloc, true, state.value)?,
-    })
-}
+impl Net {
+    /// The net after the initialization.
+    pub fn started(alloc: Global, source: &Source) -> Result<Net, AllocError>
+        requires { IsInTime source.now.elements }
+        ensures { IfOk result (λ n. n ≡ spec.started source.now) }
+    {
+        let idle = idle(alloc, source)?;
+        let value = net_value(alloc, source.initial, idle.as_slice())?;
+        let drivers = all_driven(alloc, source.initial, source.elements.as_slice())?;
+        Ok(Net {
+            time: 0,
+            delta: 0,
+            value,
+            event: false,
+            drivers,
+        })
+    }
 
-/// What a cycle changed.
-pub fn record_of(alloc: Global, state: &State) -> Result<Record, AllocError>
-    ensures { IfOk result (λ r. r ≡ spec.record_of state.now) }
-{
-    Ok(Record {
-        time: state.time,
-        delta: state.delta,
-        changes: changes_of(alloc, state.event, state.value)?,
-    })
+    /// The time of the next transaction.
+    pub fn next(&self) -> Option<u64>
+        ensures { result ≡ spec.next_time self.now.drivers }
+    {
+        next_time(self.drivers.as_slice())
+    }
+
+    /// Carries out the cycle at this time.
+    pub fn update(&mut self, alloc: Global, initial: Logic, time: u64) -> Result<(), AllocError>
+        requires { self.old.delta + 1 < 2 ^ 64 }
+        ensures { OnOk result (self.new ≡ spec.updated initial time self.old) }
+    {
+        take_due(&mut self.drivers, time);
+        let value = net_value(alloc, initial, self.drivers.as_slice())?;
+        self.delta = next_delta(time, self.time, self.delta);
+        self.time = time;
+        self.event = !is_same(self.value, value);
+        self.value = value;
+        Ok(())
+    }
+
+    /// What the initialization made.
+    pub fn first_record(&self, alloc: Global) -> Result<Record, AllocError>
+        ensures { IfOk result (λ r. r ≡ record { time = 0; delta = 0; changes = spec.changes_of true self.now.value }) }
+    {
+        Ok(Record {
+            time: 0,
+            delta: 0,
+            changes: changes_of(alloc, true, self.value)?,
+        })
+    }
+
+    /// What the last cycle changed.
+    pub fn record(&self, alloc: Global) -> Result<Record, AllocError>
+        ensures { IfOk result (λ r. r ≡ spec.record_of self.now) }
+    {
+        Ok(Record {
+            time: self.time,
+            delta: self.delta,
+            changes: changes_of(alloc, self.event, self.value)?,
+        })
+    }
 }

@@ -67,18 +67,18 @@ fn put_record<W: Write>(
     out: &mut W,
     block: &mut Block,
     names: &[String],
-    record: &Record,
+    entry: &Record,
 ) -> Result<(), RunError>
-    requires { IsNamed (length names.now) record.now }
-    ensures ok { OnOk result (Gathers (W.contents out.old) block.old.items (W.contents out.new) block.new.items (lines_of (map string_bytes names.now) record.now)) }
-    ensures part { OnErr result (AppendsPart (W.contents out.old) (W.contents out.new) (block.old.items ++ lines_of (map string_bytes names.now) record.now)) }
+    requires { IsNamed (length names.now) entry.now }
+    ensures ok { OnOk result (Gathers (W.contents out.old) block.old.items (W.contents out.new) block.new.items (lines_of (map string_bytes names.now) entry.now)) }
+    ensures part { OnErr result (AppendsPart (W.contents out.old) (W.contents out.new) (block.old.items ++ lines_of (map string_bytes names.now) entry.now)) }
     ensures err { OnErr result (result ≡ Err RunError.Write) }
 {
     let mut time = Buffer::new();
     let mut delta = Buffer::new();
-    let time = time.format(record.time).as_bytes();
-    let delta = delta.format(record.delta).as_bytes();
-    put_changes(out, block, names, time, delta, record.changes.as_slice())
+    let time = time.format(entry.time).as_bytes();
+    let delta = delta.format(entry.delta).as_bytes();
+    put_changes(out, block, names, time, delta, entry.changes.as_slice())
 }
 
 /// The lines of all cycles.

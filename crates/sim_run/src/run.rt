@@ -1,10 +1,11 @@
 //! A whole run of a design of the form that is run today, on the calling thread.
 ghost use Rattle.std.specs.Prelude.{◌≡◌, ◌≤◌, map, string_bytes, Some, [], ◌∷◌, IfOk, MatchOption, MatchResult};
-ghost use Rattle.sim_run.specs.Cycle.{next_of, names_of};
+ghost use Rattle.sim_run.specs.Cycle.{next_time, names_of};
+ghost use Rattle.sim_run.specs.Form.{IsInTime};
 ghost use Rattle.sim_run.specs.Outcome.{IsOver};
-ghost use Rattle.sim_run.specs.Run.{Finishes, IsRefused};
+ghost use Rattle.sim_run.specs.Run.{AreInTime, Finishes, IsRefused};
 
-use crate::cycle::{self, Driver, first_record, record_of, started, updated};
+use crate::cycle::Net;
 use crate::error::RunError;
 use crate::finished::Finished;
 use crate::form::{FormError, Source};
@@ -14,10 +15,10 @@ use std::alloc::{AllocError, Global};
 use std::str;
 
 /// The time of the next transaction, if it is not later than the stop time.
-fn next_within(drivers: &[Driver], stop: u64) -> Option<u64>
-    ensures { MatchOption result (IsOver (next_of drivers.now) stop) (λ time. (next_of drivers.now ≡ Some time) × (time ≤ stop)) }
+fn next_within(net: &Net, stop: u64) -> Option<u64>
+    ensures { MatchOption result (IsOver (next_time net.now.drivers) stop) (λ time. (next_time net.now.drivers ≡ Some time) × (time ≤ stop)) }
 {
-    match cycle::next_of(drivers) {
+    match net.next() {
         Some(time) if time <= stop => Some(time),
         _ => None,
     }
@@ -31,25 +32,26 @@ fn run_source(
     stop: u64,
     limit: u32,
 ) -> Result<Finished, RunError>
-    requires { map string_bytes names.items ≡ names_of (Some source.now) }
+    requires names { map string_bytes names.items ≡ names_of (Some source.now) }
+    requires in_time { IsInTime source.now.elements }
     ensures { MatchResult result (λ f. Finishes (Some source.now) stop limit f) (λ e. IsRefused (Some source.now) stop limit e) }
 {
-    let mut state = started(alloc, source)?;
+    let mut net = Net::started(alloc, source)?;
     let mut records = Vec::new(alloc);
-    records.push(first_record(alloc, &state)?)?;
+    records.push(net.first_record(alloc)?)?;
     let mut events: u64 = 0;
     for _cycle in 0..limit {
-        match next_within(state.drivers.as_slice(), stop) {
+        match next_within(&net, stop) {
             None => return Ok(Finished::new(names, records, events)),
             Some(time) => {
-                state = updated(alloc, source.initial, time, &state)?;
-                let record = record_of(alloc, &state)?;
+                net.update(alloc, source.initial, time)?;
+                let record = net.record(alloc)?;
                 events += record.changes.len() as u64;
                 records.push(record)?;
             }
         }
     }
-    match next_within(state.drivers.as_slice(), stop) {
+    match next_within(&net, stop) {
         None => Ok(Finished::new(names, records, events)),
         Some(_) => Err(RunError::CycleLimit { limit }),
     }
@@ -89,6 +91,7 @@ pub fn run_design(
     stop: u64,
     limit: u32,
 ) -> Result<Finished, RunError>
+    requires { AreInTime design.now }
     ensures { MatchResult result (λ f. Finishes design.now stop limit f) (λ e. IsRefused design.now stop limit e) }
 {
     let names = names(alloc, design)?;

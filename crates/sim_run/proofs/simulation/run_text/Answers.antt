@@ -1,5 +1,9 @@
-use Rattle.sim_run.proofs.Simulations.{text_run}
+use Rattle.sim_run.proofs.Simulations.{design_in_time, text_run}
 use Rattle.sim_run.proofs.simulation.run_text.Goals as goal
 
+pub run_design-requires : goal.run_design-requires
+run_design-requires c = design_in_time _ _ _ c.in_ok-design.ensures
+
 pub returns : goal.returns
-returns c = text_run c.args.source.now c.args.options.now c.in_ok-design.design c.run_design.result (rw c.as_str.ensures.value at c.in_ok-design.ensures) c.run_design.ensures
+returns c =
+    text_run c.args.source.now c.args.options.now c.in_ok-design.design c.run_design.result (rw c.as_str.ensures.value at c.in_ok-design.ensures) c.run_design.ensures

@@ -1,0 +1,19 @@
+//! Times parts of the simulator: `sim_bench SUBJECT COUNT`. The times go to standard error, and
+//! what was computed to standard output.
+#![tactic(auto)]
+
+mod drivers;
+
+use anyhow::{Context, Result, bail};
+use std::env;
+
+fn main(rt: HostRuntime) -> Result<()> {
+    let mut words = env::args(&rt)?.skip(1);
+    let subject = words.next().context("no subject")?;
+    let count = words.next().context("no count")?;
+    let count = count.parse::<u64>().context("the count is no number")?;
+    match subject.as_str() {
+        "drivers" => drivers::run(&rt, count),
+        _ => bail!("no such subject"),
+    }
+}

@@ -1,0 +1,4 @@
+pub mod Rising
+pub mod Keeping
+pub mod Comparing
+pub mod Least

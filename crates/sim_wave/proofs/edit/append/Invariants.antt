@@ -1,0 +1,11 @@
+use Rattle.std.proofs.Common.{◌≤◌, ◌+◌, ◌-◌, ◌≡◌, ◌++◌, length, take}
+use Rattle.smallvec.specs.SmallVec.{small_vec_len}
+use Rattle.sim_wave.specs.Edit.{scheduled}
+use Rattle.sim_wave.proofs.edit.append.Given as goal
+
+abbrev pub invariant-loop-delay : goal.invariant-loop-delay
+invariant-loop-delay l = record {
+  items : l.pending.items ≡ l.initial.pending.items ++ scheduled l.now (take l.delay-index l.elements);
+  capacity : l.pending.capacity ≡ l.initial.pending.capacity;
+  room : small_vec_len l.pending + (length l.elements - l.delay-index) ≤ l.pending.capacity;
+}

@@ -1,0 +1,2 @@
+pub mod Driver
+pub mod Edit

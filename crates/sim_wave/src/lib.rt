@@ -1,0 +1,12 @@
+//! Drivers: their values and their projected output waveforms.
+#![tactic(auto)]
+
+mod delay;
+mod driver;
+mod edit;
+pub mod laws;
+#[cfg(test)]
+mod tests;
+
+pub use delay::Delay;
+pub use driver::{Driver, IN_PLACE, Transaction};
