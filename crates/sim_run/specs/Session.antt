@@ -1,5 +1,6 @@
 -- What the program promises of its words, its input and its output.
-use Rattle.std.specs.Prelude.{◌≡◌, ◌≢◌, ℕ, List, [], ◌∷◌, codes, length, Option, Some, None, ◌⊎◌}
+use Rattle.std.specs.Prelude.{◌≡◌, ◌≢◌, ℕ, Bool, true, false, List, [], ◌∷◌, codes, length, Option, Some, None, ◌⊎◌}
+use Rattle.std.specs.Str.{bytes_eq}
 use Rattle.std.specs.String.{string_bytes}
 use Rattle.std.specs.Io.KnownBytes.{Keeps, Consumes, IsAtEnd}
 use Rattle.sim_run.specs.declared.error.RunError.TheVariants as refusal
@@ -7,6 +8,11 @@ use Rattle.sim_run.specs.declared.options.Options.{Options}
 use Rattle.sim_run.specs.declared.program.Failure.{Failure}
 use Rattle.sim_run.specs.declared.program.Failure.TheVariants as failure
 use Rattle.sim_run.specs.Simulation.{Lists}
+
+-- whether the words are `--top` and a name
+abbrev pub are_request : List (List ℕ) → Bool
+are_request (flag ∷ top ∷ []) = bytes_eq flag (codes "--top")
+are_request _ = false
 
 -- The words ask for a run with these options: `--top NAME`, and no more.
 pub record AreRequest (words : List (List ℕ)) (options : Options) : Type 0 where
@@ -36,6 +42,17 @@ pub record Succeeds (words : List (List ℕ)) (unread old new : Option (List ℕ
 -- Where no write failed nothing was written.
 abbrev pub IsQuiet : Failure → Option (List ℕ) → Option (List ℕ) → Type 0
 IsQuiet f old new = f ≢ failure.Run refusal.Write → Keeps old new
+
+-- The words are refused exactly where they are no request, and the options that they stand for never are.
+abbrev pub Explains : List (List ℕ) → Failure → Type 0
+Explains words failure.Words = are_request words ≡ false
+Explains words (failure.Run refusal.Options) = ⊥
+Explains words _ = are_request words ≡ true
+
+-- what a failure says of the words, and what was written
+pub record Fails (words : List (List ℕ)) (old new : Option (List ℕ)) (f : Failure) : Type 0 where
+  pub explains : Explains words f
+  pub quiet : IsQuiet f old new
 
 -- the status of the program (0 is success)
 abbrev pub status_of : Failure → ℕ

@@ -59,7 +59,10 @@ fn idle(alloc: Global, source: &Source) -> Result<Vec<Driver>, AllocError>
 {
     let initial = source.initial;
     let elements = source.elements.as_slice();
-    elements.iter().map(|_element| Driver::new(alloc, initial)).collect(alloc)
+    elements
+        .iter()
+        .map(|_element| Driver::new(alloc, initial))
+        .collect(alloc)
 }
 
 /// A driver once its process assigned an element to it at the start, with inertial delay.
@@ -102,7 +105,9 @@ fn earlier(a: Option<u64>, b: Option<u64>) -> Option<u64>
 fn next_time(drivers: &[Driver]) -> Option<u64>
     ensures { result ≡ spec.next_time drivers.now }
 {
-    drivers.iter().fold(None, |found, driver| earlier(found, driver.next()))
+    drivers
+        .iter()
+        .fold(None, |found, driver| earlier(found, driver.next()))
 }
 
 /// Each driver takes its first transaction, if its time has come.
@@ -128,11 +133,7 @@ fn next_delta(time: u64, last: u64, delta: u64) -> u64
     if time == last { delta + 1 } else { 0 }
 }
 
-fn changes_of(
-    alloc: Global,
-    event: bool,
-    value: Logic,
-) -> Result<Items<(usize, Logic)>, AllocError>
+fn changes_of(alloc: Global, event: bool, value: Logic) -> Result<Items<(usize, Logic)>, AllocError>
     ensures { IfOk result (λ found. found ≡ spec.changes_of event value) }
 {
     let mut found = Items::new(alloc);

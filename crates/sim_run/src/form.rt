@@ -306,7 +306,7 @@ fn body(alloc: Global, tokens: &mut Cursor<'_>) -> Result<Option<Source>, FormEr
 }
 
 /// The design of a text of this form: its signal, if it has one. `NotYet` comes where the tokens are no such text, or its
-/// entity is not the top.
+/// entity is not the top; the contract leaves that side open, and tests show it.
 pub fn read_form(alloc: Global, tokens: &[Token], top: &str) -> Result<Option<Source>, FormError>
     ensures { IfOk result (λ found. ReadsForm top.now tokens.now found) }
 {

@@ -1,7 +1,8 @@
 //! The program, over any reader and two writers.
-ghost use Rattle.std.specs.Prelude.{◌≡◌, ◌≤◌, ◌<◌, true, codes, IfOk, IfSome, MatchResult, map, string_bytes};
+ghost use Rattle.std.specs.Prelude.{◌≡◌, ◌≤◌, ◌<◌, ◌↔◌, ◌⊎◌, false, codes, IfOk, IfErr, MatchOption, MatchResult, map, string_bytes};
 ghost use Rattle.std.specs.Io.KnownBytes.{Keeps};
-ghost use Rattle.sim_run.specs.Session.{AreRequest, ReadsSource, Succeeds, IsQuiet, status_of};
+ghost use Rattle.std.specs.Str.{bytes_eq};
+ghost use Rattle.sim_run.specs.Session.{are_request, AreRequest, ReadsSource, Succeeds, Fails, status_of};
 
 use crate::block::write_whole;
 use crate::error::RunError;
@@ -59,17 +60,27 @@ fn status_of_failure(failure: Failure) -> u8
 }
 
 fn is_top_flag(word: &str) -> bool
-    ensures { result ≡ true → word.now ≡ codes "--top" }
+    ensures { result ≡ bytes_eq word.now (codes "--top") }
 {
     word == "--top"
 }
 
+/// Whether the words are `--top` and a name.
+fn are_request(words: &[String]) -> bool
+    ensures { result ≡ are_request (map string_bytes words.now) }
+{
+    match words {
+        [flag, _top] => is_top_flag(flag.as_str()),
+        _ => false,
+    }
+}
+
 /// The options that the words ask for.
 fn options_of(words: Vec<String>) -> Option<Options>
-    ensures { IfSome result (λ o. AreRequest (map string_bytes words.items) o) }
+    ensures { MatchOption result (are_request (map string_bytes words.items) ≡ false) (λ o. AreRequest (map string_bytes words.items) o) }
 {
     let mut words = words;
-    if words.len() != 2 || !is_top_flag(words[0].as_str()) {
+    if !are_request(words.as_slice()) {
         return None;
     }
     let top = words.remove(1);
@@ -84,6 +95,7 @@ fn options_of(words: Vec<String>) -> Option<Options>
 /// What the reader has left, up to one byte more than a text may have.
 fn read_source<R: Read>(alloc: Global, input: &mut R) -> Result<Vec<u8>, Failure>
     ensures source { IfOk result (λ text. ReadsSource (R.remaining input.old) (R.remaining input.new) text.items) }
+    ensures failed { IfErr result (λ f. (f ≡ Failure.Read) ⊎ (f ≡ Failure.Memory)) }
 {
     let mut text = Vec::new(alloc);
     let mut chunk = [0; CHUNK];
@@ -113,7 +125,7 @@ fn carry_out<T: Threads + Wait + Sync, R: Read, W: Write>(
     input: &mut R,
     out: &mut W,
 ) -> Result<(), Failure>
-    ensures { MatchResult result (λ _. Succeeds (map string_bytes words.items) (R.remaining input.old) (W.contents out.old) (W.contents out.new)) (λ f. IsQuiet f (W.contents out.old) (W.contents out.new)) }
+    ensures { MatchResult result (λ _. Succeeds (map string_bytes words.items) (R.remaining input.old) (W.contents out.old) (W.contents out.new)) (λ f. Fails (map string_bytes words.items) (W.contents out.old) (W.contents out.new) f) }
 {
     let Some(options) = options_of(words) else {
         return Err(Failure::Words);
@@ -146,6 +158,7 @@ pub fn session<T: Threads + Wait + Sync, R: Read, W: Write, E: Write>(
 ) -> u8
     ensures status { result ≤ 4 }
     ensures success { result ≡ 0 → Succeeds (map string_bytes words.items) (R.remaining input.old) (W.contents out.old) (W.contents out.new) }
+    ensures words { (result ≡ 2) ↔ (are_request (map string_bytes words.items) ≡ false) }
     ensures quiet { 0 < result → result < 4 → Keeps (W.contents out.old) (W.contents out.new) }
 {
     match carry_out(rt, alloc, words, input, out) {

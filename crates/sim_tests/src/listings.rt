@@ -11,7 +11,9 @@ const LATEST: u64 = 4_611_686_018_427_387_903;
 
 /// The text of an entity `t` with these declarations and statements.
 fn text(alloc: Global, declarations: &str, statements: &str) -> Result<String, AllocError> {
-    format!(in alloc; "entity t is end;architecture a of t is {declarations}begin {statements} end;")
+    format!(in alloc;
+        "entity t is end;architecture a of t is {declarations}begin {statements} end;"
+    )
 }
 
 fn options(alloc: Global, stop: u64, limit: u32) -> Result<Options, AllocError> {
@@ -46,9 +48,17 @@ fn listings_are_those_of_the_standards_cycle(rt: HostRuntime) -> Result<(), Fail
             "0 0 s 0\n5000000 0 s 1\ndone 1 1\n",
         ),
         ("", "", "done 0 0\n"),
-        (signal, "s <= '0'; s <= '1';", "0 0 s U\n0 1 s X\ndone 1 1\n"),
+        (
+            signal,
+            "s <= '0'; s <= '1';",
+            "0 0 s U\n0 1 s X\ndone 1 1\n",
+        ),
         (signal, "s <= '-';", "0 0 s U\n0 1 s -\ndone 1 1\n"),
-        (signal, "s <= '-'; s <= 'Z';", "0 0 s U\n0 1 s X\ndone 1 1\n"),
+        (
+            signal,
+            "s <= '-'; s <= 'Z';",
+            "0 0 s U\n0 1 s X\ndone 1 1\n",
+        ),
         (
             signal,
             "s <= '1' after 1 hr;",
@@ -66,7 +76,12 @@ fn listings_are_those_of_the_standards_cycle(rt: HostRuntime) -> Result<(), Fail
         ),
     ] {
         let source = text(alloc, declarations, statements)?;
-        let (answer, out) = run(&rt, alloc, source.as_str(), &options(alloc, LATEST, 10_000)?);
+        let (answer, out) = run(
+            &rt,
+            alloc,
+            source.as_str(),
+            &options(alloc, LATEST, 10_000)?,
+        );
         assert_eq!(rt; answer, Ok(()), "{statements}");
         assert_eq!(rt; out.as_slice(), listing.as_bytes(), "{statements}");
     }
@@ -81,13 +96,24 @@ fn the_stop_time_is_simulated_and_the_limit_counts_cycles(rt: HostRuntime) -> Re
         "signal s:std_logic:='0';",
         "s <= '1' after 1 ns; s <= '0' after 2 ns;",
     )?;
-    let (answer, out) = run(&rt, alloc, source.as_str(), &options(alloc, 1_000_000, 10_000)?);
+    let (answer, out) = run(
+        &rt,
+        alloc,
+        source.as_str(),
+        &options(alloc, 1_000_000, 10_000)?,
+    );
     assert_eq!(rt; answer, Ok(()));
-    assert_eq!(rt; out.as_slice(), b"0 0 s 0\n1000000 0 s X\ndone 1 1\n".as_slice());
+    assert_eq!(rt;
+        out.as_slice(),
+        b"0 0 s 0\n1000000 0 s X\ndone 1 1\n".as_slice()
+    );
 
     let (answer, out) = run(&rt, alloc, source.as_str(), &options(alloc, LATEST, 2)?);
     assert_eq!(rt; answer, Ok(()));
-    assert_eq!(rt; out.as_slice(), b"0 0 s 0\n1000000 0 s X\ndone 2 1\n".as_slice());
+    assert_eq!(rt;
+        out.as_slice(),
+        b"0 0 s 0\n1000000 0 s X\ndone 2 1\n".as_slice()
+    );
 
     let (answer, out) = run(&rt, alloc, source.as_str(), &options(alloc, LATEST, 1)?);
     assert_eq!(rt; answer, Err(RunError::CycleLimit { limit: 1 }));
@@ -142,10 +168,14 @@ fn names_are_read_without_regard_to_case(rt: HostRuntime) -> Result<(), Fail> {
     let alloc = rt.alloc();
     let mut asked = options(alloc, LATEST, 10_000)?;
     asked.top = String::from_str(alloc, "T")?;
-    let source = "ENTITY t IS END; Architecture A Of T Is Signal S:STD_LOGIC; Begin s<='1' after 1 NS; End;";
+    let source =
+        "ENTITY t IS END; Architecture A Of T Is Signal S:STD_LOGIC; Begin s<='1' after 1 NS; End;";
     let (answer, out) = run(&rt, alloc, source, &asked);
     assert_eq!(rt; answer, Ok(()));
-    assert_eq!(rt; out.as_slice(), b"0 0 s U\n1000000 0 s 1\ndone 1 1\n".as_slice());
+    assert_eq!(rt;
+        out.as_slice(),
+        b"0 0 s U\n1000000 0 s 1\ndone 1 1\n".as_slice()
+    );
     Ok(())
 }
 

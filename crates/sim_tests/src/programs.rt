@@ -5,7 +5,8 @@ use sim_run::session;
 use std::alloc::{AllocError, Global};
 use std::test::Fail;
 
-const TEXT: &[u8] = b"entity t is end;architecture a of t is signal s:std_logic:='0';begin s <= '1' after 5 ns; end;";
+const TEXT: &[u8] =
+    b"entity t is end;architecture a of t is signal s:std_logic:='0';begin s <= '1' after 5 ns; end;";
 
 const LISTING: &[u8] = b"0 0 s 0\n5000000 0 s 1\ndone 1 1\n";
 
@@ -27,7 +28,14 @@ fn a_listing_is_written_with_status_0(rt: HostRuntime) -> Result<(), Fail> {
     };
     let mut out = Vec::new(alloc);
     let mut err = Vec::new(alloc);
-    let status = session(&rt, alloc, words(alloc, "--top t")?, &mut input, &mut out, &mut err);
+    let status = session(
+        &rt,
+        alloc,
+        words(alloc, "--top t")?,
+        &mut input,
+        &mut out,
+        &mut err,
+    );
     assert_eq!(rt; status, 0);
     assert_eq!(rt; out.as_slice(), LISTING);
     assert!(rt; err.is_empty());
@@ -41,7 +49,14 @@ fn other_words_are_refused_with_status_2(rt: HostRuntime) -> Result<(), Fail> {
         let mut input = TEXT;
         let mut out = Vec::new(alloc);
         let mut err = Vec::new(alloc);
-        let status = session(&rt, alloc, words(alloc, given)?, &mut input, &mut out, &mut err);
+        let status = session(
+            &rt,
+            alloc,
+            words(alloc, given)?,
+            &mut input,
+            &mut out,
+            &mut err,
+        );
         assert_eq!(rt; status, 2);
         assert!(rt; out.is_empty());
         assert_eq!(rt; err.as_slice(), b"vsim: Options\n".as_slice());
@@ -55,7 +70,14 @@ fn refusals_have_their_status_and_line(rt: HostRuntime) -> Result<(), Fail> {
     let mut endless = Endless;
     let mut out = Vec::new(alloc);
     let mut err = Vec::new(alloc);
-    let status = session(&rt, alloc, words(alloc, "--top t")?, &mut endless, &mut out, &mut err);
+    let status = session(
+        &rt,
+        alloc,
+        words(alloc, "--top t")?,
+        &mut endless,
+        &mut out,
+        &mut err,
+    );
     assert_eq!(rt; status, 1);
     assert!(rt; out.is_empty());
     assert_eq!(rt; err.as_slice(), b"vsim: NotYet\n".as_slice());
@@ -65,7 +87,14 @@ fn refusals_have_their_status_and_line(rt: HostRuntime) -> Result<(), Fail> {
         fails: true,
     };
     let mut err = Vec::new(alloc);
-    let status = session(&rt, alloc, words(alloc, "--top t")?, &mut failing, &mut out, &mut err);
+    let status = session(
+        &rt,
+        alloc,
+        words(alloc, "--top t")?,
+        &mut failing,
+        &mut out,
+        &mut err,
+    );
     assert_eq!(rt; status, 4);
     assert!(rt; out.is_empty());
     assert_eq!(rt; err.as_slice(), b"vsim: Read\n".as_slice());
@@ -75,7 +104,10 @@ fn refusals_have_their_status_and_line(rt: HostRuntime) -> Result<(), Fail> {
 #[test]
 fn a_failed_write_has_status_4_even_where_the_line_fails_too(rt: HostRuntime) -> Result<(), Fail> {
     let alloc = rt.alloc();
-    for (in_all, line) in [(100, b"vsim: Write\n".as_slice()), (6, b"vsim: ".as_slice())] {
+    for (in_all, line) in [
+        (100, b"vsim: Write\n".as_slice()),
+        (6, b"vsim: ".as_slice()),
+    ] {
         let mut input = TEXT;
         let mut out = Failing {
             taken: Vec::new(alloc),
@@ -87,7 +119,14 @@ fn a_failed_write_has_status_4_even_where_the_line_fails_too(rt: HostRuntime) ->
             a_call: 1,
             in_all,
         };
-        let status = session(&rt, alloc, words(alloc, "--top t")?, &mut input, &mut out, &mut err);
+        let status = session(
+            &rt,
+            alloc,
+            words(alloc, "--top t")?,
+            &mut input,
+            &mut out,
+            &mut err,
+        );
         assert_eq!(rt; status, 4);
         assert_eq!(rt; out.taken.as_slice(), &LISTING[..10]);
         assert_eq!(rt; err.taken.as_slice(), line);

@@ -1,16 +1,14 @@
-use Rattle.std.proofs.Common.{rules, refl, ◌∙◌, sym}
-use Rattle.std.specs.Prelude.{string_bytes, codes}
-use Rattle.sim_run.proofs.Programs.{two_words}
+use Rattle.std.proofs.Common.{rules, refl, sym}
+use Rattle.std.specs.Prelude.{string_bytes}
+use Rattle.sim_run.proofs.Programs.{request_words}
 use Rattle.sim_run.proofs.program.options_of.Goals as goal
 
 pub returns : goal.returns
 returns c =
-    let h = c.index.ensures in
+    let asked = rw c.as_slice.ensures.value at c.if-not-are_request.ensures in
     let k = c.remove-top.ensures.value in
-    let flag = c.is_top_flag.ensures c.if-not-is_top_flag.false in
-    let n = c.if-len-ne2.false in
     record {
-      words_are = two_words string_bytes c.args.words.items c.index.result.now c.remove-top.result (codes "--top") (search rules) (search rules) (sym c.as_str.ensures.value ∙ flag) (search rules);
+      words_are = request_words string_bytes c.args.words.items c.remove-top.result (sym asked) (search rules);
       stop = refl;
       limit = refl;
       workers = refl;
