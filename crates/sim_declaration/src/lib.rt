@@ -1,0 +1,4 @@
+//! Declarations, read from tokens.
+#![tactic(auto)]
+
+pub mod declarations;

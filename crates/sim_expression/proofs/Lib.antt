@@ -1,0 +1,5 @@
+pub mod Sound
+pub mod Complete
+pub mod WaveformSound
+pub mod WaveformComplete
+pub mod ExpressionLate

@@ -1,0 +1,2 @@
+pub mod Expressions
+pub mod Waveforms

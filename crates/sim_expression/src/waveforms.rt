@@ -1,0 +1,157 @@
+//! Waveforms and delays (IEEE 1076-2008, 10.5).
+
+ghost use Rattle.std.specs.Prelude.{◌≡◌};
+ghost use Rattle.sim_expression.specs.Waveforms as spec;
+ghost use Rattle.sim_tree.specs.Input.{Reads, view};
+
+use crate::expressions::expression;
+use sim_token::Kind;
+use sim_tree::expression::Name;
+use sim_tree::waveform::{
+    Choice, ConditionalWaveforms, DelayMechanism, Element, SignalAssignment, TimeLiteral,
+};
+use sim_tree::{Cursor, ParseError};
+use sqlite_items::Items;
+use std::alloc::Global;
+
+#[tactic(auto, unfolding(crate::specs::Waveforms::time_from, sim_tree::specs::Times::is_time))]
+fn time_from(alloc: Global, tokens: &mut Cursor<'_>, left: usize) -> Result<TimeLiteral, ParseError>
+    ensures { Reads (spec.time_from left (view tokens.old)) result (view tokens.new) }
+{
+    let (digits, at) = tokens.number(alloc)?;
+    let unit = tokens.unit()?;
+    let literal = TimeLiteral { digits, at, unit };
+    if literal.is_time() {
+        Ok(literal)
+    } else {
+        Err(ParseError::TimeRange(left))
+    }
+}
+
+/// Reads a time: a number and a unit (IEEE 1076-2008, 5.2.4). `TimeRange` comes at the number, where the time is later than
+/// the latest.
+#[tactic(auto, unfolding(crate::specs::Waveforms::time))]
+pub fn time(alloc: Global, tokens: &mut Cursor<'_>) -> Result<TimeLiteral, ParseError>
+    ensures { Reads (spec.time (view tokens.old)) result (view tokens.new) }
+{
+    let left = tokens.left();
+    time_from(alloc, tokens, left)
+}
+
+#[tactic(auto, unfolding(crate::specs::Waveforms::element))]
+fn element(alloc: Global, tokens: &mut Cursor<'_>) -> Result<Element, ParseError>
+    ensures { Reads (spec.element (view tokens.old)) result (view tokens.new) }
+{
+    let value = expression(alloc, tokens)?;
+    if tokens.eat(Kind::After) {
+        let after = time(alloc, tokens)?;
+        Ok(Element {
+            value,
+            after: Some(after),
+        })
+    } else {
+        Ok(Element { value, after: None })
+    }
+}
+
+/// Reads a waveform (IEEE 1076-2008, 10.5.2.1).
+#[tactic(auto, unfolding(crate::specs::Waveforms::waveform, sim_tree::specs::Input::separated, sim_tree::specs::Input::sees))]
+pub fn waveform(alloc: Global, tokens: &mut Cursor<'_>) -> Result<Items<Element>, ParseError>
+    ensures { Reads (spec.waveform (view tokens.old)) result (view tokens.new) }
+{
+    let mut found = Items::new(alloc);
+    found.push(element(alloc, tokens)?)?;
+    for _turn in 0..tokens.left() {
+        if !tokens.sees(Kind::Comma) {
+            return Ok(found);
+        }
+        tokens.take();
+        found.push(element(alloc, tokens)?)?;
+    }
+    Ok(found)
+}
+
+/// Reads a delay mechanism, where one is written (IEEE 1076-2008, 10.5.2.1).
+#[tactic(auto, unfolding(crate::specs::Waveforms::delay))]
+pub fn delay(alloc: Global, tokens: &mut Cursor<'_>) -> Result<DelayMechanism, ParseError>
+    ensures { Reads (spec.delay (view tokens.old)) result (view tokens.new) }
+{
+    match tokens.peek() {
+        Kind::Transport => {
+            tokens.take();
+            Ok(DelayMechanism::Transport)
+        }
+        Kind::Inertial => {
+            tokens.take();
+            Ok(DelayMechanism::Inertial)
+        }
+        Kind::Reject => {
+            tokens.take();
+            let limit = time(alloc, tokens)?;
+            tokens.expect(Kind::Inertial)?;
+            Ok(DelayMechanism::Reject(limit))
+        }
+        _ => Ok(DelayMechanism::Unwritten),
+    }
+}
+
+#[tactic(auto, unfolding(crate::specs::Waveforms::choice))]
+fn choice(
+    alloc: Global,
+    tokens: &mut Cursor<'_>,
+    waveform: Items<Element>,
+) -> Result<Choice, ParseError>
+    ensures { Reads (spec.choice waveform (view tokens.old)) result (view tokens.new) }
+{
+    let condition = expression(alloc, tokens)?;
+    Ok(Choice {
+        waveform,
+        condition,
+    })
+}
+
+#[tactic(auto, unfolding(crate::specs::Waveforms::conditional, sim_tree::specs::Input::left))]
+fn conditional(alloc: Global, tokens: &mut Cursor<'_>) -> Result<ConditionalWaveforms, ParseError>
+    ensures { Reads (spec.conditional (view tokens.old)) result (view tokens.new) }
+{
+    let mut choices = Items::new(alloc);
+    for _turn in 0..tokens.left() {
+        let waveform = waveform(alloc, tokens)?;
+        if !tokens.eat(Kind::When) {
+            return Ok(ConditionalWaveforms {
+                choices,
+                otherwise: Some(waveform),
+            });
+        }
+        choices.push(choice(alloc, tokens, waveform)?)?;
+        if !tokens.eat(Kind::Else) {
+            return Ok(ConditionalWaveforms {
+                choices,
+                otherwise: None,
+            });
+        }
+    }
+    Err(ParseError::Syntax(tokens.left()))
+}
+
+/// Reads what stands behind the target of a concurrent assignment, with its semicolon (IEEE 1076-2008, 11.6).
+#[tactic(auto, unfolding(crate::specs::Waveforms::assigned))]
+pub fn assigned(
+    alloc: Global,
+    tokens: &mut Cursor<'_>,
+    label: Option<Name>,
+    target: Name,
+) -> Result<SignalAssignment, ParseError>
+    ensures { Reads (spec.assigned label target (view tokens.old)) result (view tokens.new) }
+{
+    tokens.expect(Kind::SignalAssign)?;
+    let delay = delay(alloc, tokens)?;
+    let waveforms = conditional(alloc, tokens)?;
+    tokens.expect(Kind::Semicolon)?;
+    Ok(SignalAssignment {
+        label,
+        target,
+        delay,
+        waveforms,
+    })
+}

@@ -1,0 +1,10 @@
+pub mod Declared
+pub mod DeclaredAgain
+pub mod Stated
+pub mod StatedAgain
+pub mod Concurred
+pub mod ConcurredAgain
+pub mod United
+pub mod UnitedAgain
+pub mod Whole
+pub mod TextLate

@@ -1,0 +1,4 @@
+pub mod Declarations
+pub mod Statements
+pub mod Concurrents
+pub mod Units

@@ -1,0 +1,5 @@
+//! How declarations, statements, design units and files are read from tokens, as definitions, and their laws: what is
+//! read is written so, and what is written so is read, so that no tokens are two files.
+#![tactic(auto)]
+
+pub mod laws;

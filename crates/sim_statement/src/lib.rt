@@ -1,0 +1,4 @@
+//! Sequential statements, read from tokens.
+#![tactic(auto)]
+
+pub mod statements;

@@ -1,0 +1,2 @@
+mod Places
+mod Texts

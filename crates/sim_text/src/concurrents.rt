@@ -1,0 +1,348 @@
+//! Concurrent statements (IEEE 1076-2008, 11).
+
+ghost use Rattle.std.specs.Prelude.{◌≡◌};
+ghost use Rattle.sim_reading.specs.Concurrents as spec;
+ghost use Rattle.sim_tree.specs.Grammar.{is_named};
+ghost use Rattle.sim_tree.specs.Input.{Reads, kind, view};
+
+use sim_declaration::declarations::{names, variables};
+use sim_expression::waveforms::assigned;
+use sim_statement::statements::{label_again, statements};
+use sim_token::Kind;
+use sim_tree::declaration::ObjectDeclaration;
+use sim_tree::expression::Name;
+use sim_tree::unit::{
+    Actual, Association, Concurrent, Instance, Instantiated, Process, Sensitivity,
+};
+use sim_tree::{Cursor, ParseError};
+use sqlite_items::Items;
+use std::alloc::Global;
+
+#[tactic(auto, unfolding(sim_reading::specs::Concurrents::sensitivity))]
+fn sensitivity(alloc: Global, tokens: &mut Cursor<'_>) -> Result<Sensitivity, ParseError>
+    ensures { Reads (spec.sensitivity (view tokens.old)) result (view tokens.new) }
+{
+    if tokens.eat(Kind::All) {
+        return Ok(Sensitivity::All);
+    }
+    let names = names(alloc, tokens)?;
+    Ok(Sensitivity::Names(names))
+}
+
+#[tactic(auto, unfolding(sim_reading::specs::Concurrents::process_body))]
+fn process_body(
+    alloc: Global,
+    tokens: &mut Cursor<'_>,
+    label: Option<Name>,
+    sensitivity: Sensitivity,
+    is: bool,
+    variables: Items<ObjectDeclaration>,
+) -> Result<Process, ParseError>
+    ensures { Reads (spec.process_body label sensitivity is variables (view tokens.old)) result (view tokens.new) }
+{
+    tokens.expect(Kind::Begin)?;
+    let statements = statements(alloc, tokens)?;
+    tokens.expect(Kind::End)?;
+    tokens.expect(Kind::Process)?;
+    let label_repeated = label_again(tokens, &label)?;
+    tokens.expect(Kind::Semicolon)?;
+    Ok(Process {
+        label,
+        sensitivity,
+        is,
+        variables,
+        statements,
+        label_repeated,
+    })
+}
+
+#[tactic(auto, unfolding(sim_reading::specs::Concurrents::process))]
+fn process(
+    alloc: Global,
+    tokens: &mut Cursor<'_>,
+    label: Option<Name>,
+) -> Result<Process, ParseError>
+    ensures { Reads (spec.process label (view tokens.old)) result (view tokens.new) }
+{
+    tokens.expect(Kind::Process)?;
+    tokens.expect(Kind::LeftParen)?;
+    let sensitivity = sensitivity(alloc, tokens)?;
+    tokens.expect(Kind::RightParen)?;
+    let is = tokens.eat(Kind::Is);
+    let variables = variables(alloc, tokens)?;
+    process_body(alloc, tokens, label, sensitivity, is, variables)
+}
+
+#[tactic(auto, unfolding(sim_reading::specs::Concurrents::actual))]
+fn actual(alloc: Global, tokens: &mut Cursor<'_>) -> Result<Actual, ParseError>
+    ensures { Reads (spec.actual (view tokens.old)) result (view tokens.new) }
+{
+    match tokens.peek() {
+        Kind::Literal => {
+            let (value, at) = tokens.literal()?;
+            Ok(Actual::Literal(value, at))
+        }
+        Kind::Open => Ok(Actual::Open(tokens.take())),
+        _ => Ok(Actual::Named(tokens.word(alloc)?)),
+    }
+}
+
+#[tactic(auto, unfolding(sim_reading::specs::Concurrents::associated))]
+fn associated(
+    alloc: Global,
+    tokens: &mut Cursor<'_>,
+    formal: Name,
+) -> Result<Association, ParseError>
+    ensures { Reads (spec.associated formal (view tokens.old)) result (view tokens.new) }
+{
+    let actual = actual(alloc, tokens)?;
+    Ok(Association {
+        formal: Some(formal),
+        actual,
+    })
+}
+
+#[tactic(auto, unfolding(sim_reading::specs::Concurrents::named_association))]
+fn named_association(alloc: Global, tokens: &mut Cursor<'_>) -> Result<Association, ParseError>
+    ensures { Reads (spec.named_association (view tokens.old)) result (view tokens.new) }
+{
+    let formal = tokens.word(alloc)?;
+    tokens.expect(Kind::Arrow)?;
+    associated(alloc, tokens, formal)
+}
+
+#[tactic(auto, unfolding(sim_reading::specs::Concurrents::free_association))]
+fn free_association(alloc: Global, tokens: &mut Cursor<'_>) -> Result<Association, ParseError>
+    ensures { Reads (spec.free_association (view tokens.old)) result (view tokens.new) }
+{
+    match tokens.peek() {
+        Kind::Word => {
+            let name = tokens.word(alloc)?;
+            if tokens.eat(Kind::Arrow) {
+                associated(alloc, tokens, name)
+            } else {
+                Ok(Association {
+                    formal: None,
+                    actual: Actual::Named(name),
+                })
+            }
+        }
+        _ => {
+            let actual = actual(alloc, tokens)?;
+            Ok(Association {
+                formal: None,
+                actual,
+            })
+        }
+    }
+}
+
+#[tactic(auto, unfolding(sim_reading::specs::Concurrents::association))]
+fn association(
+    alloc: Global,
+    tokens: &mut Cursor<'_>,
+    named: bool,
+) -> Result<Association, ParseError>
+    ensures { Reads (spec.association named (view tokens.old)) result (view tokens.new) }
+{
+    if named {
+        named_association(alloc, tokens)
+    } else {
+        free_association(alloc, tokens)
+    }
+}
+
+fn is_named(formal: &Option<Name>) -> bool
+    ensures { result ≡ is_named formal.now }
+{
+    match formal {
+        Some(_) => true,
+        None => false,
+    }
+}
+
+#[tactic(auto, unfolding(sim_reading::specs::Concurrents::associations))]
+fn associations(alloc: Global, tokens: &mut Cursor<'_>) -> Result<Items<Association>, ParseError>
+    ensures { Reads (spec.associations (view tokens.old)) result (view tokens.new) }
+{
+    let mut found = Items::new(alloc);
+    let mut named = false;
+    for _turn in 0..tokens.left() {
+        let association = association(alloc, tokens, named)?;
+        named = named || is_named(&association.formal);
+        found.push(association)?;
+        if !tokens.eat(Kind::Comma) {
+            return Ok(found);
+        }
+    }
+    Err(ParseError::Syntax(tokens.left()))
+}
+
+#[tactic(auto, unfolding(sim_reading::specs::Concurrents::port_map))]
+fn port_map(alloc: Global, tokens: &mut Cursor<'_>) -> Result<Items<Association>, ParseError>
+    ensures { Reads (spec.port_map (view tokens.old)) result (view tokens.new) }
+{
+    if !tokens.eat(Kind::Port) {
+        return Ok(Items::new(alloc));
+    }
+    tokens.expect(Kind::Map)?;
+    tokens.expect(Kind::LeftParen)?;
+    let found = associations(alloc, tokens)?;
+    tokens.expect(Kind::RightParen)?;
+    Ok(found)
+}
+
+#[tactic(auto, unfolding(sim_reading::specs::Concurrents::instance))]
+fn instance(
+    alloc: Global,
+    tokens: &mut Cursor<'_>,
+    label: Name,
+    unit: Instantiated,
+) -> Result<Concurrent, ParseError>
+    ensures { Reads (spec.instance label unit (view tokens.old)) result (view tokens.new) }
+{
+    let associations = port_map(alloc, tokens)?;
+    tokens.expect(Kind::Semicolon)?;
+    Ok(Concurrent::Instance(Instance {
+        label,
+        unit,
+        associations,
+    }))
+}
+
+#[tactic(auto, unfolding(sim_reading::specs::Concurrents::chosen))]
+fn chosen(alloc: Global, tokens: &mut Cursor<'_>) -> Result<Option<Name>, ParseError>
+    ensures { Reads (spec.chosen (view tokens.old)) result (view tokens.new) }
+{
+    if !tokens.eat(Kind::LeftParen) {
+        return Ok(None);
+    }
+    let name = tokens.word(alloc)?;
+    tokens.expect(Kind::RightParen)?;
+    Ok(Some(name))
+}
+
+#[tactic(auto, unfolding(sim_reading::specs::Concurrents::entity_named))]
+fn entity_named(alloc: Global, tokens: &mut Cursor<'_>) -> Result<Instantiated, ParseError>
+    ensures { Reads (spec.entity_named (view tokens.old)) result (view tokens.new) }
+{
+    tokens.take();
+    let library = tokens.word(alloc)?;
+    tokens.expect(Kind::Dot)?;
+    let entity = tokens.word(alloc)?;
+    let architecture = chosen(alloc, tokens)?;
+    Ok(Instantiated::Entity(library, entity, architecture))
+}
+
+#[tactic(auto, unfolding(sim_reading::specs::Concurrents::concurrent_assigned))]
+fn concurrent_assigned(
+    alloc: Global,
+    tokens: &mut Cursor<'_>,
+    label: Option<Name>,
+    target: Name,
+) -> Result<Concurrent, ParseError>
+    ensures { Reads (spec.concurrent_assigned label target (view tokens.old)) result (view tokens.new) }
+{
+    let found = assigned(alloc, tokens, label, target)?;
+    Ok(Concurrent::Assignment(found))
+}
+
+#[tactic(auto, unfolding(sim_reading::specs::Concurrents::concurrent_process))]
+fn concurrent_process(
+    alloc: Global,
+    tokens: &mut Cursor<'_>,
+    label: Option<Name>,
+) -> Result<Concurrent, ParseError>
+    ensures { Reads (spec.concurrent_process label (view tokens.old)) result (view tokens.new) }
+{
+    let found = process(alloc, tokens, label)?;
+    Ok(Concurrent::Process(found))
+}
+
+/// Reads an assignment to this name, or an instance of the component with this name.
+fn behind_name(
+    alloc: Global,
+    tokens: &mut Cursor<'_>,
+    label: Name,
+    name: Name,
+) -> Result<Concurrent, ParseError>
+    ensures { Reads (spec.target_by label name (kind (view tokens.old)) (view tokens.old)) result (view tokens.new) }
+{
+    match tokens.peek() {
+        Kind::SignalAssign => concurrent_assigned(alloc, tokens, Some(label), name),
+        _ => instance(alloc, tokens, label, Instantiated::Component(false, name)),
+    }
+}
+
+#[tactic(auto, unfolding(sim_reading::specs::Concurrents::labelled))]
+fn labelled(alloc: Global, tokens: &mut Cursor<'_>, label: Name) -> Result<Concurrent, ParseError>
+    ensures { Reads (spec.labelled label (view tokens.old)) result (view tokens.new) }
+{
+    match tokens.peek() {
+        Kind::Process => concurrent_process(alloc, tokens, Some(label)),
+        Kind::Component => {
+            tokens.take();
+            let name = tokens.word(alloc)?;
+            instance(alloc, tokens, label, Instantiated::Component(true, name))
+        }
+        Kind::Entity => {
+            let unit = entity_named(alloc, tokens)?;
+            instance(alloc, tokens, label, unit)
+        }
+        _ => {
+            let name = tokens.word(alloc)?;
+            behind_name(alloc, tokens, label, name)
+        }
+    }
+}
+
+/// Reads an assignment to this name, or a statement with this label.
+fn behind_first(
+    alloc: Global,
+    tokens: &mut Cursor<'_>,
+    first: Name,
+) -> Result<Concurrent, ParseError>
+    ensures { Reads (spec.first_by first (kind (view tokens.old)) (view tokens.old)) result (view tokens.new) }
+{
+    match tokens.peek() {
+        Kind::SignalAssign => concurrent_assigned(alloc, tokens, None, first),
+        _ => {
+            tokens.expect(Kind::Colon)?;
+            labelled(alloc, tokens, first)
+        }
+    }
+}
+
+#[tactic(auto, unfolding(sim_reading::specs::Concurrents::concurrent))]
+fn concurrent(alloc: Global, tokens: &mut Cursor<'_>) -> Result<Concurrent, ParseError>
+    ensures { Reads (spec.concurrent (view tokens.old)) result (view tokens.new) }
+{
+    match tokens.peek() {
+        Kind::Process => concurrent_process(alloc, tokens, None),
+        _ => {
+            let first = tokens.word(alloc)?;
+            behind_first(alloc, tokens, first)
+        }
+    }
+}
+
+fn begins_concurrent(kind: Kind) -> bool
+    ensures { result ≡ spec.begins_concurrent kind }
+{
+    matches!(kind, Kind::Word | Kind::Process)
+}
+
+/// Reads the statements of an architecture (IEEE 1076-2008, 11.1).
+#[tactic(auto, unfolding(sim_reading::specs::Concurrents::concurrents, sim_tree::specs::Input::many))]
+pub fn concurrents(alloc: Global, tokens: &mut Cursor<'_>) -> Result<Items<Concurrent>, ParseError>
+    ensures { Reads (spec.concurrents (view tokens.old)) result (view tokens.new) }
+{
+    let mut found = Items::new(alloc);
+    for _turn in 0..tokens.left() {
+        if !begins_concurrent(tokens.peek()) {
+            return Ok(found);
+        }
+        found.push(concurrent(alloc, tokens)?)?;
+    }
+    Ok(found)
+}

@@ -1,0 +1,10 @@
+//! The tokens and the syntax tree of a text.
+#![tactic(auto)]
+
+mod concurrents;
+mod text;
+mod units;
+
+pub use sim_token::{Kind, TextError, Token, tokens};
+pub use sim_tree as tree;
+pub use text::{file_of, parse};

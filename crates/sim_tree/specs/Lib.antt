@@ -1,0 +1,5 @@
+pub mod Input
+pub mod Times
+pub mod Writing
+pub mod Grammar
+pub mod Late

@@ -1,0 +1,239 @@
+//! A cursor over the tokens of a text.
+
+ghost use Rattle.std.specs.Prelude.{◌≡◌, Ok, [], ◌↔◌, IsTrue};
+ghost use Rattle.sim_tree.specs.Input as spec;
+ghost use Rattle.sim_tree.specs.Input.{Reads, view};
+
+use crate::error::ParseError;
+use crate::expression::Name;
+use sim_logic::{Logic, Unit};
+use sim_token::{Kind, Token};
+use sqlite_items::Items;
+use std::alloc::Global;
+
+/// The tokens that are left.
+#[derive(Drop)]
+pub struct Cursor<'a> {
+    rest: &'a [Token],
+}
+
+impl<'a> Cursor<'a> {
+    /// At the first of these tokens.
+    pub fn new(rest: &'a [Token]) -> Cursor<'a>
+        ensures { view result ≡ rest.now }
+    {
+        Cursor { rest }
+    }
+
+    /// How many tokens are left.
+    #[tactic(auto, unfolding(crate::specs::Input::left))]
+    pub fn left(&self) -> usize
+        ensures { result ≡ spec.left (view self.now) }
+    {
+        self.rest.len()
+    }
+
+    /// Whether no token is left.
+    pub fn is_empty(&self) -> bool
+        ensures { IsTrue result ↔ (view self.now ≡ []) }
+    {
+        self.rest.is_empty()
+    }
+
+    /// The kind of the next token.
+    #[tactic(auto, unfolding(crate::specs::Input::kind))]
+    pub fn peek(&self) -> Kind
+        ensures { result ≡ spec.kind (view self.now) }
+    {
+        match self.rest {
+            [] => Kind::EndOfText,
+            [token, ..] => token.kind,
+        }
+    }
+
+    /// Goes past the next token, and says where it starts.
+    #[tactic(auto, unfolding(crate::specs::Input::next, crate::specs::Input::place))]
+    pub fn take(&mut self) -> usize
+        ensures place { result ≡ spec.place (view self.old) }
+        ensures next { view self.new ≡ spec.next (view self.old) }
+    {
+        match self.rest {
+            [] => 0,
+            [token, rest @ ..] => {
+                self.rest = rest;
+                token.start
+            }
+        }
+    }
+
+    /// Whether the next token is of this kind.
+    #[tactic(auto, unfolding(crate::specs::Input::sees))]
+    pub fn sees(&self, kind: Kind) -> bool
+        ensures { result ≡ spec.sees kind (view self.now) }
+    {
+        same_kind(self.peek(), kind)
+    }
+
+    /// Goes past a token of this kind, if it comes next.
+    #[tactic(auto, unfolding(crate::specs::Input::eat))]
+    pub fn eat(&mut self, kind: Kind) -> bool
+        ensures { spec.eat kind (view self.old) ≡ Ok (result, view self.new) }
+    {
+        let found = self.sees(kind);
+        if found {
+            self.take();
+        }
+        found
+    }
+
+    /// Goes past a token of this kind, and says where it starts. `Syntax` comes where another is next.
+    #[tactic(auto, unfolding(crate::specs::Input::expect, crate::specs::Input::left))]
+    pub fn expect(&mut self, kind: Kind) -> Result<usize, ParseError>
+        ensures { Reads (spec.expect kind (view self.old)) result (view self.new) }
+    {
+        if self.sees(kind) {
+            Ok(self.take())
+        } else {
+            Err(ParseError::Syntax(self.left()))
+        }
+    }
+
+    /// The name that comes next. `Syntax` comes where no word does.
+    #[tactic(auto, unfolding(crate::specs::Input::word, crate::specs::Input::left))]
+    pub fn word(&mut self, alloc: Global) -> Result<Name, ParseError>
+        ensures { Reads (spec.word (view self.old)) result (view self.new) }
+    {
+        match self.rest {
+            [token, rest @ ..] if same_kind(token.kind, Kind::Word) => {
+                let text = Items::from_slice(alloc, token.text.as_slice())?;
+                self.rest = rest;
+                Ok(Name {
+                    text,
+                    at: token.start,
+                })
+            }
+            _ => Err(ParseError::Syntax(self.left())),
+        }
+    }
+
+    /// The character literal that comes next, and where it starts. `Syntax` comes where none does.
+    #[tactic(auto, unfolding(crate::specs::Input::literal, crate::specs::Input::left))]
+    pub fn literal(&mut self) -> Result<(Logic, usize), ParseError>
+        ensures { Reads (spec.literal (view self.old)) result (view self.new) }
+    {
+        match self.rest {
+            [token, rest @ ..] if same_kind(token.kind, Kind::Literal) => {
+                match logic_of(token.text.as_slice()) {
+                    Some(value) => {
+                        self.rest = rest;
+                        Ok((value, token.start))
+                    }
+                    None => Err(ParseError::Syntax(self.left())),
+                }
+            }
+            _ => Err(ParseError::Syntax(self.left())),
+        }
+    }
+
+    /// The digits of the number that comes next, and where it starts. `Syntax` comes where none does.
+    #[tactic(auto, unfolding(crate::specs::Input::number, crate::specs::Input::left))]
+    pub fn number(&mut self, alloc: Global) -> Result<(Items<u8>, usize), ParseError>
+        ensures { Reads (spec.number (view self.old)) result (view self.new) }
+    {
+        match self.rest {
+            [token, rest @ ..] if same_kind(token.kind, Kind::Number) => {
+                let digits = Items::from_slice(alloc, token.text.as_slice())?;
+                self.rest = rest;
+                Ok((digits, token.start))
+            }
+            _ => Err(ParseError::Syntax(self.left())),
+        }
+    }
+
+    /// The word that comes next, as a unit of time (5.2.4). `Syntax` comes where it is none.
+    #[tactic(auto, unfolding(crate::specs::Input::unit, crate::specs::Input::left))]
+    pub fn unit(&mut self) -> Result<Unit, ParseError>
+        ensures { Reads (spec.unit (view self.old)) result (view self.new) }
+    {
+        match self.rest {
+            [token, rest @ ..] if same_kind(token.kind, Kind::Word) => {
+                match unit_in(token.text.as_slice()) {
+                    Some(unit) => {
+                        self.rest = rest;
+                        Ok(unit)
+                    }
+                    None => Err(ParseError::Syntax(self.left())),
+                }
+            }
+            _ => Err(ParseError::Syntax(self.left())),
+        }
+    }
+
+    /// Goes past this word. `Syntax` comes where another token is next.
+    #[tactic(auto, unfolding(crate::specs::Input::repeat, crate::specs::Input::left))]
+    pub fn repeat(&mut self, text: &[u8]) -> Result<(), ParseError>
+        ensures { Reads (spec.repeat text.now (view self.old)) result (view self.new) }
+    {
+        match self.rest {
+            [token, rest @ ..] if same_kind(token.kind, Kind::Word) => {
+                if token.text.as_slice() == text {
+                    self.rest = rest;
+                    Ok(())
+                } else {
+                    Err(ParseError::Syntax(self.left()))
+                }
+            }
+            _ => Err(ParseError::Syntax(self.left())),
+        }
+    }
+
+    /// Goes past the word `event`. `Syntax` comes where another token is next.
+    #[tactic(auto, unfolding(crate::specs::Input::event, crate::specs::Input::repeat))]
+    pub fn event(&mut self) -> Result<(), ParseError>
+        ensures { Reads (spec.event (view self.old)) result (view self.new) }
+    {
+        self.repeat(b"event".as_slice())
+    }
+}
+
+#[tactic(auto, unfolding(crate::specs::Input::same_kind))]
+fn same_kind(a: Kind, b: Kind) -> bool
+    ensures { result ≡ spec.same_kind a b }
+{
+    a == b
+}
+
+/// The value of a character literal's text.
+fn logic_of(text: &[u8]) -> Option<Logic>
+    ensures { result ≡ spec.logic_of text.now }
+{
+    match text {
+        b"U" => Some(Logic::U),
+        b"X" => Some(Logic::X),
+        b"0" => Some(Logic::Zero),
+        b"1" => Some(Logic::One),
+        b"Z" => Some(Logic::Z),
+        b"W" => Some(Logic::W),
+        b"L" => Some(Logic::L),
+        b"H" => Some(Logic::H),
+        b"-" => Some(Logic::Dash),
+        _ => None,
+    }
+}
+
+/// The unit with this name (5.2.4.2).
+fn unit_in(text: &[u8]) -> Option<Unit>
+    ensures { result ≡ spec.unit_in text.now }
+{
+    match text {
+        b"fs" => Some(Unit::Fs),
+        b"ps" => Some(Unit::Ps),
+        b"ns" => Some(Unit::Ns),
+        b"us" => Some(Unit::Us),
+        b"ms" => Some(Unit::Ms),
+        b"sec" => Some(Unit::Sec),
+        b"min" => Some(Unit::Min),
+        b"hr" => Some(Unit::Hr),
+        _ => None,
+    }
+}

@@ -1,0 +1,59 @@
+//! Declarations (IEEE 1076-2008, 6).
+
+use crate::expression::Name;
+use sim_logic::Logic;
+use sqlite_items::Items;
+
+/// A first value, and its place.
+#[derive(Drop)]
+pub enum Initial {
+    Literal(Logic, usize),
+    Named(Name),
+}
+
+/// A mode (6.5.2).
+#[derive(Clone, Copy, Debug, PartialEq, Eq)]
+pub enum Mode {
+    In,
+    Out,
+    Inout,
+}
+
+/// Ports of one mode and type mark (6.5.2).
+#[derive(Drop)]
+pub struct PortDeclaration {
+    /// Whether `signal` is written.
+    pub signal: bool,
+    pub names: Items<Name>,
+    /// The mode, where it is written.
+    pub mode: Option<Mode>,
+    pub mark: Name,
+    pub initial: Option<Initial>,
+}
+
+/// Signals (6.4.2.3) or variables (6.4.2.4) of one type mark.
+#[derive(Drop)]
+pub struct ObjectDeclaration {
+    pub names: Items<Name>,
+    pub mark: Name,
+    pub initial: Option<Initial>,
+}
+
+/// A component declaration (6.8).
+#[derive(Drop)]
+pub struct ComponentDeclaration {
+    pub name: Name,
+    /// Whether `is` is written.
+    pub is: bool,
+    /// Empty where there is no port clause.
+    pub ports: Items<PortDeclaration>,
+    /// Whether the name stands again at the end.
+    pub name_repeated: bool,
+}
+
+/// A declaration of an architecture (3.3.2).
+#[derive(Drop)]
+pub enum Declaration {
+    Signal(ObjectDeclaration),
+    Component(ComponentDeclaration),
+}

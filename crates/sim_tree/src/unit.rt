@@ -1,0 +1,132 @@
+//! Concurrent statements (IEEE 1076-2008, 11) and design units (3 and 13).
+
+use crate::declaration::{Declaration, ObjectDeclaration, PortDeclaration};
+use crate::expression::Name;
+use crate::sequential::Sequential;
+use crate::waveform::SignalAssignment;
+use sim_logic::Logic;
+use sqlite_items::Items;
+
+/// A sensitivity list (10.2).
+#[derive(Drop)]
+pub enum Sensitivity {
+    All,
+    Names(Items<Name>),
+}
+
+/// A process statement (11.3).
+#[derive(Drop)]
+pub struct Process {
+    pub label: Option<Name>,
+    pub sensitivity: Sensitivity,
+    /// Whether `is` is written.
+    pub is: bool,
+    pub variables: Items<ObjectDeclaration>,
+    pub statements: Items<Sequential>,
+    /// Whether the label stands again at the end.
+    pub label_repeated: bool,
+}
+
+/// An actual of a port map (6.5.7).
+#[derive(Drop)]
+pub enum Actual {
+    Named(Name),
+    Literal(Logic, usize),
+    /// `open`, and its place.
+    Open(usize),
+}
+
+/// An association of a port map (6.5.7).
+#[derive(Drop)]
+pub struct Association {
+    /// `None` where it is positional.
+    pub formal: Option<Name>,
+    pub actual: Actual,
+}
+
+/// What an instance is made of (11.7).
+#[derive(Drop)]
+pub enum Instantiated {
+    /// Whether `component` is written, and the component.
+    Component(bool, Name),
+    /// A library, an entity and its architecture, where one is written.
+    Entity(Name, Name, Option<Name>),
+}
+
+/// A component instantiation statement (11.7).
+#[derive(Drop)]
+pub struct Instance {
+    pub label: Name,
+    pub unit: Instantiated,
+    /// Empty where there is no port map.
+    pub associations: Items<Association>,
+}
+
+/// A concurrent statement (11.1).
+#[derive(Drop)]
+pub enum Concurrent {
+    Assignment(SignalAssignment),
+    Process(Process),
+    Instance(Instance),
+}
+
+/// A selected name of a use clause (8.3).
+#[derive(Drop)]
+pub struct SelectedName {
+    pub prefix: Name,
+    pub suffixes: Items<Name>,
+    /// Whether the last suffix is `all`.
+    pub all: bool,
+}
+
+/// A context item (13.4).
+#[derive(Drop)]
+pub enum ContextItem {
+    Library(Items<Name>),
+    Use(Items<SelectedName>),
+}
+
+/// An entity declaration (3.2).
+#[derive(Drop)]
+pub struct Entity {
+    pub name: Name,
+    /// Empty where there is no port clause.
+    pub ports: Items<PortDeclaration>,
+    /// Whether `entity` stands again at the end.
+    pub word_repeated: bool,
+    /// Whether the name stands again at the end.
+    pub name_repeated: bool,
+}
+
+/// An architecture body (3.3).
+#[derive(Drop)]
+pub struct Architecture {
+    pub name: Name,
+    pub entity: Name,
+    pub declarations: Items<Declaration>,
+    pub statements: Items<Concurrent>,
+    /// Whether `architecture` stands again at the end.
+    pub word_repeated: bool,
+    /// Whether the name stands again at the end.
+    pub name_repeated: bool,
+}
+
+/// A library unit (13.1).
+#[derive(Drop)]
+pub enum LibraryUnit {
+    Entity(Entity),
+    Architecture(Architecture),
+}
+
+/// A design unit (13.1).
+#[derive(Drop)]
+pub struct DesignUnit {
+    pub context: Items<ContextItem>,
+    pub library_unit: LibraryUnit,
+}
+
+/// A design file (13.1).
+#[derive(Drop)]
+pub struct DesignFile {
+    pub units: Items<DesignUnit>,
+}
