@@ -1,5 +1,5 @@
 pub mod Cycles
+pub mod Forms
 pub mod Gathering
 pub mod Programs
 pub mod Simulations
-pub mod Spelling

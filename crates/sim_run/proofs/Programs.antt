@@ -35,7 +35,8 @@ pub run_fails : (words : List (List ℕ)) (source : List ℕ) (options : Options
 run_fails words source options (refusal.CycleLimit l) old new r out k = record { explains = words_request words options r; quiet = λ _. k.2 }
 run_fails words source options refusal.Write old new r out k = record { explains = words_request words options r; quiet = λ other. absurd (other refl) }
 run_fails words source options refusal.Options old new r out k = let never : true ≡ false = sym (request_in_range words options r) ∙ out refl in absurd cc
-run_fails words source options refusal.NotYet old new r out k = record { explains = words_request words options r; quiet = λ _. k }
+run_fails words source options (refusal.Text f) old new r out k = record { explains = words_request words options r; quiet = λ _. k.1 }
+run_fails words source options refusal.NotYet old new r out k = record { explains = words_request words options r; quiet = λ _. k.1 }
 run_fails words source options refusal.Memory old new r out k = record { explains = words_request words options r; quiet = λ _. k }
 
 pub source_fails : (words : List (List ℕ)) (options : Options) (f : Failure) (old : Option (List ℕ)) → AreRequest words options → (f ≡ failure.Read) ⊎ (f ≡ failure.Memory) → Fails words old old f

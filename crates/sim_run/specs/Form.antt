@@ -1,101 +1,79 @@
--- The form of text that is run today: an entity without ports, and one architecture of it with at most one signal of
+-- The form of design that is run today: an entity without ports, and one architecture of it with at most one signal of
 -- type std_logic and assignments of one character literal each to it.
-use Rattle.std.specs.Prelude.{◌≡◌, ℕ, ◌+◌, ◌-◌, ◌*◌, ◌≤◌, Bool, false, List, [], ◌∷◌, ◌++◌, length, map, fold, flat_map, codes, Option, Some, None, All}
-use Rattle.std.specs.List.{list_any}
-use Rattle.std.specs.Str.{bytes_eq, chars, IsAscii}
+use Rattle.std.specs.Prelude.{◌≡◌, ℕ, ◌≤◌, Bool, false, List, [], ◌∷◌, length, codes, Option, Some, None, All}
+use Rattle.std.specs.List.{AllZip, list_any}
+use Rattle.std.specs.Str.{bytes_eq, chars, IsAscii, IsUtf8}
 use Rattle.caseless.specs.Caseless.{IsDefaultMatch}
 use Rattle.sim_logic.specs.declared.logic.Logic.{Logic}
 use Rattle.sim_logic.specs.declared.logic.Logic.TheVariants.{U}
-use Rattle.sim_logic.specs.Logic.{byte_of}
-use Rattle.sim_logic.specs.declared.time.Unit.{Unit as TimeUnit}
-use Rattle.sim_logic.specs.declared.time.Unit.TheVariants as unit
-use Rattle.sim_logic.specs.Time.{femtoseconds_in}
-use Rattle.sim_token.specs.declared.kind.Kind.{Kind}
-use Rattle.sim_token.specs.declared.kind.Kind.TheVariants as kind
-use Rattle.sim_token.specs.declared.token.Token.{Token}
+use Rattle.sim_logic.specs.declared.time.TheConstants.{LATEST}
+use Rattle.sim_tree.specs.declared.expression.Expression.{Expression}
+use Rattle.sim_tree.specs.declared.expression.Expression.TheVariants as expression
+use Rattle.sim_tree.specs.declared.expression.Relation.TheVariants as relation
+use Rattle.sim_tree.specs.declared.expression.Factor.{roll-Factor}
+use Rattle.sim_tree.specs.declared.expression.Primary.TheVariants as primary
+use Rattle.sim_tree.specs.declared.waveform.TimeLiteral.{TimeLiteral}
+use Rattle.sim_tree.specs.declared.waveform.Element.{Element}
+use Rattle.sim_tree.specs.declared.waveform.DelayMechanism.TheVariants as delay
+use Rattle.sim_tree.specs.declared.waveform.SignalAssignment.{SignalAssignment}
+use Rattle.sim_tree.specs.declared.declaration.Initial.{Initial}
+use Rattle.sim_tree.specs.declared.declaration.Initial.TheVariants as initial
+use Rattle.sim_tree.specs.declared.declaration.ObjectDeclaration.{ObjectDeclaration}
+use Rattle.sim_tree.specs.declared.declaration.Declaration.{Declaration}
+use Rattle.sim_tree.specs.declared.declaration.Declaration.TheVariants as declaration
+use Rattle.sim_tree.specs.declared.expression.Name.{Name}
+use Rattle.sim_tree.specs.declared.unit.Concurrent.{Concurrent}
+use Rattle.sim_tree.specs.declared.unit.Concurrent.TheVariants as concurrent
+use Rattle.sim_tree.specs.declared.unit.Entity.{Entity}
+use Rattle.sim_tree.specs.declared.unit.Architecture.{Architecture}
+use Rattle.sim_tree.specs.declared.unit.LibraryUnit.TheVariants as library
+use Rattle.sim_tree.specs.declared.unit.DesignFile.{DesignFile}
+use Rattle.sim_tree.specs.Times.{time_of}
+use Rattle.sim_run.specs.declared.form.Source.{Source}
 
 abbrev pub Text : Type 0
 Text = List ℕ
 
--- ---- what is written
+-- ---- assignments
 
--- an assignment: its value, and the digits and the unit of its delay where one is written
-pub record Assignment : Type 0 where
-  pub value : Logic
-  pub after : Option (Text × TimeUnit)
+-- a character literal, and no operator
+abbrev pub literal : Logic → ℕ → Expression
+literal value at = expression.Single (relation.Plain (roll-Factor (record { negation = None; primary = primary.Literal value at })))
 
--- the signal, its first value where one is written, and the assignments to it
-pub record Signal : Type 0 where
-  pub name : Text
-  pub initial : Option Logic
-  pub assignments : List Assignment
+-- The expression is this character literal.
+pub record IsLiteral (written : Expression) (value : Logic) : Type 0 where
+  pub at : ℕ
+  pub is : written ≡ literal value at
 
-pub record Form : Type 0 where
-  pub entity : Text
-  pub architecture : Text
-  pub signal : Option Signal
+-- a delay in femtoseconds; none written is 0
+abbrev pub delay_of : Option TimeLiteral → ℕ
+delay_of None = 0
+delay_of (Some t) = time_of t.digits t.unit
 
--- ---- how it is written
+-- The delay is so many femtoseconds, no later than the latest time.
+pub record IsDelay (written : Option TimeLiteral) (delay : ℕ) : Type 0 where
+  pub is : delay_of written ≡ delay
+  pub in_time : delay ≤ LATEST
 
--- one token of a spelling
-pub data Piece : Type 0 where
-  Mark : Kind → Piece
-  Word : Text → Piece
-  Literal : Logic → Piece
-  Number : Text → Piece
+-- The waveform is one character literal: its element is this delay and this value.
+pub record IsElement (waveform : List Element) (element : ℕ × Logic) : Type 0 where
+  pub written : Element
+  pub alone : waveform ≡ written ∷ []
+  pub delay : IsDelay written.after element.0
+  pub value : IsLiteral written.value element.1
 
--- the token is written so
-abbrev pub Stands : Piece → Token → Type 0
-Stands (Mark k) t = t.kind ≡ k
-Stands (Word w) t = (t.kind ≡ kind.Word) × (t.text ≡ w)
-Stands (Literal v) t = (t.kind ≡ kind.Literal) × (t.text ≡ byte_of v ∷ [])
-Stands (Number ds) t = (t.kind ≡ kind.Number) × (t.text ≡ ds)
+-- The statement is `S <= LITERAL [after TIME] ;`, for the signal S of this name.
+pub record Assigns (signal : Text) (statement : Concurrent) (element : ℕ × Logic) : Type 0 where
+  pub assignment : SignalAssignment
+  pub waveform : List Element
+  pub is : statement ≡ concurrent.Assignment assignment
+  pub unlabelled : assignment.label ≡ None
+  pub target : assignment.target.text ≡ signal
+  pub delay : assignment.delay ≡ delay.Unwritten
+  pub unconditional : assignment.waveforms ≡ record { choices = []; otherwise = Some waveform }
+  pub element_is : IsElement waveform element
 
--- the pieces stand at the front of the tokens, and the rest follows
-abbrev pub Takes : List Piece → List Token → List Token → Type 0
-Takes [] ts rest = ts ≡ rest
-Takes (p ∷ ps) [] rest = ⊥
-Takes (p ∷ ps) (t ∷ ts) rest = Stands p t × Takes ps ts rest
-
-abbrev pub unit_name : TimeUnit → Text
-unit_name unit.Fs = codes "fs"
-unit_name unit.Ps = codes "ps"
-unit_name unit.Ns = codes "ns"
-unit_name unit.Us = codes "us"
-unit_name unit.Ms = codes "ms"
-unit_name unit.Sec = codes "sec"
-unit_name unit.Min = codes "min"
-unit_name unit.Hr = codes "hr"
-
--- after TIME
-abbrev pub of_after : Option (Text × TimeUnit) → List Piece
-of_after None = []
-of_after (Some t) = Mark kind.After ∷ Number t.0 ∷ Word (unit_name t.1) ∷ []
-
--- S <= LITERAL [after TIME] ;
-abbrev pub of_assignment : Text → Assignment → List Piece
-of_assignment name a = Word name ∷ Mark kind.SignalAssign ∷ Literal a.value ∷ of_after a.after ++ Mark kind.Semicolon ∷ []
-
--- := LITERAL
-abbrev pub of_initial : Option Logic → List Piece
-of_initial None = []
-of_initial (Some v) = Mark kind.VariableAssign ∷ Literal v ∷ []
-
--- [signal S : std_logic [:= LITERAL] ;] begin {S <= LITERAL [after TIME] ;}
-abbrev pub of_body : Option Signal → List Piece
-of_body None = Mark kind.Begin ∷ []
-of_body (Some s) =
-    (Mark kind.Signal ∷ Word s.name ∷ Mark kind.Colon ∷ Word (codes "std_logic") ∷ []) ++ of_initial s.initial
-    ++ (Mark kind.Semicolon ∷ Mark kind.Begin ∷ []) ++ flat_map (of_assignment s.name) s.assignments
-
--- entity E is end; architecture A of E is .. end;
-abbrev pub of_form : Form → List Piece
-of_form f =
-    (Mark kind.Entity ∷ Word f.entity ∷ Mark kind.Is ∷ Mark kind.End ∷ Mark kind.Semicolon
-    ∷ Mark kind.Architecture ∷ Word f.architecture ∷ Mark kind.Of ∷ Word f.entity ∷ Mark kind.Is ∷ [])
-    ++ of_body f.signal ++ (Mark kind.End ∷ Mark kind.Semicolon ∷ [])
-
--- ---- what it means
+-- ---- the signal
 
 -- the names that no declaration may take
 abbrev pub predefined : List Text
@@ -104,42 +82,59 @@ predefined = codes "std_logic" ∷ codes "std_ulogic" ∷ codes "boolean" ∷ co
 abbrev pub is_predefined : Text → Bool
 is_predefined name = list_any (bytes_eq name) predefined
 
--- the number that digits write
-abbrev pub value_of : Text → ℕ
-value_of digits = fold (λ n digit. 10 * n + (digit - 48)) 0 digits
+-- This is the first value of a signal (IEEE 1076-2008, 6.4.2.3): without one that is written it is the leftmost, 'U'.
+abbrev pub IsFirstValue : Option Initial → Logic → Type 0
+IsFirstValue None value = value ≡ U
+IsFirstValue (Some (initial.Literal written at)) value = value ≡ written
+IsFirstValue (Some (initial.Named name)) value = ⊥
 
--- a delay in femtoseconds; none written is 0
-abbrev pub delay_of : Option (Text × TimeUnit) → ℕ
-delay_of None = 0
-delay_of (Some t) = value_of t.0 * femtoseconds_in t.1
+-- The declaration is `signal S : std_logic [:= LITERAL] ;`.
+pub record Declares (written : Declaration) (signal : Text) (value : Logic) : Type 0 where
+  pub object : ObjectDeclaration
+  pub name : Name
+  pub is : written ≡ declaration.Signal object
+  pub names : object.names ≡ name ∷ []
+  pub named : name.text ≡ signal
+  pub text : IsUtf8 signal
+  pub free : is_predefined signal ≡ false
+  pub mark : object.mark.text ≡ codes "std_logic"
+  pub first_value : IsFirstValue object.initial value
 
--- the element of an assignment's waveform: its delay and its value
-abbrev pub element_of : Assignment → ℕ × Logic
-element_of a = (delay_of a.after, a.value)
+-- The statements are assignments to the signal, and it has at most 16,384 drivers.
+pub record Drives (statements : List Concurrent) (signal : Text) (elements : List (ℕ × Logic)) : Type 0 where
+  pub assigned : AllZip (Assigns signal) statements elements
+  pub few : length elements ≤ 16384
 
--- the first value of a signal (IEEE 1076-2008, 6.4.2.3): without one it is the leftmost, 'U'
-abbrev pub default_of : Option Logic → Logic
-default_of None = U
-default_of (Some v) = v
+-- The architecture has one signal and assignments to it, or nothing.
+abbrev pub HasBody : List Declaration → List Concurrent → Option Source → Type 0
+HasBody [] [] None = Unit {0}
+HasBody (d ∷ []) statements (Some s) = Declares d s.name s.initial × Drives statements s.name s.elements
+HasBody _ _ _ = ⊥
 
 -- the delays are at most the greatest time, 2^62 - 1 fs
 abbrev pub IsInTime : List (ℕ × Logic) → Type 0
-IsInTime elements = All (λ (e : ℕ × Logic). e.0 ≤ 4611686018427387903) elements
+IsInTime elements = All (λ (e : ℕ × Logic). e.0 ≤ LATEST) elements
 
--- the signal takes no predefined name, and it has at most 16,384 drivers
-abbrev pub IsLawful : Option Signal → Type 0
-IsLawful None = Unit {0}
-IsLawful (Some s) = (is_predefined s.name ≡ false) × IsInTime (map element_of s.assignments) × (length s.assignments ≤ 16384)
+-- ---- the design file
 
 -- An entity of this name is the top: they are one without regard to case. A top with a byte above 127 names no entity.
 pub record IsTop (top entity : Text) : Type 0 where
   pub ascii : IsAscii top
+  pub text : IsUtf8 entity
   pub same : IsDefaultMatch (chars top) (chars entity)
 
--- The tokens are a text of this form whose entity is the top.
-pub record IsForm (top : Text) (f : Form) (tokens : List Token) : Type 0 where
-  pub spelled : Takes (of_form f) tokens []
-  pub is_top : IsTop top f.entity
-  pub entity_free : is_predefined f.entity ≡ false
-  pub architecture_free : is_predefined f.architecture ≡ false
-  pub lawful : IsLawful f.signal
+-- The file has an entity without ports, which is the top, and behind it its architecture.
+pub record IsPair (top : Text) (file : DesignFile) (architecture : Architecture) : Type 0 where
+  pub entity : Entity
+  pub units : file.units ≡ record { context = []; library_unit = library.Entity entity } ∷ record { context = []; library_unit = library.Architecture architecture } ∷ []
+  pub portless : entity.ports ≡ []
+  pub is_top : IsTop top entity.name.text
+  pub entity_free : is_predefined entity.name.text ≡ false
+  pub architecture_free : is_predefined architecture.name.text ≡ false
+  pub of_entity : architecture.entity.text ≡ entity.name.text
+
+-- The file is of the form, its entity is the top, and this is its design.
+pub record IsForm (top : Text) (file : DesignFile) (design : Option Source) : Type 0 where
+  pub architecture : Architecture
+  pub pair : IsPair top file architecture
+  pub body : HasBody architecture.declarations architecture.statements design

@@ -4,9 +4,9 @@ pub mod History
 pub mod Listing
 pub mod Options
 pub mod Outcome
-pub mod Reading
 pub mod Run
 pub mod Session
 pub mod Simulation
 pub mod State
+pub mod Texts
 pub mod Writing

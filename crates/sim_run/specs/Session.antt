@@ -3,6 +3,7 @@ use Rattle.std.specs.Prelude.{◌≡◌, ◌≢◌, ℕ, Bool, true, false, List
 use Rattle.std.specs.Str.{bytes_eq}
 use Rattle.std.specs.String.{string_bytes}
 use Rattle.std.specs.Io.KnownBytes.{Keeps, Consumes, IsAtEnd}
+use Rattle.sim_token.specs.declared.error.TextError.TheVariants as fault
 use Rattle.sim_run.specs.declared.error.RunError.TheVariants as refusal
 use Rattle.sim_run.specs.declared.options.Options.{Options}
 use Rattle.sim_run.specs.declared.program.Failure.{Failure}
@@ -60,6 +61,8 @@ status_of failure.Words = 2
 status_of failure.Read = 4
 status_of failure.Memory = 4
 status_of (failure.Run refusal.Options) = 2
+status_of (failure.Run (refusal.Text fault.Memory)) = 4
+status_of (failure.Run (refusal.Text _)) = 1
 status_of (failure.Run refusal.NotYet) = 1
 status_of (failure.Run (refusal.CycleLimit limit)) = 3
 status_of (failure.Run refusal.Write) = 4

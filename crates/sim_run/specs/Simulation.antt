@@ -1,9 +1,8 @@
 -- What a simulation of a text writes.
-use Rattle.std.specs.Prelude.{◌≡◌, ℕ, ◌≤◌, List, length, Option}
+use Rattle.std.specs.Prelude.{◌≡◌, ℕ, List, Option}
 use Rattle.std.specs.String.{string_bytes}
 use Rattle.std.specs.Io.KnownBytes.{Appends, Keeps}
-use Rattle.sim_token.specs.declared.token.Token.{Token}
-use Rattle.sim_token.specs.Cutting.{AreTokens}
+use Rattle.sim_tree.specs.declared.unit.DesignFile.{DesignFile}
 use Rattle.sim_run.specs.declared.error.RunError.{RunError}
 use Rattle.sim_run.specs.declared.error.RunError.TheVariants as refusal
 use Rattle.sim_run.specs.declared.form.Source.{Source}
@@ -12,16 +11,29 @@ use Rattle.sim_run.specs.Cycle.{next_after}
 use Rattle.sim_run.specs.History.{History}
 use Rattle.sim_run.specs.Listing.{listing}
 use Rattle.sim_run.specs.Outcome.{HasOutcome, LimitReached}
-use Rattle.sim_run.specs.Reading.{ReadsForm}
+use Rattle.sim_run.specs.Form.{IsForm}
 use Rattle.sim_run.specs.Run.{Finishes}
+use Rattle.sim_run.specs.Texts.{IsText, IsFault}
 use Rattle.sim_run.specs.Writing.{AppendsPart}
 
--- The text is of the form that is run, and this is its design: what it says of its signal, if it has one.
+-- The text is a file of the form that is run, and this is its design: what it says of its signal, if it has one.
 pub record IsDesignOf (text : List ℕ) (top : List ℕ) (design : Option Source) : Type 0 where
-  pub short : length text ≤ 1048576
-  pub tokens : List Token
-  pub are_tokens : AreTokens text tokens
-  pub read : ReadsForm top tokens design
+  pub file : DesignFile
+  pub is_text : IsText text file
+  pub is_form : IsForm top file design
+
+-- The text is a file, and not of the form that is run, or its entity is not the top.
+pub record IsOther (text : List ℕ) (top : List ℕ) : Type 0 where
+  pub file : DesignFile
+  pub is_text : IsText text file
+  pub other : (design : Option Source) → IsForm top file design → ⊥
+
+-- why a text has no design
+abbrev pub IsUnread : List ℕ → List ℕ → RunError → Type 0
+IsUnread text top (refusal.Text fault) = IsFault text fault
+IsUnread text top refusal.NotYet = IsOther text top
+IsUnread text top refusal.Memory = Unit {0}
+IsUnread text top _ = ⊥
 
 -- The run of the text's design is finished up to the stop time and within the limit, with this history.
 pub record Simulates (text : List ℕ) (options : Options) (history : History) : Type 0 where
@@ -37,8 +49,9 @@ pub record ReachesLimit (text : List ℕ) (options : Options) : Type 0 where
 
 -- why there is no run
 abbrev pub IsNotRun : List ℕ → Options → RunError → Type 0
+IsNotRun text options (refusal.Text fault) = IsFault text fault
 IsNotRun text options (refusal.CycleLimit limit) = (limit ≡ options.limit) × ReachesLimit text options
-IsNotRun text options refusal.NotYet = Unit {0}
+IsNotRun text options refusal.NotYet = IsOther text (string_bytes options.top)
 IsNotRun text options refusal.Memory = Unit {0}
 IsNotRun text options refusal.Options = ⊥
 IsNotRun text options refusal.Write = ⊥
@@ -57,8 +70,9 @@ pub record ListsPart (text : List ℕ) (options : Options) (old new : Option (Li
 
 -- What a refusal says, and what was written: nothing, but where a write failed.
 abbrev pub IsRefusal : List ℕ → Options → Option (List ℕ) → Option (List ℕ) → RunError → Type 0
+IsRefusal text options old new (refusal.Text fault) = IsFault text fault × Keeps old new
 IsRefusal text options old new (refusal.CycleLimit limit) = (limit ≡ options.limit) × ReachesLimit text options × Keeps old new
 IsRefusal text options old new refusal.Write = ListsPart text options old new
 IsRefusal text options old new refusal.Options = Keeps old new
-IsRefusal text options old new refusal.NotYet = Keeps old new
+IsRefusal text options old new refusal.NotYet = IsOther text (string_bytes options.top) × Keeps old new
 IsRefusal text options old new refusal.Memory = Keeps old new

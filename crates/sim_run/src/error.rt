@@ -2,9 +2,8 @@
 
 ghost use Rattle.std.specs.Prelude.{◌≡◌};
 ghost use Rattle.sim_run.specs.declared.error.RunError.TheVariants as refusal;
-ghost use Rattle.sim_run.specs.Run.{refusal_of};
 
-use crate::form::FormError;
+use sim_text::TextError;
 use std::alloc::{AllocError, AllocFailed};
 use thiserror::Error;
 
@@ -14,6 +13,9 @@ pub enum RunError {
     /// The stop time, the cycle limit or the number of workers is out of its range.
     #[error("Options")]
     Options,
+    /// The text is at fault, or there was no memory to read it.
+    #[error("{0}")]
+    Text(TextError),
     /// The text is not of the form that is run today.
     #[error("NotYet")]
     NotYet,
@@ -44,13 +46,10 @@ impl<T: Drop> From<AllocFailed<T>> for RunError {
     }
 }
 
-impl From<FormError> for RunError {
-    ghost from_gives = { λ f e. e ≡ refusal_of f };
+impl From<TextError> for RunError {
+    ghost from_gives = { λ f e. e ≡ refusal.Text f };
 
-    fn from(e: FormError) -> RunError {
-        match e {
-            FormError::NotYet => RunError::NotYet,
-            FormError::Memory => RunError::Memory,
-        }
+    fn from(e: TextError) -> RunError {
+        RunError::Text(e)
     }
 }

@@ -1,15 +1,19 @@
-//! Reads a text of the form that is run today: an entity without ports, and one architecture of it with at most one signal
-//! of type std_logic and assignments of one character literal each to it.
-ghost use Rattle.std.specs.Prelude.{◌≡◌, true, false, Some, [], ◌∷◌, ◌++◌, length, map, IfOk, OnOk, IfSome};
-ghost use Rattle.sim_token.specs.declared.kind.Kind.TheVariants as kinds;
+//! Recognizes a design of the form that is run today: an entity without ports, and one architecture of it with at most one
+//! signal of type std_logic and assignments of one character literal each to it.
+ghost use Rattle.std.specs.Prelude.{◌≡◌, ◌↔◌, true, ℕ, List, Option, MatchOption, MatchResult};
+ghost use Rattle.sim_logic.specs.declared.logic.Logic as logic;
+ghost use Rattle.sim_tree.specs.declared.unit.Architecture as unit;
 ghost use Rattle.sim_run.specs.declared.form.FormError.TheVariants as errors;
+ghost use Rattle.sim_run.specs.declared.form.Source as source;
 ghost use Rattle.sim_run.specs.Form as form;
-ghost use Rattle.sim_run.specs.Form.{Takes, IsTop};
-ghost use Rattle.sim_run.specs.Reading.{view, IsDelay, ReadsDelay, ReadsInitial, ReadsAssignment, ReadsAssignments, ReadsBody, ReadsForm, ReadsHead};
+ghost use Rattle.sim_run.specs.Form.{IsTop, IsLiteral, IsDelay, IsElement, Assigns, IsFirstValue, Declares, Drives, HasBody, IsPair, IsForm};
 
 use caseless::default_caseless_match_str;
-use sim_logic::{LATEST, Logic, Time, Unit};
-use sim_token::{Kind, Token};
+use sim_logic::Logic;
+use sim_tree::declaration::{Declaration, Initial, ObjectDeclaration};
+use sim_tree::expression::{Expression, Factor, Primary, Relation};
+use sim_tree::unit::{Architecture, Concurrent, DesignFile, DesignUnit, Entity, LibraryUnit};
+use sim_tree::waveform::{DelayMechanism, Element, TimeLiteral};
 use sqlite_items::Items;
 use std::alloc::{AllocError, AllocFailed, Global};
 use std::str;
@@ -51,134 +55,92 @@ pub struct Source {
     pub elements: Items<(u64, Logic)>,
 }
 
-/// The tokens that are left.
-#[derive(Drop)]
-struct Cursor<'a> {
-    rest: &'a [Token],
-}
-
-fn is_same(a: Kind, b: Kind) -> bool
-    ensures { result ≡ true → a ≡ b }
+/// The value of a character literal without an operator.
+fn literal_of(expression: &Expression) -> Option<Logic>
+    ensures { MatchOption result ((v : logic.Logic) → IsLiteral expression.now v → ⊥) (λ v. IsLiteral expression.now v) }
 {
-    a == b
+    match expression {
+        Expression::Single(
+            Relation::Plain(
+                Factor {
+                    negation: None,
+                    primary: Primary::Literal(value, _),
+                },
+            ),
+        ) => Some(*value),
+        _ => None,
+    }
 }
 
-impl<'a> Cursor<'a> {
-    /// Goes past a token of this kind.
-    fn mark(&mut self, kind: Kind) -> Result<(), FormError>
-        ensures { OnOk result (Takes (form.Mark kind ∷ []) (view self.old) (view self.new)) }
+/// A delay in femtoseconds; where none is written, 0.
+fn delay_of(after: &Option<TimeLiteral>) -> Option<u64>
+    ensures { MatchOption result ((d : ℕ) → IsDelay after.now d → ⊥) (λ d. IsDelay after.now d) }
+{
+    match after {
+        None => Some(0),
+        Some(time) => {
+            let time = time.time()?;
+            Some(time.fs())
+        }
+    }
+}
+
+/// The delay and the value of a waveform of one literal.
+fn element_of(waveform: &[Element]) -> Option<(u64, Logic)>
+    ensures { MatchOption result ((e : ℕ × logic.Logic) → IsElement waveform.now e → ⊥) (λ e. IsElement waveform.now e) }
+{
+    match waveform {
+        [element] => {
+            let delay = delay_of(&element.after)?;
+            let value = literal_of(&element.value)?;
+            Some((delay, value))
+        }
+        _ => None,
+    }
+}
+
+/// The element that a statement assigns to the signal of this name.
+fn assigned(statement: &Concurrent, signal: &[u8]) -> Option<(u64, Logic)>
+    ensures { MatchOption result ((e : ℕ × logic.Logic) → Assigns signal.now statement.now e → ⊥) (λ e. Assigns signal.now statement.now e) }
+{
+    let Concurrent::Assignment(assignment) = statement else {
+        return None;
+    };
+    if assignment.label.is_some()
+        || assignment.target.text.as_slice() != signal
+        || !matches!(assignment.delay, DelayMechanism::Unwritten)
+        || !assignment.waveforms.choices.is_empty()
     {
-        match self.rest {
-            [token, rest @ ..] if is_same(token.kind, kind) => {
-                self.rest = rest;
-                Ok(())
-            }
-            _ => Err(FormError::NotYet),
-        }
+        return None;
     }
-
-    /// Whether a token of this kind comes next.
-    fn sees(&self, kind: Kind) -> bool {
-        match self.rest {
-            [token, ..] => token.kind == kind,
-            [] => false,
+    match &assignment.waveforms.otherwise {
+        Some(waveform) => {
+            let element = element_of(waveform.as_slice())?;
+            Some(element)
         }
-    }
-
-    /// Goes past this word.
-    fn name(&mut self, name: &[u8]) -> Result<(), FormError>
-        ensures { OnOk result (Takes (form.Word name.now ∷ []) (view self.old) (view self.new)) }
-    {
-        let word = self.word()?;
-        if word == name {
-            Ok(())
-        } else {
-            Err(FormError::NotYet)
-        }
-    }
-
-    /// Goes past a word.
-    fn word(&mut self) -> Result<&'a [u8], FormError>
-        ensures { IfOk result (λ w. Takes (form.Word w.now ∷ []) (view self.old) (view self.new)) }
-    {
-        match self.rest {
-            [token, rest @ ..] if token.kind == Kind::Word => {
-                self.rest = rest;
-                Ok(token.text.as_slice())
-            }
-            _ => Err(FormError::NotYet),
-        }
+        None => None,
     }
 }
 
-/// The literal that comes next.
-fn literal(tokens: &mut Cursor<'_>) -> Result<Logic, FormError>
-    ensures { IfOk result (λ v. Takes (form.Literal v ∷ []) (view tokens.old) (view tokens.new)) }
+/// The elements that the statements assign to the signal of this name.
+fn elements(
+    alloc: Global,
+    statements: &[Concurrent],
+    signal: &[u8],
+) -> Result<Items<(u64, Logic)>, FormError>
+    ensures { MatchResult result (λ found. Drives statements.now signal.now found) (λ e. e ≡ errors.NotYet → (found : List (ℕ × logic.Logic)) → Drives statements.now signal.now found → ⊥) }
 {
-    match tokens.rest {
-        [token, rest @ ..] if token.kind == Kind::Literal => match token.text.as_slice() {
-            [byte] => match Logic::from_byte(*byte) {
-                Some(value) => {
-                    tokens.rest = rest;
-                    Ok(value)
-                }
-                None => Err(FormError::NotYet),
-            },
-            _ => Err(FormError::NotYet),
-        },
-        _ => Err(FormError::NotYet),
+    if statements.len() > MOST_DRIVERS {
+        return Err(FormError::NotYet);
     }
-}
-
-/// The digits of the number that comes next.
-fn number<'a>(tokens: &mut Cursor<'a>) -> Result<&'a [u8], FormError>
-    ensures { IfOk result (λ ds. Takes (form.Number ds.now ∷ []) (view tokens.old) (view tokens.new)) }
-{
-    match tokens.rest {
-        [token, rest @ ..] if token.kind == Kind::Number => {
-            tokens.rest = rest;
-            Ok(token.text.as_slice())
+    let mut found = Items::new(alloc);
+    for statement in statements {
+        match assigned(statement, signal) {
+            Some(element) => found.push(element)?,
+            None => return Err(FormError::NotYet),
         }
-        _ => Err(FormError::NotYet),
     }
-}
-
-/// The number that digits write.
-fn count_of(digits: &[u8]) -> Option<u64>
-    ensures { IfSome result (λ n. n ≡ form.value_of digits.now) }
-{
-    let mut count: u64 = 0;
-    for digit in digits {
-        count = count
-            .checked_mul(10)?
-            .checked_add(u64::from(digit.saturating_sub(b'0')))?;
-    }
-    Some(count)
-}
-
-/// The unit with this name.
-fn unit_named(name: &[u8]) -> Option<Unit>
-    ensures { IfSome result (λ u. name.now ≡ form.unit_name u) }
-{
-    if name == b"fs".as_slice() {
-        Some(Unit::Fs)
-    } else if name == b"ps".as_slice() {
-        Some(Unit::Ps)
-    } else if name == b"ns".as_slice() {
-        Some(Unit::Ns)
-    } else if name == b"us".as_slice() {
-        Some(Unit::Us)
-    } else if name == b"ms".as_slice() {
-        Some(Unit::Ms)
-    } else if name == b"sec".as_slice() {
-        Some(Unit::Sec)
-    } else if name == b"min".as_slice() {
-        Some(Unit::Min)
-    } else if name == b"hr".as_slice() {
-        Some(Unit::Hr)
-    } else {
-        None
-    }
+    Ok(found)
 }
 
 fn is_predefined(name: &[u8]) -> bool
@@ -193,141 +155,62 @@ fn is_predefined(name: &[u8]) -> bool
         || name == b"falling_edge".as_slice()
 }
 
-/// The word that comes next, which is no predefined name.
-fn free_name<'a>(tokens: &mut Cursor<'a>) -> Result<&'a [u8], FormError>
-    ensures word { IfOk result (λ w. Takes (form.Word w.now ∷ []) (view tokens.old) (view tokens.new)) }
-    ensures free { IfOk result (λ w. form.is_predefined w.now ≡ false) }
+/// The first value of a signal; where none is written, 'U'.
+fn first_value(initial: &Option<Initial>) -> Option<Logic>
+    ensures { MatchOption result ((v : logic.Logic) → IsFirstValue initial.now v → ⊥) (λ v. IsFirstValue initial.now v) }
 {
-    let word = tokens.word()?;
-    if is_predefined(word) {
-        Err(FormError::NotYet)
-    } else {
-        Ok(word)
+    match initial {
+        None => Some(Logic::U),
+        Some(Initial::Literal(value, _)) => Some(*value),
+        Some(Initial::Named(_)) => None,
     }
 }
 
-/// The delay that comes next, in femtoseconds; where none is written, 0.
-fn delay(tokens: &mut Cursor<'_>) -> Result<u64, FormError>
-    ensures { IfOk result (λ d. ReadsDelay (view tokens.old) (view tokens.new) d) }
+/// The name and the first value of a signal that is declared alone.
+fn declared(declaration: &Declaration) -> Option<(&[u8], Logic)>
+    ensures { MatchOption result ((name : List ℕ) (v : logic.Logic) → Declares declaration.now name v → ⊥) (λ s. Declares declaration.now s.0.now s.1) }
 {
-    if !tokens.sees(Kind::After) {
-        return Ok(0);
+    let Declaration::Signal(object) = declaration else {
+        return None;
+    };
+    let [name] = object.names.as_slice() else {
+        return None;
+    };
+    if str::from_utf8(name.text.as_slice()).is_err()
+        || is_predefined(name.text.as_slice())
+        || object.mark.text.as_slice() != b"std_logic".as_slice()
+    {
+        return None;
     }
-    tokens.mark(Kind::After)?;
-    let digits = number(tokens)?;
-    let name = tokens.word()?;
-    match delay_of(digits, name) {
-        Some(time) => Ok(time),
-        None => Err(FormError::NotYet),
-    }
+    let value = first_value(&object.initial)?;
+    Some((name.text.as_slice(), value))
 }
 
-/// So many of the unit with this name, in femtoseconds.
-fn delay_of(digits: &[u8], name: &[u8]) -> Option<u64>
-    ensures { IfSome result (λ d. IsDelay digits.now name.now d) }
+/// The design of an architecture: its signal, if it has one.
+fn body(alloc: Global, architecture: &Architecture) -> Result<Option<Source>, FormError>
+    ensures { MatchResult result (λ s. HasBody architecture.now.declarations architecture.now.statements s) (λ e. e ≡ errors.NotYet → (s : Option source.Source) → HasBody architecture.now.declarations architecture.now.statements s → ⊥) }
 {
-    let unit = unit_named(name)?;
-    let count = count_of(digits)?;
-    let time = Time::of(count, unit)?;
-    Some(time.fs())
-}
-
-/// The assignment to the signal of this name that comes next: its delay and its value.
-fn assignment(tokens: &mut Cursor<'_>, name: &[u8]) -> Result<(u64, Logic), FormError>
-    ensures { IfOk result (λ a. ReadsAssignment name.now (view tokens.old) (view tokens.new) a) }
-{
-    tokens.name(name)?;
-    tokens.mark(Kind::SignalAssign)?;
-    let value = literal(tokens)?;
-    let delay = delay(tokens)?;
-    tokens.mark(Kind::Semicolon)?;
-    Ok((delay, value))
-}
-
-/// The assignments to the signal of this name, as many as a design may have drivers.
-fn assignments(
-    alloc: Global,
-    tokens: &mut Cursor<'_>,
-    name: &[u8],
-) -> Result<Items<(u64, Logic)>, FormError>
-    ensures { IfOk result (λ found. ReadsAssignments name.now (view tokens.old) (view tokens.new) found) }
-{
-    let mut found = Items::new(alloc);
-    for _turn in 0..MOST_DRIVERS {
-        if !tokens.sees(Kind::Word) {
-            return Ok(found);
+    match architecture.declarations.as_slice() {
+        [] if architecture.statements.is_empty() => Ok(None),
+        [declaration] => {
+            let Some((name, initial)) = declared(declaration) else {
+                return Err(FormError::NotYet);
+            };
+            let elements = elements(alloc, architecture.statements.as_slice(), name)?;
+            let name = Items::from_slice(alloc, name)?;
+            Ok(Some(Source {
+                name,
+                initial,
+                elements,
+            }))
         }
-        found.push(assignment(tokens, name)?)?;
+        _ => Err(FormError::NotYet),
     }
-    Ok(found)
-}
-
-/// The first value that comes next; where none is written, 'U'.
-fn initial(tokens: &mut Cursor<'_>) -> Result<Logic, FormError>
-    ensures { IfOk result (λ v. ReadsInitial (view tokens.old) (view tokens.new) v) }
-{
-    if !tokens.sees(Kind::VariableAssign) {
-        return Ok(Logic::U);
-    }
-    tokens.mark(Kind::VariableAssign)?;
-    let value = literal(tokens)?;
-    Ok(value)
-}
-
-/// The signal and the assignments to it.
-fn signal(alloc: Global, tokens: &mut Cursor<'_>) -> Result<Source, FormError>
-    ensures { IfOk result (λ s. ReadsBody (view tokens.old) (view tokens.new) (Some s)) }
-{
-    tokens.mark(Kind::Signal)?;
-    let name = free_name(tokens)?;
-    tokens.mark(Kind::Colon)?;
-    tokens.name(b"std_logic")?;
-    let initial = initial(tokens)?;
-    tokens.mark(Kind::Semicolon)?;
-    tokens.mark(Kind::Begin)?;
-    let elements = assignments(alloc, tokens, name)?;
-    Ok(Source {
-        name: Items::from_slice(alloc, name)?,
-        initial,
-        elements,
-    })
-}
-
-/// What stands between an architecture's `is` and its `end`.
-fn body(alloc: Global, tokens: &mut Cursor<'_>) -> Result<Option<Source>, FormError>
-    ensures { IfOk result (λ s. ReadsBody (view tokens.old) (view tokens.new) s) }
-{
-    if tokens.sees(Kind::Signal) {
-        Ok(Some(signal(alloc, tokens)?))
-    } else {
-        tokens.mark(Kind::Begin)?;
-        Ok(None)
-    }
-}
-
-/// The design of a text of this form: its signal, if it has one. `NotYet` comes where the tokens are no such text, or its
-/// entity is not the top; the contract leaves that side open, and tests show it.
-pub fn read_form(alloc: Global, tokens: &[Token], top: &str) -> Result<Option<Source>, FormError>
-    ensures { IfOk result (λ found. ReadsForm top.now tokens.now found) }
-{
-    let mut tokens = Cursor { rest: tokens };
-    tokens.mark(Kind::Entity)?;
-    let entity = free_name(&mut tokens)?;
-    if !is_top(top, entity) {
-        return Err(FormError::NotYet);
-    }
-    tokens.mark(Kind::Is)?;
-    tokens.mark(Kind::End)?;
-    tokens.mark(Kind::Semicolon)?;
-    architecture(&mut tokens, entity)?;
-    let found = body(alloc, &mut tokens)?;
-    finish(&mut tokens)?;
-    Ok(found)
 }
 
 /// Whether an entity of this name is the top.
 fn is_top(top: &str, entity: &[u8]) -> bool
-    ensures { result ≡ true → IsTop top.now entity.now }
+    ensures { (result ≡ true) ↔ IsTop top.now entity.now }
 {
     match str::from_utf8(entity) {
         Ok(entity) => top.is_ascii() && default_caseless_match_str(top, entity),
@@ -335,27 +218,43 @@ fn is_top(top: &str, entity: &[u8]) -> bool
     }
 }
 
-/// `architecture A of E is`
-fn architecture(tokens: &mut Cursor<'_>, entity: &[u8]) -> Result<(), FormError>
-    ensures { OnOk result (ReadsHead entity.now (view tokens.old) (view tokens.new)) }
+/// The architecture of a file that has an entity without ports, which is the top, and behind it its architecture.
+fn architecture_of<'a>(file: &'a DesignFile, top: &str) -> Option<&'a Architecture>
+    ensures { MatchOption result ((a : unit.Architecture) → IsPair top.now file.now a → ⊥) (λ a. IsPair top.now file.now a.now) }
 {
-    tokens.mark(Kind::Architecture)?;
-    free_name(tokens)?;
-    tokens.mark(Kind::Of)?;
-    tokens.name(entity)?;
-    tokens.mark(Kind::Is)?;
-    Ok(())
+    let [first, second] = file.units.as_slice() else {
+        return None;
+    };
+    let LibraryUnit::Entity(entity) = &first.library_unit else {
+        return None;
+    };
+    let LibraryUnit::Architecture(architecture) = &second.library_unit else {
+        return None;
+    };
+    if first.context.is_empty()
+        && second.context.is_empty()
+        && entity.ports.is_empty()
+        && is_top(top, entity.name.text.as_slice())
+        && !is_predefined(entity.name.text.as_slice())
+        && !is_predefined(architecture.name.text.as_slice())
+        && architecture.entity.text.as_slice() == entity.name.text.as_slice()
+    {
+        Some(architecture)
+    } else {
+        None
+    }
 }
 
-/// `end ;`, and no more tokens.
-fn finish(tokens: &mut Cursor<'_>) -> Result<(), FormError>
-    ensures { OnOk result (Takes (form.Mark kinds.End ∷ form.Mark kinds.Semicolon ∷ []) (view tokens.old) []) }
+/// The design of a file of this form: its signal, if it has one. `NotYet` comes exactly where the file is not of the form, or
+/// its entity is not the top.
+pub fn read_form(alloc: Global, file: &DesignFile, top: &str) -> Result<Option<Source>, FormError>
+    ensures { MatchResult result (λ found. IsForm top.now file.now found) (λ e. e ≡ errors.NotYet → (found : Option source.Source) → IsForm top.now file.now found → ⊥) }
 {
-    tokens.mark(Kind::End)?;
-    tokens.mark(Kind::Semicolon)?;
-    if tokens.rest.is_empty() {
-        Ok(())
-    } else {
-        Err(FormError::NotYet)
+    match architecture_of(file, top) {
+        Some(architecture) => {
+            let found = body(alloc, architecture)?;
+            Ok(found)
+        }
+        None => Err(FormError::NotYet),
     }
 }

@@ -19,6 +19,7 @@ pub use listing::write_listing;
 pub use options::Options;
 pub use program::session;
 pub use record::Record;
+pub use sim_text::TextError;
 pub use simulation::simulate;
 
 #[cfg(test)]

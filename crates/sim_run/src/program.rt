@@ -10,6 +10,7 @@ use crate::options::Options;
 use crate::simulation::simulate;
 use arrayvec::ArrayVec;
 use sim_logic::LATEST;
+use sim_text::TextError;
 use std::alloc::Global;
 use std::io::{Read, Write};
 use std::sync::Wait;
@@ -52,7 +53,8 @@ fn status_of_failure(failure: Failure) -> u8
     ensures { result ≡ status_of failure }
 {
     match failure {
-        Failure::Run(RunError::NotYet) => 1,
+        Failure::Run(RunError::Text(TextError::Memory)) => 4,
+        Failure::Run(RunError::Text(_) | RunError::NotYet) => 1,
         Failure::Words | Failure::Run(RunError::Options) => 2,
         Failure::Run(RunError::CycleLimit { .. }) => 3,
         Failure::Read | Failure::Memory | Failure::Run(RunError::Write | RunError::Memory) => 4,

@@ -3,12 +3,12 @@ ghost use Rattle.std.specs.Prelude.{◌≡◌, ◌≤◌, map, string_bytes, Som
 ghost use Rattle.sim_run.specs.Cycle.{next_time, names_of};
 ghost use Rattle.sim_run.specs.Form.{IsInTime};
 ghost use Rattle.sim_run.specs.Outcome.{IsOver};
-ghost use Rattle.sim_run.specs.Run.{AreInTime, Finishes, IsRefused};
+ghost use Rattle.sim_run.specs.Run.{CanRun, Finishes, IsRefused};
 
 use crate::cycle::Net;
 use crate::error::RunError;
 use crate::finished::Finished;
-use crate::form::{FormError, Source};
+use crate::form::Source;
 use crate::record::Record;
 use sqlite_items::Items;
 use std::alloc::{AllocError, Global};
@@ -71,14 +71,15 @@ fn run_empty(alloc: Global) -> Result<Finished, AllocError>
 }
 
 /// The names of the nets.
-fn names(alloc: Global, design: &Option<Source>) -> Result<Vec<String>, FormError>
+fn names(alloc: Global, design: &Option<Source>) -> Result<Vec<String>, AllocError>
+    requires { CanRun design.now }
     ensures { IfOk result (λ v. map string_bytes v.items ≡ names_of design.now) }
 {
     let mut names = Vec::new(alloc);
     if let Some(source) = design {
         match str::from_utf8(source.name.as_slice()) {
             Ok(name) => names.push(String::from_str(alloc, name)?)?,
-            Err(_) => return Err(FormError::NotYet),
+            Err(_) => unreachable!(),
         }
     }
     Ok(names)
@@ -91,7 +92,7 @@ pub fn run_design(
     stop: u64,
     limit: u32,
 ) -> Result<Finished, RunError>
-    requires { AreInTime design.now }
+    requires { CanRun design.now }
     ensures { MatchResult result (λ f. Finishes design.now stop limit f) (λ e. IsRefused design.now stop limit e) }
 {
     let names = names(alloc, design)?;

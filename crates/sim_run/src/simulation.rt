@@ -1,7 +1,8 @@
 //! From the text of a design to its listing.
-ghost use Rattle.std.specs.Prelude.{◌≡◌, ◌↔◌, false, Err, IfOk, MatchResult};
+ghost use Rattle.std.specs.Prelude.{◌≡◌, ◌↔◌, false, Err, MatchResult};
 ghost use Rattle.sim_run.specs.Options.{are_in_range};
-ghost use Rattle.sim_run.specs.Simulation.{IsDesignOf, Simulates, IsNotRun, Lists, IsRefusal};
+ghost use Rattle.sim_run.specs.Simulation.{IsDesignOf, IsUnread, Simulates, IsNotRun, Lists, IsRefusal};
+ghost use Rattle.sim_run.specs.Texts.{IsText, IsFault};
 
 use crate::error::RunError;
 use crate::finished::Finished;
@@ -9,24 +10,29 @@ use crate::form::{FormError, Source, read_form};
 use crate::listing::write_listing;
 use crate::options::Options;
 use crate::run::run_design;
-use sim_token::{TextError, tokens};
+use sim_text::tree::unit::DesignFile;
+use sim_text::{TextError, parse};
 use std::alloc::Global;
 use std::io::Write;
-use std::str;
 use std::sync::Wait;
 use std::thread::Threads;
 
-/// The design of a text of the form that is run.
-fn design_of(alloc: Global, source: &[u8], top: &str) -> Result<Option<Source>, FormError>
-    ensures { IfOk result (λ design. IsDesignOf source.now top.now design) }
+/// The file that a text is.
+fn file_of(alloc: Global, source: &[u8]) -> Result<DesignFile, TextError>
+    ensures { MatchResult result (λ file. IsText source.now file) (λ e. IsFault source.now e) }
 {
-    match tokens(alloc, source) {
-        Ok(tokens) => {
-            let design = read_form(alloc, tokens.as_slice(), top)?;
-            Ok(design)
-        }
-        Err(TextError::Memory) => Err(FormError::Memory),
-        Err(_) => Err(FormError::NotYet),
+    parse(alloc, source)
+}
+
+/// The design of a text of the form that is run.
+fn design_of(alloc: Global, source: &[u8], top: &str) -> Result<Option<Source>, RunError>
+    ensures { MatchResult result (λ design. IsDesignOf source.now top.now design) (λ e. IsUnread source.now top.now e) }
+{
+    let file = file_of(alloc, source)?;
+    match read_form(alloc, &file, top) {
+        Ok(design) => Ok(design),
+        Err(FormError::NotYet) => Err(RunError::NotYet),
+        Err(FormError::Memory) => Err(RunError::Memory),
     }
 }
 
@@ -39,9 +45,10 @@ fn run_text(alloc: Global, source: &[u8], options: &Options) -> Result<Finished,
 }
 
 /// Simulates the design in a text and writes its listing. The refusals, in the order in which they are looked for: `Options`
-/// where the stop time, the limit or the workers are out of their ranges; `NotYet` where the text is not of the form that is
-/// run today; `CycleLimit` where the run needs more cycles than the limit; `Write` where a write fails or takes nothing. With
-/// every refusal but `Write` nothing is written, and with that one a front of the listing.
+/// where the stop time, the limit or the workers are out of their ranges; `Text` where the text is at fault, or there was no
+/// memory to read it (`sim_text::parse` says when each fault comes); `NotYet` where it is not of the form that is run today;
+/// `CycleLimit` where the run needs more cycles than the limit; `Write` where a write fails or takes nothing. With every
+/// refusal but `Write` nothing is written, and with that one a front of the listing.
 pub fn simulate<R: Threads + Wait + Sync, W: Write>(
     _rt: &R,
     alloc: Global,

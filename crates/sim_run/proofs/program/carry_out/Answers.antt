@@ -8,6 +8,6 @@ returns-in-Ok g c =
       options = c.in-Some.options;
       request = c.in-Some.ensures;
       text = c.in_ok-source.source.items;
-      whole = whole_source (g.R.Read.remaining c.args.input.now) (g.R.Read.remaining c.read_source.new.input) _ c.in_ok-source.ensures.source lists.simulates.is_design.short;
+      whole = whole_source (g.R.Read.remaining c.args.input.now) (g.R.Read.remaining c.read_source.new.input) _ c.in_ok-source.ensures.source lists.simulates.is_design.is_text.short;
       lists = lists;
     }

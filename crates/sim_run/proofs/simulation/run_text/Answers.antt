@@ -1,8 +1,8 @@
-use Rattle.sim_run.proofs.Simulations.{design_in_time, text_run}
+use Rattle.sim_run.proofs.Simulations.{design_can_run, text_run}
 use Rattle.sim_run.proofs.simulation.run_text.Goals as goal
 
 pub run_design-requires : goal.run_design-requires
-run_design-requires c = design_in_time _ _ _ c.in_ok-design.ensures
+run_design-requires c = design_can_run _ _ _ c.in_ok-design.ensures
 
 pub returns : goal.returns
 returns c =
