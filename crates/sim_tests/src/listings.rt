@@ -1,7 +1,7 @@
 //! Listings of whole texts.
 
 use crate::streams::Failing;
-use sim_run::{Options, RunError, simulate};
+use sim_run::{Options, RunError, TextError, simulate};
 use std::alloc::{AllocError, Global};
 use std::sync::Wait;
 use std::test::Fail;
@@ -145,21 +145,82 @@ fn options_out_of_range_are_refused_first(rt: HostRuntime) -> Result<(), Fail> {
 }
 
 #[test]
-fn other_texts_are_not_run_yet(rt: HostRuntime) -> Result<(), Fail> {
+fn texts_at_fault_are_refused_before_those_that_are_not_run_yet(
+    rt: HostRuntime,
+) -> Result<(), Fail> {
+    let alloc = rt.alloc();
+    for (source, fault) in [
+        ("", TextError::Syntax { at: 0 }),
+        ("entity x is end", TextError::Syntax { at: 15 }),
+        (
+            "entity x is end;architecture a of x is begin s<='1' after 2 hr; end;",
+            TextError::TimeRange { at: 58 },
+        ),
+        ("entity x is end; ?", TextError::BadByte { at: 17 }),
+    ] {
+        let (answer, out) = run(&rt, alloc, source, &options(alloc, LATEST, 10_000)?);
+        assert_eq!(rt; answer, Err(RunError::Text(fault)), "{source}");
+        assert!(rt; out.is_empty());
+    }
+    Ok(())
+}
+
+#[test]
+fn other_designs_are_not_run_yet(rt: HostRuntime) -> Result<(), Fail> {
     let alloc = rt.alloc();
     for source in [
-        "",
+        "entity t is end;",
         "entity x is end;architecture a of x is begin end;",
         "entity t is end;architecture a of x is begin end;",
+        "library l;entity t is end;architecture a of t is begin end;",
+        "entity t is port(p:in std_logic);end;architecture a of t is begin end;",
+        "entity t is end;architecture true of t is begin end;",
         "entity t is end;architecture a of t is signal true:std_logic;begin end;",
+        "entity t is end;architecture a of t is signal s:boolean;begin end;",
+        "entity t is end;architecture a of t is signal s,r:std_logic;begin end;",
+        "entity t is end;architecture a of t is signal s:std_logic:=r;begin end;",
         "entity t is end;architecture a of t is signal s:std_logic;begin x <= '0'; end;",
-        "entity t is end;architecture a of t is signal s:std_logic;begin s <= '1' after 2 hr; end;",
-        "entity t is end;architecture a of t is signal s:std_logic;begin s <= not s; end;",
     ] {
         let (answer, out) = run(&rt, alloc, source, &options(alloc, LATEST, 10_000)?);
         assert_eq!(rt; answer, Err(RunError::NotYet), "{source}");
         assert!(rt; out.is_empty());
     }
+    Ok(())
+}
+
+#[test]
+fn other_statements_are_not_run_yet(rt: HostRuntime) -> Result<(), Fail> {
+    let alloc = rt.alloc();
+    for statement in [
+        "l: s <= '0';",
+        "s <= transport '0';",
+        "s <= '0', '1' after 1 fs;",
+        "s <= '0' when s = '1';",
+        "s <= s;",
+        "s <= not '0';",
+        "s <= ('0');",
+        "process (s) begin end process;",
+    ] {
+        let source = text(alloc, "signal s:std_logic;", statement)?;
+        let (answer, out) = run(
+            &rt,
+            alloc,
+            source.as_str(),
+            &options(alloc, LATEST, 10_000)?,
+        );
+        assert_eq!(rt; answer, Err(RunError::NotYet), "{statement}");
+        assert!(rt; out.is_empty());
+    }
+    Ok(())
+}
+
+#[test]
+fn words_and_names_may_stand_again_at_the_end(rt: HostRuntime) -> Result<(), Fail> {
+    let alloc = rt.alloc();
+    let source = "entity t is end entity t;architecture a of t is begin end architecture a;";
+    let (answer, out) = run(&rt, alloc, source, &options(alloc, LATEST, 10_000)?);
+    assert_eq!(rt; answer, Ok(()));
+    assert_eq!(rt; out.as_slice(), b"done 0 0\n".as_slice());
     Ok(())
 }
 

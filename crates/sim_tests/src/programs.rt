@@ -80,6 +80,20 @@ fn refusals_have_their_status_and_line(rt: HostRuntime) -> Result<(), Fail> {
     );
     assert_eq!(rt; status, 1);
     assert!(rt; out.is_empty());
+    assert_eq!(rt; err.as_slice(), b"vsim: TooLong\n".as_slice());
+
+    let mut other = b"entity t is end;".as_slice();
+    let mut err = Vec::new(alloc);
+    let status = session(
+        &rt,
+        alloc,
+        words(alloc, "--top t")?,
+        &mut other,
+        &mut out,
+        &mut err,
+    );
+    assert_eq!(rt; status, 1);
+    assert!(rt; out.is_empty());
     assert_eq!(rt; err.as_slice(), b"vsim: NotYet\n".as_slice());
 
     let mut failing = Dripping {
