@@ -9,6 +9,7 @@ use sim_tree::declaration::{
     ComponentDeclaration, Declaration, Initial, Mode, ObjectDeclaration, PortDeclaration,
 };
 use sim_tree::expression::Name;
+use sim_tree::list::put;
 use sim_tree::{Cursor, ParseError};
 use sqlite_items::Items;
 use std::alloc::Global;
@@ -19,7 +20,7 @@ pub fn names(alloc: Global, tokens: &mut Cursor<'_>) -> Result<Items<Name>, Pars
     ensures { Reads (spec.names (view tokens.old)) result (view tokens.new) }
 {
     let mut found = Items::new(alloc);
-    found.push(tokens.word(alloc)?)?;
+    put(alloc, &mut found, tokens.word(alloc)?)?;
     for _turn in 0..tokens.left() {
         if !tokens.sees(Kind::Comma) {
             return Ok(found);

@@ -7,6 +7,7 @@ ghost use Rattle.sim_tree.specs.Input.{Reads, view};
 use crate::expressions::expression;
 use sim_token::Kind;
 use sim_tree::expression::Name;
+use sim_tree::list::put;
 use sim_tree::waveform::{
     Choice, ConditionalWaveforms, DelayMechanism, Element, SignalAssignment, TimeLiteral,
 };
@@ -60,7 +61,7 @@ pub fn waveform(alloc: Global, tokens: &mut Cursor<'_>) -> Result<Items<Element>
     ensures { Reads (spec.waveform (view tokens.old)) result (view tokens.new) }
 {
     let mut found = Items::new(alloc);
-    found.push(element(alloc, tokens)?)?;
+    put(alloc, &mut found, element(alloc, tokens)?)?;
     for _turn in 0..tokens.left() {
         if !tokens.sees(Kind::Comma) {
             return Ok(found);

@@ -9,6 +9,7 @@ use sim_expression::expressions::expression;
 use sim_expression::waveforms::{delay, waveform};
 use sim_token::Kind;
 use sim_tree::expression::{Expression, Name};
+use sim_tree::list::put;
 use sim_tree::sequential::{
     Branch, IfStatement, Otherwise, Sequential, SimpleAssignment, VariableAssignment,
 };
@@ -160,7 +161,7 @@ fn sequence(
         if !begins_statement(tokens.peek()) {
             return Ok(found);
         }
-        found.push(statement(alloc, tokens, depth)?)?;
+        put(alloc, &mut found, statement(alloc, tokens, depth)?)?;
     }
     Ok(found)
 }
@@ -197,7 +198,7 @@ fn branches(
     ensures { Reads (spec.branches (spec.if_statement depth) (view tokens.old)) result (view tokens.new) }
 {
     let mut found = Items::new(alloc);
-    found.push(branch(alloc, tokens, depth)?)?;
+    put(alloc, &mut found, branch(alloc, tokens, depth)?)?;
     for _turn in 0..tokens.left() {
         if !tokens.sees(Kind::Elsif) {
             return Ok(found);

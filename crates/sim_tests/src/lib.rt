@@ -10,6 +10,8 @@ mod faults;
 #[cfg(test)]
 mod listings;
 #[cfg(test)]
+mod lists;
+#[cfg(test)]
 mod programs;
 #[cfg(test)]
 mod readers;

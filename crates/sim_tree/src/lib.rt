@@ -5,6 +5,7 @@ pub mod cursor;
 pub mod declaration;
 pub mod error;
 pub mod expression;
+pub mod list;
 pub mod sequential;
 pub mod unit;
 pub mod waveform;
