@@ -24,7 +24,7 @@ use Rattle.sim_run.specs.History.{History}
 use Rattle.sim_run.specs.Form.{Text, Assigns, IsInTime, HasBody}
 use Rattle.sim_run.specs.Run.{CanRun, Finishes, IsRefused}
 use Rattle.sim_run.specs.Simulation.{IsDesignOf, Simulates, IsNotRun}
-use Rattle.sim_run.specs.Texts.{IsText, HasNoFile, IsFault}
+use Rattle.sim_run.specs.Texts.{IsText, HasNoFile, HasLexicalFault, IsFault}
 
 -- ---- the file of a text
 
@@ -34,27 +34,35 @@ short_text n h = omega arith
 file_read : (text : List ℕ) (file : DesignFile) → (MAX_BYTES < length text → ⊥) → (ts : List Token) × AreTokens text ts × IsFile file ts → IsText text file
 file_read text file short found = record { short = short_text (length text) short; tokens = found.0; are_tokens = found.1; is_file = found.2 }
 
-no_file : (text : List ℕ) → (ts : List Token) × AreTokens text ts × ((other : DesignFile) → IsFile other ts → ⊥) → HasNoFile text
-no_file text found = record { tokens = found.0; are_tokens = found.1; no_file = found.2 }
+no_file : (text : List ℕ) → (MAX_BYTES < length text → ⊥) → (ts : List Token) × AreTokens text ts × ((other : DesignFile) → IsFile other ts → ⊥) → HasNoFile text
+no_file text short found = record { short = short_text (length text) short; tokens = found.0; are_tokens = found.1; no_file = found.2 }
 
-fault_read : (text : List ℕ) (e : TextError) → (e ≡ fault.TooLong → MAX_BYTES < length text) → (IsLexical e → IsLexicalFault text e) → (IsSyntactic e → (ts : List Token) × AreTokens text ts × ((other : DesignFile) → IsFile other ts → ⊥))
-    → ((at : ℕ) → e ≡ fault.TimeRange at → (ts : List Token) × AreTokens text ts × HasLateTime ts at) → IsFault text e
-fault_read text fault.Memory long lexical refused late = tt
-fault_read text fault.TooLong long lexical refused late = long refl
-fault_read text (fault.BadByte at) long lexical refused late = lexical tt
-fault_read text (fault.OpenComment at) long lexical refused late = lexical tt
-fault_read text (fault.BadLiteral at) long lexical refused late = lexical tt
-fault_read text (fault.Syntax at) long lexical refused late = no_file text (refused tt)
-fault_read text (fault.TooDeep at) long lexical refused late = no_file text (refused tt)
-fault_read text (fault.TimeRange at) long lexical refused late =
+lexical_fault : (text : List ℕ) (e : TextError) → (MAX_BYTES < length text → ⊥) → IsLexicalFault text e → HasLexicalFault text e
+lexical_fault text e short is = record { short = short_text (length text) short; is = is }
+
+fault_read : (text : List ℕ) (e : TextError) → (e ≡ fault.TooLong → MAX_BYTES < length text) → (MAX_BYTES < length text → e ≡ fault.TooLong) → (IsLexical e → IsLexicalFault text e)
+    → (IsSyntactic e → (ts : List Token) × AreTokens text ts × ((other : DesignFile) → IsFile other ts → ⊥)) → ((at : ℕ) → e ≡ fault.TimeRange at → (ts : List Token) × AreTokens text ts × HasLateTime ts at) → IsFault text e
+fault_read text fault.Memory long too_long lexical refused late = tt
+fault_read text fault.TooLong long too_long lexical refused late = long refl
+fault_read text (fault.BadByte at) long too_long lexical refused late = lexical_fault text (fault.BadByte at) (λ more. let never = too_long more in absurd cc) (lexical tt)
+fault_read text (fault.OpenComment at) long too_long lexical refused late = lexical_fault text (fault.OpenComment at) (λ more. let never = too_long more in absurd cc) (lexical tt)
+fault_read text (fault.BadLiteral at) long too_long lexical refused late = lexical_fault text (fault.BadLiteral at) (λ more. let never = too_long more in absurd cc) (lexical tt)
+fault_read text (fault.Syntax at) long too_long lexical refused late = no_file text (λ more. let never = too_long more in absurd cc) (refused tt)
+fault_read text (fault.TooDeep at) long too_long lexical refused late = no_file text (λ more. let never = too_long more in absurd cc) (refused tt)
+fault_read text (fault.TimeRange at) long too_long lexical refused late =
     let found = late at refl in
-    (no_file text (refused tt), record { tokens = found.0; are_tokens = found.1; late = found.2 })
+    (no_file text (λ more. let never = too_long more in absurd cc) (refused tt), record { tokens = found.0; are_tokens = found.1; late = found.2 })
+
+error_or : TextError → Result DesignFile TextError → TextError
+error_or e (Ok file) = e
+error_or e (Err f) = f
 
 pub text_read : (text : List ℕ) (r : Result DesignFile TextError) → (r ≡ Err fault.TooLong) ↔ (MAX_BYTES < length text) → IfOk r (λ file. (ts : List Token) × AreTokens text ts × IsFile file ts)
     → IfErr r (λ e. IsLexical e → IsLexicalFault text e) → IfErr r (λ e. IsSyntactic e → (ts : List Token) × AreTokens text ts × ((other : DesignFile) → IsFile other ts → ⊥))
     → IfErr r (λ e. (at : ℕ) → e ≡ fault.TimeRange at → (ts : List Token) × AreTokens text ts × HasLateTime ts at) → MatchResult r (λ file. IsText text file) (λ e. IsFault text e)
+unfolding error_or
 text_read text (Ok file) long found lexical refused late = file_read text file (λ more. let never : Ok file ≡ Err fault.TooLong = long.1 more in absurd cc) found
-text_read text (Err e) long found lexical refused late = fault_read text e (λ is. long.0 (ap Err is)) lexical refused late
+text_read text (Err e) long found lexical refused late = fault_read text e (λ is. long.0 (ap Err is)) (λ more. ap (error_or e) (long.1 more)) lexical refused late
 
 -- ---- the design of a file
 

@@ -8,7 +8,8 @@ use Rattle.sim_run.specs.declared.error.RunError.TheVariants as refusal
 use Rattle.sim_run.specs.declared.options.Options.{Options}
 use Rattle.sim_run.specs.declared.program.Failure.{Failure}
 use Rattle.sim_run.specs.declared.program.Failure.TheVariants as failure
-use Rattle.sim_run.specs.Simulation.{Lists}
+use Rattle.sim_run.specs.Simulation.{Lists, ReachesLimit, IsOther}
+use Rattle.sim_run.specs.Texts.{IsFaulty}
 
 -- whether the words are `--top` and a name
 abbrev pub are_request : List (List ℕ) → Bool
@@ -40,6 +41,23 @@ pub record Succeeds (words : List (List ℕ)) (unread old new : Option (List ℕ
   pub whole : IsWhole unread text
   pub lists : Lists text options old new
 
+-- What is said of the bytes that a reader had, if they are known.
+abbrev pub OfKnown : Option (List ℕ) → (List ℕ → Type 0) → Type 0
+OfKnown None P = Unit {0}
+OfKnown (Some text) P = P text
+
+-- The words name a top, and the text that the reader had is at fault, or its design is not of the form that is run.
+pub record RefusesText (words : List (List ℕ)) (unread : Option (List ℕ)) : Type 0 where
+  pub options : Options
+  pub request : AreRequest words options
+  pub refused : OfKnown unread (λ text. IsFaulty text ⊎ IsOther text (string_bytes options.top))
+
+-- The words name a top, and the run of the design in the text that the reader had needs more cycles than the limit.
+pub record RunsOn (words : List (List ℕ)) (unread : Option (List ℕ)) : Type 0 where
+  pub options : Options
+  pub request : AreRequest words options
+  pub reaches : OfKnown unread (λ text. ReachesLimit text options)
+
 -- Where no write failed nothing was written.
 abbrev pub IsQuiet : Failure → Option (List ℕ) → Option (List ℕ) → Type 0
 IsQuiet f old new = f ≢ failure.Run refusal.Write → Keeps old new
@@ -50,9 +68,18 @@ Explains words failure.Words = are_request words ≡ false
 Explains words (failure.Run refusal.Options) = ⊥
 Explains words _ = are_request words ≡ true
 
--- what a failure says of the words, and what was written
-pub record Fails (words : List (List ℕ)) (old new : Option (List ℕ)) (f : Failure) : Type 0 where
+-- The cause of a failure, where the text has it.
+abbrev pub IsCaused : List (List ℕ) → Option (List ℕ) → Failure → Type 0
+IsCaused words unread (failure.Run (refusal.Text fault.Memory)) = Unit {0}
+IsCaused words unread (failure.Run (refusal.Text _)) = RefusesText words unread
+IsCaused words unread (failure.Run refusal.NotYet) = RefusesText words unread
+IsCaused words unread (failure.Run (refusal.CycleLimit limit)) = RunsOn words unread
+IsCaused words unread _ = Unit {0}
+
+-- what a failure says of the words and the text, and what was written
+pub record Fails (words : List (List ℕ)) (unread old new : Option (List ℕ)) (f : Failure) : Type 0 where
   pub explains : Explains words f
+  pub caused : IsCaused words unread f
   pub quiet : IsQuiet f old new
 
 -- the status of the program (0 is success)

@@ -1,5 +1,5 @@
 -- Texts that are a design file, and why others are not.
-use Rattle.std.specs.Prelude.{ℕ, ◌<◌, ◌≤◌, List, length}
+use Rattle.std.specs.Prelude.{◌≢◌, ℕ, ◌<◌, ◌≤◌, List, length}
 use Rattle.sim_token.specs.declared.lexer.TheConstants.{MAX_BYTES}
 use Rattle.sim_token.specs.declared.token.Token.{Token}
 use Rattle.sim_token.specs.declared.error.TextError.{TextError}
@@ -18,6 +18,7 @@ pub record IsText (text : List ℕ) (file : DesignFile) : Type 0 where
 
 -- The text has tokens, and they are no file's spelling.
 pub record HasNoFile (text : List ℕ) : Type 0 where
+  pub short : length text ≤ MAX_BYTES
   pub tokens : List Token
   pub are_tokens : AreTokens text tokens
   pub no_file : (file : DesignFile) → IsFile file tokens → ⊥
@@ -28,13 +29,24 @@ pub record IsLateAt (text : List ℕ) (at : ℕ) : Type 0 where
   pub are_tokens : AreTokens text tokens
   pub late : HasLateTime tokens at
 
+-- The text is not too long, and its tokens have this fault, the leftmost.
+pub record HasLexicalFault (text : List ℕ) (fault : TextError) : Type 0 where
+  pub short : length text ≤ MAX_BYTES
+  pub is : IsLexicalFault text fault
+
 -- Why the text is no file.
 abbrev pub IsFault : List ℕ → TextError → Type 0
 IsFault text fault.Memory = Unit {0}
 IsFault text fault.TooLong = MAX_BYTES < length text
-IsFault text (fault.BadByte at) = IsLexicalFault text (fault.BadByte at)
-IsFault text (fault.OpenComment at) = IsLexicalFault text (fault.OpenComment at)
-IsFault text (fault.BadLiteral at) = IsLexicalFault text (fault.BadLiteral at)
+IsFault text (fault.BadByte at) = HasLexicalFault text (fault.BadByte at)
+IsFault text (fault.OpenComment at) = HasLexicalFault text (fault.OpenComment at)
+IsFault text (fault.BadLiteral at) = HasLexicalFault text (fault.BadLiteral at)
 IsFault text (fault.Syntax at) = HasNoFile text
 IsFault text (fault.TooDeep at) = HasNoFile text
 IsFault text (fault.TimeRange at) = HasNoFile text × IsLateAt text at
+
+-- The text is no file.
+pub record IsFaulty (text : List ℕ) : Type 0 where
+  pub found : TextError
+  pub known : found ≢ fault.Memory
+  pub is : IsFault text found

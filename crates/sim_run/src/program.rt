@@ -2,7 +2,7 @@
 ghost use Rattle.std.specs.Prelude.{◌≡◌, ◌≤◌, ◌<◌, ◌↔◌, ◌⊎◌, false, codes, IfOk, IfErr, MatchOption, MatchResult, map, string_bytes};
 ghost use Rattle.std.specs.Io.KnownBytes.{Keeps};
 ghost use Rattle.std.specs.Str.{bytes_eq};
-ghost use Rattle.sim_run.specs.Session.{are_request, AreRequest, ReadsSource, Succeeds, Fails, status_of};
+ghost use Rattle.sim_run.specs.Session.{are_request, AreRequest, ReadsSource, Succeeds, RefusesText, RunsOn, Fails, status_of};
 
 use crate::block::write_whole;
 use crate::error::RunError;
@@ -127,7 +127,7 @@ fn carry_out<T: Threads + Wait + Sync, R: Read, W: Write>(
     input: &mut R,
     out: &mut W,
 ) -> Result<(), Failure>
-    ensures { MatchResult result (λ _. Succeeds (map string_bytes words.items) (R.remaining input.old) (W.contents out.old) (W.contents out.new)) (λ f. Fails (map string_bytes words.items) (W.contents out.old) (W.contents out.new) f) }
+    ensures { MatchResult result (λ _. Succeeds (map string_bytes words.items) (R.remaining input.old) (W.contents out.old) (W.contents out.new)) (λ f. Fails (map string_bytes words.items) (R.remaining input.old) (W.contents out.old) (W.contents out.new) f) }
 {
     let Some(options) = options_of(words) else {
         return Err(Failure::Words);
@@ -161,6 +161,8 @@ pub fn session<T: Threads + Wait + Sync, R: Read, W: Write, E: Write>(
     ensures status { result ≤ 4 }
     ensures success { result ≡ 0 → Succeeds (map string_bytes words.items) (R.remaining input.old) (W.contents out.old) (W.contents out.new) }
     ensures words { (result ≡ 2) ↔ (are_request (map string_bytes words.items) ≡ false) }
+    ensures refused { result ≡ 1 → RefusesText (map string_bytes words.items) (R.remaining input.old) }
+    ensures limit { result ≡ 3 → RunsOn (map string_bytes words.items) (R.remaining input.old) }
     ensures quiet { 0 < result → result < 4 → Keeps (W.contents out.old) (W.contents out.new) }
 {
     match carry_out(rt, alloc, words, input, out) {
