@@ -7,7 +7,8 @@ use Rattle.sim_logic.specs.declared.logic.Logic.{Logic}
 use Rattle.sim_logic.specs.declared.logic.Logic.TheVariants.{Z}
 use Rattle.sim_logic.specs.Tables.{resolution_table}
 use Rattle.sim_logic.specs.Resolution.{resolved}
-use Rattle.sim_logic.specs.Sources.{SignalType, Std_logic, Std_ulogic, SourceTree, Name, Sources, No_more, Driver, Port, count_of, AllowsSources, IsResolvable, AreResolvable, driving_value, nested, values_of, Leaf, leaves, leaves_of, leaf_value}
+use Rattle.sim_logic.specs.Sources.{SignalType, Std_logic, Std_ulogic, SourceTree, Name, Sources, No_more, Driver, Port, count_of, AllowsSources}
+use Rattle.sim_logic.specs.Sources.{IsResolvable, AreResolvable, driving_value, nested, values_of, Leaf, leaves, leaves_of, leaf_value}
 use Rattle.sim_logic.proofs.TableLaws.{resolution_table-assoc, resolution_table-passes_z}
 
 -- a value taken out of a fold
@@ -24,12 +25,14 @@ fold-resolved a (x ∷ (y ∷ ys)) some =
     ap (λ (v : Logic). fold resolution_table v (y ∷ ys)) (sym (resolution_table-passes_z a x))
     ∙ fold-resolution_table a (resolution_table Z x) (y ∷ ys)
 
-resolved-many : (xs : List Logic) → 1 < length xs → resolved xs ≡ fold resolution_table Z xs
+-- several values are folded
+pub resolved-many : (xs : List Logic) → 1 < length xs → resolved xs ≡ fold resolution_table Z xs
 resolved-many [] many = absurd (omega arith)
 resolved-many (x ∷ []) many = absurd (omega arith)
 resolved-many (x ∷ (y ∷ ys)) many = refl
 
-driving_value-many : (type : SignalType) (default : Logic) (xs : List Logic) → AllowsSources type (length xs) → 1 < length xs → driving_value type default xs ≡ fold resolution_table Z xs
+driving_value-many : (type : SignalType) (default : Logic) (xs : List Logic) → AllowsSources type (length xs) → 1 < length xs
+    → driving_value type default xs ≡ fold resolution_table Z xs
 driving_value-many type default [] allowed many = absurd (omega arith)
 driving_value-many Std_logic default (x ∷ xs) allowed many = resolved-many (x ∷ xs) many
 driving_value-many Std_ulogic default (x ∷ xs) allowed many = absurd (omega (arith, allowed))

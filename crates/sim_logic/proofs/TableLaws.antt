@@ -30,9 +30,11 @@ holds_of_all-at p all W =
 holds_of_all-at p all L =
     and-left (p L) _ (and-right (p W) _ (and-right (p Z) _ (and-right (p One) _ (and-right (p Zero) _ (and-right (p X) _ (and-right (p U) _ all))))))
 holds_of_all-at p all H =
-    and-left (p H) _ (and-right (p L) _ (and-right (p W) _ (and-right (p Z) _ (and-right (p One) _ (and-right (p Zero) _ (and-right (p X) _ (and-right (p U) _ all)))))))
+    and-left (p H) _ (and-right (p L) _
+    (and-right (p W) _ (and-right (p Z) _ (and-right (p One) _ (and-right (p Zero) _ (and-right (p X) _ (and-right (p U) _ all)))))))
 holds_of_all-at p all Dash =
-    and-right (p H) _ (and-right (p L) _ (and-right (p W) _ (and-right (p Z) _ (and-right (p One) _ (and-right (p Zero) _ (and-right (p X) _ (and-right (p U) _ all)))))))
+    and-right (p H) _ (and-right (p L) _
+    (and-right (p W) _ (and-right (p Z) _ (and-right (p One) _ (and-right (p Zero) _ (and-right (p X) _ (and-right (p U) _ all)))))))
 
 abbrev is_associative_at : Logic → Logic → Logic → Bool
 is_associative_at a b c =

@@ -25,7 +25,7 @@ count_of No_more = 0
 count_of (Driver number more) = count_of more + 1
 count_of (Port tree more) = count_of more + 1
 
--- a name of this type may have so many sources
+-- whether a name of this type may have this number of sources
 abbrev pub AllowsSources : SignalType → ℕ → Type 0
 AllowsSources Std_logic count = ⊤
 AllowsSources Std_ulogic count = count ≤ 1

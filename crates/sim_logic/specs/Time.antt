@@ -1,5 +1,5 @@
 -- Times in femtoseconds.
-use Rattle.std.specs.Prelude.{ℕ, ◌*◌, ◌^◌}
+use Rattle.std.specs.Prelude.{ℕ, ◌-◌, ◌*◌, ◌^◌}
 use Rattle.sim_logic.specs.declared.time.Unit.{Unit}
 use Rattle.sim_logic.specs.declared.time.Unit.TheVariants.{Fs, Ps, Ns, Us, Ms, Sec, Min, Hr}
 
@@ -13,3 +13,7 @@ femtoseconds_in Ms = 10 ^ 12
 femtoseconds_in Sec = 10 ^ 15
 femtoseconds_in Min = 60 * 10 ^ 15
 femtoseconds_in Hr = 60 * (60 * 10 ^ 15)
+
+-- the largest time, in femtoseconds: the sum of two times fits 64 bits
+abbrev pub largest_time : ℕ
+largest_time = 2 ^ 62 - 1

@@ -1,6 +1,6 @@
 //! Laws of resolution: each is what an empty function ensures.
 
-ghost use Rattle.std.specs.Prelude.{◌≡◌, ℕ, map};
+ghost use Rattle.std.specs.Prelude.{◌≡◌, ◌<◌, ℕ, List, [], ◌∷◌, fold, length, map};
 ghost use Rattle.sim_logic.specs.declared.logic.Logic as logic;
 ghost use Rattle.sim_logic.specs.Resolution.{resolved};
 ghost use Rattle.sim_logic.specs.Sources.{SourceTree, IsResolvable, leaf_value, leaves, nested};
@@ -15,6 +15,17 @@ pub fn resolution_is_associative()
 /// Values may be resolved in any order.
 pub fn resolution_is_commutative()
     ensures { (a : logic.Logic) (b : logic.Logic) → resolution_table a b ≡ resolution_table b a }
+{}
+
+/// A single value is its own resolution.
+pub fn a_single_value_stands()
+    ensures { (value : logic.Logic) → resolved (value ∷ []) ≡ value }
+{}
+
+/// Two values or more are resolved one after another, from `'Z'` on.
+pub fn several_values_are_folded()
+    ensures { (values : List logic.Logic) → 1 < length values
+        → resolved values ≡ fold resolution_table logic.Logic.Z values }
 {}
 
 /// The leaves of a source tree, resolved as one flat list, have the value that the tree has where

@@ -10,5 +10,5 @@ mod tests;
 mod time;
 
 pub use logic::Logic;
-pub use resolution::resolve;
+pub use resolution::{resolve, resolve_two};
 pub use time::{LATEST, Time, Unit};

@@ -19,8 +19,10 @@ static RESOLUTION_TABLE: [[Logic; 9]; 9] = [
     [U, X, X, X, X, X, X, X, X],
 ];
 
-/// The resolution of two values.
-fn resolve_two(first: Logic, second: Logic) -> Logic
+/// The resolution of two values (IEEE 1164, `resolution_table`). By it a caller resolves two
+/// sources or more with no list of their values, one after another from `'Z'` on; the value of a
+/// single source stands as it is.
+pub fn resolve_two(first: Logic, second: Logic) -> Logic
     ensures { result ≡ resolution_table first second }
 {
     RESOLUTION_TABLE[first as usize][second as usize]

@@ -2,7 +2,7 @@
 
 ghost use Rattle.std.specs.Prelude.{◌≡◌, ◌≤◌, ◌*◌};
 ghost use Rattle.std.specs.Option.{SomeIff};
-ghost use Rattle.sim_logic.specs.Time.{femtoseconds_in};
+ghost use Rattle.sim_logic.specs.Time.{femtoseconds_in, largest_time};
 
 use std::marker::Model;
 
@@ -48,21 +48,21 @@ pub struct Time {
 
 impl Model for Time {
     ghost use Rattle.std.specs.Prelude.{ℕ, ◌≤◌};
-    ghost use Rattle.sim_logic.specs.declared.time.TheConstants.{LATEST};
+    ghost use Rattle.sim_logic.specs.Time.{largest_time};
 
     ghost Value = { ℕ };
 
     ghost view = { λ time. time.fs };
 
-    ghost invariant = { λ time. time.fs ≤ LATEST };
+    ghost invariant = { λ time. time.fs ≤ largest_time };
 
     ghost inverse = { λ fs. record { fs = fs } };
 }
 
 impl Time {
-    /// So many of a unit; `None` where that is later than `LATEST`.
+    /// `count` of a unit; `None` exactly where that is more than `LATEST`.
     pub fn of(count: u64, unit: Unit) -> Option<Time>
-        ensures { let fs = count * femtoseconds_in unit in SomeIff result (fs ≤ LATEST) fs }
+        ensures { let fs = count * femtoseconds_in unit in SomeIff result (fs ≤ largest_time) fs }
     {
         let fs = count.checked_mul(unit.femtoseconds())?;
         if fs > LATEST {
@@ -74,7 +74,7 @@ impl Time {
     /// The time in femtoseconds.
     pub fn fs(&self) -> u64
         ensures value { result ≡ self.now }
-        ensures bound { result ≤ LATEST }
+        ensures bound { result ≤ largest_time }
     {
         self.fs
     }

@@ -1,5 +1,6 @@
 -- What an inertial delay keeps is a front and a back of the old transactions.
-use Rattle.std.proofs.Common.{ℕ, zero, suc, ◌-◌, ◌<◌, ◌≤◌, ◌≡◌, ◌≢◌, ltb, Bool, true, false, ◌&&◌, ◌||◌, List, [], ◌∷◌, ◌++◌, length, take, drop, refl, ap, sym, ◌∙◌, subst, arith}
+use Rattle.std.proofs.Common.{ℕ, zero, suc, ◌-◌, ◌<◌, ◌≤◌, ◌≡◌, ◌≢◌, ltb, Bool, true, false, ◌&&◌, ◌||◌, List, [], ◌∷◌, ◌++◌, length, take, drop, refl, ap}
+use Rattle.std.proofs.Common.{sym, ◌∙◌, subst, arith}
 use Rattle.std.proofs.lemmas.Bool.Decides.{nat_tests}
 use Rattle.std.proofs.lemmas.List.{get_or-take, length-take-le}
 use Rattle.sim_logic.specs.declared.logic.Logic.{Logic}
@@ -23,7 +24,8 @@ early-marked limit v x [] h = let t : ltb x.0 limit ≡ true = grind (arith, nat
 early-marked limit v x (y ∷ ys) h = let t : ltb x.0 limit ≡ true = grind (arith, nat_tests) in rw t
 
 -- each of a chain of the new value is marked
-pub chain-marked : (limit : ℕ) (v : Logic) (x : Transaction) (xs : List Transaction) → ((k : ℕ) → k < length (x ∷ xs) → (transaction_at (x ∷ xs) k).1 ≡ v) → is_marked limit v x xs ≡ true
+pub chain-marked : (limit : ℕ) (v : Logic) (x : Transaction) (xs : List Transaction) → ((k : ℕ) → k < length (x ∷ xs) → (transaction_at (x ∷ xs) k).1 ≡ v)
+    → is_marked limit v x xs ≡ true
 chain-marked limit v x [] h = or-true (ltb x.0 limit) (is_same_from_same x.1 v (h 0 (omega arith)))
 chain-marked limit v x (y ∷ ys) h =
     let e : x.1 ≡ v = h 0 (omega arith) in
@@ -32,7 +34,7 @@ chain-marked limit v x (y ∷ ys) h =
     let ih : is_marked limit v y ys ≡ true = chain-marked limit v y ys (λ k l. h (suc k) (omega arith)) in
     or-true (ltb x.0 limit) (ap (λ (b : Bool). b && is_marked limit v y ys) t ∙ ih)
 
--- one that is late, in front of a break of the chain, is not marked
+-- one that is not before the limit, and before a break of the chain, is not marked
 pub late-unmarked : (limit : ℕ) (v : Logic) (c : ℕ) (x : Transaction) (xs : List Transaction) → c < length (x ∷ xs)
     → ((k : ℕ) → k ≤ c → limit ≤ (transaction_at (x ∷ xs) k).0)
     → (transaction_at (x ∷ xs) c).1 ≢ v
@@ -52,7 +54,8 @@ late-unmarked limit v zero x (y ∷ ys) lt late broken chain =
 late-unmarked limit v (suc c) x (y ∷ ys) lt late broken chain =
     let l : limit ≤ x.0 = late 0 (omega arith) in
     let s : ltb x.0 limit ≡ false = grind (arith, nat_tests) in
-    let ih : is_marked limit v y ys ≡ false = late-unmarked limit v c y ys (omega arith) (λ k h. late (suc k) (omega arith)) broken (λ k g h. chain (suc k) (omega arith) (omega arith)) in
+    let ih : is_marked limit v y ys ≡ false = late-unmarked limit v c y ys (omega arith) (λ k h. late (suc k) (omega arith)) broken
+    (λ k g h. chain (suc k) (omega arith) (omega arith)) in
     ap (λ (b : Bool). b || (is_same x.1 y.1 && is_marked limit v y ys)) s
     ∙ (ap (λ (b : Bool). is_same x.1 y.1 && b) ih ∙ and-false (is_same x.1 y.1))
 
@@ -69,8 +72,10 @@ marked_of-late : (limit : ℕ) (v : Logic) (c : ℕ) (xs : List Transaction) →
 marked_of-late limit v zero xs le late broken chain = marked_of-chain limit v xs (λ k l. chain k (omega arith) l)
 marked_of-late limit v (suc c) [] le late broken chain = absurd (omega arith)
 marked_of-late limit v (suc c) (x ∷ xs) le late broken chain =
-    let no : is_marked limit v x xs ≡ false = late-unmarked limit v c x xs (omega arith) (λ k h. late k (omega arith)) (broken c refl) (λ k g h. chain k (omega arith) h) in
-    rw no (marked_of-late limit v c xs (omega arith) (λ k l. late (suc k) (omega arith)) (λ k e. broken (suc k) (ap suc e)) (λ k g h. chain (suc k) (omega arith) (omega arith)))
+    let no : is_marked limit v x xs ≡ false = late-unmarked limit v c x xs (omega arith) (λ k h. late k (omega arith)) (broken c refl)
+    (λ k g h. chain k (omega arith) h) in
+    rw no (marked_of-late limit v c xs (omega arith) (λ k l. late (suc k) (omega arith)) (λ k e. broken (suc k) (ap suc e))
+    (λ k g h. chain (suc k) (omega arith) (omega arith)))
 
 -- the early ones, and the chain at the end
 marked_of-split : (limit : ℕ) (v : Logic) (e c : ℕ) (xs : List Transaction) → e ≤ c → c ≤ length xs
@@ -85,7 +90,9 @@ marked_of-split limit v (suc e) zero xs le within early late broken chain = absu
 marked_of-split limit v (suc e) (suc c) [] le within early late broken chain = absurd (omega arith)
 marked_of-split limit v (suc e) (suc c) (x ∷ xs) le within early late broken chain =
     let yes' : is_marked limit v x xs ≡ true = early-marked limit v x xs (early 0 (omega arith)) in
-    rw yes' (ap (λ (w : List Transaction). x ∷ w) (marked_of-split limit v e c xs (omega arith) (omega arith) (λ k l. early (suc k) (omega arith)) (λ k g l. late (suc k) (omega arith) (omega arith)) (λ k g q. broken (suc k) (omega arith) (ap suc q)) (λ k g h. chain (suc k) (omega arith) (omega arith))))
+    rw yes' (ap (λ (w : List Transaction). x ∷ w)
+    (marked_of-split limit v e c xs (omega arith) (omega arith) (λ k l. early (suc k) (omega arith)) (λ k g l. late (suc k) (omega arith) (omega arith))
+    (λ k g q. broken (suc k) (omega arith) (ap suc q)) (λ k g h. chain (suc k) (omega arith) (omega arith))))
 
 at_take : (n : ℕ) (xs : List Transaction) (k : ℕ) → k < n → transaction_at (take n xs) k ≡ transaction_at xs k
 at_take n xs k h = get_or-take n xs k (0, U) h

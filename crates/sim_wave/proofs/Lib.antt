@@ -2,3 +2,4 @@ pub mod Rising
 pub mod Keeping
 pub mod Comparing
 pub mod Least
+pub mod Storing

@@ -1,6 +1,6 @@
 -- Transactions whose times rise strictly.
-use Rattle.std.proofs.Common.{ℕ, zero, suc, ◌+◌, ◌-◌, ◌<◌, ◌≤◌, ◌≡◌, ltb, Bool, true, false, if◌then◌else◌, List, [], ◌∷◌, ◌++◌, length, take, refl, ap, arith}
-use Rattle.std.specs.List.{remove}
+use Rattle.std.proofs.Common.{ℕ, zero, suc, ◌+◌, ◌-◌, ◌<◌, ◌≤◌, ◌≡◌, ltb, Bool, true, false, if◌then◌else◌, List, [], ◌∷◌, ◌++◌, length, take, refl, ap}
+use Rattle.std.proofs.Common.{arith, Result, Ok, Err, OnOk, OnErr}
 use Rattle.std.proofs.lemmas.Bool.Decides.{nat_tests}
 use Rattle.sim_logic.specs.declared.logic.Logic.{Logic}
 use Rattle.sim_wave.specs.Driver.{RisesFrom, Transaction, transaction_at}
@@ -20,15 +20,17 @@ RisesFrom-at low (x ∷ xs) zero r h = r.0
 RisesFrom-at low (x ∷ xs) (suc k) r h = let ih = RisesFrom-at (suc x.0) xs k r.1 (omega arith) in omega (arith, r.0)
 
 -- an earlier place has no later time
-pub RisesFrom-order : (low : ℕ) (xs : List Transaction) (i j : ℕ) → RisesFrom low xs → i ≤ j → j < length xs → (transaction_at xs i).0 ≤ (transaction_at xs j).0
+pub RisesFrom-order : (low : ℕ) (xs : List Transaction) (i j : ℕ) → RisesFrom low xs → i ≤ j → j < length xs
+    → (transaction_at xs i).0 ≤ (transaction_at xs j).0
 RisesFrom-order low [] i j r le h = absurd (omega arith)
 RisesFrom-order low (x ∷ xs) zero zero r le h = omega arith
 RisesFrom-order low (x ∷ xs) zero (suc j) r le h = let ih = RisesFrom-at (suc x.0) xs j r.1 (omega arith) in omega arith
 RisesFrom-order low (x ∷ xs) (suc i) zero r le h = absurd (omega arith)
 RisesFrom-order low (x ∷ xs) (suc i) (suc j) r le h = RisesFrom-order (suc x.0) xs i j r.1 (omega arith) (omega arith)
 
--- transactions behind others
-pub RisesFrom-append : (low bound : ℕ) (xs ys : List Transaction) → low ≤ bound → RisesFrom low xs → ((k : ℕ) → k < length xs → (transaction_at xs k).0 < bound) → RisesFrom bound ys → RisesFrom low (xs ++ ys)
+-- transactions after others
+pub RisesFrom-append : (low bound : ℕ) (xs ys : List Transaction) → low ≤ bound → RisesFrom low xs
+    → ((k : ℕ) → k < length xs → (transaction_at xs k).0 < bound) → RisesFrom bound ys → RisesFrom low (xs ++ ys)
 RisesFrom-append low bound [] ys le r h s = RisesFrom-earlier low bound ys le s
 RisesFrom-append low bound (x ∷ xs) ys le r h s =
     let here : x.0 < bound = h 0 (omega arith) in
@@ -53,7 +55,8 @@ pub before-below : (time : ℕ) (xs : List Transaction) (k : ℕ) → k < length
 before-below time [] k h = absurd (omega arith)
 before-below time (x ∷ xs) k h = go (before-below time xs) (ltb x.0 time) refl k h
   where
-    go : ((i : ℕ) → i < length (before time xs) → (transaction_at (before time xs) i).0 < time) → (b : Bool) → ltb x.0 time ≡ b → (i : ℕ) → i < length (if b then x ∷ before time xs else before time xs) → (transaction_at (if b then x ∷ before time xs else before time xs) i).0 < time
+    go : ((i : ℕ) → i < length (before time xs) → (transaction_at (before time xs) i).0 < time) → (b : Bool) → ltb x.0 time ≡ b → (i : ℕ)
+        → i < length (if b then x ∷ before time xs else before time xs) → (transaction_at (if b then x ∷ before time xs else before time xs) i).0 < time
     go ih true e zero l = grind (arith, nat_tests)
     go ih true e (suc i) l = ih i (omega arith)
     go ih false e i l = ih i l
@@ -71,7 +74,8 @@ before-take time (x ∷ xs) zero le below above =
 before-take time (x ∷ xs) (suc n) le below above =
     let here : x.0 < time = below 0 (omega arith) in
     let test : ltb x.0 time ≡ true = grind (arith, nat_tests) in
-    rw test (ap (λ (w : List Transaction). x ∷ w) (before-take time xs n (omega arith) (λ k l. below (suc k) (omega arith)) (λ k l h. above (suc k) (omega arith) (omega arith))))
+    rw test (ap (λ (w : List Transaction). x ∷ w)
+    (before-take time xs n (omega arith) (λ k l. below (suc k) (omega arith)) (λ k l h. above (suc k) (omega arith) (omega arith))))
 
 -- the marked ones rise, and are before what all are before
 pub marked_of-rises : (low limit : ℕ) (v : Logic) (xs : List Transaction) → RisesFrom low xs → RisesFrom low (marked_of limit v xs)
@@ -82,11 +86,14 @@ marked_of-rises low limit v (x ∷ xs) r = go (marked_of-rises (suc x.0) limit v
     go ih true = (r.0, ih)
     go ih false = RisesFrom-earlier low (suc x.0) (marked_of limit v xs) (omega (arith, r.0)) ih
 
-pub marked_of-below : (limit time : ℕ) (v : Logic) (xs : List Transaction) → ((k : ℕ) → k < length xs → (transaction_at xs k).0 < time) → (k : ℕ) → k < length (marked_of limit v xs) → (transaction_at (marked_of limit v xs) k).0 < time
+pub marked_of-below : (limit time : ℕ) (v : Logic) (xs : List Transaction) → ((k : ℕ) → k < length xs → (transaction_at xs k).0 < time) → (k : ℕ)
+    → k < length (marked_of limit v xs) → (transaction_at (marked_of limit v xs) k).0 < time
 marked_of-below limit time v [] all k h = absurd (omega arith)
 marked_of-below limit time v (x ∷ xs) all k h = go (marked_of-below limit time v xs (λ i l. all (suc i) (omega arith))) (is_marked limit v x xs) k h
   where
-    go : ((i : ℕ) → i < length (marked_of limit v xs) → (transaction_at (marked_of limit v xs) i).0 < time) → (b : Bool) (i : ℕ) → i < length (if b then x ∷ marked_of limit v xs else marked_of limit v xs) → (transaction_at (if b then x ∷ marked_of limit v xs else marked_of limit v xs) i).0 < time
+    go : ((i : ℕ) → i < length (marked_of limit v xs) → (transaction_at (marked_of limit v xs) i).0 < time) → (b : Bool) (i : ℕ)
+        → i < length (if b then x ∷ marked_of limit v xs else marked_of limit v xs)
+        → (transaction_at (if b then x ∷ marked_of limit v xs else marked_of limit v xs) i).0 < time
     go rest true zero l = all 0 (omega arith)
     go rest true (suc i) l = rest i (omega arith)
     go rest false i l = rest i l
@@ -95,12 +102,14 @@ kept_of-rises : (low : ℕ) (first : Transaction) (delay : Delay) (xs : List Tra
 kept_of-rises low first Transport xs r = r
 kept_of-rises low first (Inertial reject) xs r = marked_of-rises low (first.0 - reject) first.1 xs r
 
-kept_of-below : (first : Transaction) (delay : Delay) (xs : List Transaction) → ((k : ℕ) → k < length xs → (transaction_at xs k).0 < first.0) → (k : ℕ) → k < length (kept_of delay first xs) → (transaction_at (kept_of delay first xs) k).0 < first.0
+kept_of-below : (first : Transaction) (delay : Delay) (xs : List Transaction) → ((k : ℕ) → k < length xs → (transaction_at xs k).0 < first.0) → (k : ℕ)
+    → k < length (kept_of delay first xs) → (transaction_at (kept_of delay first xs) k).0 < first.0
 kept_of-below first Transport xs all = all
 kept_of-below first (Inertial reject) xs all = marked_of-below (first.0 - reject) first.0 first.1 xs all
 
 -- what an assignment leaves rises
-pub edited-rises : (now : ℕ) (old : List Transaction) (delay : Delay) (es : List Transaction) → 0 < length es → RisesFrom now old → RisesFrom 0 es → RisesFrom now (edited old now delay es)
+pub edited-rises : (now : ℕ) (old : List Transaction) (delay : Delay) (es : List Transaction) → 0 < length es → RisesFrom now old → RisesFrom 0 es
+    → RisesFrom now (edited old now delay es)
 edited-rises now old delay [] some r s = absurd (omega arith)
 edited-rises now old delay (e ∷ es) some r s =
     let first : Transaction = (now + e.0, e.1) in
@@ -109,7 +118,8 @@ edited-rises now old delay (e ∷ es) some r s =
     RisesFrom-append now (now + e.0) (kept_of delay first (before (now + e.0) old)) (scheduled now (e ∷ es)) (omega arith) front
     (kept_of-below first delay (before (now + e.0) old) (before-below (now + e.0) old)) new
 
--- what is left behind the first rises
-pub rises-removed : (xs : List Transaction) → RisesFrom 0 xs → RisesFrom 0 (remove xs 0)
-rises-removed [] r = tt
-rises-removed (x ∷ xs) r = RisesFrom-earlier 0 (suc x.0) xs (omega arith) r.1
+-- what an assignment leaves rises, where an error leaves what was there
+pub edit-rises : {T E : Type 0} (r : Result T E) (now : ℕ) (old new : List Transaction) (delay : Delay) (es : List Transaction)
+    → 0 < length es → RisesFrom now old → RisesFrom 0 es → OnOk r (new ≡ edited old now delay es) → OnErr r (new ≡ old) → RisesFrom now new
+edit-rises (Ok x) now old new delay es some r s ok err = rw ok (edited-rises now old delay es some r s)
+edit-rises (Err x) now old new delay es some r s ok err = rw err r

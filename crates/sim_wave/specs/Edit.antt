@@ -29,7 +29,7 @@ pub data Marked (limit : ℕ) (old new : List Transaction) : ℕ → Type 0 wher
       → (transaction_at (old ++ new) i).1 ≡ (transaction_at (old ++ new) (suc i)).1
       → Marked limit old new (suc i) → Marked limit old new i
 
--- whether the old transaction x is marked: behind it stand the old ones xs and then a new one of this value
+-- whether the old transaction x is marked: after it come the old ones xs and then a new one of this value
 abbrev pub is_marked : ℕ → Logic → Transaction → List Transaction → Bool
 is_marked limit value x [] = nat_lt x.0 limit || is_same x.1 value
 is_marked limit value x (y ∷ ys) = nat_lt x.0 limit || (is_same x.1 y.1 && is_marked limit value y ys)

@@ -1,2 +1,4 @@
 pub mod Driver
 pub mod Edit
+pub mod Run
+pub mod Pending

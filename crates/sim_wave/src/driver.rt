@@ -3,24 +3,26 @@
 ghost use Rattle.std.specs.Prelude.{suc, ◌≡◌, ◌↔◌, ◌<◌, ◌≤◌, [], length, All, Some, IsTrue, IfOk, IsOk, OnOk, OnErr};
 ghost use Rattle.sim_wave.specs.Driver.{next_of, taken, RisesFrom, Transaction as transaction};
 ghost use Rattle.sim_wave.specs.Edit.{edited, first_of, IsWithin};
+ghost use Rattle.sim_logic.specs.Time.{largest_time};
 
 use crate::delay::Delay;
-use crate::edit::{Pending, kept_by, rewrite};
-use sim_logic::{LATEST, Logic};
-use smallvec::SmallVec;
+use crate::edit::keeps;
+use crate::pending::Pending;
+use sim_logic::Logic;
 use std::alloc::{AllocError, Global};
 use std::marker::Model;
 
 /// A value and when a driver takes it: a time in femtoseconds, or a delay from now.
 pub type Transaction = (u64, Logic);
 
-/// So many pending transactions stand in the driver itself; more need an allocation.
+/// The number of pending transactions that need no allocation: they stand in the driver itself.
 pub const IN_PLACE: usize = 2;
 
 /// A driver: its current value and its pending transactions, whose times rise strictly.
 #[derive(Drop)]
 pub struct Driver {
     value: Logic,
+    alloc: Global,
     pending: Pending,
 }
 
@@ -29,13 +31,14 @@ impl Model for Driver {
 
     ghost Value = { Waveform };
 
-    ghost view = { λ driver. record { value = driver.value; pending = driver.pending.items } };
+    ghost use Rattle.sim_wave.specs.Pending.{transactions_of};
 
-    ghost use Rattle.std.specs.Prelude.{◌≤◌};
-    ghost use Rattle.sim_wave.specs.declared.driver.TheConstants.{IN_PLACE};
+    ghost view = { λ driver. record {
+      value = driver.value;
+      pending = transactions_of driver.pending;
+    } };
 
-    ghost invariant = { λ driver. RisesFrom 0 driver.pending.items
-        × (IN_PLACE ≤ driver.pending.capacity) };
+    ghost invariant = { λ driver. RisesFrom 0 (transactions_of driver.pending) };
 }
 
 impl Driver {
@@ -45,7 +48,8 @@ impl Driver {
     {
         Driver {
             value,
-            pending: SmallVec::new(alloc),
+            alloc,
+            pending: Pending::Nothing,
         }
     }
 
@@ -75,16 +79,22 @@ impl Driver {
     }
 
     /// Makes the first pending transaction the value, if its time is `time`; says whether it did.
+    /// What stays is later than `time` where no transaction was earlier.
     pub fn take(&mut self, time: u64) -> bool
         ensures due { IsTrue result ↔ (next_of self.old.pending ≡ Some time) }
         ensures after { self.new ≡ taken time self.old }
         ensures later { IsTrue result → RisesFrom (suc time) self.new.pending }
+        ensures past { RisesFrom time self.old.pending → RisesFrom (suc time) self.new.pending }
     {
-        if self.pending.is_empty() || self.pending[0].0 != time {
+        let first = match self.pending.as_slice().first() {
+            None => return false,
+            Some(first) => *first,
+        };
+        if first.0 != time {
             return false;
         }
-        let transaction = self.pending.remove(0);
-        self.value = transaction.1;
+        self.value = first.1;
+        self.pending.remove_first();
         true
     }
 
@@ -93,10 +103,10 @@ impl Driver {
         ensures ok { IfOk result (λ driver. driver ≡ self.now) }
         ensures in_place { length self.now.pending ≤ IN_PLACE → IsOk result }
     {
-        let mut pending = SmallVec::with_capacity(*self.pending.allocator(), self.pending.len())?;
-        pending.extend_from_slice(self.pending.as_slice())?;
+        let pending = Pending::copy_of(self.alloc, self.pending.as_slice())?;
         Ok(Driver {
             value: self.value,
+            alloc: self.alloc,
             pending,
         })
     }
@@ -119,8 +129,8 @@ impl Driver {
     ) -> Result<(), AllocError>
         requires some { 0 < length elements.now }
         requires rise { RisesFrom 0 elements.now }
-        requires delays { All (λ (element : transaction). element.0 ≤ LATEST) elements.now }
-        requires now { now ≤ LATEST }
+        requires delays { All (λ (element : transaction). element.0 ≤ largest_time) elements.now }
+        requires now { now ≤ largest_time }
         requires reject { IsWithin delay (first_of elements.now).0 }
         requires later { RisesFrom now self.old.pending }
         ensures ok { OnOk result (self.new
@@ -130,11 +140,24 @@ impl Driver {
         ensures in_place { length (edited self.old.pending now delay elements.now) ≤ IN_PLACE
             → IsOk result }
     {
-        let (delay_of_first, value) = elements[0];
-        let kept = kept_by(self.pending.as_slice(), delay, now + delay_of_first, value);
-        let freed = self.pending.len() - kept.len();
-        self.pending.reserve(elements.len().saturating_sub(freed))?;
-        rewrite(&mut self.pending, kept, now, elements);
-        Ok(())
+        if let [only] = elements {
+            let new = (now + only.0, only.1);
+            match &self.pending {
+                Pending::Nothing => {
+                    self.pending = Pending::One(new);
+                    return Ok(());
+                }
+                Pending::One(old) => {
+                    if keeps(*old, delay, new) {
+                        self.pending = Pending::Two([*old, new]);
+                        return Ok(());
+                    }
+                    self.pending = Pending::One(new);
+                    return Ok(());
+                }
+                _ => {}
+            }
+        }
+        self.pending.edit(self.alloc, now, delay, elements)
     }
 }

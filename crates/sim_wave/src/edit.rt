@@ -1,26 +1,78 @@
 //! The editing of a projected output waveform by a signal assignment (IEEE 1076-2008, 10.5.2.2).
 
-ghost use Rattle.std.specs.Prelude.{ℕ, ◌≡◌, ◌≢◌, ◌+◌, ◌-◌, ◌<◌, ◌≤◌, ◌++◌, length, take, drop, All};
+ghost use Rattle.std.specs.Prelude.{ℕ, ◌≡◌, ◌≢◌, ◌+◌, ◌-◌, ◌<◌, ◌≤◌, ◌++◌, ◌↔◌, [], ◌∷◌, length, take, drop, All, IsTrue};
 ghost use Rattle.std.specs.List.{remove_range};
 ghost use Rattle.sim_logic.specs.declared.logic.Logic as logic;
 ghost use Rattle.smallvec.specs.SmallVec.{small_vec_len, HasRoomFor};
 ghost use Rattle.sim_wave.specs.Driver.{RisesFrom, Transaction as transaction, transaction_at};
 ghost use Rattle.sim_wave.specs.Edit.{before, kept_of, scheduled, IsWithin};
+ghost use Rattle.sim_wave.specs.Run.{IsRun};
+ghost use Rattle.sim_logic.specs.Time.{largest_time};
 
 use crate::delay::Delay;
 use crate::driver::{IN_PLACE, Transaction};
-use sim_logic::{LATEST, Logic};
+use sim_logic::Logic;
 use smallvec::SmallVec;
 
-/// The pending transactions of a driver, earliest first.
-pub(crate) type Pending = SmallVec<Transaction, IN_PLACE>;
+/// A list of transactions, earliest first.
+pub(crate) type Transactions = SmallVec<Transaction, IN_PLACE>;
+
+/// A run of transactions of equal value in a list: those from `start` up to `end`.
+#[derive(Clone, Copy)]
+pub(crate) struct Run {
+    pub(crate) start: usize,
+    pub(crate) end: usize,
+    pub(crate) value: Logic,
+}
+
+impl Run {
+    /// No transactions.
+    pub(crate) fn none() -> Run
+        ensures { result ≡ record { start = 0; end = 0; value = logic.Logic.U } }
+    {
+        Run {
+            start: 0,
+            end: 0,
+            value: Logic::U,
+        }
+    }
+
+    /// The run in a list without its first `count` transactions.
+    pub(crate) fn after(self, count: usize) -> Run
+        ensures { result ≡ record {
+          start = self.start - count;
+          end = self.end - count;
+          value = self.value;
+        } }
+    {
+        Run {
+            start: self.start.saturating_sub(count),
+            end: self.end.saturating_sub(count),
+            value: self.value,
+        }
+    }
+
+    /// Where the run begins, if it goes up to `end` and has this value; else `end`.
+    fn start_before(self, end: usize, value: Logic) -> usize
+        ensures within { result ≤ end }
+        ensures start { result < end → self.start ≡ result }
+        ensures end { result < end → end ≤ self.end }
+        ensures value { result < end → self.value ≡ value }
+    {
+        if self.start < end && end <= self.end && self.value == value {
+            self.start
+        } else {
+            end
+        }
+    }
+}
 
 /// The old transactions that an edit keeps: those below `front`, and those from `back` up to `end`.
 #[derive(Clone, Copy)]
 pub(crate) struct Kept {
-    front: usize,
-    back: usize,
-    end: usize,
+    pub(crate) front: usize,
+    pub(crate) back: usize,
+    pub(crate) end: usize,
     ghost order: { (front ≤ back) × (back ≤ end) },
 }
 
@@ -30,6 +82,20 @@ impl Kept {
         ensures { result ≡ self.front + (self.end - self.back) }
     {
         self.front + (self.end - self.back)
+    }
+
+    /// The same transactions in a list that has `count` others before them, which are kept too.
+    pub(crate) fn beyond(self, count: usize) -> Kept
+        requires { count + self.end ≤ usize.MAX }
+        ensures front { result.front ≡ count + self.front }
+        ensures back { result.back ≡ count + self.back }
+        ensures end { result.end ≡ count + self.end }
+    {
+        Kept {
+            front: count + self.front,
+            back: count + self.back,
+            end: count + self.end,
+        }
     }
 }
 
@@ -48,31 +114,42 @@ fn count_before(pending: &[Transaction], end: usize, time: u64) -> usize
     place
 }
 
-/// Where the chain of transactions of this value begins that goes up to `end`. It is followed no
-/// further than to `limit`, before which every transaction is marked.
-fn chain_start(pending: &[Transaction], end: usize, limit: u64, value: Logic) -> usize
-    requires { end ≤ length pending.now }
+/// The transaction is not before `limit`, and has this value.
+fn continues(transaction: Transaction, limit: u64, value: Logic) -> bool
+    ensures { IsTrue result ↔ ((limit ≤ transaction.0) × (transaction.1 ≡ value)) }
+{
+    transaction.0 >= limit && transaction.1 == value
+}
+
+/// Where the chain of transactions of this value begins that goes up to `end`. The remembered run
+/// is not gone over again, and before it the chain is followed no further than to `limit`, before
+/// which every transaction is marked.
+fn chain_start(pending: &[Transaction], run: Run, end: usize, limit: u64, value: Logic) -> usize
+    requires run { IsRun pending.now run.start run.end run.value }
+    requires within { end ≤ length pending.now }
     ensures within { result ≤ end }
-    ensures chain { (k : ℕ) → result ≤ k → k < end → (transaction_at pending.now k).1 ≡ value }
+    ensures chain { IsRun pending.now result end value }
     ensures broken { 0 < result → limit ≤ (transaction_at pending.now (result - 1)).0
         → (transaction_at pending.now (result - 1)).1 ≢ value }
 {
-    let mut place = end;
-    while place > 0 && pending[place - 1].0 >= limit && pending[place - 1].1 == value {
+    let mut place = run.start_before(end, value);
+    while place > 0 && continues(pending[place - 1], limit, value) {
         place -= 1;
     }
     place
 }
 
-/// What the delay keeps, where the first new transaction has this time and value.
-pub(crate) fn kept_by(pending: &[Transaction], delay: Delay, first: u64, value: Logic) -> Kept
+/// What the delay keeps, where `first` is the first new transaction.
+pub(crate) fn kept_by(pending: &[Transaction], run: Run, delay: Delay, first: Transaction) -> Kept
     requires rises { RisesFrom 0 pending.now }
-    requires within { IsWithin delay first }
+    requires run { IsRun pending.now run.start run.end run.value }
+    requires within { IsWithin delay first.0 }
     ensures within { result.end ≤ length pending.now }
     ensures kept { remove_range (take result.end pending.now) result.front result.back
-        ≡ kept_of delay (first, value) (before first pending.now) }
+        ≡ kept_of delay first (before first.0 pending.now) }
+    ensures chain { IsRun pending.now result.back result.end first.1 }
 {
-    let end = count_before(pending, pending.len(), first);
+    let end = count_before(pending, pending.len(), first.0);
     let reject = match delay {
         Delay::Transport => return Kept {
             front: end,
@@ -81,52 +158,66 @@ pub(crate) fn kept_by(pending: &[Transaction], delay: Delay, first: u64, value: 
         },
         Delay::Inertial { reject } => reject,
     };
-    let limit = first - reject;
-    let back = chain_start(pending, end, limit, value);
+    let limit = first.0 - reject;
+    let back = chain_start(pending, run, end, limit, first.1);
     let front = count_before(pending, back, limit);
     Kept { front, back, end }
 }
 
 /// Removes the transactions from `front` up to `back`.
-fn close_gap(pending: &mut Pending, front: usize, back: usize)
+pub(crate) fn close_gap(list: &mut Transactions, front: usize, back: usize)
     requires order { front ≤ back }
-    requires within { back ≤ small_vec_len pending.old }
-    ensures items { pending.new.items ≡ remove_range pending.old.items front back }
-    ensures capacity { pending.new.capacity ≡ pending.old.capacity }
+    requires within { back ≤ small_vec_len list.old }
+    ensures items { list.new.items ≡ remove_range list.old.items front back }
+    ensures capacity { list.new.capacity ≡ list.old.capacity }
 {
     if front < back {
-        let len = pending.len();
-        pending.as_mut_slice().copy_within(back.., front);
-        pending.truncate(len - (back - front));
+        let len = list.len();
+        list.as_mut_slice().copy_within(back.., front);
+        list.truncate(len - (back - front));
     }
 }
 
 /// Appends the elements at their times.
-fn append(pending: &mut Pending, now: u64, elements: &[Transaction])
-    requires room { HasRoomFor pending.old (length elements.now) }
-    requires now { now ≤ LATEST }
-    requires delays { All (λ (element : transaction). element.0 ≤ LATEST) elements.now }
-    ensures items { pending.new.items ≡ pending.old.items ++ scheduled now elements.now }
-    ensures capacity { pending.new.capacity ≡ pending.old.capacity }
+fn append(list: &mut Transactions, now: u64, elements: &[Transaction])
+    requires room { HasRoomFor list.old (length elements.now) }
+    requires now { now ≤ largest_time }
+    requires delays { All (λ (element : transaction). element.0 ≤ largest_time) elements.now }
+    ensures items { list.new.items ≡ list.old.items ++ scheduled now elements.now }
+    ensures capacity { list.new.capacity ≡ list.old.capacity }
 {
     for (delay, value) in elements {
-        pending.push_reserved((now + *delay, *value));
+        list.push_reserved((now + *delay, *value));
     }
 }
 
-/// Puts the elements behind what is kept, in a waveform that has room for them.
-pub(crate) fn rewrite(pending: &mut Pending, kept: Kept, now: u64, elements: &[Transaction])
-    requires within { kept.end ≤ small_vec_len pending.old }
+/// Puts the elements after what is kept, in a list that has room for them.
+pub(crate) fn rewrite(list: &mut Transactions, kept: Kept, now: u64, elements: &[Transaction])
+    requires within { kept.end ≤ small_vec_len list.old }
     requires room { kept.front + (kept.end - kept.back) + length elements.now
-        ≤ pending.old.capacity }
-    requires now { now ≤ LATEST }
-    requires delays { All (λ (element : transaction). element.0 ≤ LATEST) elements.now }
-    ensures items { pending.new.items
-        ≡ remove_range (take kept.end pending.old.items) kept.front kept.back
+        ≤ list.old.capacity }
+    requires now { now ≤ largest_time }
+    requires delays { All (λ (element : transaction). element.0 ≤ largest_time) elements.now }
+    ensures items { list.new.items
+        ≡ remove_range (take kept.end list.old.items) kept.front kept.back
         ++ scheduled now elements.now }
-    ensures capacity { pending.new.capacity ≡ pending.old.capacity }
+    ensures capacity { list.new.capacity ≡ list.old.capacity }
 {
-    pending.truncate(kept.end);
-    close_gap(pending, kept.front, kept.back);
-    append(pending, now, elements);
+    list.truncate(kept.end);
+    close_gap(list, kept.front, kept.back);
+    append(list, now, elements);
+}
+
+/// The delay keeps a single old transaction where this one is assigned.
+pub(crate) fn keeps(old: Transaction, delay: Delay, new: Transaction) -> bool
+    requires { IsWithin delay new.0 }
+    ensures { IsTrue result ↔ (kept_of delay new (before new.0 (old ∷ [])) ≡ old ∷ []) }
+{
+    if old.0 >= new.0 {
+        return false;
+    }
+    match delay {
+        Delay::Transport => true,
+        Delay::Inertial { reject } => old.0 < new.0 - reject || old.1 == new.1,
+    }
 }

@@ -1,8 +1,9 @@
 //! Laws of editing: each is what an empty function ensures.
 
-ghost use Rattle.std.specs.Prelude.{ℕ, Bool, true, List, ◌≡◌, ◌<◌, ◌↔◌, ◌∷◌, length};
+ghost use Rattle.std.specs.Prelude.{ℕ, Bool, true, List, ◌+◌, ◌-◌, ◌≡◌, ◌<◌, ◌↔◌, ◌∷◌, ◌++◌, length};
 ghost use Rattle.sim_wave.specs.Driver.{Transaction};
-ghost use Rattle.sim_wave.specs.Edit.{at_places, is_marked_at, marked_of, Marked};
+ghost use Rattle.sim_wave.specs.declared.delay.Delay as delay;
+ghost use Rattle.sim_wave.specs.Edit.{at_places, before, edited, is_marked_at, marked_of, scheduled, Marked};
 
 /// The test of a place decides the least set of marked places.
 pub fn the_marked_places_are_the_least_set()
@@ -19,4 +20,18 @@ pub fn the_kept_transactions_are_the_marked_ones()
         → ((place : ℕ) → place < length old
         → (test place ≡ true) ↔ Marked limit old (first ∷ others) place)
         → marked_of limit first.1 old ≡ at_places test 0 old }
+{}
+
+/// An inertial assignment leaves the marked transactions: of the old ones before the first new one,
+/// followed by the new ones, those at the places of the least set, whichever test decides it
+/// (IEEE 1076-2008, 10.5.2.2).
+pub fn an_inertial_edit_leaves_the_marked_transactions()
+    ensures { (old : List Transaction) (now : ℕ) (reject : ℕ) (element : Transaction) (elements : List Transaction)
+        (test : ℕ → Bool)
+        → let first = now + element.0 in
+        let new = scheduled now (element ∷ elements) in
+        let all = before first old ++ new in
+        ((place : ℕ) → place < length all
+        → (test place ≡ true) ↔ Marked (first - reject) (before first old) new place)
+        → edited old now (delay.Delay.Inertial reject) (element ∷ elements) ≡ at_places test 0 all }
 {}

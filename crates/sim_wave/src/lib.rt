@@ -5,6 +5,8 @@ mod delay;
 mod driver;
 mod edit;
 pub mod laws;
+mod pending;
+mod stored;
 #[cfg(test)]
 mod tests;
 

@@ -1,7 +1,13 @@
-ghost use Rattle.std.specs.Prelude.{◌≤◌};
+ghost use Rattle.std.specs.Prelude.{◌≡◌, ◌≤◌, [], ◌∷◌, fold, map, IfOk};
+ghost use Rattle.sim_logic.specs.Tables.{resolution_table};
+ghost use Rattle.sim_logic.specs.Resolution.{resolved};
+ghost use Rattle.sim_logic.specs.declared.logic.Logic as logic;
+ghost use Rattle.sim_wave.specs.Driver.{RisesFrom};
+ghost use Rattle.sim_wave.specs.Edit.{IsWithin};
 
 use crate::{Delay, Driver};
-use sim_logic::Logic::{One, Zero};
+use sim_logic::Logic::{self, Dash, One, X, Zero};
+use sim_logic::resolve_two;
 use std::alloc::{AllocError, Global};
 use std::test::Fail;
 
@@ -54,4 +60,104 @@ fn transactions_are_taken_at_their_times(rt: HostRuntime) -> Result<(), Fail> {
     assert_eq!(rt; driver.pending(), [(4, One)].as_slice());
     assert!(rt; driver.try_copy()?.same(&driver));
     Ok(())
+}
+
+/// A driver that at each time from 0 to 7 is assigned a value 5 fs ahead, and takes what is due. The
+/// value is '1', or else it alternates, beginning with '0'.
+fn assigned_each_time(alloc: Global, delay: Delay, same: bool) -> Result<Driver, AllocError>
+    requires { IsWithin delay 5 }
+    ensures { IfOk result (λ driver. RisesFrom 8 driver.pending) }
+{
+    let mut driver = Driver::new(alloc, Zero);
+    for now in 0..8 {
+        let value = if same || now % 2 == 1 { One } else { Zero };
+        driver.edit(now, delay, &[(5, value)])?;
+        driver.take(now);
+    }
+    Ok(driver)
+}
+
+#[test]
+fn equal_values_stay(rt: HostRuntime) -> Result<(), Fail> {
+    let driver = assigned_each_time(rt.alloc(), Delay::Inertial { reject: 5 }, true)?;
+    assert_eq!(rt; driver.value(), One);
+    assert_eq!(rt;
+        driver.pending(),
+        [(8, One), (9, One), (10, One), (11, One), (12, One)].as_slice()
+    );
+    assert!(rt; driver.try_copy()?.same(&driver));
+    Ok(())
+}
+
+#[test]
+fn other_values_are_rejected(rt: HostRuntime) -> Result<(), Fail> {
+    let driver = assigned_each_time(rt.alloc(), Delay::Inertial { reject: 5 }, false)?;
+    assert_eq!(rt; driver.value(), Zero);
+    assert_eq!(rt; driver.pending(), [(12, One)].as_slice());
+    Ok(())
+}
+
+#[test]
+fn a_line_of_many_is_edited(rt: HostRuntime) -> Result<(), Fail> {
+    let mut driver = assigned_each_time(rt.alloc(), Delay::Transport, false)?;
+    assert_eq!(rt;
+        driver.pending(),
+        [(8, One), (9, Zero), (10, One), (11, Zero), (12, One)].as_slice()
+    );
+    driver.edit(8, Delay::Inertial { reject: 2 }, &[(4, One)])?;
+    assert_eq!(rt;
+        driver.pending(),
+        [(8, One), (9, Zero), (12, One)].as_slice()
+    );
+    Ok(())
+}
+
+/// A driver with one transaction at 5.
+fn one_pending(alloc: Global) -> Result<Driver, AllocError>
+    ensures { IfOk result (λ driver. driver.pending ≡ (5, logic.Logic.One) ∷ []) }
+{
+    let mut driver = Driver::new(alloc, Zero);
+    driver.edit(0, Delay::Transport, &[(5, One)])?;
+    Ok(driver)
+}
+
+#[test]
+fn a_single_one_is_kept_or_rejected(rt: HostRuntime) -> Result<(), Fail> {
+    let mut kept = one_pending(rt.alloc())?;
+    kept.edit(3, Delay::Inertial { reject: 5 }, &[(5, One)])?;
+    assert_eq!(rt; kept.pending(), [(5, One), (8, One)].as_slice());
+    let mut rejected = one_pending(rt.alloc())?;
+    rejected.edit(3, Delay::Inertial { reject: 3 }, &[(5, Zero)])?;
+    assert_eq!(rt; rejected.pending(), [(8, Zero)].as_slice());
+    Ok(())
+}
+
+/// The drivers' values, resolved one after another.
+fn resolved_in_turn(drivers: &[Driver]) -> Logic
+    ensures { result ≡ fold resolution_table Logic.Z (map (λ driver. driver.value) drivers.now) }
+{
+    let mut value = Logic::Z;
+    for driver in drivers {
+        value = resolve_two(value, driver.value());
+    }
+    value
+}
+
+/// The value of a signal with these drivers, with no list of their values.
+fn driving_value(drivers: &[Driver]) -> Logic
+    ensures { result ≡ resolved (map (λ driver. driver.value) drivers.now) }
+{
+    match drivers {
+        [only] => only.value(),
+        _ => resolved_in_turn(drivers),
+    }
+}
+
+#[test]
+fn drivers_are_resolved_in_turn(rt: HostRuntime) {
+    let alloc = rt.alloc();
+    let drivers = [Driver::new(alloc, Dash), Driver::new(alloc, One)];
+    assert_eq!(rt; driving_value(&drivers[..1]), Dash);
+    assert_eq!(rt; driving_value(drivers.as_slice()), X);
+    assert_eq!(rt; driving_value(&[]), Logic::Z);
 }

@@ -5,7 +5,7 @@ use Rattle.sim_wave.proofs.edit.append.Given as goal
 
 abbrev pub invariant-loop-delay : goal.invariant-loop-delay
 invariant-loop-delay l = record {
-  items : l.pending.items ≡ l.initial.pending.items ++ scheduled l.now (take l.delay-index l.elements);
-  capacity : l.pending.capacity ≡ l.initial.pending.capacity;
-  room : small_vec_len l.pending + (length l.elements - l.delay-index) ≤ l.pending.capacity;
+  items : l.list.items ≡ l.initial.list.items ++ scheduled l.now (take l.delay-index l.elements);
+  capacity : l.list.capacity ≡ l.initial.list.capacity;
+  room : small_vec_len l.list + (length l.elements - l.delay-index) ≤ l.list.capacity;
 }

@@ -10,8 +10,8 @@ returns-in-Transport-clause-kept c =
     let old = c.args.pending.now in
     let end = c.count_before-end.result in
     let at = c.count_before-end.ensures in
-    let front : before c.args.first old ≡ take end old =
-    before-take c.args.first old end (omega arith) at.below (λ k g h. at.above k g (omega arith)) in
+    let front : before c.args.first.0 old ≡ take end old =
+    before-take c.args.first.0 old end (omega arith) at.below (λ k g h. at.above k g (omega arith)) in
     rw (c.in-Transport.is, front) (take-append-drop end (take end old))
 
 pub returns-clause-kept : goal.returns-clause-kept
@@ -19,10 +19,10 @@ returns-clause-kept c =
     let old = c.args.pending.now in
     let end = c.count_before-end.result in
     let at = c.count_before-end.ensures in
-    let front : before c.args.first old ≡ take end old =
-    before-take c.args.first old end (omega arith) at.below (λ k g h. at.above k g (omega arith)) in
+    let front : before c.args.first.0 old ≡ take end old =
+    before-take c.args.first.0 old end (omega arith) at.below (λ k g h. at.above k g (omega arith)) in
     rw (c.in-Inertial.is, front)
-    (kept_places-marked_of (c.args.first - c.in-Inertial.reject) c.args.value c.count_before-front.result c.chain_start-back.result end old
+    (kept_places-marked_of (c.args.first.0 - c.in-Inertial.reject) c.args.first.1 c.count_before-front.result c.chain_start-back.result end old
     c.count_before-front.ensures.within c.chain_start-back.ensures.within (omega arith)
     c.chain_start-back.ensures.chain c.chain_start-back.ensures.broken
     c.count_before-front.ensures.below c.count_before-front.ensures.above)

@@ -1,15 +1,20 @@
-use Rattle.std.proofs.Common.{◌≡◌, rules, arith}
-use Rattle.sim_wave.specs.Edit.{edited}
-use Rattle.sim_wave.proofs.Rising.{RisesFrom-earlier, edited-rises}
+use Rattle.std.proofs.Common.{◌≡◌, ap, arith}
+use Rattle.sim_wave.specs.Driver.{RisesFrom, Waveform}
+use Rattle.sim_wave.specs.Pending.{transactions_of}
+use Rattle.sim_wave.proofs.Rising.{RisesFrom-earlier, edit-rises}
 use Rattle.sim_wave.proofs.driver.Driver.edit.Goals as goal
-
-pub invariant_of-self-2 : goal.invariant_of-self-2
-invariant_of-self-2 c =
-    let items : c.rewrite.new.pending.items ≡ edited c.args.self.now.pending c.args.now c.args.delay c.args.elements.now = search rules in
-    let rises = edited-rises c.args.now c.args.self.now.pending c.args.delay c.args.elements.now c.requires.some c.requires.later c.requires.rise in
-    rw items (RisesFrom-earlier 0 c.args.now (edited c.args.self.now.pending c.args.now c.args.delay c.args.elements.now) (omega arith) rises, omega arith)
 
 pub returns-clause-later : goal.returns-clause-later
 returns-clause-later c =
-    let items : c.rewrite.new.pending.items ≡ edited c.args.self.now.pending c.args.now c.args.delay c.args.elements.now = search rules in
-    rw items (edited-rises c.args.now c.args.self.now.pending c.args.delay c.args.elements.now c.requires.some c.requires.later c.requires.rise)
+    let was : transactions_of c.self.inside.pending ≡ c.args.self.now.pending = ap (λ (w : Waveform). w.pending) c.self.view_is in
+    let later : RisesFrom c.args.now (transactions_of c.self.inside.pending) = rw was c.requires.later in
+    edit-rises c.edit.result c.args.now (transactions_of c.self.inside.pending) (transactions_of c.edit.new.self) c.args.delay c.args.elements.now
+    c.requires.some later c.requires.rise c.edit.ensures.ok c.edit.ensures.err
+
+pub invariant_of-self-2 : goal.invariant_of-self-2
+invariant_of-self-2 c =
+    let was : transactions_of c.self.inside.pending ≡ c.args.self.now.pending = ap (λ (w : Waveform). w.pending) c.self.view_is in
+    let later : RisesFrom c.args.now (transactions_of c.self.inside.pending) = rw was c.requires.later in
+    RisesFrom-earlier 0 c.args.now (transactions_of c.edit.new.self) (omega arith)
+    (edit-rises c.edit.result c.args.now (transactions_of c.self.inside.pending) (transactions_of c.edit.new.self) c.args.delay c.args.elements.now
+    c.requires.some later c.requires.rise c.edit.ensures.ok c.edit.ensures.err)

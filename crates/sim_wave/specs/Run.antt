@@ -1,0 +1,8 @@
+-- Neighbours of equal value among transactions.
+use Rattle.std.specs.Prelude.{ℕ, ◌≤◌, ◌<◌, ◌≡◌, List}
+use Rattle.sim_logic.specs.declared.logic.Logic.{Logic}
+use Rattle.sim_wave.specs.Driver.{Transaction, transaction_at}
+
+-- the transactions from a place up to another have this value
+abbrev pub IsRun : List Transaction → ℕ → ℕ → Logic → Type 0
+IsRun transactions start end value = (k : ℕ) → start ≤ k → k < end → (transaction_at transactions k).1 ≡ value

@@ -1,0 +1,143 @@
+//! The pending transactions of a driver: in the driver itself while there are at most two.
+
+ghost use Rattle.std.specs.Prelude.{◌≡◌, ◌+◌, ◌-◌, ◌<◌, ◌≤◌, [], ◌∷◌, ◌++◌, length, take, drop, All, IfOk, IsOk, OnOk, OnErr};
+ghost use Rattle.sim_wave.specs.Driver.{RisesFrom, Transaction as transaction, transaction_at};
+ghost use Rattle.std.specs.List.{remove_range};
+ghost use Rattle.sim_wave.specs.Edit.{edited, first_of, scheduled, IsWithin};
+ghost use Rattle.sim_wave.specs.Pending.{transactions_of};
+ghost use Rattle.sim_logic.specs.Time.{largest_time};
+
+use crate::delay::Delay;
+use crate::driver::{IN_PLACE, Transaction};
+use crate::edit::{Kept, Run, kept_by};
+use crate::stored::Stored;
+use std::alloc::{AllocError, Global};
+
+/// Pending transactions, earliest first. A driver that once had more than two keeps their room.
+#[derive(Drop)]
+pub(crate) enum Pending {
+    Nothing,
+    One(Transaction),
+    Two([Transaction; 2]),
+    Many(Box<Stored>),
+}
+
+/// Both of two transactions.
+fn two_of(both: &[Transaction; 2]) -> &[Transaction]
+    ensures { result.now ≡ transaction_at both.now 0 ∷ (transaction_at both.now 1 ∷ []) }
+{
+    both.as_slice()
+}
+
+impl Pending {
+    /// The transactions, earliest first.
+    pub(crate) fn as_slice(&self) -> &[Transaction]
+        ensures { result.now ≡ transactions_of self.now }
+    {
+        match self {
+            Pending::Nothing => &[],
+            Pending::One(only) => std::slice::from_ref(only),
+            Pending::Two(both) => two_of(both),
+            Pending::Many(stored) => stored.as_slice(),
+        }
+    }
+
+    /// At most two transactions.
+    fn of_few(transactions: &[Transaction]) -> Pending
+        requires { length transactions.now ≤ IN_PLACE }
+        ensures { transactions_of result ≡ transactions.now }
+    {
+        match transactions {
+            [first, second, ..] => Pending::Two([*first, *second]),
+            [only] => Pending::One(*only),
+            [] => Pending::Nothing,
+        }
+    }
+
+    /// A copy of the transactions.
+    pub(crate) fn copy_of(
+        alloc: Global,
+        transactions: &[Transaction],
+    ) -> Result<Pending, AllocError>
+        ensures ok { IfOk result (λ pending. transactions_of pending ≡ transactions.now) }
+        ensures in_place { length transactions.now ≤ IN_PLACE → IsOk result }
+    {
+        if transactions.len() <= IN_PLACE {
+            return Ok(Pending::of_few(transactions));
+        }
+        let stored = Stored::copy_of(alloc, transactions)?;
+        Ok(Pending::Many(Box::new(alloc, stored)?))
+    }
+
+    /// What is kept of the transactions, and then the elements: two at most.
+    fn of_kept(few: &[Transaction], kept: Kept, now: u64, elements: &[Transaction]) -> Pending
+        requires some { 0 < length elements.now }
+        requires within { kept.end ≤ length few.now }
+        requires two { kept.front + (kept.end - kept.back) + length elements.now ≤ 2 }
+        requires now { now ≤ largest_time }
+        requires delays { All (λ (element : transaction). element.0 ≤ largest_time) elements.now }
+        ensures { transactions_of result
+            ≡ remove_range (take kept.end few.now) kept.front kept.back ++ scheduled now elements.now }
+    {
+        let first = (now + elements[0].0, elements[0].1);
+        if elements.len() == 2 {
+            return Pending::Two([first, (now + elements[1].0, elements[1].1)]);
+        }
+        if kept.front == 1 {
+            return Pending::Two([few[0], first]);
+        }
+        if kept.back < kept.end {
+            return Pending::Two([few[kept.back], first]);
+        }
+        Pending::One(first)
+    }
+
+    /// Removes the first transaction.
+    pub(crate) fn remove_first(&mut self)
+        requires { 0 < length (transactions_of self.old) }
+        ensures { transactions_of self.new ≡ drop 1 (transactions_of self.old) }
+    {
+        match self {
+            Pending::Nothing | Pending::One(_) => *self = Pending::Nothing,
+            Pending::Two(both) => *self = Pending::One(both[1]),
+            Pending::Many(stored) => stored.remove_first(),
+        }
+    }
+
+    /// A signal assignment, as `Driver::edit` has it. It stays apart, so that the straight ways there
+    /// stay short.
+    #[inline(never)]
+    pub(crate) fn edit(
+        &mut self,
+        alloc: Global,
+        now: u64,
+        delay: Delay,
+        elements: &[Transaction],
+    ) -> Result<(), AllocError>
+        requires some { 0 < length elements.now }
+        requires delays { All (λ (element : transaction). element.0 ≤ largest_time) elements.now }
+        requires now { now ≤ largest_time }
+        requires reject { IsWithin delay (first_of elements.now).0 }
+        requires rises { RisesFrom 0 (transactions_of self.old) }
+        ensures ok { OnOk result (transactions_of self.new
+            ≡ edited (transactions_of self.old) now delay elements.now) }
+        ensures err { OnErr result (transactions_of self.new ≡ transactions_of self.old) }
+        ensures in_place { length (edited (transactions_of self.old) now delay elements.now)
+            ≤ IN_PLACE → IsOk result }
+    {
+        if let Pending::Many(stored) = self {
+            return stored.edit(now, delay, elements);
+        }
+        let few = self.as_slice();
+        let (delay_of_first, value) = elements[0];
+        let kept = kept_by(few, Run::none(), delay, (now + delay_of_first, value));
+        if kept.len() + elements.len() <= IN_PLACE {
+            *self = Pending::of_kept(few, kept, now, elements);
+            return Ok(());
+        }
+        let mut stored = Stored::copy_of(alloc, few)?;
+        stored.edit(now, delay, elements)?;
+        *self = Pending::Many(Box::new(alloc, stored)?);
+        Ok(())
+    }
+}
