@@ -19,16 +19,17 @@ begins_comment a (b ∷ bs) = (a == 45 && b == 45) || (a == 47 && b == 42)
 
 -- the class that the first bytes tell
 unfoldable pub class_by : Bool → ℕ → Text → Class
-class_by behind_name a rest =
+class_by after_name a rest =
     if is_separator a then class.Separator
     else (if is_ascii_alphabetic a then class.Word
     else (if is_ascii_digit a then class.Number
-    else (if a == 39 then (if behind_name then class.Tick else class.Literal)
+    else (if a == 39 then (if after_name then class.Tick else class.Literal)
     else (if begins_comment a rest then class.Comment
     else class.Delimiter))))
 
 -- what a table's spellings pass, and a text that is found there
-pub found_in : (test : Text → Bool) (table : List (Text × Kind)) (bytes : Text) → list_all (λ e. test e.0) table ≡ true → is_some (kind_in table bytes) ≡ true → test bytes ≡ true
+pub found_in : (test : Text → Bool) (table : List (Text × Kind)) (bytes : Text) → list_all (λ e. test e.0) table ≡ true
+    → is_some (kind_in table bytes) ≡ true → test bytes ≡ true
 found_in test [] bytes all h = absurd cc
 found_in test (e ∷ table) bytes all h = by_cases (bytes_eq e.0 bytes)
     (λ t. let same : e.0 ≡ bytes = (bytes_eq-Decides e.0 bytes).0 t in
@@ -45,8 +46,8 @@ digit_only a h = (grind (arith, nat_tests), grind (arith, nat_tests))
 
 -- a piece with its first byte has the class that its first bytes tell
 abbrev pub TellsClass : Bool → Class → Text → Type 0
-TellsClass behind_name c [] = ⊥
-TellsClass behind_name c (a ∷ rest) = class_by behind_name a rest ≡ c
+TellsClass after_name c [] = ⊥
+TellsClass after_name c (a ∷ rest) = class_by after_name a rest ≡ c
 
 is_delimiter : Class → Bool
 is_delimiter class.Delimiter = true
@@ -63,72 +64,72 @@ is_delimiter_only class.Literal h = absurd cc
 is_delimiter_only class.Tick h = absurd cc
 
 delimiter_class : Bool → Text → Bool
-delimiter_class behind_name [] = false
-delimiter_class behind_name (a ∷ rest) = is_delimiter (class_by behind_name a rest)
+delimiter_class after_name [] = false
+delimiter_class after_name (a ∷ rest) = is_delimiter (class_by after_name a rest)
 
-of_delimiter : (behind_name : Bool) (text : Text) → delimiter_class behind_name text ≡ true → TellsClass behind_name class.Delimiter text
+of_delimiter : (after_name : Bool) (text : Text) → delimiter_class after_name text ≡ true → TellsClass after_name class.Delimiter text
 unfolding delimiter_class
-of_delimiter behind_name [] h = absurd cc
-of_delimiter behind_name (a ∷ rest) h = is_delimiter_only _ h
+of_delimiter after_name [] h = absurd cc
+of_delimiter after_name (a ∷ rest) h = is_delimiter_only _ h
 
-delimiters_tell : (behind_name : Bool) → list_all (λ (e : Text × Kind). delimiter_class behind_name e.0) delimiters ≡ true
+delimiters_tell : (after_name : Bool) → list_all (λ (e : Text × Kind). delimiter_class after_name e.0) delimiters ≡ true
 unfolding delimiter_class is_delimiter class_by is_separator delimiters
-delimiters_tell behind_name = refl
+delimiters_tell after_name = refl
 
-of_literal : (behind_name : Bool) (text : Text) → is_piece behind_name class.Literal text ≡ true → TellsClass behind_name class.Literal text
+of_literal : (after_name : Bool) (text : Text) → is_piece after_name class.Literal text ≡ true → TellsClass after_name class.Literal text
 unfolding class_by is_separator
-of_literal behind_name [] h = absurd cc
-of_literal behind_name (a ∷ []) h = absurd cc
-of_literal behind_name (a ∷ v ∷ []) h = absurd cc
+of_literal after_name [] h = absurd cc
+of_literal after_name (a ∷ []) h = absurd cc
+of_literal after_name (a ∷ v ∷ []) h = absurd cc
 of_literal true (a ∷ v ∷ b ∷ []) h = absurd cc
 of_literal false (a ∷ v ∷ b ∷ []) h = rw ((Decides-eqb a 39).0 (and_both (a == 39) _ h).0) refl
-of_literal behind_name (a ∷ v ∷ b ∷ c ∷ bs) h = absurd cc
+of_literal after_name (a ∷ v ∷ b ∷ c ∷ bs) h = absurd cc
 
-of_tick : (behind_name : Bool) (text : Text) → is_piece behind_name class.Tick text ≡ true → TellsClass behind_name class.Tick text
+of_tick : (after_name : Bool) (text : Text) → is_piece after_name class.Tick text ≡ true → TellsClass after_name class.Tick text
 unfolding class_by is_separator
-of_tick behind_name [] h = absurd cc
+of_tick after_name [] h = absurd cc
 of_tick true (a ∷ []) h = rw ((Decides-eqb a 39).0 h) refl
 of_tick false (a ∷ []) h = absurd cc
-of_tick behind_name (a ∷ b ∷ bs) h = absurd cc
+of_tick after_name (a ∷ b ∷ bs) h = absurd cc
 
-of_comment : (behind_name : Bool) (text : Text) → is_piece behind_name class.Comment text ≡ true → TellsClass behind_name class.Comment text
+of_comment : (after_name : Bool) (text : Text) → is_piece after_name class.Comment text ≡ true → TellsClass after_name class.Comment text
 unfolding class_by is_separator
-of_comment behind_name [] h = absurd cc
-of_comment behind_name (a ∷ []) h = absurd cc
-of_comment behind_name (a ∷ b ∷ bs) h = by_cases (a == 45 && b == 45)
+of_comment after_name [] h = absurd cc
+of_comment after_name (a ∷ []) h = absurd cc
+of_comment after_name (a ∷ b ∷ bs) h = by_cases (a == 45 && b == 45)
     (λ t. let w = and_both (a == 45) (b == 45) t in
     rw ((Decides-eqb a 45).0 w.0, (Decides-eqb b 45).0 w.1) refl)
     (λ f. let second : is_delimited_comment (a ∷ b ∷ bs) ≡ true = rw f at h in
     let w = and_both (a == 47) (b == 42) (and_both (a == 47 && b == 42) _ second).0 in
     rw ((Decides-eqb a 47).0 w.0, (Decides-eqb b 42).0 w.1) refl)
 
-pub class_of : (behind_name : Bool) (c : Class) (text : Text) → is_piece behind_name c text ≡ true → TellsClass behind_name c text
+pub class_of : (after_name : Bool) (c : Class) (text : Text) → is_piece after_name c text ≡ true → TellsClass after_name c text
 unfolding class_by is_separator
-class_of behind_name class.Separator [] h = absurd cc
-class_of behind_name class.Separator (a ∷ []) h = rw h refl
-class_of behind_name class.Separator (a ∷ b ∷ bs) h = absurd cc
-class_of behind_name class.Word [] h = absurd cc
-class_of behind_name class.Word (a ∷ bs) h =
+class_of after_name class.Separator [] h = absurd cc
+class_of after_name class.Separator (a ∷ []) h = rw h refl
+class_of after_name class.Separator (a ∷ b ∷ bs) h = absurd cc
+class_of after_name class.Word [] h = absurd cc
+class_of after_name class.Word (a ∷ bs) h =
     let w = and_both (is_ascii_alphabetic a) _ h in
     rw (letter_only a w.0, w.0) refl
-class_of behind_name class.Number [] h = absurd cc
-class_of behind_name class.Number (a ∷ bs) h =
+class_of after_name class.Number [] h = absurd cc
+class_of after_name class.Number (a ∷ bs) h =
     let w = and_both (is_ascii_digit a) _ h in
     let d = digit_only a w.0 in
     rw (d.0, d.1, w.0) refl
-class_of behind_name class.Literal text h = of_literal behind_name text h
-class_of behind_name class.Tick text h = of_tick behind_name text h
-class_of behind_name class.Comment text h = of_comment behind_name text h
-class_of behind_name class.Delimiter text h = of_delimiter behind_name text (found_in (delimiter_class behind_name) delimiters text (delimiters_tell behind_name) h)
+class_of after_name class.Literal text h = of_literal after_name text h
+class_of after_name class.Tick text h = of_tick after_name text h
+class_of after_name class.Comment text h = of_comment after_name text h
+class_of after_name class.Delimiter text h = of_delimiter after_name text (found_in (delimiter_class after_name) delimiters text (delimiters_tell after_name) h)
 
 -- a text is a piece of one class at most
-pub one_class : (behind_name : Bool) (c d : Class) (text : Text) → is_piece behind_name c text ≡ true → is_piece behind_name d text ≡ true → c ≡ d
-one_class behind_name c d [] p q = absurd (class_of behind_name c [] p)
-one_class behind_name c d (a ∷ rest) p q = sym (class_of behind_name c (a ∷ rest) p) ∙ class_of behind_name d (a ∷ rest) q
+pub one_class : (after_name : Bool) (c d : Class) (text : Text) → is_piece after_name c text ≡ true → is_piece after_name d text ≡ true → c ≡ d
+one_class after_name c d [] p q = absurd (class_of after_name c [] p)
+one_class after_name c d (a ∷ rest) p q = sym (class_of after_name c (a ∷ rest) p) ∙ class_of after_name d (a ∷ rest) q
 
 -- no piece is empty
-pub not_empty : (behind_name : Bool) (c : Class) → is_piece behind_name c [] ≡ true → ⊥
-not_empty behind_name c p = class_of behind_name c [] p
+pub not_empty : (after_name : Bool) (c : Class) → is_piece after_name c [] ≡ true → ⊥
+not_empty after_name c p = class_of after_name c [] p
 
 none_is : (o : Option Kind) → is_some o ≡ false → o ≡ None
 none_is None h = refl

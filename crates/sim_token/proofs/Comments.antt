@@ -16,7 +16,8 @@ further_map k None = refl
 further_map k (Some n) = ap Some (omega arith)
 
 -- no `*/` stands at the front
-pub closed_len_step : (k a : ℕ) (after : Text) → ((b : ℕ) (bs : Text) → after ≡ b ∷ bs → (a == 42 && b == 47) ≡ false) → further k (closed_len (a ∷ after)) ≡ further (suc k) (closed_len after)
+pub closed_len_step : (k a : ℕ) (after : Text) → ((b : ℕ) (bs : Text) → after ≡ b ∷ bs → (a == 42 && b == 47) ≡ false)
+    → further k (closed_len (a ∷ after)) ≡ further (suc k) (closed_len after)
 closed_len_step k a [] h = refl
 closed_len_step k a (b ∷ bs) h = rw (h b bs refl) (further_map k (closed_len (b ∷ bs)))
 
@@ -79,6 +80,7 @@ closed_fits (a ∷ b ∷ bs) n h = by_cases (a == 42 && b == 47)
     let ih = closed_fits (b ∷ bs) w.0 w.1 in
     rw w.2 (closed_front a b bs w.0 t ih.0, omega arith))
   where
-    closed_front : (a b : ℕ) (bs : Text) (m : ℕ) → (a == 42 && b == 47) ≡ false → is_closed_at_end (take m (b ∷ bs)) ≡ true → is_closed_at_end (a ∷ take m (b ∷ bs)) ≡ true
+    closed_front : (a b : ℕ) (bs : Text) (m : ℕ) → (a == 42 && b == 47) ≡ false → is_closed_at_end (take m (b ∷ bs)) ≡ true
+        → is_closed_at_end (a ∷ take m (b ∷ bs)) ≡ true
     closed_front a b bs zero f h = absurd cc
     closed_front a b bs (suc m) f h = closed_step a b (take m bs) f h

@@ -4,5 +4,6 @@ pub mod Comments
 pub mod Classes
 pub mod Longest
 pub mod Cuts
+pub mod WordTexts
 pub mod Turns
 pub mod Order

@@ -1,5 +1,6 @@
 -- What a scan finds is the longest piece that may stand there, and where it finds none, none may.
-use Rattle.std.proofs.Common.{◌≡◌, ℕ, suc, ◌+◌, ◌≤◌, ◌<◌, Bool, true, false, ◌&&◌, ◌||◌, ◌==◌, not, [], ◌∷◌, ◌++◌, length, take, Option, Some, None, refl, sym, subst, ◌∙◌, arith}
+use Rattle.std.proofs.Common.{◌≡◌, ℕ, suc, ◌+◌, ◌≤◌, ◌<◌, Bool, true, false, ◌&&◌, ◌||◌, ◌==◌, not, [], ◌∷◌, ◌++◌, length, take, Option, Some, None}
+use Rattle.std.proofs.Common.{refl, sym, subst, ◌∙◌, arith}
 use Rattle.std.specs.Prelude.{is_some, option_map}
 use Rattle.std.proofs.Math.Numerals.{one-add}
 use Rattle.std.specs.List.{list_all}
@@ -16,62 +17,68 @@ use Rattle.sim_token.proofs.Classes.{class_by, begins_comment, class_of, letter_
 
 -- the extent is that of the longest piece that may stand at a byte and the rest, or none may
 abbrev pub IsBest : Bool → ℕ → Text → Option Extent → Type 0
-IsBest behind_name first rest None = (c : Class) (front beyond : Text) → front ++ beyond ≡ rest → is_piece behind_name c (first ∷ front) ≡ true → ⊥
-IsBest behind_name first rest (Some e) =
-    (0 < e.1) × (e.1 ≤ suc (length rest)) × (is_piece behind_name e.0 (take e.1 (first ∷ rest)) ≡ true)
-    × ((c : Class) (front beyond : Text) → front ++ beyond ≡ rest → is_piece behind_name c (first ∷ front) ≡ true → suc (length front) ≤ e.1)
+IsBest after_name first rest None = (c : Class) (front beyond : Text) → front ++ beyond ≡ rest → is_piece after_name c (first ∷ front) ≡ true → ⊥
+IsBest after_name first rest (Some e) =
+    (0 < e.1) × (e.1 ≤ suc (length rest)) × (is_piece after_name e.0 (take e.1 (first ∷ rest)) ≡ true)
+    × ((c : Class) (front beyond : Text) → front ++ beyond ≡ rest → is_piece after_name c (first ∷ front) ≡ true → suc (length front) ≤ e.1)
 
 -- a piece is one of the class that its first bytes tell
-as_told : (behind_name : Bool) (c d : Class) (first : ℕ) (front : Text) → class_by behind_name first front ≡ d → is_piece behind_name c (first ∷ front) ≡ true → is_piece behind_name d (first ∷ front) ≡ true
-as_told behind_name c d first front told p =
-    let same : c ≡ d = sym (class_of behind_name c (first ∷ front) p) ∙ told in
-    subst (λ x. is_piece behind_name x (first ∷ front) ≡ true) same p
+as_told : (after_name : Bool) (c d : Class) (first : ℕ) (front : Text) → class_by after_name first front ≡ d
+    → is_piece after_name c (first ∷ front) ≡ true → is_piece after_name d (first ∷ front) ≡ true
+as_told after_name c d first front told p =
+    let same : c ≡ d = sym (class_of after_name c (first ∷ front) p) ∙ told in
+    subst (λ x. is_piece after_name x (first ∷ front) ≡ true) same p
 
-separator_short : (behind_name : Bool) (first : ℕ) (front : Text) → is_piece behind_name class.Separator (first ∷ front) ≡ true → suc (length front) ≤ 1
-separator_short behind_name first [] p = omega arith
-separator_short behind_name first (x ∷ front) p = absurd cc
+separator_short : (after_name : Bool) (first : ℕ) (front : Text) → is_piece after_name class.Separator (first ∷ front) ≡ true → suc (length front) ≤ 1
+separator_short after_name first [] p = omega arith
+separator_short after_name first (x ∷ front) p = absurd cc
 
-separator_most : (behind_name : Bool) (first : ℕ) → is_separator first ≡ true → (c : Class) (front : Text) → is_piece behind_name c (first ∷ front) ≡ true → suc (length front) ≤ 1
+separator_most : (after_name : Bool) (first : ℕ) → is_separator first ≡ true → (c : Class) (front : Text)
+    → is_piece after_name c (first ∷ front) ≡ true → suc (length front) ≤ 1
 unfolding class_by
-separator_most behind_name first h c front p = separator_short behind_name first front (as_told behind_name c class.Separator first front (rw h refl) p)
+separator_most after_name first h c front p = separator_short after_name first front (as_told after_name c class.Separator first front (rw h refl) p)
 
-best_separator : (behind_name : Bool) (first : ℕ) (rest : Text) → is_separator first ≡ true → IsBest behind_name first rest (Some (class.Separator, 1))
-best_separator behind_name first rest h = (omega arith, omega arith, h, λ c front beyond e p. separator_most behind_name first h c front p)
+best_separator : (after_name : Bool) (first : ℕ) (rest : Text) → is_separator first ≡ true → IsBest after_name first rest (Some (class.Separator, 1))
+best_separator after_name first rest h = (omega arith, omega arith, h, λ c front beyond e p. separator_most after_name first h c front p)
 
-word_most : (behind_name : Bool) (first : ℕ) → is_ascii_alphabetic first ≡ true → (c : Class) (front beyond : Text) → is_piece behind_name c (first ∷ front) ≡ true → length front ≤ tail_len is_ascii_alphanumeric (front ++ beyond)
+word_most : (after_name : Bool) (first : ℕ) → is_ascii_alphabetic first ≡ true → (c : Class) (front beyond : Text)
+    → is_piece after_name c (first ∷ front) ≡ true → length front ≤ tail_len is_ascii_alphanumeric (front ++ beyond)
 unfolding class_by
-word_most behind_name first h c front beyond p =
-    let told : class_by behind_name first front ≡ class.Word = rw (letter_only first h, h) refl in
-    let w = and_both (is_ascii_alphabetic first) (is_tail is_ascii_alphanumeric front) (as_told behind_name c class.Word first front told p) in
+word_most after_name first h c front beyond p =
+    let told : class_by after_name first front ≡ class.Word = rw (letter_only first h, h) refl in
+    let w = and_both (is_ascii_alphabetic first) (is_tail is_ascii_alphanumeric front) (as_told after_name c class.Word first front told p) in
     tail_most is_ascii_alphanumeric front beyond w.1
 
-best_word : (behind_name : Bool) (first : ℕ) (rest : Text) → is_ascii_alphabetic first ≡ true → IsBest behind_name first rest (Some (class.Word, suc (tail_len is_ascii_alphanumeric rest)))
-best_word behind_name first rest h =
+best_word : (after_name : Bool) (first : ℕ) (rest : Text) → is_ascii_alphabetic first ≡ true
+    → IsBest after_name first rest (Some (class.Word, suc (tail_len is_ascii_alphanumeric rest)))
+best_word after_name first rest h =
     let inside = tail_inside is_ascii_alphanumeric rest in (
       omega arith,
       omega arith,
       rw (h, tail_fits is_ascii_alphanumeric rest) refl,
       λ c front beyond e p.
-          let m : length front ≤ tail_len is_ascii_alphanumeric rest = rw (← e) (word_most behind_name first h c front beyond p) in
+          let m : length front ≤ tail_len is_ascii_alphanumeric rest = rw (← e) (word_most after_name first h c front beyond p) in
           omega arith,
     )
 
-number_most : (behind_name : Bool) (first : ℕ) → is_ascii_digit first ≡ true → (c : Class) (front beyond : Text) → is_piece behind_name c (first ∷ front) ≡ true → length front ≤ tail_len is_ascii_digit (front ++ beyond)
+number_most : (after_name : Bool) (first : ℕ) → is_ascii_digit first ≡ true → (c : Class) (front beyond : Text)
+    → is_piece after_name c (first ∷ front) ≡ true → length front ≤ tail_len is_ascii_digit (front ++ beyond)
 unfolding class_by
-number_most behind_name first h c front beyond p =
+number_most after_name first h c front beyond p =
     let d = digit_only first h in
-    let told : class_by behind_name first front ≡ class.Number = rw (d.0, d.1, h) refl in
-    let w = and_both (is_ascii_digit first) (is_tail is_ascii_digit front) (as_told behind_name c class.Number first front told p) in
+    let told : class_by after_name first front ≡ class.Number = rw (d.0, d.1, h) refl in
+    let w = and_both (is_ascii_digit first) (is_tail is_ascii_digit front) (as_told after_name c class.Number first front told p) in
     tail_most is_ascii_digit front beyond w.1
 
-best_number : (behind_name : Bool) (first : ℕ) (rest : Text) → is_ascii_digit first ≡ true → IsBest behind_name first rest (Some (class.Number, suc (tail_len is_ascii_digit rest)))
-best_number behind_name first rest h =
+best_number : (after_name : Bool) (first : ℕ) (rest : Text) → is_ascii_digit first ≡ true
+    → IsBest after_name first rest (Some (class.Number, suc (tail_len is_ascii_digit rest)))
+best_number after_name first rest h =
     let inside = tail_inside is_ascii_digit rest in (
       omega arith,
       omega arith,
       rw (h, tail_fits is_ascii_digit rest) refl,
       λ c front beyond e p.
-          let m : length front ≤ tail_len is_ascii_digit rest = rw (← e) (number_most behind_name first h c front beyond p) in
+          let m : length front ≤ tail_len is_ascii_digit rest = rw (← e) (number_most after_name first h c front beyond p) in
           omega arith,
     )
 
@@ -83,7 +90,7 @@ tick_most : (c : Class) (front : Text) → is_piece true c (39 ∷ front) ≡ tr
 unfolding class_by is_separator
 tick_most c front p = tick_short front (as_told true c class.Tick 39 front refl p)
 
--- the two bytes behind the apostrophe of a literal
+-- the two bytes after the apostrophe of a literal
 literal_parts : (front : Text) → is_piece false class.Literal (39 ∷ front) ≡ true → (v : ℕ) × (b : ℕ) × (front ≡ v ∷ b ∷ []) × ((is_value v && b == 39) ≡ true)
 unfolding is_value
 literal_parts [] p = absurd cc
@@ -104,7 +111,7 @@ literal_most c front p =
     let w = literal_parts front (told_literal c front p) in
     rw w.2 (omega arith)
 
-best_apostrophe : (behind_name : Bool) (rest : Text) → IsBest behind_name 39 rest (apostrophe behind_name rest)
+best_apostrophe : (after_name : Bool) (rest : Text) → IsBest after_name 39 rest (apostrophe after_name rest)
 unfolding apostrophe
 best_apostrophe true rest = (omega arith, omega arith, refl, λ c front beyond e p. tick_most c front p)
 best_apostrophe false [] = λ c front beyond e p.
@@ -123,28 +130,33 @@ best_apostrophe false (v ∷ b ∷ rest) = by_cases (is_value v && b == 39)
     let t : (is_value v && b == 39) ≡ true = rw (← same_v, ← same_b) w.3 in
     absurd cc))
 
-delimiter_fits : (behind_name : Bool) (bytes : Text) → is_some (kind_in delimiters bytes) ≡ true → is_piece behind_name class.Delimiter bytes ≡ true
-delimiter_fits behind_name bytes h = h
+delimiter_fits : (after_name : Bool) (bytes : Text) → is_some (kind_in delimiters bytes) ≡ true → is_piece after_name class.Delimiter bytes ≡ true
+delimiter_fits after_name bytes h = h
 
 -- where only a delimiter may stand
-module _ (behind_name : Bool) (first : ℕ) (rest : Text) (told : (front beyond : Text) → front ++ beyond ≡ rest → class_by behind_name first front ≡ class.Delimiter) where
-  only_delimiter : (c : Class) (front beyond : Text) → front ++ beyond ≡ rest → is_piece behind_name c (first ∷ front) ≡ true → is_some (kind_in delimiters (first ∷ front)) ≡ true
-  only_delimiter c front beyond e p = as_told behind_name c class.Delimiter first front (told front beyond e) p
+module _ (after_name : Bool) (first : ℕ) (rest : Text) (told : (front beyond : Text) → front ++ beyond ≡ rest → class_by after_name first front ≡
+    class.Delimiter) where
+  only_delimiter : (c : Class) (front beyond : Text) → front ++ beyond ≡ rest → is_piece after_name c (first ∷ front) ≡ true
+      → is_some (kind_in delimiters (first ∷ front)) ≡ true
+  only_delimiter c front beyond e p = as_told after_name c class.Delimiter first front (told front beyond e) p
 
--- with no byte behind it, or where the two bytes are none
-best_single : (behind_name : Bool) (first : ℕ) (rest : Text) → ((front beyond : Text) → front ++ beyond ≡ rest → class_by behind_name first front ≡ class.Delimiter) → ((front beyond : Text) → front ++ beyond ≡ rest → is_some (kind_in delimiters (first ∷ front)) ≡ true → front ≡ []) → IsBest behind_name first rest (single first)
+-- with no byte after it, or where the two bytes are none
+best_single : (after_name : Bool) (first : ℕ) (rest : Text)
+    → ((front beyond : Text) → front ++ beyond ≡ rest → class_by after_name first front ≡ class.Delimiter)
+    → ((front beyond : Text) → front ++ beyond ≡ rest → is_some (kind_in delimiters (first ∷ front)) ≡ true → front ≡ [])
+    → IsBest after_name first rest (single first)
 unfolding single
-best_single behind_name first rest told alone = by_cases (is_some (kind_in delimiters (first ∷ [])))
+best_single after_name first rest told alone = by_cases (is_some (kind_in delimiters (first ∷ [])))
     (λ t. rw t (
       omega arith,
       omega arith,
-      delimiter_fits behind_name (first ∷ []) t,
+      delimiter_fits after_name (first ∷ []) t,
       λ c front beyond e p.
-          let none = alone front beyond e (only_delimiter behind_name first rest told c front beyond e p) in
+          let none = alone front beyond e (only_delimiter after_name first rest told c front beyond e p) in
           rw none (omega arith),
     ))
     (λ f. rw f (λ c front beyond e p.
-    let d = only_delimiter behind_name first rest told c front beyond e p in
+    let d = only_delimiter after_name first rest told c front beyond e p in
     let none = alone front beyond e d in
     let t : is_some (kind_in delimiters (first ∷ [])) ≡ true = rw none at d in
     absurd cc))
@@ -154,7 +166,8 @@ front_of_none [] beyond e = refl
 front_of_none (x ∷ front) beyond e = absurd cc
 
 -- no delimiter begins with these two bytes
-alone_before : (first b : ℕ) (rest : Text) → is_some (kind_in delimiters (first ∷ b ∷ [])) ≡ false → (front beyond : Text) → front ++ beyond ≡ b ∷ rest → is_some (kind_in delimiters (first ∷ front)) ≡ true → front ≡ []
+alone_before : (first b : ℕ) (rest : Text) → is_some (kind_in delimiters (first ∷ b ∷ [])) ≡ false → (front beyond : Text)
+    → front ++ beyond ≡ b ∷ rest → is_some (kind_in delimiters (first ∷ front)) ≡ true → front ≡ []
 alone_before first b rest f [] beyond e h = refl
 alone_before first b rest f (x ∷ []) beyond e h =
     let same : x ≡ b = cc in
@@ -165,18 +178,20 @@ alone_before first b rest f (x ∷ y ∷ front) beyond e h = absurd (too_long (d
     too_long : suc (suc (suc (length front))) ≤ 2 → ⊥
     too_long h = omega arith
 
-best_delimiter : (behind_name : Bool) (first : ℕ) (rest : Text) → ((front beyond : Text) → front ++ beyond ≡ rest → class_by behind_name first front ≡ class.Delimiter) → IsBest behind_name first rest (delimiter first rest)
+best_delimiter : (after_name : Bool) (first : ℕ) (rest : Text)
+    → ((front beyond : Text) → front ++ beyond ≡ rest → class_by after_name first front ≡ class.Delimiter)
+    → IsBest after_name first rest (delimiter first rest)
 unfolding delimiter
-best_delimiter behind_name first [] told = best_single behind_name first [] told (λ front beyond e h. front_of_none front beyond e)
-best_delimiter behind_name first (b ∷ rest) told = by_cases (is_some (kind_in delimiters (first ∷ b ∷ [])))
+best_delimiter after_name first [] told = best_single after_name first [] told (λ front beyond e h. front_of_none front beyond e)
+best_delimiter after_name first (b ∷ rest) told = by_cases (is_some (kind_in delimiters (first ∷ b ∷ [])))
     (λ t. rw t (
       omega arith,
       omega arith,
-      delimiter_fits behind_name (first ∷ b ∷ []) t,
+      delimiter_fits after_name (first ∷ b ∷ []) t,
       λ c front beyond e p.
-          (delimiter_short (first ∷ front) (only_delimiter behind_name first (b ∷ rest) told c front beyond e p)).1,
+          (delimiter_short (first ∷ front) (only_delimiter after_name first (b ∷ rest) told c front beyond e p)).1,
     ))
-    (λ f. rw f (best_single behind_name first (b ∷ rest) told (alone_before first b rest f)))
+    (λ f. rw f (best_single after_name first (b ∷ rest) told (alone_before first b rest f)))
 
 -- no delimiter begins with a hyphen
 no_hyphen : (front : Text) → is_some (kind_in delimiters (45 ∷ front)) ≡ true → ⊥
@@ -191,17 +206,19 @@ no_slash : is_some (kind_in delimiters (47 ∷ [])) ≡ true → ⊥
 unfolding delimiters
 no_slash h = absurd cc
 
-line_comment_fits : (behind_name : Bool) (b n : ℕ) (rest : Text) → (b == 45) ≡ true → n ≡ line_len rest → is_piece behind_name class.Comment (45 ∷ b ∷ take n rest) ≡ true
-line_comment_fits behind_name b n rest t e = rw (t, e, line_fits rest) refl
+line_comment_fits : (after_name : Bool) (b n : ℕ) (rest : Text) → (b == 45) ≡ true → n ≡ line_len rest
+    → is_piece after_name class.Comment (45 ∷ b ∷ take n rest) ≡ true
+line_comment_fits after_name b n rest t e = rw (t, e, line_fits rest) refl
 
--- a piece behind a hyphen is a comment to the end of the line
-hyphen_most : (behind_name : Bool) (rest : Text) (c : Class) (front beyond : Text) → front ++ beyond ≡ 45 ∷ rest → is_piece behind_name c (45 ∷ front) ≡ true → suc (length front) ≤ suc (suc (line_len rest))
+-- a piece after a hyphen is a comment to the end of the line
+hyphen_most : (after_name : Bool) (rest : Text) (c : Class) (front beyond : Text) → front ++ beyond ≡ 45 ∷ rest
+    → is_piece after_name c (45 ∷ front) ≡ true → suc (length front) ≤ suc (suc (line_len rest))
 unfolding class_by is_separator
-hyphen_most behind_name rest c [] beyond e p = omega arith
-hyphen_most behind_name rest c (x ∷ front) beyond e p =
+hyphen_most after_name rest c [] beyond e p = omega arith
+hyphen_most after_name rest c (x ∷ front) beyond e p =
     let same : x ≡ 45 = cc in
     let onward : front ++ beyond ≡ rest = cc in
-    let comment : is_piece behind_name class.Comment (45 ∷ x ∷ front) ≡ true = as_told behind_name c class.Comment 45 (x ∷ front) (rw same refl) p in
+    let comment : is_piece after_name class.Comment (45 ∷ x ∷ front) ≡ true = as_told after_name c class.Comment 45 (x ∷ front) (rw same refl) p in
     let line : (list_all (λ y. not (is_line_end y)) front || false) ≡ true = rw same at comment in
     let m : length front ≤ line_len rest = rw (← onward) (line_most front beyond (or_false _ line)) in
     omega arith
@@ -210,23 +227,24 @@ hyphen_most behind_name rest c (x ∷ front) beyond e p =
     or_false true h = refl
     or_false false h = h
 
--- behind a hyphen that another does not follow
-hyphen_none : (behind_name : Bool) (b : ℕ) (rest : Text) → (b == 45) ≡ false → (c : Class) (front beyond : Text) → front ++ beyond ≡ b ∷ rest → is_piece behind_name c (45 ∷ front) ≡ true → ⊥
+-- after a hyphen that another does not follow
+hyphen_none : (after_name : Bool) (b : ℕ) (rest : Text) → (b == 45) ≡ false → (c : Class) (front beyond : Text) → front ++ beyond ≡ b ∷ rest
+    → is_piece after_name c (45 ∷ front) ≡ true → ⊥
 unfolding class_by is_separator
-hyphen_none behind_name b rest f c [] beyond e p = no_hyphen [] (as_told behind_name c class.Delimiter 45 [] refl p)
-hyphen_none behind_name b rest f c (x ∷ front) beyond e p =
+hyphen_none after_name b rest f c [] beyond e p = no_hyphen [] (as_told after_name c class.Delimiter 45 [] refl p)
+hyphen_none after_name b rest f c (x ∷ front) beyond e p =
     let same : x ≡ b = cc in
-    no_hyphen (x ∷ front) (as_told behind_name c class.Delimiter 45 (x ∷ front) (rw (same, f) refl) p)
+    no_hyphen (x ∷ front) (as_told after_name c class.Delimiter 45 (x ∷ front) (rw (same, f) refl) p)
 
-hyphen_alone : (behind_name : Bool) (c : Class) (front beyond : Text) → front ++ beyond ≡ [] → is_piece behind_name c (45 ∷ front) ≡ true → ⊥
+hyphen_alone : (after_name : Bool) (c : Class) (front beyond : Text) → front ++ beyond ≡ [] → is_piece after_name c (45 ∷ front) ≡ true → ⊥
 unfolding class_by is_separator
-hyphen_alone behind_name c [] beyond e p = no_hyphen [] (as_told behind_name c class.Delimiter 45 [] refl p)
-hyphen_alone behind_name c (x ∷ front) beyond e p = absurd cc
+hyphen_alone after_name c [] beyond e p = no_hyphen [] (as_told after_name c class.Delimiter 45 [] refl p)
+hyphen_alone after_name c (x ∷ front) beyond e p = absurd cc
 
-best_hyphen : (behind_name : Bool) (rest : Text) → IsBest behind_name 45 rest (hyphen rest)
+best_hyphen : (after_name : Bool) (rest : Text) → IsBest after_name 45 rest (hyphen rest)
 unfolding hyphen
-best_hyphen behind_name [] = λ c front beyond e p. hyphen_alone behind_name c front beyond e p
-best_hyphen behind_name (b ∷ rest) = by_cases (b == 45)
+best_hyphen after_name [] = λ c front beyond e p. hyphen_alone after_name c front beyond e p
+best_hyphen after_name (b ∷ rest) = by_cases (b == 45)
     (λ t.
     let two : 2 + line_len rest ≡ suc (suc (line_len rest)) = omega arith in
     let inside = line_inside rest in
@@ -234,77 +252,83 @@ best_hyphen behind_name (b ∷ rest) = by_cases (b == 45)
     rw (t, two) (
       omega arith,
       omega arith,
-      line_comment_fits behind_name b (line_len rest) rest t refl,
+      line_comment_fits after_name b (line_len rest) rest t refl,
       λ c front beyond e p.
-          hyphen_most behind_name rest c front beyond (rw same at e) p,
+          hyphen_most after_name rest c front beyond (rw same at e) p,
     ))
-    (λ f. rw f (λ c front beyond e p. hyphen_none behind_name b rest f c front beyond e p))
+    (λ f. rw f (λ c front beyond e p. hyphen_none after_name b rest f c front beyond e p))
 
-comment_fits : (behind_name : Bool) (front : Text) → is_closed_at_end front ≡ true → is_piece behind_name class.Comment (47 ∷ 42 ∷ front) ≡ true
-comment_fits behind_name front h = h
+comment_fits : (after_name : Bool) (front : Text) → is_closed_at_end front ≡ true → is_piece after_name class.Comment (47 ∷ 42 ∷ front) ≡ true
+comment_fits after_name front h = h
 
--- a piece behind a slash and a star is a comment that closes at its end
-star_comment : (behind_name : Bool) (rest : Text) (c : Class) (front beyond : Text) → front ++ beyond ≡ 42 ∷ rest → is_piece behind_name c (47 ∷ front) ≡ true → (n : ℕ) × (length front ≡ suc n) × (closed_len rest ≡ Some n)
+-- a piece after a slash and a star is a comment that closes at its end
+star_comment : (after_name : Bool) (rest : Text) (c : Class) (front beyond : Text) → front ++ beyond ≡ 42 ∷ rest
+    → is_piece after_name c (47 ∷ front) ≡ true → (n : ℕ) × (length front ≡ suc n) × (closed_len rest ≡ Some n)
 unfolding class_by is_separator
-star_comment behind_name rest c [] beyond e p = absurd (no_slash (as_told behind_name c class.Delimiter 47 [] refl p))
-star_comment behind_name rest c (x ∷ front) beyond e p =
+star_comment after_name rest c [] beyond e p = absurd (no_slash (as_told after_name c class.Delimiter 47 [] refl p))
+star_comment after_name rest c (x ∷ front) beyond e p =
     let same : x ≡ 42 = cc in
     let onward : front ++ beyond ≡ rest = cc in
-    let comment : is_piece behind_name class.Comment (47 ∷ x ∷ front) ≡ true = as_told behind_name c class.Comment 47 (x ∷ front) (rw same refl) p in
+    let comment : is_piece after_name class.Comment (47 ∷ x ∷ front) ≡ true = as_told after_name c class.Comment 47 (x ∷ front) (rw same refl) p in
     let closed : is_closed_at_end front ≡ true = rw same at comment in
     (length front, refl, rw (← onward) (closed_exact front beyond closed))
 
-best_star : (behind_name : Bool) (rest : Text) (o : Option ℕ) → closed_len rest ≡ o → IsBest behind_name 47 (42 ∷ rest) (option_map (λ n. (class.Comment, 2 + n)) o)
-best_star behind_name rest None h = λ c front beyond e p.
-    let w = star_comment behind_name rest c front beyond e p in absurd cc
-best_star behind_name rest (Some n) h =
+best_star : (after_name : Bool) (rest : Text) (o : Option ℕ) → closed_len rest ≡ o
+    → IsBest after_name 47 (42 ∷ rest) (option_map (λ n. (class.Comment, 2 + n)) o)
+best_star after_name rest None h = λ c front beyond e p.
+    let w = star_comment after_name rest c front beyond e p in absurd cc
+best_star after_name rest (Some n) h =
     let two : 2 + n ≡ suc (suc n) = omega arith in
     let fits = closed_fits rest n h in
     rw two (
       omega arith,
       omega arith,
-      comment_fits behind_name (take n rest) fits.0,
+      comment_fits after_name (take n rest) fits.0,
       λ c front beyond e p.
-          let w = star_comment behind_name rest c front beyond e p in
+          let w = star_comment after_name rest c front beyond e p in
           let same : w.0 ≡ n = cc in
           omega arith,
     )
 
-slash_told : (behind_name : Bool) (rest front beyond : Text) → ((b : ℕ) (bs : Text) → rest ≡ b ∷ bs → (b == 42) ≡ false) → front ++ beyond ≡ rest → class_by behind_name 47 front ≡ class.Delimiter
+slash_told : (after_name : Bool) (rest front beyond : Text) → ((b : ℕ) (bs : Text) → rest ≡ b ∷ bs → (b == 42) ≡ false) → front ++ beyond ≡ rest
+    → class_by after_name 47 front ≡ class.Delimiter
 unfolding class_by is_separator
-slash_told behind_name rest [] beyond h e = refl
-slash_told behind_name rest (x ∷ front) beyond h e =
+slash_told after_name rest [] beyond h e = refl
+slash_told after_name rest (x ∷ front) beyond h e =
     let f : (x == 42) ≡ false = h x (front ++ beyond) (sym e) in
     rw f refl
 
-best_slash : (behind_name : Bool) (rest : Text) → IsBest behind_name 47 rest (slash rest)
+best_slash : (after_name : Bool) (rest : Text) → IsBest after_name 47 rest (slash rest)
 unfolding slash
-best_slash behind_name [] = best_delimiter behind_name 47 [] (λ front beyond e. slash_told behind_name [] front beyond (λ b bs x. absurd cc) e)
-best_slash behind_name (b ∷ rest) = by_cases (b == 42)
-    (λ t. rw (t, (Decides-eqb b 42).0 t) (best_star behind_name rest (closed_len rest) refl))
-    (λ f. rw f (best_delimiter behind_name 47 (b ∷ rest) (λ front beyond e. slash_told behind_name (b ∷ rest) front beyond (λ d bs x. let same : b ≡ d = cc in rw (← same) f) e)))
+best_slash after_name [] = best_delimiter after_name 47 [] (λ front beyond e. slash_told after_name [] front beyond (λ b bs x. absurd cc) e)
+best_slash after_name (b ∷ rest) = by_cases (b == 42)
+    (λ t. rw (t, (Decides-eqb b 42).0 t) (best_star after_name rest (closed_len rest) refl))
+    (λ f. rw f (best_delimiter after_name 47 (b ∷ rest) (λ front beyond e. slash_told after_name (b ∷ rest) front beyond
+    (λ d bs x. let same : b ≡ d = cc in rw (← same) f) e)))
 
 -- the first byte begins no separator, word, number, literal or comment
 begins_none : (first : ℕ) (front : Text) → (first == 45) ≡ false → (first == 47) ≡ false → begins_comment first front ≡ false
 begins_none first [] f g = refl
 begins_none first (b ∷ bs) f g = rw (f, g) refl
 
-other_told : (behind_name : Bool) (first : ℕ) (front : Text) → is_separator first ≡ false → is_ascii_alphabetic first ≡ false → is_ascii_digit first ≡ false → (first == 39) ≡ false → (first == 45) ≡ false → (first == 47) ≡ false → class_by behind_name first front ≡ class.Delimiter
+other_told : (after_name : Bool) (first : ℕ) (front : Text) → is_separator first ≡ false → is_ascii_alphabetic first ≡ false
+    → is_ascii_digit first ≡ false → (first == 39) ≡ false → (first == 45) ≡ false → (first == 47) ≡ false
+    → class_by after_name first front ≡ class.Delimiter
 unfolding class_by
-other_told behind_name first front s w d q h l = rw (s, w, d, q, begins_none first front h l) refl
+other_told after_name first front s w d q h l = rw (s, w, d, q, begins_none first front h l) refl
 
-pub best_piece : (behind_name : Bool) (first : ℕ) (rest : Text) → IsBest behind_name first rest (piece_at behind_name first rest)
+pub best_piece : (after_name : Bool) (first : ℕ) (rest : Text) → IsBest after_name first rest (piece_at after_name first rest)
 unfolding piece_at
-best_piece behind_name first rest = by_cases (is_separator first)
-    (λ t. rw t (best_separator behind_name first rest t))
+best_piece after_name first rest = by_cases (is_separator first)
+    (λ t. rw t (best_separator after_name first rest t))
     (λ s. by_cases (is_ascii_alphabetic first)
-    (λ t. rw (s, t, one-add) (best_word behind_name first rest t))
+    (λ t. rw (s, t, one-add) (best_word after_name first rest t))
     (λ w. by_cases (is_ascii_digit first)
-    (λ t. rw (s, w, t, one-add) (best_number behind_name first rest t))
+    (λ t. rw (s, w, t, one-add) (best_number after_name first rest t))
     (λ d. by_cases (first == 39)
-    (λ t. rw (s, w, d, t, (Decides-eqb first 39).0 t) (best_apostrophe behind_name rest))
+    (λ t. rw (s, w, d, t, (Decides-eqb first 39).0 t) (best_apostrophe after_name rest))
     (λ q. by_cases (first == 45)
-    (λ t. rw (s, w, d, q, t, (Decides-eqb first 45).0 t) (best_hyphen behind_name rest))
+    (λ t. rw (s, w, d, q, t, (Decides-eqb first 45).0 t) (best_hyphen after_name rest))
     (λ h. by_cases (first == 47)
-    (λ t. rw (s, w, d, q, h, t, (Decides-eqb first 47).0 t) (best_slash behind_name rest))
-    (λ l. rw (s, w, d, q, h, l) (best_delimiter behind_name first rest (λ front beyond e. other_told behind_name first front s w d q h l))))))))
+    (λ t. rw (s, w, d, q, h, t, (Decides-eqb first 47).0 t) (best_slash after_name rest))
+    (λ l. rw (s, w, d, q, h, l) (best_delimiter after_name first rest (λ front beyond e. other_told after_name first front s w d q h l))))))))

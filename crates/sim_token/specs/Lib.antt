@@ -1,3 +1,5 @@
-pub mod Pieces
 pub mod Cutting
+pub mod Limits
+pub mod Pieces
 pub mod Scan
+pub mod Token

@@ -1,5 +1,6 @@
 -- The pieces of a text: what may stand at a place of it (IEEE 1076-2008, 15).
-use Rattle.std.specs.Prelude.{ℕ, Bool, true, false, ◌&&◌, ◌||◌, not, ◌==◌, nat_eq, nat_le, if◌then◌else◌, List, [], ◌∷◌, take, drop, map, filter, Option, Some, None, is_some, codes}
+use Rattle.std.specs.Prelude.{ℕ, Bool, true, false, ◌&&◌, ◌||◌, not, ◌==◌, nat_eq, nat_le, if◌then◌else◌, List, [], ◌∷◌, take, drop, map, filter}
+use Rattle.std.specs.Prelude.{Option, Some, None, is_some, codes}
 use Rattle.std.specs.List.{list_all, list_any}
 use Rattle.std.specs.Str.{bytes_eq}
 use Rattle.std.specs.Char.{is_ascii_digit, is_ascii_alphabetic, is_ascii_alphanumeric, to_ascii_lowercase}
@@ -110,17 +111,17 @@ reserved_words =
     ∷ (codes "xor", kind.Xor)
     ∷ []
 
--- These bytes are one piece of the class. `behind_name` says whether the token before them, over separators and
+-- These bytes are one piece of the class. `after_name` says whether the token before them, over separators and
 -- comments, is a word that is not reserved: there an apostrophe is a tick, and elsewhere it begins a literal.
 abbrev pub is_piece : Bool → Class → Text → Bool
-is_piece behind_name class.Separator (b ∷ []) = is_separator b
-is_piece behind_name class.Comment bytes = is_line_comment bytes || is_delimited_comment bytes
-is_piece behind_name class.Word (b ∷ bs) = is_ascii_alphabetic b && is_tail is_ascii_alphanumeric bs
-is_piece behind_name class.Number (b ∷ bs) = is_ascii_digit b && is_tail is_ascii_digit bs
-is_piece behind_name class.Literal (a ∷ v ∷ b ∷ []) = not behind_name && (a == 39 && (list_any (nat_eq v) value_bytes && b == 39))
-is_piece behind_name class.Tick (a ∷ []) = behind_name && a == 39
-is_piece behind_name class.Delimiter bytes = is_some (kind_in delimiters bytes)
-is_piece behind_name _ _ = false
+is_piece after_name class.Separator (b ∷ []) = is_separator b
+is_piece after_name class.Comment bytes = is_line_comment bytes || is_delimited_comment bytes
+is_piece after_name class.Word (b ∷ bs) = is_ascii_alphabetic b && is_tail is_ascii_alphanumeric bs
+is_piece after_name class.Number (b ∷ bs) = is_ascii_digit b && is_tail is_ascii_digit bs
+is_piece after_name class.Literal (a ∷ v ∷ b ∷ []) = not after_name && (a == 39 && (list_any (nat_eq v) value_bytes && b == 39))
+is_piece after_name class.Tick (a ∷ []) = after_name && a == 39
+is_piece after_name class.Delimiter bytes = is_some (kind_in delimiters bytes)
+is_piece after_name _ _ = false
 
 -- a word by its lower case: a reserved word, which keeps no text, or a name
 abbrev pub word_token : Option Kind → Text → Kind × Text

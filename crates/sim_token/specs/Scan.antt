@@ -30,7 +30,7 @@ Extent = Class × ℕ
 unfoldable pub is_value : ℕ → Bool
 is_value v = list_any (nat_eq v) value_bytes
 
--- behind an apostrophe
+-- after an apostrophe
 unfoldable pub apostrophe : Bool → Text → Option Extent
 apostrophe true rest = Some (class.Tick, 1)
 apostrophe false [] = None
@@ -41,28 +41,28 @@ apostrophe false (v ∷ b ∷ rest) = if is_value v && b == 39 then Some (class.
 unfoldable pub single : ℕ → Option Extent
 single a = if is_some (kind_in delimiters (a ∷ [])) then Some (class.Delimiter, 1) else None
 
--- a delimiter, by its first byte and the bytes behind it
+-- a delimiter, by its first byte and the bytes after it
 unfoldable pub delimiter : ℕ → Text → Option Extent
 delimiter a [] = single a
 delimiter a (b ∷ rest) = if is_some (kind_in delimiters (a ∷ b ∷ [])) then Some (class.Delimiter, 2) else single a
 
--- behind a hyphen
+-- after a hyphen
 unfoldable pub hyphen : Text → Option Extent
 hyphen [] = None
 hyphen (b ∷ rest) = if b == 45 then Some (class.Comment, 2 + line_len rest) else None
 
--- behind a slash
+-- after a slash
 unfoldable pub slash : Text → Option Extent
 slash [] = delimiter 47 []
 slash (b ∷ rest) = if b == 42 then option_map (λ n. (class.Comment, 2 + n)) (closed_len rest) else delimiter 47 (b ∷ rest)
 
--- the piece at the front, by its first byte and the bytes behind it
+-- the piece at the front, by its first byte and the bytes after it
 unfoldable pub piece_at : Bool → ℕ → Text → Option Extent
-piece_at behind_name first rest =
+piece_at after_name first rest =
     if is_separator first then Some (class.Separator, 1)
     else (if is_ascii_alphabetic first then Some (class.Word, 1 + tail_len is_ascii_alphanumeric rest)
     else (if is_ascii_digit first then Some (class.Number, 1 + tail_len is_ascii_digit rest)
-    else (if first == 39 then apostrophe behind_name rest
+    else (if first == 39 then apostrophe after_name rest
     else (if first == 45 then hyphen rest
     else (if first == 47 then slash rest
     else delimiter first rest)))))

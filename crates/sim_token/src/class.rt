@@ -5,7 +5,7 @@
 pub enum Class {
     /// One blank or line end (15.3).
     Separator,
-    /// To the end of the line behind `--`, or from `/*` to `*/` (15.9).
+    /// To the end of the line after `--`, or from `/*` to `*/` (15.9).
     Comment,
     /// An identifier or a reserved word (15.4, 15.10).
     Word,
@@ -13,7 +13,7 @@ pub enum Class {
     Number,
     /// A character literal of a value of `std_ulogic` (15.6).
     Literal,
-    /// An apostrophe behind a name (15.3).
+    /// An apostrophe after a name (15.3).
     Tick,
     /// Any other delimiter (15.3).
     Delimiter,

@@ -2,7 +2,7 @@
 
 ghost use Rattle.std.specs.Prelude.{◌≡◌, ◌≢◌, ◌⊎◌, ℕ, List, length};
 ghost use Rattle.std.specs.List.{AllByRecursion};
-ghost use Rattle.sim_token.specs.declared.token.Token.{Token};
+ghost use Rattle.sim_token.specs.Token.{Token};
 ghost use Rattle.sim_token.specs.declared.error.TextError.{TextError};
 ghost use Rattle.sim_token.specs.Cutting.{AreTokens, IsLexicalFault, AreInOrder};
 
@@ -30,7 +30,7 @@ pub fn a_text_has_tokens_or_a_fault()
         ((tokens : List Token) × AreTokens text tokens) ⊎ ((fault : TextError) × IsLexicalFault text fault) }
 {}
 
-/// Tokens lie behind one another inside the text, and none is empty.
+/// Tokens lie after one another inside the text, and none is empty.
 pub fn tokens_lie_in_order()
     ensures { (text : List ℕ) (tokens : List Token) → AreTokens text tokens → AreInOrder 0 tokens (length text) }
 {}

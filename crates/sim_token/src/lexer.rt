@@ -5,6 +5,7 @@ ghost use Rattle.std.specs.Char.{to_ascii_lowercase};
 ghost use Rattle.sim_token.specs.Pieces as pieces;
 ghost use Rattle.sim_token.specs.Cutting as cutting;
 ghost use Rattle.sim_token.specs.Cutting.{AreTokens, IsLexicalFault};
+ghost use Rattle.sim_token.specs.Limits.{most_bytes};
 
 use crate::class::Class;
 use crate::error::TextError;
@@ -16,7 +17,7 @@ use sqlite_items::Items;
 use std::alloc::{AllocError, Global};
 
 /// The most bytes that a text may have.
-pub const MAX_BYTES: usize = 1_048_576;
+const MOST_BYTES: usize = 1_048_576;
 
 type KindAndText = (Kind, Items<u8>);
 
@@ -100,26 +101,21 @@ fn cut(alloc: Global, source: &[u8]) -> Result<Vec<Token>, TextError>
     ensures fault { IfErr result (λ e. e ≢ TextError.Memory → IsLexicalFault source.now e) }
 {
     let mut tokens = Vec::new(alloc);
-    let mut behind_name = false;
+    let mut after_name = false;
     let mut at = 0;
     let mut text = source;
     while let [first, rest @ ..] = text {
-        let Some((class, len)) = piece_at(behind_name, *first, rest) else {
+        let Some((class, len)) = piece_at(after_name, *first, rest) else {
             return Err(fault_at(at, *first, rest));
         };
-        let (bytes, behind) = text.split_at(len);
+        let (bytes, after) = text.split_at(len);
         let end = at + len;
         if let Some((kind, text)) = token_of(alloc, class, bytes)? {
-            behind_name = is_name(kind);
-            tokens.push(Token {
-                kind,
-                text,
-                start: at,
-                end,
-            })?;
+            after_name = is_name(kind);
+            tokens.push(Token::new(kind, text, at, end))?;
         }
         at = end;
-        text = behind;
+        text = after;
     }
     Ok(tokens)
 }
@@ -127,14 +123,14 @@ fn cut(alloc: Global, source: &[u8]) -> Result<Vec<Token>, TextError>
 /// The tokens of a text, from the left, each the longest that may stand at its place (IEEE 1076-2008, 15.3).
 ///
 /// Separators and comments stand between tokens and are dropped, and two tokens need no separator between them.
-/// An apostrophe behind a word that is not reserved is a tick; elsewhere it begins a character literal. `TooLong` comes
+/// An apostrophe after a word that is not reserved is a tick; elsewhere it begins a character literal. `TooLong` comes
 /// first, then the leftmost of the other faults; `Memory` where an allocation is refused before that is reached.
 pub fn tokens(alloc: Global, source: &[u8]) -> Result<Vec<Token>, TextError>
-    ensures too_long { (result ≡ Err TextError.TooLong) ↔ (MAX_BYTES < length source.now) }
+    ensures too_long { (result ≡ Err TextError.TooLong) ↔ (most_bytes < length source.now) }
     ensures found { IfOk result (λ v. AreTokens source.now v.items) }
     ensures fault { IfErr result (λ e. e ≢ TextError.Memory → e ≢ TextError.TooLong → IsLexicalFault source.now e) }
 {
-    if source.len() > MAX_BYTES {
+    if source.len() > MOST_BYTES {
         return Err(TextError::TooLong);
     }
     cut(alloc, source)

@@ -12,5 +12,5 @@ mod words;
 
 pub use error::TextError;
 pub use kind::Kind;
-pub use lexer::{MAX_BYTES, tokens};
+pub use lexer::tokens;
 pub use token::Token;

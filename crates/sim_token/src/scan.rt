@@ -96,18 +96,18 @@ fn is_value(v: u8) -> bool
 
 /// Behind an apostrophe.
 #[tactic(auto, unfolding(crate::specs::Scan::apostrophe))]
-fn apostrophe(behind_name: bool, rest: &[u8]) -> Option<Extent>
-    ensures value { result ≡ spec.apostrophe behind_name rest.now }
+fn apostrophe(after_name: bool, rest: &[u8]) -> Option<Extent>
+    ensures value { result ≡ spec.apostrophe after_name rest.now }
     ensures inside { IfSome result (λ p. p.1 ≤ 1 + length rest.now) }
 {
     match rest {
-        _ if behind_name => Some((Class::Tick, 1)),
+        _ if after_name => Some((Class::Tick, 1)),
         [v, b'\'', ..] if is_value(*v) => Some((Class::Literal, 3)),
         _ => None,
     }
 }
 
-/// A delimiter, by its first byte and the bytes behind it.
+/// A delimiter, by its first byte and the bytes after it.
 #[tactic(auto, unfolding(crate::specs::Scan::delimiter, crate::specs::Scan::single))]
 fn delimiter(first: u8, rest: &[u8]) -> Option<Extent>
     ensures value { result ≡ spec.delimiter first rest.now }
@@ -144,11 +144,11 @@ fn slash(rest: &[u8]) -> Option<Extent>
     }
 }
 
-/// The longest piece at the front of a text, by its first byte and the bytes behind it; `None` where no piece may
-/// stand. `behind_name` says whether the token before is a word that is not reserved.
+/// The longest piece at the front of a text, by its first byte and the bytes after it; `None` where no piece may
+/// stand. `after_name` says whether the token before is a word that is not reserved.
 #[tactic(auto, unfolding(crate::specs::Scan::piece_at))]
-pub fn piece_at(behind_name: bool, first: u8, rest: &[u8]) -> Option<Extent>
-    ensures value { result ≡ spec.piece_at behind_name first rest.now }
+pub fn piece_at(after_name: bool, first: u8, rest: &[u8]) -> Option<Extent>
+    ensures value { result ≡ spec.piece_at after_name first rest.now }
     ensures inside { IfSome result (λ p. p.1 ≤ 1 + length rest.now) }
 {
     if is_separator(first) {
@@ -159,7 +159,7 @@ pub fn piece_at(behind_name: bool, first: u8, rest: &[u8]) -> Option<Extent>
         Some((Class::Number, 1 + number_tail(rest)))
     } else {
         match first {
-            b'\'' => apostrophe(behind_name, rest),
+            b'\'' => apostrophe(after_name, rest),
             b'-' => hyphen(rest),
             b'/' => slash(rest),
             _ => delimiter(first, rest),

@@ -4,15 +4,14 @@ use Rattle.std.proofs.lemmas.List.{at_drop_all}
 use Rattle.std.proofs.Math.Seq.{drop-cons}
 use Rattle.sim_logic.specs.declared.time.Unit.{Unit as TimeUnit}
 use Rattle.sim_logic.specs.declared.time.Unit.TheVariants as u
-use Rattle.sim_logic.specs.declared.time.TheConstants.{LATEST}
-use Rattle.sim_logic.specs.Time.{femtoseconds_in}
+use Rattle.sim_logic.specs.Time.{femtoseconds_in, largest_time}
 use Rattle.sim_tree.specs.Times.{value_of, time_of}
 
 pub grows : (ds : List ℕ) (n : ℕ) → n ≤ fold (λ (n b : ℕ). 10 * n + (b - 48)) n ds
 grows [] n = omega arith
 grows (d ∷ ds) n = omega (arith, grows ds (10 * n + (d - 48)))
 
-over : (v : ℕ) (unit : TimeUnit) → LATEST < v → LATEST < v * femtoseconds_in unit
+over : (v : ℕ) (unit : TimeUnit) → largest_time < v → largest_time < v * femtoseconds_in unit
 over v u.Fs h = omega arith
 over v u.Ps h = omega arith
 over v u.Ns h = omega arith
@@ -25,7 +24,8 @@ over v u.Hr h = omega arith
 abbrev pub Value : ℕ → List ℕ → ℕ
 Value v ds = fold (λ (n b : ℕ). 10 * n + (b - 48)) v ds
 
-pub too_late : (ds : List ℕ) (i v : ℕ) (unit : TimeUnit) → i < length ds → Value v (drop i ds) ≡ value_of ds → 461168601842738790 < v → LATEST < time_of ds unit
+pub too_late : (ds : List ℕ) (i v : ℕ) (unit : TimeUnit) → i < length ds → Value v (drop i ds) ≡ value_of ds → 461168601842738790 < v
+    → largest_time < time_of ds unit
 unfolding time_of
 too_late ds i v unit lt e h =
     let step : Value v (drop i ds) ≡ Value (10 * v + (get_or ds i 0 - 48)) (drop (suc i) ds) = rw (drop-cons ds i 0 lt) refl in

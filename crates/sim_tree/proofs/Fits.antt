@@ -19,7 +19,14 @@ takes_split (p ∷ ps) qs (c ∷ cs) m h = let r = takes_split ps qs cs m h.1 in
 infixr 9 ◌&◌
 pub ◌&◌ : {p n : ℕ} {a b : Writing} {i j m : Input} → Fits p n a i j → Fits p n b j m → Fits p n (a ▸ b) i m
 unfolding ◌▸◌
-◌&◌ {p} {n} {a} {b} {i} {j} {m} x y = record { takes = takes_append a.pieces b.pieces i j m x.takes y.takes; parentheses_fit = omega (arith, x.parentheses_fit, y.parentheses_fit); ifs_fit = omega (arith, x.ifs_fit, y.ifs_fit); latest_fits = omega (arith, x.latest_fits, y.latest_fits) }
+◌&◌ {p} {n} {a} {b} {i} {j} {m} x y = record {
+  takes = takes_append a.pieces b.pieces i j m x.takes y.takes;
+  parentheses_fit = omega
+      (arith, x.parentheses_fit, y.parentheses_fit);
+  ifs_fit = omega (arith, x.ifs_fit, y.ifs_fit);
+  latest_fits = omega
+      (arith, x.latest_fits, y.latest_fits);
+}
 
 -- where one writing ends and the next begins
 pub record Halves (p n : ℕ) (a b : Writing) (i m : Input) : Type 0 where
@@ -34,7 +41,12 @@ split {p} {n} {a} {b} {i} {m} x =
     let y = x.parentheses_fit in
     let z = x.ifs_fit in
     let l = x.latest_fits in
-    record { mid = r.0; front = record { takes = r.1.0; parentheses_fit = omega arith; ifs_fit = omega arith; latest_fits = omega arith }; back = record { takes = r.1.1; parentheses_fit = omega arith; ifs_fit = omega arith; latest_fits = omega arith } }
+    record {
+      mid = r.0;
+      front = record { takes = r.1.0; parentheses_fit = omega arith; ifs_fit = omega arith; latest_fits = omega arith };
+      back =
+          record { takes = r.1.1; parentheses_fit = omega arith; ifs_fit = omega arith; latest_fits = omega arith };
+    }
 
 pub one : {p n : ℕ} (x : Piece) (i j : Input) → Takes (x ∷ []) i j → Fits p n (just x) i j
 one x i j t = record { takes = t; parentheses_fit = omega arith; ifs_fit = omega arith; latest_fits = omega arith }
@@ -132,11 +144,13 @@ Hits q (Err e) = Unit {0}
 pub record Gives {A : Type 0} (q : A → Input → Type 0) (o : Outcome A) : Type 0 where
   pub gives : Hits q o
 
-then_by : {A B : Type 0} (p : A → Input → Type 0) (q : B → Input → Type 0) (o : Outcome A) (f : A → Parser B) → Hits p o → ((a : A) (j : Input) → p a j → Gives q (f a j)) → Gives q (and_then o f)
+then_by : {A B : Type 0} (p : A → Input → Type 0) (q : B → Input → Type 0) (o : Outcome A) (f : A → Parser B) → Hits p o
+    → ((a : A) (j : Input) → p a j → Gives q (f a j)) → Gives q (and_then o f)
 then_by p q (Ok r) f h g = g r.0 r.1 h
 then_by p q (Err e) f h g = record { gives = tt }
 
-pub then_ : {A B : Type 0} {p : A → Input → Type 0} {q : B → Input → Type 0} {o : Outcome A} {f : A → Parser B} → Gives p o → ((a : A) (j : Input) → p a j → Gives q (f a j)) → Gives q (and_then o f)
+pub then_ : {A B : Type 0} {p : A → Input → Type 0} {q : B → Input → Type 0} {o : Outcome A} {f : A → Parser B} → Gives p o
+    → ((a : A) (j : Input) → p a j → Gives q (f a j)) → Gives q (and_then o f)
 then_ {A} {B} {p} {q} {o} {f} h g = then_by p q o f h.gives g
 
 map_by : {A : Type 0} (p q : A → Input → Type 0) (o : Outcome A) → Hits p o → ((a : A) (j : Input) → p a j → q a j) → Hits q o

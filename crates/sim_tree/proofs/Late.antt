@@ -1,12 +1,16 @@
--- Faults of times stand where a time is too late.
-use Rattle.std.proofs.Common.{◌≡◌, ℕ, zero, suc, Bool, true, false, cond, List, [], ◌∷◌, ◌++◌, Option, Some, None, Ok, Err, refl, sym, ap, ◌∙◌, append_assoc}
-use Rattle.sim_token.specs.declared.token.Token.{Token}
+-- Faults of times stand where a time is too large, and faults of depth where parentheses or an if open.
+use Rattle.std.proofs.Common.{◌≡◌, ℕ, zero, suc, Bool, true, false, cond, List, [], ◌∷◌, ◌++◌, Option, Some, None, Ok, Err, refl, sym, ap, ◌∙◌}
+use Rattle.std.proofs.Common.{append_assoc, ◌⊎◌, inl, inr}
+use Rattle.sim_token.specs.Token.{Token}
 use Rattle.sim_token.specs.declared.kind.Kind.{Kind}
+use Rattle.sim_token.specs.declared.kind.Kind.TheVariants as k
 use Rattle.sim_tree.specs.declared.error.ParseError.{ParseError}
 use Rattle.sim_tree.specs.declared.error.ParseError.TheVariants.{OutOfMemory, Syntax, TooDeep, TimeRange}
-use Rattle.sim_tree.specs.Input.{Input, Outcome, Parser, and_then, ◌>>◌, take_token, kind, place, next, left, same_kind, token_as, found_or, word, name_of, literal, literal_of, number, number_of, unit, unit_of, repeat, word_is, event, sees, eat, expect, many_from, many, separated}
+use Rattle.sim_tree.specs.Input.{Input, Outcome, Parser, and_then, ◌>>◌, take_token, kind, place, next, left, same_kind, token_as, found_or, word}
+use Rattle.sim_tree.specs.Input.{name_of, literal, literal_of, number, number_of, unit, unit_of, repeat, word_is, event, sees, eat, expect, many_from}
+use Rattle.sim_tree.specs.Input.{many, separated}
 use Rattle.std.proofs.Common.{codes}
-use Rattle.sim_tree.specs.Late.{IsLate}
+use Rattle.sim_tree.specs.Faults.{IsTooLarge, IsOpening}
 use Rattle.sim_tree.proofs.Fits.{Gives, Hits}
 
 -- the end of the input
@@ -17,19 +21,42 @@ pub record Within (i j : Input) : Type 0 where
 pub here : (i : Input) → Within i i
 here i = record { front = []; whole = refl }
 
-pub behind : (i : Input) → Within i (next i)
+pub after : (i : Input) → Within i (next i)
 unfolding next
-behind [] = record { front = []; whole = refl }
-behind (t ∷ ts) = record { front = t ∷ []; whole = refl }
+after [] = record { front = []; whole = refl }
+after (t ∷ ts) = record { front = t ∷ []; whole = refl }
 
 within : (i j m : Input) → Within i j → Within j m → Within i m
 within i j m x y = record { front = x.front ++ y.front; whole = x.whole ∙ ap (λ (z : Input). x.front ++ z) y.whole ∙ sym (append_assoc x.front y.front m) }
 
-later : (i j : Input) (n : ℕ) → Within i j → IsLate j n → IsLate i n
-later i j n x y = record { front = x.front ++ y.front; number = y.number; word = y.word; rest = y.rest; unit = y.unit; whole = x.whole ∙ ap (λ (z : Input). x.front ++ z) y.whole ∙ sym (append_assoc x.front y.front (y.number ∷ y.word ∷ y.rest)); count = y.count; digits = y.digits; named = y.named; late = y.late }
+later : (i j : Input) (n : ℕ) → Within i j → IsTooLarge j n → IsTooLarge i n
+later i j n x y = record {
+  front = x.front ++ y.front;
+  number = y.number;
+  word = y.word;
+  rest = y.rest;
+  unit = y.unit;
+  whole = x.whole ∙ ap
+      (λ (z : Input). x.front ++ z) y.whole ∙ sym (append_assoc x.front y.front (y.number ∷ y.word ∷ y.rest));
+  count = y.count;
+  digits = y.digits;
+  named = y.named;
+  large = y.large;
+}
+
+deeper_in : (i j : Input) (n : ℕ) → Within i j → IsOpening j n → IsOpening i n
+deeper_in i j n x y = record {
+  front = x.front ++ y.front;
+  token = y.token;
+  rest = y.rest;
+  whole = x.whole ∙ ap (λ (z : Input). x.front ++ z) y.whole ∙ sym (append_assoc x.front y.front (y.token ∷ y.rest));
+  count = y.count;
+  opens = y.opens;
+}
 
 abbrev pub Blamed : Input → ParseError → Type 0
-Blamed i (TimeRange n) = IsLate i n
+Blamed i (TimeRange n) = IsTooLarge i n
+Blamed i (TooDeep n) = IsOpening i n
 Blamed i _ = Unit {0}
 
 abbrev pub Blame : {A : Type 0} → Input → Outcome A → Type 0
@@ -44,7 +71,7 @@ blamed_wider : (i j : Input) (e : ParseError) → Within i j → Blamed j e → 
 blamed_wider i j (TimeRange n) x y = later i j n x y
 blamed_wider i j OutOfMemory x y = tt
 blamed_wider i j (Syntax n) x y = tt
-blamed_wider i j (TooDeep n) x y = tt
+blamed_wider i j (TooDeep n) x y = deeper_in i j n x y
 
 wider : {A : Type 0} (i j : Input) (o : Outcome A) → Within i j → Blame j o → Blame i o
 wider i j (Ok r) x y = within i j r.1 x y
@@ -59,19 +86,24 @@ late_then {A} {B} {i} {o} {f} h g = then_by i o f h.blame g
 
 -- a token is gone past
 pub late_next : {A : Type 0} (i : Input) (o : Outcome A) → Blames (next i) o → Blames i o
-late_next i o h = record { blame = wider i (next i) o (behind i) h.blame }
+late_next i o h = record { blame = wider i (next i) o (after i) h.blame }
 
 pub late_done : {A : Type 0} {a : A} (i : Input) → Blames i (Ok (a, i))
 late_done i = record { blame = here i }
 
 pub late_taken : {A : Type 0} {a : A} (i : Input) → Blames i (Ok (a, next i))
-late_taken i = record { blame = behind i }
+late_taken i = record { blame = after i }
 
 pub late_syntax : {A : Type 0} {i : Input} {n : ℕ} → Blames {A = A} i (Err (Syntax n))
 late_syntax = record { blame = tt }
 
-pub late_deep : {A : Type 0} {i : Input} {n : ℕ} → Blames {A = A} i (Err (TooDeep n))
-late_deep = record { blame = tt }
+-- what opens parentheses or an if is refused
+pub late_deep : {A : Type 0} (i : Input) (x : Kind) → kind i ≡ x → (k.EndOfText ≡ x → ⊥) → (x ≡ k.LeftParen) ⊎ (x ≡ k.If)
+    → Blames {A = A} i (Err (TooDeep (left i)))
+unfolding kind left
+late_deep [] x e real o = absurd (real e)
+late_deep (t ∷ ts) x e real (inl l) = record { blame = record { front = []; token = t; rest = ts; whole = refl; count = refl; opens = inl (e ∙ l) } }
+late_deep (t ∷ ts) x e real (inr r) = record { blame = record { front = []; token = t; rest = ts; whole = refl; count = refl; opens = inr (e ∙ r) } }
 
 pub late_if : {A : Type 0} (b : Bool) (f g : Parser A) (i : Input) → Blames i (f i) → Blames i (g i) → Blames i (cond b f g i)
 late_if true f g i x y = x
@@ -117,10 +149,12 @@ eat_late x i = late_or (sees x i) (Ok (true, next i)) (Ok (false, i)) i (late_ta
 
 -- ---- lists
 
-pub many_from_late : {A : Type 0} (goes_on : Kind → Bool) (item : Parser A) → ((i : Input) → Blames i (item i)) → (n : ℕ) (found : List A) (i : Input) → Blames i (many_from goes_on item n found i)
+pub many_from_late : {A : Type 0} (goes_on : Kind → Bool) (item : Parser A) → ((i : Input) → Blames i (item i)) → (n : ℕ) (found : List A) (i : Input)
+    → Blames i (many_from goes_on item n found i)
 unfolding many_from
 many_from_late go item ok zero found i = late_done i
-many_from_late go item ok (suc n) found i = late_or (go (kind i)) (and_then (item i) (λ a. many_from go item n (found ++ a ∷ []))) (Ok (found, i)) i (late_then (ok i) (λ a j. many_from_late go item ok n (found ++ a ∷ []) j)) (late_done i)
+many_from_late go item ok (suc n) found i = late_or (go (kind i)) (and_then (item i) (λ a. many_from go item n (found ++ a ∷ []))) (Ok (found, i)) i
+    (late_then (ok i) (λ a j. many_from_late go item ok n (found ++ a ∷ []) j)) (late_done i)
 
 pub many_late : {A : Type 0} (goes_on : Kind → Bool) (item : Parser A) → ((i : Input) → Blames i (item i)) → (i : Input) → Blames i (many goes_on item i)
 unfolding many
@@ -128,7 +162,8 @@ many_late go item ok i = many_from_late go item ok (left i) [] i
 
 pub separated_late : {A : Type 0} (x : Kind) (item : Parser A) → ((i : Input) → Blames i (item i)) → (i : Input) → Blames i (separated x item i)
 unfolding separated
-separated_late x item ok i = late_then (ok i) (λ a j. many_from_late (λ y. same_kind y x) (take_token >> item) (λ m. late_next m (item (next m)) (ok (next m))) (left j) (a ∷ []) j)
+separated_late x item ok i = late_then (ok i) (λ a j. many_from_late (λ y. same_kind y x) (take_token >> item)
+    (λ m. late_next m (item (next m)) (ok (next m))) (left j) (a ∷ []) j)
 
 pub number_late : (i : Input) → Blames i (number i)
 unfolding number
@@ -141,10 +176,12 @@ unit_late i = token_late unit_of i
 pub late_wider : {A : Type 0} (i j : Input) (o : Outcome A) → Within i j → Blames j o → Blames i o
 late_wider i j o x y = record { blame = wider i j o x y.blame }
 
-gives_then_by : {A B : Type 0} (i : Input) (p : A → Input → Type 0) (o : Outcome A) (f : A → Parser B) → Hits p o → Blame i o → ((a : A) (j : Input) → p a j → Blames i (f a j)) → Blames i (and_then o f)
+gives_then_by : {A B : Type 0} (i : Input) (p : A → Input → Type 0) (o : Outcome A) (f : A → Parser B) → Hits p o → Blame i o
+    → ((a : A) (j : Input) → p a j → Blames i (f a j)) → Blames i (and_then o f)
 gives_then_by i p (Ok r) f h b g = g r.0 r.1 h
 gives_then_by i p (Err e) f h b g = record { blame = b }
 
 -- with what is known of what was read
-pub late_gives_then : {A B : Type 0} {i : Input} {p : A → Input → Type 0} {o : Outcome A} {f : A → Parser B} → Gives p o → Blames i o → ((a : A) (j : Input) → p a j → Blames i (f a j)) → Blames i (and_then o f)
+pub late_gives_then : {A B : Type 0} {i : Input} {p : A → Input → Type 0} {o : Outcome A} {f : A → Parser B} → Gives p o → Blames i o
+    → ((a : A) (j : Input) → p a j → Blames i (f a j)) → Blames i (and_then o f)
 late_gives_then {A} {B} {i} {p} {o} {f} h b g = gives_then_by i p o f h.gives b.blame g

@@ -9,11 +9,13 @@ use Rattle.sim_logic.specs.Logic.{byte_of}
 use Rattle.sim_logic.specs.declared.time.Unit.{Unit as TimeUnit}
 use Rattle.sim_logic.specs.declared.time.Unit.TheVariants as u
 use Rattle.sim_token.specs.contracts.kind.Kind.{the_type}
-use Rattle.sim_token.specs.declared.token.Token.{Token}
+use Rattle.sim_token.specs.Token.{Token}
 use Rattle.sim_token.specs.declared.kind.Kind.{Kind}
 use Rattle.sim_token.specs.declared.kind.Kind.TheVariants as k
-use Rattle.sim_tree.specs.declared.expression.Name.{Name}
-use Rattle.sim_tree.specs.Input.{Input, Outcome, Parser, and_then, token_as, found_or, only_if, kind, place, next, left, same_kind, sees, eat, expect, word, name_of, literal, logic_of, literal_of, placed, number, number_of, unit, unit_in, unit_of, repeat, word_is, event}
+use Rattle.sim_tree.specs.Name.{Name}
+use Rattle.sim_tree.specs.Input.{Input, Outcome, Parser, and_then, token_as, found_or, only_if, kind, place, next, left, same_kind, sees, eat, expect}
+use Rattle.sim_tree.specs.Input.{word, name_of, literal, logic_of, literal_of, placed, number, number_of, unit, unit_in, unit_of, repeat, word_is}
+use Rattle.sim_tree.specs.Input.{event}
 use Rattle.sim_tree.specs.Writing.{Piece, WordAt, LiteralAt, NumberAt, UnitWord, This, Stands, just, mark, word_at, unit_name, if_written, Fits}
 use Rattle.sim_tree.proofs.Fits.{Gives, done, refused, one, marks, mark_read, none_to, none_read}
 
@@ -45,15 +47,18 @@ not_seen x i e = not_same (kind i) x e
 
 -- ---- a token with a meaning
 
-found_gives : {A : Type 0} (p n : ℕ) (w : A → Piece) (t : Token) (ts : Input) (o : Option A) → ((a : A) → o ≡ Some a → Stands (w a) t) → Gives (λ a j. Fits p n (just (w a)) (t ∷ ts) j) (found_or o (t ∷ ts) ts)
+found_gives : {A : Type 0} (p n : ℕ) (w : A → Piece) (t : Token) (ts : Input) (o : Option A) → ((a : A) → o ≡ Some a → Stands (w a) t)
+    → Gives (λ a j. Fits p n (just (w a)) (t ∷ ts) j) (found_or o (t ∷ ts) ts)
 found_gives p n w t ts (Some a) f = done (one (w a) (t ∷ ts) ts (f a refl, refl))
 found_gives p n w t ts None f = refused
 
-token_gives : {A : Type 0} (p n : ℕ) (f : Token → Option A) (w : A → Piece) → ((t : Token) (a : A) → f t ≡ Some a → Stands (w a) t) → (i : Input) → Gives (λ a j. Fits p n (just (w a)) i j) (token_as f i)
+token_gives : {A : Type 0} (p n : ℕ) (f : Token → Option A) (w : A → Piece) → ((t : Token) (a : A) → f t ≡ Some a → Stands (w a) t) → (i : Input)
+    → Gives (λ a j. Fits p n (just (w a)) i j) (token_as f i)
 token_gives p n f w g [] = refused
 token_gives p n f w g (t ∷ ts) = found_gives p n w t ts (f t) (g t)
 
-token_read : {A : Type 0} {p n : ℕ} (f : Token → Option A) (w : A → Piece) → ((t : Token) (a : A) → Stands (w a) t → f t ≡ Some a) → (i j : Input) (a : A) → Fits p n (just (w a)) i j → token_as f i ≡ Ok (a, j)
+token_read : {A : Type 0} {p n : ℕ} (f : Token → Option A) (w : A → Piece) → ((t : Token) (a : A) → Stands (w a) t → f t ≡ Some a)
+    → (i j : Input) (a : A) → Fits p n (just (w a)) i j → token_as f i ≡ Ok (a, j)
 token_read f w g [] j a h = absurd h.takes
 token_read f w g (t ∷ ts) j a h = rw (g t a h.takes.0, h.takes.1) refl
 
@@ -85,6 +90,11 @@ word_gives {p} {n} i = token_gives p n name_of word_piece name_stands i
 pub word_read : {p n : ℕ} (i j : Input) (x : Name) → Fits p n (word_at x) i j → word i ≡ Ok (x, j)
 unfolding word
 word_read i j x h = token_read name_of word_piece stands_name i j x h
+
+pub word_place : {p n : ℕ} (i j : Input) (x : Name) → Fits p n (word_at x) i j → place i ≡ x.at
+unfolding place
+word_place [] j x h = absurd h.takes
+word_place (c ∷ cs) j x h = h.takes.0.2
 
 pub word_kind : {p n : ℕ} (i j : Input) (x : Name) → Fits p n (word_at x) i j → kind i ≡ k.Word
 unfolding kind
@@ -147,9 +157,11 @@ number_read i j x h = token_read number_of number_piece stands_number i j x h
 
 -- ---- texts with a meaning
 
-named_so : {A : Type 0} (name : A → List ℕ) (t s : List ℕ) (v : A) (rest : Option A) (a : A) → s ≡ name v → cond (bytes_eq t s) (Some v) rest ≡ Some a → (rest ≡ Some a → t ≡ name a) → t ≡ name a
+named_so : {A : Type 0} (name : A → List ℕ) (t s : List ℕ) (v : A) (rest : Option A) (a : A) → s ≡ name v → cond (bytes_eq t s) (Some v) rest ≡ Some a
+    → (rest ≡ Some a → t ≡ name a) → t ≡ name a
 named_so {A} name t s v rest a is e g =
-    let turn : (b : Bool) → bytes_eq t s ≡ b → cond b (Some v) rest ≡ Some a → t ≡ name a = λ b. elim b as (λ b. bytes_eq t s ≡ b → cond b (Some v) rest ≡ Some a → t ≡ name a) [
+    let turn : (b : Bool) → bytes_eq t s ≡ b → cond b (Some v) rest ≡ Some a → t ≡ name a = λ b.
+    elim b as (λ b. bytes_eq t s ≡ b → cond b (Some v) rest ≡ Some a → t ≡ name a) [
       | true ↦ λ d f. (bytes_eq-Decides t s).0 d ∙ is ∙ ap name (some_is v a f)
       | false ↦ λ d f. g f
     ] in turn (bytes_eq t s) refl e
@@ -209,6 +221,11 @@ pub literal_read : {p n : ℕ} (i j : Input) (v : Logic) (at : ℕ) → Fits p n
 unfolding literal
 literal_read i j v at h = token_read literal_of literal_piece stands_literal i j (v, at) h
 
+pub literal_place : {p n : ℕ} (i j : Input) (v : Logic) (at : ℕ) → Fits p n (just (LiteralAt v at)) i j → place i ≡ at
+unfolding place
+literal_place [] j v at h = absurd h.takes
+literal_place (c ∷ cs) j v at h = h.takes.0.2
+
 pub literal_kind : {p n : ℕ} (i j : Input) (v : Logic) (at : ℕ) → Fits p n (just (LiteralAt v at)) i j → kind i ≡ k.Literal
 unfolding kind
 literal_kind [] j v at h = absurd h.takes
@@ -257,7 +274,8 @@ abbrev pub Eaten : ℕ → ℕ → Kind → Input → Bool → Input → Type 0
 Eaten p n x i true j = Fits p n (mark x) i j
 Eaten p n x i false j = (i ≡ j) × (kind i ≡ x → ⊥)
 
-eat_by : (p n : ℕ) (x : Kind) (i : Input) → (k.EndOfText ≡ x → ⊥) → (b : Bool) → sees x i ≡ b → Gives (Eaten p n x i) (cond b (Ok (true, next i)) (Ok (false, i)))
+eat_by : (p n : ℕ) (x : Kind) (i : Input) → (k.EndOfText ≡ x → ⊥) → (b : Bool) → sees x i ≡ b
+    → Gives (Eaten p n x i) (cond b (Ok (true, next i)) (Ok (false, i)))
 eat_by p n x i m true e = done (marks i x (sees_is x i e) m)
 eat_by p n x i m false e = done (refl, λ h. let t : true ≡ false = sym (is_seen x i h) ∙ e in absurd cc)
 
@@ -265,7 +283,9 @@ pub eat_gives : {p n : ℕ} (x : Kind) (i : Input) → (k.EndOfText ≡ x → �
 unfolding eat
 eat_gives {p} {n} x i m = eat_by p n x i m (sees x i) refl
 
-expect_by : (p n : ℕ) (x : Kind) (i : Input) → (k.EndOfText ≡ x → ⊥) → (b : Bool) → sees x i ≡ b → Gives (λ (u : ℕ) (j : Input). Fits p n (mark x) i j) (cond b (Ok (place i, next i)) (Err (Rattle.sim_tree.specs.declared.error.ParseError.TheVariants.Syntax (left i))))
+expect_by : (p n : ℕ) (x : Kind) (i : Input) → (k.EndOfText ≡ x → ⊥) → (b : Bool) → sees x i ≡ b
+    → Gives (λ (u : ℕ) (j : Input). Fits p n (mark x) i j)
+    (cond b (Ok (place i, next i)) (Err (Rattle.sim_tree.specs.declared.error.ParseError.TheVariants.Syntax (left i))))
 expect_by p n x i m true e = done (marks i x (sees_is x i e) m)
 expect_by p n x i m false e = refused
 
@@ -285,20 +305,25 @@ pub expect_read : {p n : ℕ} (x : Kind) (i j : Input) → Fits p n (mark x) i j
 unfolding expect
 expect_read x i j h = let r = mark_read i j x h in rw (is_seen x i r.0, r.1) refl
 
-eat_then_by : {A : Type 0} (q : A → Input → Type 0) (f g : Parser A) (p n : ℕ) (x : Kind) (i : Input) → (k.EndOfText ≡ x → ⊥) → (Fits p n (mark x) i (next i) → Gives q (f (next i))) → ((kind i ≡ x → ⊥) → Gives q (g i)) → (b : Bool) → sees x i ≡ b → Gives q (and_then (cond b (Ok (true, next i)) (Ok (false, i))) (λ b. cond b f g))
+eat_then_by : {A : Type 0} (q : A → Input → Type 0) (f g : Parser A) (p n : ℕ) (x : Kind) (i : Input) → (k.EndOfText ≡ x → ⊥)
+    → (Fits p n (mark x) i (next i) → Gives q (f (next i))) → ((kind i ≡ x → ⊥) → Gives q (g i)) → (b : Bool) → sees x i ≡ b
+    → Gives q (and_then (cond b (Ok (true, next i)) (Ok (false, i))) (λ b. cond b f g))
 eat_then_by q f g p n x i m y z true e = y (marks i x (sees_is x i e) m)
 eat_then_by q f g p n x i m y z false e = z (λ h. let t : true ≡ false = sym (is_seen x i h) ∙ e in absurd cc)
 
--- a token of this kind, and what stands behind it, or something else
-pub eat_then : {A : Type 0} {q : A → Input → Type 0} (f g : Parser A) (p n : ℕ) (x : Kind) (i : Input) → (k.EndOfText ≡ x → ⊥) → (Fits p n (mark x) i (next i) → Gives q (f (next i))) → ((kind i ≡ x → ⊥) → Gives q (g i)) → Gives q (and_then (eat x i) (λ b. cond b f g))
+-- a token of this kind, and what stands after it, or something else
+pub eat_then : {A : Type 0} {q : A → Input → Type 0} (f g : Parser A) (p n : ℕ) (x : Kind) (i : Input) → (k.EndOfText ≡ x → ⊥)
+    → (Fits p n (mark x) i (next i) → Gives q (f (next i))) → ((kind i ≡ x → ⊥) → Gives q (g i)) → Gives q (and_then (eat x i) (λ b. cond b f g))
 unfolding eat
 eat_then {A} {q} f g p n x i m y z = eat_then_by q f g p n x i m y z (sees x i) refl
 
-sees_then_by : {A : Type 0} (q : A → Input → Type 0) (f g : Outcome A) (x : Kind) (i : Input) → (kind i ≡ x → Gives q f) → ((kind i ≡ x → ⊥) → Gives q g) → (b : Bool) → sees x i ≡ b → Gives q (cond b f g)
+sees_then_by : {A : Type 0} (q : A → Input → Type 0) (f g : Outcome A) (x : Kind) (i : Input) → (kind i ≡ x → Gives q f)
+    → ((kind i ≡ x → ⊥) → Gives q g) → (b : Bool) → sees x i ≡ b → Gives q (cond b f g)
 sees_then_by q f g x i y z true e = y (sees_is x i e)
 sees_then_by q f g x i y z false e = z (λ h. let t : true ≡ false = sym (is_seen x i h) ∙ e in absurd cc)
 
-pub sees_then : {A : Type 0} {q : A → Input → Type 0} {f g : Outcome A} (x : Kind) (i : Input) → (kind i ≡ x → Gives q f) → ((kind i ≡ x → ⊥) → Gives q g) → Gives q (cond (sees x i) f g)
+pub sees_then : {A : Type 0} {q : A → Input → Type 0} {f g : Outcome A} (x : Kind) (i : Input) → (kind i ≡ x → Gives q f)
+    → ((kind i ≡ x → ⊥) → Gives q g) → Gives q (cond (sees x i) f g)
 sees_then {A} {q} {f} {g} x i y z = sees_then_by q f g x i y z (sees x i) refl
 
 pub eaten_written : {p n : ℕ} (x : Kind) (i j : Input) (b : Bool) → Eaten p n x i b j → Fits p n (if_written b (mark x)) i j

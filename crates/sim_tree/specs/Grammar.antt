@@ -1,37 +1,30 @@
 -- The language: how each tree is written.
-use Rattle.std.specs.Prelude.{ℕ, Bool, true, false, ◌||◌, List, [], ◌∷◌, map, Option, Some, None, codes}
-use Rattle.sim_token.specs.declared.token.Token.{Token}
+use Rattle.std.specs.Prelude.{Bool, true, false, ◌||◌, List, [], ◌∷◌, map, Option, Some, None, codes}
+use Rattle.sim_token.specs.Token.{Token}
 use Rattle.sim_token.specs.declared.kind.Kind.{Kind}
 use Rattle.sim_token.specs.declared.kind.Kind.TheVariants as k
-use Rattle.sim_tree.specs.declared.expression.Name.{Name}
-use Rattle.sim_tree.specs.declared.expression.Primary.{Primary}
-use Rattle.sim_tree.specs.declared.expression.Factor.{Factor}
-use Rattle.sim_tree.specs.declared.expression.Relation.{Relation}
+use Rattle.sim_tree.specs.Name.{Name}
 use Rattle.sim_tree.specs.declared.expression.Relational.{Relational}
 use Rattle.sim_tree.specs.declared.expression.Relational.TheVariants as relational
+use Rattle.sim_tree.specs.declared.expression.Logical.{Logical}
+use Rattle.sim_tree.specs.declared.expression.Logical.TheVariants as logical
 use Rattle.sim_tree.specs.declared.expression.Operand.{Operand}
-use Rattle.sim_tree.specs.declared.expression.Associative.{Associative}
-use Rattle.sim_tree.specs.declared.expression.Associative.TheVariants as associative
-use Rattle.sim_tree.specs.declared.expression.Negated.{Negated}
-use Rattle.sim_tree.specs.declared.expression.Negated.TheVariants as negated
 use Rattle.sim_tree.specs.declared.expression.Expression.{Expression}
-use Rattle.sim_tree.specs.declared.expression.Expression.TheOpen as e
+use Rattle.sim_tree.specs.declared.expression.Expression.TheOpen as x
 use Rattle.sim_tree.specs.declared.expression.Expression.TheFolds as folds
-use Rattle.sim_tree.specs.declared.waveform.TimeLiteral.{TimeLiteral}
 use Rattle.sim_tree.specs.declared.waveform.Element.{Element}
-use Rattle.sim_tree.specs.declared.waveform.Choice.{Choice}
+use Rattle.sim_tree.specs.declared.waveform.ConditionalWaveform.{ConditionalWaveform}
 use Rattle.sim_tree.specs.declared.waveform.ConditionalWaveforms.{ConditionalWaveforms}
 use Rattle.sim_tree.specs.declared.waveform.DelayMechanism.{DelayMechanism}
 use Rattle.sim_tree.specs.declared.waveform.DelayMechanism.TheVariants as delay
-use Rattle.sim_tree.specs.declared.waveform.SignalAssignment.{SignalAssignment}
-use Rattle.sim_tree.specs.declared.sequential.SimpleAssignment.{SimpleAssignment}
+use Rattle.sim_tree.specs.declared.waveform.ConcurrentSignalAssignment.{ConcurrentSignalAssignment}
+use Rattle.sim_tree.specs.declared.sequential.SignalAssignment.{SignalAssignment}
 use Rattle.sim_tree.specs.declared.sequential.VariableAssignment.{VariableAssignment}
+use Rattle.sim_tree.specs.declared.sequential.Statement.{Statement}
 use Rattle.sim_tree.specs.declared.sequential.Sequential.{Sequential}
-use Rattle.sim_tree.specs.declared.sequential.IfStatement.{IfStatement}
 use Rattle.sim_tree.specs.declared.sequential.Branch.{Branch}
-use Rattle.sim_tree.specs.declared.sequential.Otherwise.{Otherwise}
-use Rattle.sim_tree.specs.declared.sequential.Otherwise.TheOpen as s
-use Rattle.sim_tree.specs.declared.sequential.Otherwise.TheFolds as sequential
+use Rattle.sim_tree.specs.declared.sequential.Statement.TheOpen as s
+use Rattle.sim_tree.specs.declared.sequential.Statement.TheFolds as sequential
 use Rattle.sim_tree.specs.declared.declaration.Initial.{Initial}
 use Rattle.sim_tree.specs.declared.declaration.Initial.TheVariants as initial
 use Rattle.sim_tree.specs.declared.declaration.Mode.{Mode}
@@ -60,9 +53,11 @@ use Rattle.sim_tree.specs.declared.unit.Architecture.{Architecture}
 use Rattle.sim_tree.specs.declared.unit.LibraryUnit.{LibraryUnit}
 use Rattle.sim_tree.specs.declared.unit.LibraryUnit.TheVariants as library
 use Rattle.sim_tree.specs.declared.unit.DesignUnit.{DesignUnit}
-use Rattle.sim_tree.specs.declared.unit.DesignFile.{DesignFile}
-use Rattle.sim_tree.specs.Times.{time_of}
-use Rattle.sim_tree.specs.Writing.{MarkAt, LiteralAt, NumberAt, UnitWord, This, Writing, nothing, just, mark, never, ◌▸◌, in_parentheses, in_if, all_of, separated_by, some_of, if_written, word_at, Fits}
+use Rattle.sim_tree.specs.DesignFile.{DesignFile}
+use Rattle.sim_tree.specs.Limits.{most_parentheses, most_ifs}
+use Rattle.sim_tree.specs.Times.{TimeLiteral, time_of}
+use Rattle.sim_tree.specs.Writing.{MarkAt, LiteralAt, NumberAt, UnitWord, This, Writing, nothing, just, mark, never, ◌▸◌, in_parentheses, in_if}
+use Rattle.sim_tree.specs.Writing.{all_of, separated_by, some_of, if_written, word_at, Fits}
 
 -- ---- expressions (9.1)
 
@@ -71,69 +66,93 @@ abbrev pub relational_kind : Relational → Kind
 relational_kind relational.Equal = k.Equal
 relational_kind relational.Unequal = k.Unequal
 
--- the token of a logical operator that may be repeated (9.2.2)
-abbrev pub associative_kind : Associative → Kind
-associative_kind associative.And = k.And
-associative_kind associative.Or = k.Or
-associative_kind associative.Xor = k.Xor
-associative_kind associative.Xnor = k.Xnor
+-- the token of a logical operator (9.2.2)
+abbrev pub logical_kind : Logical → Kind
+logical_kind logical.And = k.And
+logical_kind logical.Or = k.Or
+logical_kind logical.Xor = k.Xor
+logical_kind logical.Xnor = k.Xnor
+logical_kind logical.Nand = k.Nand
+logical_kind logical.Nor = k.Nor
 
--- the token of `nand` and `nor` (9.2.2)
-abbrev pub negated_kind : Negated → Kind
-negated_kind negated.Nand = k.Nand
-negated_kind negated.Nor = k.Nor
+-- whether the operator may be written again after its second operand (9.1): `nand` and `nor` may not
+abbrev pub is_repeatable : Logical → Bool
+is_repeatable logical.Nand = false
+is_repeatable logical.Nor = false
+is_repeatable _ = true
 
--- a primary from the writings of its parts (9.1)
-abbrev pub primary_rule : e.Primary-F Writing Writing Writing Writing (Kind → Writing) → Writing
-primary_rule (e.Literal value at) = just (LiteralAt value at)
-primary_rule (e.Named n) = word_at n
-primary_rule (e.Event n) = word_at n ▸ mark k.Tick ▸ just (This (codes "event"))
-primary_rule (e.Call f a) = word_at f ▸ mark k.LeftParen ▸ word_at a ▸ mark k.RightParen
-primary_rule (e.Parenthesized at w) = just (MarkAt k.LeftParen at) ▸ in_parentheses w ▸ mark k.RightParen
+-- How an expression is written where the grammar asks for a primary, a factor, a relation and an expression (9.1).
+pub record Levels : Type 0 where
+  pub as_primary : Writing
+  pub as_factor : Writing
+  pub as_relation : Writing
+  pub as_expression : Writing
 
--- `not`, where it is written
-abbrev pub negation : Option ℕ → Writing
-negation None = nothing
-negation (Some at) = just (MarkAt k.Not at)
+-- what may stand anywhere
+abbrev pub a_primary : Writing → Levels
+a_primary w = record { as_primary = w; as_factor = w; as_relation = w; as_expression = w }
 
--- a factor from the writings of its parts (9.1)
-abbrev pub factor_rule : e.Factor-F Writing Writing Writing Writing (Kind → Writing) → Writing
-factor_rule f = negation f.negation ▸ f.primary
+-- what is no primary
+abbrev pub a_factor : Writing → Levels
+a_factor w = record { as_primary = never; as_factor = w; as_relation = w; as_expression = w }
 
--- a relation from the writings of its parts (9.1)
-abbrev pub relation_rule : e.Relation-F Writing Writing Writing Writing (Kind → Writing) → Writing
-relation_rule (e.Plain f) = f
-relation_rule (e.Compared a operator at b) = a ▸ just (MarkAt (relational_kind operator) at) ▸ b
+-- what is no factor either
+abbrev pub a_relation : Writing → Levels
+a_relation w = record { as_primary = never; as_factor = never; as_relation = w; as_expression = w }
 
--- a logical operator of this kind, and the operand behind it
-abbrev pub operand_rule : e.Operand-F Writing Writing Writing Writing (Kind → Writing) → Kind → Writing
-operand_rule x kind = just (MarkAt kind x.operator_at) ▸ x.relation
+-- what is an expression alone
+abbrev pub an_expression : Writing → Levels
+an_expression w = record { as_primary = never; as_factor = never; as_relation = never; as_expression = w }
+
+-- a logical operator of this kind, and the operand after it
+abbrev pub operand_rule : x.Operand-F Levels (Kind → Writing) → Kind → Writing
+operand_rule o kind = just (MarkAt kind o.operator_at) ▸ o.operand.as_relation
+
+-- what stands after the second operand: more of them where the operator may be written again, else nothing
+abbrev pub more_operands : Bool → List Writing → Writing
+more_operands true rest = all_of rest
+more_operands false [] = nothing
+more_operands false (w ∷ ws) = never
+
+-- the operands after the first: one, or as many as there are where the operator may be written again
+abbrev pub operands_rule : Logical → List (Kind → Writing) → Writing
+operands_rule operator [] = never
+operands_rule operator (second ∷ rest) = second (logical_kind operator) ▸ more_operands (is_repeatable operator) (map (λ o. o (logical_kind operator)) rest)
 
 -- an expression from the writings of its parts (9.1)
-abbrev pub expression_rule : e.Expression-F Writing Writing Writing Writing (Kind → Writing) → Writing
-expression_rule (e.Single r) = r
-expression_rule (e.Chain operator first second rest) = first ▸ second (associative_kind operator) ▸ all_of (map (λ x. x (associative_kind operator)) rest)
-expression_rule (e.Pair operator first second) = first ▸ second (negated_kind operator)
+abbrev pub expression_rule : x.Expression-F Levels (Kind → Writing) → Levels
+expression_rule (x.Literal value at) = a_primary (just (LiteralAt value at))
+expression_rule (x.Named n) = a_primary (word_at n)
+expression_rule (x.Event n) = a_primary (word_at n ▸ mark k.Tick ▸ just (This (codes "event")))
+expression_rule (x.Call f a) = a_primary (word_at f ▸ mark k.LeftParen ▸ word_at a ▸ mark k.RightParen)
+expression_rule (x.Parenthesized at inner) = a_primary (just (MarkAt k.LeftParen at) ▸ in_parentheses inner.as_expression ▸ mark k.RightParen)
+expression_rule (x.Not at operand) = a_factor (just (MarkAt k.Not at) ▸ operand.as_primary)
+expression_rule (x.Comparison left operator at right) = a_relation (left.as_factor ▸ just (MarkAt (relational_kind operator) at) ▸ right.as_factor)
+expression_rule (x.Chain operator first rest) = an_expression (first.as_relation ▸ operands_rule operator rest)
+
+-- how an expression is written
+unfoldable pub levels_of : Expression → Levels
+levels_of = folds.fold-Expression Levels (Kind → Writing) expression_rule operand_rule
+
+-- an operand after a logical operator of this kind
+unfoldable pub of_operand : Operand → Kind → Writing
+of_operand = folds.fold-Operand Levels (Kind → Writing) expression_rule operand_rule
 
 -- an expression (9.1)
 unfoldable pub of_expression : Expression → Writing
-of_expression = folds.fold-Expression Writing Writing Writing Writing (Kind → Writing) expression_rule primary_rule relation_rule factor_rule operand_rule
+of_expression e = (levels_of e).as_expression
 
 -- a primary (9.1)
-unfoldable pub of_primary : Primary → Writing
-of_primary = folds.fold-Primary Writing Writing Writing Writing (Kind → Writing) expression_rule primary_rule relation_rule factor_rule operand_rule
+unfoldable pub of_primary : Expression → Writing
+of_primary e = (levels_of e).as_primary
 
 -- a relation (9.1)
-unfoldable pub of_relation : Relation → Writing
-of_relation = folds.fold-Relation Writing Writing Writing Writing (Kind → Writing) expression_rule primary_rule relation_rule factor_rule operand_rule
+unfoldable pub of_relation : Expression → Writing
+of_relation e = (levels_of e).as_relation
 
 -- a factor (9.1)
-unfoldable pub of_factor : Factor → Writing
-of_factor = folds.fold-Factor Writing Writing Writing Writing (Kind → Writing) expression_rule primary_rule relation_rule factor_rule operand_rule
-
--- an operand behind a logical operator of this kind
-unfoldable pub of_operand : Operand → Kind → Writing
-of_operand = folds.fold-Operand Writing Writing Writing Writing (Kind → Writing) expression_rule primary_rule relation_rule factor_rule operand_rule
+unfoldable pub of_factor : Expression → Writing
+of_factor e = (levels_of e).as_factor
 
 -- ---- waveforms and delays (10.5.2)
 
@@ -155,28 +174,28 @@ unfoldable pub of_waveform : List Element → Writing
 of_waveform w = separated_by k.Comma (map of_element w)
 
 -- a waveform and its condition (10.5.3)
-unfoldable pub of_choice : Choice → Writing
-of_choice c = of_waveform c.waveform ▸ mark k.When ▸ of_expression c.condition
+unfoldable pub of_conditional : ConditionalWaveform → Writing
+of_conditional c = of_waveform c.waveform ▸ mark k.When ▸ of_expression c.condition
 
 -- `else` and a waveform without a condition, where it is written
 abbrev pub of_last : Option (List Element) → Writing
 of_last None = nothing
 of_last (Some w) = mark k.Else ▸ of_waveform w
 
--- further waveforms, each behind an `else`
-abbrev pub of_more : List Choice → Option (List Element) → Writing
+-- further waveforms, each after an `else`
+abbrev pub of_more : List ConditionalWaveform → Option (List Element) → Writing
 of_more [] last = of_last last
-of_more (c ∷ cs) last = mark k.Else ▸ of_choice c ▸ of_more cs last
+of_more (c ∷ cs) last = mark k.Else ▸ of_conditional c ▸ of_more cs last
 
 -- waveforms with conditions, and at last perhaps one without
-abbrev pub of_alternatives : List Choice → Option (List Element) → Writing
+abbrev pub of_alternatives : List ConditionalWaveform → Option (List Element) → Writing
 of_alternatives [] None = never
 of_alternatives [] (Some w) = of_waveform w
-of_alternatives (c ∷ cs) last = of_choice c ▸ of_more cs last
+of_alternatives (c ∷ cs) last = of_conditional c ▸ of_more cs last
 
 -- conditional waveforms (10.5.3)
-unfoldable pub of_conditional : ConditionalWaveforms → Writing
-of_conditional c = of_alternatives c.choices c.otherwise
+unfoldable pub of_waveforms : ConditionalWaveforms → Writing
+of_waveforms c = of_alternatives c.conditional c.otherwise
 
 -- a delay mechanism (10.5.2.1)
 abbrev pub of_delay : DelayMechanism → Writing
@@ -197,58 +216,61 @@ label_again true None = never
 label_again true (Some n) = just (This n.text)
 
 -- a concurrent signal assignment (11.6)
-unfoldable pub of_assignment : SignalAssignment → Writing
-of_assignment a = labelled a.label ▸ word_at a.target ▸ mark k.SignalAssign ▸ of_delay a.delay ▸ of_conditional a.waveforms ▸ mark k.Semicolon
+unfoldable pub of_concurrent_assignment : ConcurrentSignalAssignment → Writing
+of_concurrent_assignment a =
+    labelled a.label ▸ word_at a.target ▸ mark k.SignalAssign ▸ of_delay a.delay ▸ of_waveforms a.waveforms ▸ mark k.Semicolon
 
 -- ---- sequential statements (10)
 
 -- a signal assignment in a process (10.5.2)
-unfoldable pub of_simple : SimpleAssignment → Writing
-of_simple a = labelled a.label ▸ word_at a.target ▸ mark k.SignalAssign ▸ of_delay a.delay ▸ of_waveform a.waveform ▸ mark k.Semicolon
+unfoldable pub of_signal_assignment : SignalAssignment → Writing
+of_signal_assignment a = word_at a.target ▸ mark k.SignalAssign ▸ of_delay a.delay ▸ of_waveform a.waveform ▸ mark k.Semicolon
 
 -- a variable assignment (10.6)
 unfoldable pub of_variable_assignment : VariableAssignment → Writing
-of_variable_assignment a = labelled a.label ▸ word_at a.target ▸ mark k.VariableAssign ▸ of_expression a.value ▸ mark k.Semicolon
+of_variable_assignment a = word_at a.target ▸ mark k.VariableAssign ▸ of_expression a.value ▸ mark k.Semicolon
 
 -- `else` and its statements, where it is written
-abbrev pub otherwise_rule : s.Otherwise-F Writing Writing Writing Writing → Writing
-otherwise_rule s.Absent = nothing
-otherwise_rule (s.Else statements) = mark k.Else ▸ all_of statements
+abbrev pub otherwise_rule : Option (List Writing) → Writing
+otherwise_rule None = nothing
+otherwise_rule (Some statements) = mark k.Else ▸ all_of statements
 
--- a sequential statement from the writings of its parts (10.1)
-abbrev pub sequential_rule : s.Sequential-F Writing Writing Writing Writing → Writing
-sequential_rule (s.Signal a) = of_simple a
-sequential_rule (s.Variable a) = of_variable_assignment a
-sequential_rule (s.If w) = w
-sequential_rule (s.Null label) = labelled label ▸ mark k.Null ▸ mark k.Semicolon
+-- a statement after this label from the writings of its parts (10.1); an if statement may repeat the label at its end (10.8)
+abbrev pub statement_rule : s.Statement-F (Option Name → Writing) Writing Writing → Option Name → Writing
+statement_rule (s.Signal a) label = of_signal_assignment a
+statement_rule (s.Variable a) label = of_variable_assignment a
+statement_rule (s.If branches otherwise again) label =
+    mark k.If ▸ in_if (separated_by k.Elsif branches ▸ otherwise_rule otherwise) ▸ mark k.End ▸ mark k.If ▸ label_again again label ▸ mark k.Semicolon
+statement_rule s.Null label = mark k.Null ▸ mark k.Semicolon
 
 -- a condition, `then`, and statements
-abbrev pub branch_rule : s.Branch-F Writing Writing Writing Writing → Writing
+abbrev pub branch_rule : s.Branch-F (Option Name → Writing) Writing Writing → Writing
 branch_rule b = of_expression b.condition ▸ mark k.Then ▸ all_of b.statements
 
--- an if statement from the writings of its parts (10.8)
-abbrev pub if_rule : s.IfStatement-F Writing Writing Writing Writing → Writing
-if_rule f = labelled f.label ▸ mark k.If ▸ in_if (separated_by k.Elsif f.branches ▸ f.otherwise) ▸ mark k.End ▸ mark k.If ▸ label_again f.label_repeated f.label ▸ mark k.Semicolon
+-- a label, where there is one, and a statement
+abbrev pub sequential_rule : s.Sequential-F (Option Name → Writing) Writing Writing → Writing
+sequential_rule x = labelled x.label ▸ x.statement x.label
 
--- the last part of an if statement
-unfoldable pub of_otherwise : Otherwise → Writing
-of_otherwise = sequential.fold-Otherwise Writing Writing Writing Writing otherwise_rule sequential_rule branch_rule if_rule
+-- a statement after this label
+unfoldable pub of_statement : Statement → Option Name → Writing
+of_statement = sequential.fold-Statement (Option Name → Writing) Writing Writing statement_rule branch_rule sequential_rule
+
+-- a condition and the statements after its `then`
+unfoldable pub of_branch : Branch → Writing
+of_branch = sequential.fold-Branch (Option Name → Writing) Writing Writing statement_rule branch_rule sequential_rule
 
 -- a sequential statement (10.1)
 unfoldable pub of_sequential : Sequential → Writing
-of_sequential = sequential.fold-Sequential Writing Writing Writing Writing otherwise_rule sequential_rule branch_rule if_rule
-
--- a condition and the statements behind its `then`
-unfoldable pub of_branch : Branch → Writing
-of_branch = sequential.fold-Branch Writing Writing Writing Writing otherwise_rule sequential_rule branch_rule if_rule
-
--- an if statement (10.8)
-unfoldable pub of_if : IfStatement → Writing
-of_if = sequential.fold-IfStatement Writing Writing Writing Writing otherwise_rule sequential_rule branch_rule if_rule
+of_sequential = sequential.fold-Sequential (Option Name → Writing) Writing Writing statement_rule branch_rule sequential_rule
 
 -- a sequence of statements (10.1)
 unfoldable pub of_sequence : List Sequential → Writing
 of_sequence x = all_of (map of_sequential x)
+
+-- the statements after `else`, where it is written
+abbrev pub of_otherwise : Option (List Sequential) → Writing
+of_otherwise None = nothing
+of_otherwise (Some statements) = mark k.Else ▸ of_sequence statements
 
 -- ---- declarations (6)
 
@@ -288,7 +310,8 @@ of_variable o = mark k.Variable ▸ of_object o
 
 -- a component declaration (6.8)
 unfoldable pub of_component : ComponentDeclaration → Writing
-of_component c = mark k.Component ▸ word_at c.name ▸ if_written c.is (mark k.Is) ▸ of_ports c.ports ▸ mark k.End ▸ mark k.Component ▸ if_written c.name_repeated (just (This c.name.text)) ▸ mark k.Semicolon
+of_component c = mark k.Component ▸ word_at c.name ▸ if_written c.is (mark k.Is) ▸ of_ports c.ports ▸ mark k.End ▸ mark k.Component ▸ if_written
+    c.name_repeated (just (This c.name.text)) ▸ mark k.Semicolon
 
 -- a declaration of an architecture (3.3.2)
 unfoldable pub of_declaration : Declaration → Writing
@@ -304,7 +327,9 @@ of_sensitivity (sensitivity.Names ns) = of_names ns
 
 -- a process statement (11.3)
 unfoldable pub of_process : Process → Writing
-of_process p = labelled p.label ▸ mark k.Process ▸ mark k.LeftParen ▸ of_sensitivity p.sensitivity ▸ mark k.RightParen ▸ if_written p.is (mark k.Is) ▸ all_of (map of_variable p.variables) ▸ mark k.Begin ▸ of_sequence p.statements ▸ mark k.End ▸ mark k.Process ▸ label_again p.label_repeated p.label ▸ mark k.Semicolon
+of_process p = labelled p.label ▸ mark k.Process ▸ mark k.LeftParen ▸ of_sensitivity p.sensitivity ▸ mark k.RightParen ▸ if_written p.is (mark k.Is) ▸
+    all_of (map of_variable p.variables) ▸ mark k.Begin ▸ of_sequence p.statements ▸ mark k.End ▸ mark k.Process ▸ label_again p.label_repeated
+    p.label ▸ mark k.Semicolon
 
 -- an actual of a port map (6.5.7)
 abbrev pub of_actual : Actual → Writing
@@ -327,7 +352,7 @@ is_named None = false
 abbrev pub of_association : Bool → Association → Writing
 of_association named a = formally named a.formal ▸ of_actual a.actual
 
--- further associations, each behind a comma
+-- further associations, each after a comma
 abbrev pub of_associations : Bool → List Association → Writing
 of_associations named [] = nothing
 of_associations named (a ∷ more) = mark k.Comma ▸ of_association named a ▸ of_associations (named || is_named a.formal) more
@@ -353,13 +378,13 @@ of_instance x = word_at x.label ▸ mark k.Colon ▸ of_instantiated x.unit ▸ 
 
 -- a concurrent statement (11.1)
 unfoldable pub of_concurrent : Concurrent → Writing
-of_concurrent (concurrent.Assignment a) = of_assignment a
+of_concurrent (concurrent.Assignment a) = of_concurrent_assignment a
 of_concurrent (concurrent.Process p) = of_process p
 of_concurrent (concurrent.Instance x) = of_instance x
 
 -- ---- design units (3, 13)
 
--- suffixes, each behind a dot, and perhaps `.all`
+-- suffixes, each after a dot, and perhaps `.all`
 abbrev pub of_suffixes : List Name → Bool → Writing
 of_suffixes [] true = mark k.Dot ▸ mark k.All
 of_suffixes [] false = nothing
@@ -382,11 +407,14 @@ of_context_item (context.Use xs) = mark k.Use ▸ separated_by k.Comma (map of_s
 
 -- an entity declaration (3.2)
 unfoldable pub of_entity : Entity → Writing
-of_entity x = mark k.Entity ▸ word_at x.name ▸ mark k.Is ▸ of_ports x.ports ▸ mark k.End ▸ if_written x.word_repeated (mark k.Entity) ▸ if_written x.name_repeated (just (This x.name.text)) ▸ mark k.Semicolon
+of_entity x = mark k.Entity ▸ word_at x.name ▸ mark k.Is ▸ of_ports x.ports ▸ mark k.End ▸ if_written x.word_repeated (mark k.Entity) ▸ if_written
+    x.name_repeated (just (This x.name.text)) ▸ mark k.Semicolon
 
 -- an architecture body (3.3)
 unfoldable pub of_architecture : Architecture → Writing
-of_architecture x = mark k.Architecture ▸ word_at x.name ▸ mark k.Of ▸ word_at x.entity ▸ mark k.Is ▸ all_of (map of_declaration x.declarations) ▸ mark k.Begin ▸ all_of (map of_concurrent x.statements) ▸ mark k.End ▸ if_written x.word_repeated (mark k.Architecture) ▸ if_written x.name_repeated (just (This x.name.text)) ▸ mark k.Semicolon
+of_architecture x = mark k.Architecture ▸ word_at x.name ▸ mark k.Of ▸ word_at x.entity ▸ mark k.Is ▸ all_of (map of_declaration x.declarations) ▸
+    mark k.Begin ▸ all_of (map of_concurrent x.statements) ▸ mark k.End ▸ if_written x.word_repeated (mark k.Architecture) ▸ if_written
+    x.name_repeated (just (This x.name.text)) ▸ mark k.Semicolon
 
 -- a library unit (13.1)
 unfoldable pub of_library_unit : LibraryUnit → Writing
@@ -397,14 +425,14 @@ of_library_unit (library.Architecture x) = of_architecture x
 unfoldable pub of_unit : DesignUnit → Writing
 of_unit x = all_of (map of_context_item x.context) ▸ of_library_unit x.library_unit
 
--- a design file (13.1)
-unfoldable pub of_file : DesignFile → Writing
-of_file x = some_of (map of_unit x.units)
+-- the units of a design file (13.1)
+unfoldable pub of_units : List DesignUnit → Writing
+of_units xs = some_of (map of_unit xs)
 
--- how many parentheses of one expression, and how many ifs, may be open
-abbrev pub most_open : ℕ
-most_open = 64
+-- The tokens are those units, within the limits.
+abbrev pub AreUnits : List DesignUnit → List Token → Type 0
+AreUnits units tokens = Fits most_parentheses most_ifs (of_units units) tokens []
 
--- The tokens are that file, within the limits.
+-- The tokens are that design file, within the limits.
 abbrev pub IsFile : DesignFile → List Token → Type 0
-IsFile file tokens = Fits most_open most_open (of_file file) tokens []
+IsFile file tokens = AreUnits file.units tokens

@@ -7,11 +7,11 @@ use Rattle.sim_logic.specs.declared.logic.Logic.TheVariants as value
 use Rattle.sim_logic.specs.declared.time.Unit.{Unit as TimeUnit}
 use Rattle.sim_logic.specs.declared.time.Unit.TheVariants as u
 use Rattle.sim_token.specs.contracts.kind.Kind.{the_type}
-use Rattle.sim_token.specs.declared.token.Token.{Token}
+use Rattle.sim_token.specs.Token.{Token}
 use Rattle.sim_token.specs.declared.kind.Kind.{Kind}
 use Rattle.sim_token.specs.declared.kind.Kind.TheVariants as k
 use Rattle.sim_tree.specs.declared.cursor.Cursor.{Cursor}
-use Rattle.sim_tree.specs.declared.expression.Name.{Name}
+use Rattle.sim_tree.specs.Name.{Name}
 use Rattle.sim_tree.specs.declared.error.ParseError.{ParseError}
 use Rattle.sim_tree.specs.declared.error.ParseError.TheVariants.{OutOfMemory, Syntax}
 
@@ -37,7 +37,7 @@ unfoldable pub place : Input → ℕ
 place [] = 0
 place (t ∷ ts) = t.start
 
--- what is left behind the next token
+-- what is left after the next token
 unfoldable pub next : Input → Input
 next [] = []
 next (t ∷ ts) = ts
@@ -52,7 +52,7 @@ Outcome A = Result (A × Input) ParseError
 abbrev pub Parser : Type 0 → Type 0
 Parser A = Input → Outcome A
 
--- goes on behind what was read, unless there was a fault
+-- goes on after what was read, unless there was a fault
 abbrev pub and_then : {A B : Type 0} → Outcome A → (A → Parser B) → Outcome B
 and_then (Ok p) f = f p.0 p.1
 and_then (Err e) f = Err e
@@ -62,7 +62,7 @@ infixl 10 ◌>>=◌
 abbrev pub ◌>>=◌ : {A B : Type 0} → Parser A → (A → Parser B) → Parser B
 p >>= f = λ i. and_then (p i) f
 
--- one parser behind the other
+-- one parser after the other
 infixl 10 ◌>>◌
 abbrev pub ◌>>◌ : {A B : Type 0} → Parser A → Parser B → Parser B
 p >> q = p >>= (λ _. q)

@@ -1,5 +1,9 @@
+pub mod DesignFile
+pub mod Grammar
 pub mod Input
+pub mod Faults
+pub mod Limits
+pub mod Name
+pub mod Starts
 pub mod Times
 pub mod Writing
-pub mod Grammar
-pub mod Late

@@ -4,11 +4,11 @@ use Rattle.sim_logic.specs.declared.logic.Logic.{Logic}
 use Rattle.sim_logic.specs.Logic.{byte_of}
 use Rattle.sim_logic.specs.declared.time.Unit.{Unit as TimeUnit}
 use Rattle.sim_logic.specs.declared.time.Unit.TheVariants as u
-use Rattle.sim_logic.specs.declared.time.TheConstants.{LATEST}
-use Rattle.sim_token.specs.declared.token.Token.{Token}
+use Rattle.sim_logic.specs.Time.{largest_time}
+use Rattle.sim_token.specs.Token.{Token}
 use Rattle.sim_token.specs.declared.kind.Kind.{Kind}
 use Rattle.sim_token.specs.declared.kind.Kind.TheVariants as k
-use Rattle.sim_tree.specs.declared.expression.Name.{Name}
+use Rattle.sim_tree.specs.Name.{Name}
 use Rattle.sim_tree.specs.Input.{Input}
 
 -- one token of a spelling: its kind, with its text and its start where the tree keeps them
@@ -50,7 +50,7 @@ Takes [] i j = i ≡ j
 Takes (p ∷ ps) [] j = ⊥
 Takes (p ∷ ps) (t ∷ ts) j = Stands p t × Takes ps ts j
 
--- a spelling, how many parentheses and how many ifs are open in it at most, and its latest time
+-- a spelling, how many parentheses and how many ifs are open in it at most, and its largest time
 pub record Writing : Type 0 where
   pub pieces : List Piece
   pub parentheses : ℕ
@@ -73,7 +73,7 @@ mark kind = just (Mark kind)
 abbrev pub never : Writing
 never = just Never
 
--- one behind the other
+-- one after the other
 infixr 10 ◌▸◌
 unfoldable pub ◌▸◌ : Writing → Writing → Writing
 a ▸ b = record { pieces = a.pieces ++ b.pieces; parentheses = max a.parentheses b.parentheses; ifs = max a.ifs b.ifs; latest = max a.latest b.latest }
@@ -86,20 +86,20 @@ in_parentheses a = record { pieces = a.pieces; parentheses = suc a.parentheses; 
 abbrev pub in_if : Writing → Writing
 in_if a = record { pieces = a.pieces; parentheses = a.parentheses; ifs = suc a.ifs; latest = a.latest }
 
--- each behind the one before
+-- each after the one before
 abbrev pub all_of : List Writing → Writing
 all_of [] = nothing
 all_of (w ∷ ws) = w ▸ all_of ws
 
--- each behind such a token
-abbrev pub each_behind : Kind → List Writing → Writing
-each_behind kind [] = nothing
-each_behind kind (w ∷ ws) = (mark kind ▸ w) ▸ each_behind kind ws
+-- each after such a token
+abbrev pub each_after : Kind → List Writing → Writing
+each_after kind [] = nothing
+each_after kind (w ∷ ws) = (mark kind ▸ w) ▸ each_after kind ws
 
 -- at least one, and such a token between two
 abbrev pub separated_by : Kind → List Writing → Writing
 separated_by kind [] = never
-separated_by kind (w ∷ ws) = w ▸ each_behind kind ws
+separated_by kind (w ∷ ws) = w ▸ each_after kind ws
 
 -- at least one
 abbrev pub some_of : List Writing → Writing
@@ -115,9 +115,9 @@ if_written false w = nothing
 abbrev pub word_at : Name → Writing
 word_at n = just (WordAt n.text n.at)
 
--- The tokens from i to j are that writing, with at most so many parentheses and ifs open, and no time is too late.
+-- The tokens from i to j are that writing, with at most that many parentheses and ifs open, and no time is too large.
 pub record Fits (parentheses ifs : ℕ) (w : Writing) (i j : Input) : Type 0 where
   pub takes : Takes w.pieces i j
   pub parentheses_fit : w.parentheses ≤ parentheses
   pub ifs_fit : w.ifs ≤ ifs
-  pub latest_fits : w.latest ≤ LATEST
+  pub latest_fits : w.latest ≤ largest_time

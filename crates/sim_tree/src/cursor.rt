@@ -5,7 +5,7 @@ ghost use Rattle.sim_tree.specs.Input as spec;
 ghost use Rattle.sim_tree.specs.Input.{Reads, view};
 
 use crate::error::ParseError;
-use crate::expression::Name;
+use crate::name::Name;
 use sim_logic::{Logic, Unit};
 use sim_token::{Kind, Token};
 use sqlite_items::Items;
@@ -47,7 +47,7 @@ impl<'a> Cursor<'a> {
     {
         match self.rest {
             [] => Kind::EndOfText,
-            [token, ..] => token.kind,
+            [token, ..] => token.kind(),
         }
     }
 
@@ -61,7 +61,7 @@ impl<'a> Cursor<'a> {
             [] => 0,
             [token, rest @ ..] => {
                 self.rest = rest;
-                token.start
+                token.start()
             }
         }
     }
@@ -99,18 +99,15 @@ impl<'a> Cursor<'a> {
     }
 
     /// The name that comes next. `Syntax` comes where no word does.
-    #[tactic(auto, unfolding(crate::specs::Input::word, crate::specs::Input::left))]
+    #[tactic(auto, using(crate::proofs::Tokens::same_is), unfolding(crate::specs::Input::word, crate::specs::Input::left))]
     pub fn word(&mut self, alloc: Global) -> Result<Name, ParseError>
         ensures { Reads (spec.word (view self.old)) result (view self.new) }
     {
         match self.rest {
-            [token, rest @ ..] if same_kind(token.kind, Kind::Word) => {
-                let text = Items::from_slice(alloc, token.text.as_slice())?;
+            [token, rest @ ..] if same_kind(token.kind(), Kind::Word) => {
+                let name = Name::of(alloc, token)?;
                 self.rest = rest;
-                Ok(Name {
-                    text,
-                    at: token.start,
-                })
+                Ok(name)
             }
             _ => Err(ParseError::Syntax(self.left())),
         }
@@ -122,11 +119,11 @@ impl<'a> Cursor<'a> {
         ensures { Reads (spec.literal (view self.old)) result (view self.new) }
     {
         match self.rest {
-            [token, rest @ ..] if same_kind(token.kind, Kind::Literal) => {
-                match logic_of(token.text.as_slice()) {
+            [token, rest @ ..] if same_kind(token.kind(), Kind::Literal) => {
+                match logic_of(token.text()) {
                     Some(value) => {
                         self.rest = rest;
-                        Ok((value, token.start))
+                        Ok((value, token.start()))
                     }
                     None => Err(ParseError::Syntax(self.left())),
                 }
@@ -141,10 +138,10 @@ impl<'a> Cursor<'a> {
         ensures { Reads (spec.number (view self.old)) result (view self.new) }
     {
         match self.rest {
-            [token, rest @ ..] if same_kind(token.kind, Kind::Number) => {
-                let digits = Items::from_slice(alloc, token.text.as_slice())?;
+            [token, rest @ ..] if same_kind(token.kind(), Kind::Number) => {
+                let digits = Items::from_slice(alloc, token.text())?;
                 self.rest = rest;
-                Ok((digits, token.start))
+                Ok((digits, token.start()))
             }
             _ => Err(ParseError::Syntax(self.left())),
         }
@@ -156,8 +153,8 @@ impl<'a> Cursor<'a> {
         ensures { Reads (spec.unit (view self.old)) result (view self.new) }
     {
         match self.rest {
-            [token, rest @ ..] if same_kind(token.kind, Kind::Word) => {
-                match unit_in(token.text.as_slice()) {
+            [token, rest @ ..] if same_kind(token.kind(), Kind::Word) => {
+                match unit_in(token.text()) {
                     Some(unit) => {
                         self.rest = rest;
                         Ok(unit)
@@ -175,8 +172,8 @@ impl<'a> Cursor<'a> {
         ensures { Reads (spec.repeat text.now (view self.old)) result (view self.new) }
     {
         match self.rest {
-            [token, rest @ ..] if same_kind(token.kind, Kind::Word) => {
-                if token.text.as_slice() == text {
+            [token, rest @ ..] if same_kind(token.kind(), Kind::Word) => {
+                if token.text() == text {
                     self.rest = rest;
                     Ok(())
                 } else {

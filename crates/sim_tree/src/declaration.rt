@@ -1,13 +1,14 @@
 //! Declarations (IEEE 1076-2008, 6).
 
-use crate::expression::Name;
+use crate::list::Several;
+use crate::name::Name;
 use sim_logic::Logic;
 use sqlite_items::Items;
 
-/// A first value, and its place.
+/// A first value (6.4.2.3): a character literal and its place, or a name.
 #[derive(Drop)]
 pub enum Initial {
-    Literal(Logic, usize),
+    Literal { value: Logic, at: usize },
     Named(Name),
 }
 
@@ -24,7 +25,7 @@ pub enum Mode {
 pub struct PortDeclaration {
     /// Whether `signal` is written.
     pub signal: bool,
-    pub names: Items<Name>,
+    pub names: Several<Name>,
     /// The mode, where it is written.
     pub mode: Option<Mode>,
     pub mark: Name,
@@ -34,7 +35,7 @@ pub struct PortDeclaration {
 /// Signals (6.4.2.3) or variables (6.4.2.4) of one type mark.
 #[derive(Drop)]
 pub struct ObjectDeclaration {
-    pub names: Items<Name>,
+    pub names: Several<Name>,
     pub mark: Name,
     pub initial: Option<Initial>,
 }
@@ -47,7 +48,7 @@ pub struct ComponentDeclaration {
     pub is: bool,
     /// Empty where there is no port clause.
     pub ports: Items<PortDeclaration>,
-    /// Whether the name stands again at the end.
+    /// Whether the name is written again at the end.
     pub name_repeated: bool,
 }
 

@@ -13,7 +13,7 @@ pub enum ParseError {
     Syntax(usize),
     /// A parenthesis or an `if` inside as many others as there may be.
     TooDeep(usize),
-    /// The number of a time that is too late.
+    /// The number of a time that is too large.
     TimeRange(usize),
 }
 

@@ -1,37 +1,8 @@
 //! Expressions (IEEE 1076-2008, 9).
 
+use crate::name::Name;
 use sim_logic::Logic;
 use sqlite_items::{Boxed, Items};
-
-/// A name in lower case, and the place of its first byte.
-#[derive(Drop)]
-pub struct Name {
-    pub text: Items<u8>,
-    pub at: usize,
-}
-
-/// A primary (9.1).
-#[derive(Drop)]
-#[cycle(expression)]
-pub enum Primary {
-    /// A character literal, and its place.
-    Literal(Logic, usize),
-    Named(Name),
-    /// `NAME ' event`
-    Event(Name),
-    /// `FUNCTION ( ARGUMENT )`
-    Call(Name, Name),
-    /// The place of the `(`, and what stands in the parentheses.
-    Parenthesized(usize, Boxed<Expression>),
-}
-
-/// A primary, and the place of the `not` before it (9.1).
-#[derive(Drop)]
-#[cycle(expression)]
-pub struct Factor {
-    pub negation: Option<usize>,
-    pub primary: Primary,
-}
 
 /// A relational operator (9.2.3).
 #[derive(Clone, Copy, Debug, PartialEq, Eq)]
@@ -40,45 +11,88 @@ pub enum Relational {
     Unequal,
 }
 
-/// A relation (9.1).
-#[derive(Drop)]
-#[cycle(expression)]
-pub enum Relation {
-    Plain(Factor),
-    /// The operands, and between them the operator and its place.
-    Compared(Factor, Relational, usize, Factor),
-}
-
-/// The place of a logical operator, and the operand behind it.
-#[derive(Drop)]
-#[cycle(expression)]
-pub struct Operand {
-    pub operator_at: usize,
-    pub relation: Relation,
-}
-
-/// A logical operator that may be repeated (9.2.2).
+/// A logical operator of two operands (9.2.2).
 #[derive(Clone, Copy, Debug, PartialEq, Eq)]
-pub enum Associative {
+pub enum Logical {
     And,
     Or,
     Xor,
     Xnor,
-}
-
-/// A logical operator that stands once (9.2.2).
-#[derive(Clone, Copy, Debug, PartialEq, Eq)]
-pub enum Negated {
     Nand,
     Nor,
 }
 
-/// An expression (9.1).
+/// An expression (9.1). A place is that of the first byte of a token.
+///
+/// Which expressions may be operands of which is the grammar's business (`specs/Grammar.antt`): an operand of a chain is no
+/// chain, one of a comparison is no comparison either, and one of `not` is a primary.
 #[derive(Drop)]
 #[cycle(expression)]
 pub enum Expression {
-    Single(Relation),
-    /// The first operand, the second, and the rest in order: they group from the left.
-    Chain(Associative, Relation, Operand, Items<Operand>),
-    Pair(Negated, Relation, Operand),
+    /// A character literal.
+    Literal {
+        value: Logic,
+        at: usize,
+    },
+    /// A signal, a port, a variable, or `true` or `false`.
+    Named(Name),
+    /// `NAME ' event` (16.2).
+    Event(Name),
+    /// `FUNCTION ( ARGUMENT )` (9.3.4).
+    Call {
+        function: Name,
+        argument: Name,
+    },
+    /// The place is that of the `(`.
+    Parenthesized {
+        at: usize,
+        inner: Boxed<Expression>,
+    },
+    /// The place is that of the `not` (9.2.2).
+    Not {
+        at: usize,
+        operand: Boxed<Expression>,
+    },
+    /// Two operands, the operator between them, and its place (9.2.3).
+    Comparison {
+        left: Boxed<Expression>,
+        operator: Relational,
+        at: usize,
+        right: Boxed<Expression>,
+    },
+    /// A logical operator between each two of the operands, which group from the left (9.2.2). `nand` and `nor` have two.
+    Chain {
+        operator: Logical,
+        first: Boxed<Expression>,
+        rest: Items<Operand>,
+    },
+}
+
+/// The place of a logical operator, and the operand after it.
+#[derive(Drop)]
+#[cycle(expression)]
+pub struct Operand {
+    pub operator_at: usize,
+    pub operand: Expression,
+}
+
+impl Expression {
+    ghost use Rattle.std.specs.Prelude.{◌≡◌};
+    ghost use Rattle.sim_tree.specs.Starts.{start_of};
+
+    /// Where its first token starts.
+    #[tactic(auto, using(crate::proofs::ExpressionStarts::starts))]
+    pub fn start(&self) -> usize
+        ensures { result ≡ start_of self.now }
+    {
+        match self {
+            Expression::Literal { at, .. }
+            | Expression::Parenthesized { at, .. }
+            | Expression::Not { at, .. } => *at,
+            Expression::Named(name) | Expression::Event(name) => name.at(),
+            Expression::Call { function, .. } => function.at(),
+            Expression::Comparison { left, .. } => left.get().start(),
+            Expression::Chain { first, .. } => first.get().start(),
+        }
+    }
 }

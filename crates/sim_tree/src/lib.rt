@@ -5,10 +5,15 @@ pub mod cursor;
 pub mod declaration;
 pub mod error;
 pub mod expression;
+pub mod file;
+pub mod laws;
 pub mod list;
+pub mod name;
 pub mod sequential;
+pub mod time;
 pub mod unit;
 pub mod waveform;
 
 pub use cursor::Cursor;
 pub use error::ParseError;
+pub use file::DesignFile;

@@ -1,21 +1,86 @@
 //! Lists that are read item by item.
 
-ghost use Rattle.std.specs.Prelude.{◌≡◌, ◌++◌, ◌∷◌, [], OnOk, OnErr};
+ghost use Rattle.std.specs.Prelude.{◌≡◌, ◌∷◌, [], IfOk};
 
 use sqlite_items::Items;
 use std::alloc::{AllocError, Global};
+use std::marker::Model;
 
-/// Puts an item at the end of a list. The first one gets no room for others beside it: most lists of a text have one item.
-pub fn put<T: Drop>(alloc: Global, list: &mut Items<T>, item: T) -> Result<(), AllocError>
-    ensures ok { OnOk result (list.new ≡ list.old ++ item ∷ []) }
-    ensures err { OnErr result (list.new ≡ list.old) }
-{
-    if list.is_empty() {
-        let mut items = Vec::with_capacity(alloc, 1)?;
-        items.push(item)?;
-        *list = Items::from_vec(items);
-    } else {
-        list.push(item)?;
+/// A list of one item or more.
+#[derive(Drop)]
+pub struct Several<T> {
+    items: Vec<T>,
+}
+
+impl<T> Model for Several<T> {
+    ghost use Rattle.std.specs.Prelude.{List, ◌≢◌, []};
+    ghost use Rattle.std.specs.Coded.{coded_list};
+
+    ghost Value = { List T };
+
+    ghost coded = { coded_list T.code };
+
+    ghost view = { λ s. s.items.items };
+
+    ghost invariant = { λ s. s.items.items ≢ [] };
+}
+
+impl<T> Several<T> {
+    ghost use Rattle.std.specs.Prelude.{◌≡◌, ◌≢◌, []};
+
+    /// The items.
+    pub fn as_slice(&self) -> &[T]
+        ensures value { result.now ≡ self.now }
+        ensures some { result.now ≢ [] }
+    {
+        self.items.as_slice()
     }
-    Ok(())
+}
+
+impl<T: Drop> Several<T> {
+    ghost use Rattle.std.specs.Prelude.{◌≡◌, ◌∷◌, [], ◌++◌, IfOk, OnOk, OnErr};
+
+    /// A list of one item, with no room for others beside it: most lists of a text have one.
+    pub fn new(alloc: Global, first: T) -> Result<Several<T>, AllocError>
+        ensures { IfOk result (λ s. s ≡ first ∷ []) }
+    {
+        let items = one(alloc, first)?;
+        Ok(Several { items })
+    }
+
+    /// Puts an item at the end.
+    pub fn push(&mut self, item: T) -> Result<(), AllocError>
+        ensures ok { OnOk result (self.new ≡ self.old ++ item ∷ []) }
+        ensures err { OnErr result (self.new ≡ self.old) }
+    {
+        self.items.push(item)?;
+        Ok(())
+    }
+
+    /// The same list without the room that it has to spare.
+    pub fn fitted(self) -> Several<T>
+        ensures { result ≡ self }
+    {
+        let mut fitted = self;
+        fitted.items.shrink_to_fit();
+        fitted
+    }
+}
+
+/// A list of one item, with no room for others beside it.
+pub fn one<T: Drop>(alloc: Global, item: T) -> Result<Vec<T>, AllocError>
+    ensures { IfOk result (λ v. v.items ≡ item ∷ []) }
+{
+    let mut items = Vec::with_capacity(alloc, 1)?;
+    items.push(item)?;
+    Ok(items)
+}
+
+/// These items as a list of a tree, without the room that they have to spare.
+pub fn fitted<T>(items: Vec<T>) -> Items<T>
+    ensures { result ≡ items.items }
+{
+    let mut fitted = items;
+    fitted.shrink_to_fit();
+    Items::from_vec(fitted)
 }

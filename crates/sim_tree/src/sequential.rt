@@ -1,61 +1,56 @@
 //! Sequential statements (IEEE 1076-2008, 10).
 
-use crate::expression::{Expression, Name};
-use crate::waveform::{DelayMechanism, Element};
+use crate::expression::Expression;
+use crate::name::Name;
+use crate::waveform::{DelayMechanism, Waveform};
 use sqlite_items::Items;
 
-/// A signal assignment in a process (10.5.2).
+/// A signal assignment statement in a process (10.5.2).
 #[derive(Drop)]
-pub struct SimpleAssignment {
-    pub label: Option<Name>,
+pub struct SignalAssignment {
     pub target: Name,
     pub delay: DelayMechanism,
-    pub waveform: Items<Element>,
+    pub waveform: Waveform,
 }
 
-/// A variable assignment (10.6).
+/// A variable assignment statement (10.6).
 #[derive(Drop)]
 pub struct VariableAssignment {
-    pub label: Option<Name>,
     pub target: Name,
     pub value: Expression,
 }
 
-/// A sequential statement (10.1).
+/// A sequential statement and its label, where one is written (10.1).
 #[derive(Drop)]
 #[cycle(sequential)]
-pub enum Sequential {
-    Signal(SimpleAssignment),
-    Variable(VariableAssignment),
-    If(IfStatement),
-    /// A null statement, by its label (10.14).
-    Null(Option<Name>),
-}
-
-/// An if statement (10.8).
-#[derive(Drop)]
-#[cycle(sequential)]
-pub struct IfStatement {
+pub struct Sequential {
     pub label: Option<Name>,
-    /// What stands behind `if` and behind each `elsif`.
-    pub branches: Items<Branch>,
-    pub otherwise: Otherwise,
-    /// Whether the label stands again at the end.
-    pub label_repeated: bool,
+    pub statement: Statement,
 }
 
-/// A condition, and the statements behind its `then`.
+/// A sequential statement without its label.
+#[derive(Drop)]
+#[cycle(sequential)]
+pub enum Statement {
+    Signal(SignalAssignment),
+    Variable(VariableAssignment),
+    /// An if statement (10.8).
+    If {
+        /// What stands after `if` and after each `elsif`, in order.
+        branches: Items<Branch>,
+        /// The statements after `else`, where it is written.
+        otherwise: Option<Items<Sequential>>,
+        /// Whether the label is written again at the end.
+        label_repeated: bool,
+    },
+    /// A null statement (10.14).
+    Null,
+}
+
+/// A condition, and the statements after its `then`.
 #[derive(Drop)]
 #[cycle(sequential)]
 pub struct Branch {
     pub condition: Expression,
     pub statements: Items<Sequential>,
-}
-
-/// The last part of an if statement.
-#[derive(Drop)]
-#[cycle(sequential)]
-pub enum Otherwise {
-    Absent,
-    Else(Items<Sequential>),
 }

@@ -1,9 +1,10 @@
 //! Concurrent statements (IEEE 1076-2008, 11) and design units (3 and 13).
 
 use crate::declaration::{Declaration, ObjectDeclaration, PortDeclaration};
-use crate::expression::Name;
+use crate::list::Several;
+use crate::name::Name;
 use crate::sequential::Sequential;
-use crate::waveform::SignalAssignment;
+use crate::waveform::ConcurrentSignalAssignment;
 use sim_logic::Logic;
 use sqlite_items::Items;
 
@@ -11,7 +12,7 @@ use sqlite_items::Items;
 #[derive(Drop)]
 pub enum Sensitivity {
     All,
-    Names(Items<Name>),
+    Names(Several<Name>),
 }
 
 /// A process statement (11.3).
@@ -23,7 +24,7 @@ pub struct Process {
     pub is: bool,
     pub variables: Items<ObjectDeclaration>,
     pub statements: Items<Sequential>,
-    /// Whether the label stands again at the end.
+    /// Whether the label is written again at the end.
     pub label_repeated: bool,
 }
 
@@ -31,9 +32,9 @@ pub struct Process {
 #[derive(Drop)]
 pub enum Actual {
     Named(Name),
-    Literal(Logic, usize),
-    /// `open`, and its place.
-    Open(usize),
+    Literal { value: Logic, at: usize },
+    /// The word `open`.
+    Open { at: usize },
 }
 
 /// An association of a port map (6.5.7).
@@ -47,10 +48,17 @@ pub struct Association {
 /// What an instance is made of (11.7).
 #[derive(Drop)]
 pub enum Instantiated {
-    /// Whether `component` is written, and the component.
-    Component(bool, Name),
-    /// A library, an entity and its architecture, where one is written.
-    Entity(Name, Name, Option<Name>),
+    Component {
+        /// Whether `component` is written.
+        word_written: bool,
+        component: Name,
+    },
+    Entity {
+        library: Name,
+        entity: Name,
+        /// The architecture, where one is written.
+        architecture: Option<Name>,
+    },
 }
 
 /// A component instantiation statement (11.7).
@@ -65,7 +73,7 @@ pub struct Instance {
 /// A concurrent statement (11.1).
 #[derive(Drop)]
 pub enum Concurrent {
-    Assignment(SignalAssignment),
+    Assignment(ConcurrentSignalAssignment),
     Process(Process),
     Instance(Instance),
 }
@@ -82,8 +90,8 @@ pub struct SelectedName {
 /// A context item (13.4).
 #[derive(Drop)]
 pub enum ContextItem {
-    Library(Items<Name>),
-    Use(Items<SelectedName>),
+    Library(Several<Name>),
+    Use(Several<SelectedName>),
 }
 
 /// An entity declaration (3.2).
@@ -92,9 +100,9 @@ pub struct Entity {
     pub name: Name,
     /// Empty where there is no port clause.
     pub ports: Items<PortDeclaration>,
-    /// Whether `entity` stands again at the end.
+    /// Whether `entity` is written again at the end.
     pub word_repeated: bool,
-    /// Whether the name stands again at the end.
+    /// Whether the name is written again at the end.
     pub name_repeated: bool,
 }
 
@@ -105,9 +113,9 @@ pub struct Architecture {
     pub entity: Name,
     pub declarations: Items<Declaration>,
     pub statements: Items<Concurrent>,
-    /// Whether `architecture` stands again at the end.
+    /// Whether `architecture` is written again at the end.
     pub word_repeated: bool,
-    /// Whether the name stands again at the end.
+    /// Whether the name is written again at the end.
     pub name_repeated: bool,
 }
 
@@ -123,10 +131,4 @@ pub enum LibraryUnit {
 pub struct DesignUnit {
     pub context: Items<ContextItem>,
     pub library_unit: LibraryUnit,
-}
-
-/// A design file (13.1).
-#[derive(Drop)]
-pub struct DesignFile {
-    pub units: Items<DesignUnit>,
 }

@@ -1,21 +1,10 @@
 //! Waveforms and delays (IEEE 1076-2008, 10.5).
 
-ghost use Rattle.std.specs.Prelude.{◌≡◌, ◌≤◌};
-ghost use Rattle.std.specs.Option.{SomeIff};
-ghost use Rattle.sim_logic.specs.declared.time.TheConstants.{LATEST};
-ghost use Rattle.sim_tree.specs.Times.{is_time, time_of};
-
-use crate::expression::{Expression, Name};
-use sim_logic::{Time, Unit};
+use crate::expression::Expression;
+use crate::list::Several;
+use crate::name::Name;
+use crate::time::TimeLiteral;
 use sqlite_items::Items;
-
-/// A time as it is written: its digits, their place and the unit (5.2.4).
-#[derive(Drop)]
-pub struct TimeLiteral {
-    pub digits: Items<u8>,
-    pub at: usize,
-    pub unit: Unit,
-}
 
 /// A waveform element (10.5.2.1).
 #[derive(Drop)]
@@ -24,19 +13,22 @@ pub struct Element {
     pub after: Option<TimeLiteral>,
 }
 
-/// A waveform and the condition behind its `when` (10.5.3).
+/// A waveform: one element or more (10.5.2.1).
+pub type Waveform = Several<Element>;
+
+/// A waveform and the condition after its `when` (10.5.3).
 #[derive(Drop)]
-pub struct Choice {
-    pub waveform: Items<Element>,
+pub struct ConditionalWaveform {
+    pub waveform: Waveform,
     pub condition: Expression,
 }
 
-/// The waveforms of a concurrent assignment (11.6).
+/// The waveforms of a concurrent signal assignment (10.5.3, 11.6).
 #[derive(Drop)]
 pub struct ConditionalWaveforms {
-    pub choices: Items<Choice>,
-    /// The waveform without a condition: the only one, or the one behind the last `else`.
-    pub otherwise: Option<Items<Element>>,
+    pub conditional: Items<ConditionalWaveform>,
+    /// The waveform without a condition: the only one, or the one after the last `else`.
+    pub otherwise: Option<Waveform>,
 }
 
 /// A delay mechanism (10.5.2.1).
@@ -49,35 +41,11 @@ pub enum DelayMechanism {
     Reject(TimeLiteral),
 }
 
-/// A signal assignment, concurrent or in a process.
+/// A concurrent signal assignment statement (11.6).
 #[derive(Drop)]
-pub struct SignalAssignment {
+pub struct ConcurrentSignalAssignment {
     pub label: Option<Name>,
     pub target: Name,
     pub delay: DelayMechanism,
     pub waveforms: ConditionalWaveforms,
-}
-
-impl TimeLiteral {
-    /// Whether the time is no later than the latest.
-    #[tactic(auto, unfolding(crate::specs::Times::is_time))]
-    pub fn is_time(&self) -> bool
-        ensures { result ≡ is_time self.now.digits self.now.unit }
-    {
-        self.time().is_some()
-    }
-
-    /// The time; `None` exactly where it is later than the latest.
-    pub fn time(&self) -> Option<Time>
-        ensures { SomeIff result (time_of self.now.digits self.now.unit ≤ LATEST) (time_of self.now.digits self.now.unit) }
-    {
-        let mut count: u64 = 0;
-        for digit in self.digits.as_slice() {
-            if count > sim_logic::LATEST / 10 {
-                return None;
-            }
-            count = 10 * count + u64::from(digit.saturating_sub(48));
-        }
-        Time::of(count, self.unit)
-    }
 }

@@ -10,9 +10,9 @@ fn assert_tokens(rt: &impl Abort, alloc: Global, source: &[u8], rows: &[Row<'_>]
         Ok(found) => {
             assert_eq!(rt; found.len(), rows.len(), "{source:?}");
             for (token, row) in found.iter().zip(rows) {
-                assert!(rt; token.kind == row.0, "{source:?}");
-                assert_eq!(rt; token.text.as_slice(), row.1, "{source:?}");
-                assert_eq!(rt; (token.start, token.end), (row.2, row.3), "{source:?}");
+                assert!(rt; token.kind() == row.0, "{source:?}");
+                assert_eq!(rt; token.text(), row.1, "{source:?}");
+                assert_eq!(rt; (token.start(), token.end()), (row.2, row.3), "{source:?}");
             }
         }
         Err(error) => panic!(rt; "{error} in {source:?}"),

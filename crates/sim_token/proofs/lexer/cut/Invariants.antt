@@ -3,7 +3,7 @@ use Rattle.sim_token.proofs.Cuts.{SoFar}
 use Rattle.sim_token.proofs.lexer.cut.Given as goal
 
 abbrev pub invariant-loop-text : goal.invariant-loop-text
-invariant-loop-text l = SoFar l.fn.source l.tokens.items l.behind_name l.at l.text
+invariant-loop-text l = SoFar l.fn.source l.tokens.items l.after_name l.at l.text
 
 abbrev pub decreases-loop-text : goal.decreases-loop-text
 decreases-loop-text l = length l.text

@@ -4,7 +4,8 @@ use Rattle.sim_token.specs.Scan.{tail_len}
 use Rattle.sim_token.proofs.scan.number_tail.Given as goal
 
 abbrev pub invariant-loop-rest : goal.invariant-loop-rest
-invariant-loop-rest l = (length l.rest ≤ length l.fn.bytes) × ((length l.fn.bytes - length l.rest) + tail_len is_ascii_digit l.rest ≡ tail_len is_ascii_digit l.fn.bytes)
+invariant-loop-rest l = (length l.rest ≤ length l.fn.bytes) × ((length l.fn.bytes - length l.rest) + tail_len is_ascii_digit l.rest ≡ tail_len
+    is_ascii_digit l.fn.bytes)
 
 abbrev pub decreases-loop-rest : goal.decreases-loop-rest
 decreases-loop-rest l = length l.rest

@@ -4,7 +4,8 @@ use Rattle.sim_token.specs.Scan.{tail_len}
 use Rattle.sim_token.proofs.scan.word_tail.Given as goal
 
 abbrev pub invariant-loop-rest : goal.invariant-loop-rest
-invariant-loop-rest l = (length l.rest ≤ length l.fn.bytes) × ((length l.fn.bytes - length l.rest) + tail_len is_ascii_alphanumeric l.rest ≡ tail_len is_ascii_alphanumeric l.fn.bytes)
+invariant-loop-rest l = (length l.rest ≤ length l.fn.bytes) × ((length l.fn.bytes - length l.rest) + tail_len is_ascii_alphanumeric l.rest ≡ tail_len
+    is_ascii_alphanumeric l.fn.bytes)
 
 abbrev pub decreases-loop-rest : goal.decreases-loop-rest
 decreases-loop-rest l = length l.rest
