@@ -8,30 +8,29 @@ use sim_token::Kind;
 use sim_tree::declaration::{
     ComponentDeclaration, Declaration, Initial, Mode, ObjectDeclaration, PortDeclaration,
 };
-use sim_tree::expression::Name;
-use sim_tree::list::put;
+use sim_tree::list::{Several, fitted, one};
+use sim_tree::name::Name;
 use sim_tree::{Cursor, ParseError};
 use sqlite_items::Items;
 use std::alloc::Global;
 
 /// Reads one name, or several with commas between them.
 #[tactic(auto, unfolding(sim_reading::specs::Declarations::names, sim_tree::specs::Input::separated))]
-pub fn names(alloc: Global, tokens: &mut Cursor<'_>) -> Result<Items<Name>, ParseError>
+pub fn names(alloc: Global, tokens: &mut Cursor<'_>) -> Result<Several<Name>, ParseError>
     ensures { Reads (spec.names (view tokens.old)) result (view tokens.new) }
 {
-    let mut found = Items::new(alloc);
-    put(alloc, &mut found, tokens.word(alloc)?)?;
+    let mut found = Several::new(alloc, tokens.word(alloc)?)?;
     for _turn in 0..tokens.left() {
         if !tokens.sees(Kind::Comma) {
-            return Ok(found);
+            return Ok(found.fitted());
         }
         tokens.take();
         found.push(tokens.word(alloc)?)?;
     }
-    Ok(found)
+    Ok(found.fitted())
 }
 
-/// Reads the name again, where a word stands, and says whether one does. `Syntax` comes at another word.
+/// Reads the name written again, where a word stands, and says whether one does. `Syntax` comes at another word.
 #[tactic(auto, unfolding(sim_reading::specs::Declarations::repeated))]
 pub fn repeated(tokens: &mut Cursor<'_>, text: &[u8]) -> Result<bool, ParseError>
     ensures { Reads (spec.repeated text.now (view tokens.old)) result (view tokens.new) }
@@ -54,7 +53,7 @@ fn initial(alloc: Global, tokens: &mut Cursor<'_>) -> Result<Option<Initial>, Pa
     match tokens.peek() {
         Kind::Literal => {
             let (value, at) = tokens.literal()?;
-            Ok(Some(Initial::Literal(value, at)))
+            Ok(Some(Initial::Literal { value, at }))
         }
         _ => Ok(Some(Initial::Named(tokens.word(alloc)?))),
     }
@@ -86,7 +85,7 @@ fn port_of(
     alloc: Global,
     tokens: &mut Cursor<'_>,
     signal: bool,
-    names: Items<Name>,
+    names: Several<Name>,
 ) -> Result<PortDeclaration, ParseError>
     ensures { Reads (spec.port_of signal names (view tokens.old)) result (view tokens.new) }
 {
@@ -116,16 +115,15 @@ fn port(alloc: Global, tokens: &mut Cursor<'_>) -> Result<PortDeclaration, Parse
 fn port_list(alloc: Global, tokens: &mut Cursor<'_>) -> Result<Items<PortDeclaration>, ParseError>
     ensures { Reads (spec.port_list (view tokens.old)) result (view tokens.new) }
 {
-    let mut found = Items::new(alloc);
-    found.push(port(alloc, tokens)?)?;
+    let mut found = one(alloc, port(alloc, tokens)?)?;
     for _turn in 0..tokens.left() {
         if !tokens.sees(Kind::Semicolon) {
-            return Ok(found);
+            return Ok(fitted(found));
         }
         tokens.take();
         found.push(port(alloc, tokens)?)?;
     }
-    Ok(found)
+    Ok(fitted(found))
 }
 
 /// Reads a port clause, where one is written (IEEE 1076-2008, 6.5.6.3). Where none is, there are no ports.
@@ -167,15 +165,15 @@ pub fn variables(
 ) -> Result<Items<ObjectDeclaration>, ParseError>
     ensures { Reads (spec.variables (view tokens.old)) result (view tokens.new) }
 {
-    let mut found = Items::new(alloc);
+    let mut found = Vec::new(alloc);
     for _turn in 0..tokens.left() {
         if !tokens.sees(Kind::Variable) {
-            return Ok(found);
+            return Ok(fitted(found));
         }
         tokens.take();
         found.push(object(alloc, tokens)?)?;
     }
-    Ok(found)
+    Ok(fitted(found))
 }
 
 #[tactic(auto, unfolding(sim_reading::specs::Declarations::component_end))]
@@ -189,7 +187,7 @@ fn component_end(
 {
     tokens.expect(Kind::End)?;
     tokens.expect(Kind::Component)?;
-    let name_repeated = repeated(tokens, name.text.as_slice())?;
+    let name_repeated = repeated(tokens, name.text())?;
     tokens.expect(Kind::Semicolon)?;
     Ok(ComponentDeclaration {
         name,
@@ -237,12 +235,12 @@ pub fn declarations(
 ) -> Result<Items<Declaration>, ParseError>
     ensures { Reads (spec.declarations (view tokens.old)) result (view tokens.new) }
 {
-    let mut found = Items::new(alloc);
+    let mut found = Vec::new(alloc);
     for _turn in 0..tokens.left() {
         if !begins_declaration(tokens.peek()) {
-            return Ok(found);
+            return Ok(fitted(found));
         }
         found.push(declaration(alloc, tokens)?)?;
     }
-    Ok(found)
+    Ok(fitted(found))
 }

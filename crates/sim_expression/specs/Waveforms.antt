@@ -3,16 +3,15 @@ use Rattle.std.specs.Prelude.{ℕ, zero, suc, Bool, true, false, if◌then◌els
 use Rattle.sim_token.specs.declared.kind.Kind.{Kind}
 use Rattle.sim_token.specs.declared.kind.Kind.TheVariants as k
 use Rattle.sim_tree.specs.declared.error.ParseError.TheVariants.{TimeRange}
-use Rattle.sim_tree.specs.declared.expression.Name.{Name}
+use Rattle.sim_tree.specs.Name.{Name}
 use Rattle.sim_tree.specs.declared.expression.Expression.{Expression}
-use Rattle.sim_tree.specs.declared.waveform.TimeLiteral.{TimeLiteral}
 use Rattle.sim_tree.specs.declared.waveform.Element.{Element}
-use Rattle.sim_tree.specs.declared.waveform.Choice.{Choice}
+use Rattle.sim_tree.specs.declared.waveform.ConditionalWaveform.{ConditionalWaveform}
 use Rattle.sim_tree.specs.declared.waveform.ConditionalWaveforms.{ConditionalWaveforms}
 use Rattle.sim_tree.specs.declared.waveform.DelayMechanism.{DelayMechanism}
 use Rattle.sim_tree.specs.declared.waveform.DelayMechanism.TheVariants as delays
-use Rattle.sim_tree.specs.declared.waveform.SignalAssignment.{SignalAssignment}
-use Rattle.sim_tree.specs.Times.{is_time}
+use Rattle.sim_tree.specs.declared.waveform.ConcurrentSignalAssignment.{ConcurrentSignalAssignment}
+use Rattle.sim_tree.specs.Times.{TimeLiteral, is_time}
 use Rattle.sim_tree.specs.Input.{Parser, ◌>>=◌, ◌>>◌, pure, refuse, peek, take_token, number, unit, eat, expect, separated, left}
 use Rattle.sim_expression.specs.Expressions.{expression}
 
@@ -27,7 +26,7 @@ time_from n = do
 unfoldable pub time : Parser TimeLiteral
 time = λ i. time_from (left i) i
 
--- a waveform element from behind its value
+-- a waveform element from after its value
 abbrev pub delayed : Expression → Bool → Parser Element
 delayed value true = do
   t ← time
@@ -60,32 +59,33 @@ delay_by _ = pure delays.Unwritten
 unfoldable pub delay : Parser DelayMechanism
 delay = peek >>= delay_by
 
--- what stands behind the `when` of a waveform
-unfoldable pub choice : List Element → Parser Choice
-choice waveform = do
-  condition ← expression
-  pure (record { waveform = waveform; condition = condition })
+-- what stands after the `when` of a waveform
+unfoldable pub condition : List Element → Parser ConditionalWaveform
+condition waveform = do
+  found ← expression
+  pure (record { waveform = waveform; condition = found })
 
 -- waveforms with conditions, and at last perhaps one without
-unfoldable pub alternatives_from : ℕ → List Choice → Parser ConditionalWaveforms
+unfoldable pub alternatives_from : ℕ → List ConditionalWaveform → Parser ConditionalWaveforms
 alternatives_from zero found = refuse
 alternatives_from (suc n) found = do
   w ← waveform
   is_when ← eat k.When
   if is_when then (do
-    x ← choice w
+    x ← condition w
     is_else ← eat k.Else
-    if is_else then alternatives_from n (found ++ x ∷ []) else pure (record { choices = found ++ x ∷ []; otherwise = None })) else pure (record { choices = found; otherwise = Some w })
+    if is_else then alternatives_from n (found ++ x ∷ []) else pure (record { conditional = found ++ x ∷ []; otherwise = None })) else pure
+      (record { conditional = found; otherwise = Some w })
 
 -- conditional waveforms (10.5.3)
-unfoldable pub conditional : Parser ConditionalWaveforms
-conditional = λ i. alternatives_from (left i) [] i
+unfoldable pub waveforms : Parser ConditionalWaveforms
+waveforms = λ i. alternatives_from (left i) [] i
 
--- a concurrent assignment from behind its target (11.6)
-unfoldable pub assigned : Option Name → Name → Parser SignalAssignment
+-- a concurrent assignment from after its target (11.6)
+unfoldable pub assigned : Option Name → Name → Parser ConcurrentSignalAssignment
 assigned label target = do
   expect k.SignalAssign
   d ← delay
-  w ← conditional
+  w ← waveforms
   expect k.Semicolon
   pure (record { label = label; target = target; delay = d; waveforms = w })

@@ -1,23 +1,22 @@
 //! Expressions (IEEE 1076-2008, 9.1).
 
-ghost use Rattle.std.specs.Prelude.{◌≡◌};
+ghost use Rattle.std.specs.Prelude.{◌≡◌, ◌∷◌, [], true};
 ghost use Rattle.sim_expression.specs.Expressions as spec;
-ghost use Rattle.sim_tree.specs.Grammar.{associative_kind};
+ghost use Rattle.sim_tree.specs.Grammar.{is_repeatable, logical_kind};
 ghost use Rattle.sim_tree.specs.Input.{Reads, view};
 
 use sim_token::Kind;
-use sim_tree::expression::{
-    Associative, Expression, Factor, Negated, Operand, Primary, Relation, Relational,
-};
+use sim_tree::expression::{Expression, Logical, Operand, Relational};
+use sim_tree::list::{fitted, one};
 use sim_tree::{Cursor, ParseError};
 use sqlite_items::{Boxed, Items};
 use std::alloc::Global;
 
 /// How many parentheses of one expression may be open.
-const MOST_OPEN: usize = 64;
+const MOST_PARENTHESES: usize = 64;
 
 #[tactic(auto, unfolding(crate::specs::Expressions::named))]
-fn named(alloc: Global, tokens: &mut Cursor<'_>) -> Result<Primary, ParseError>
+fn named(alloc: Global, tokens: &mut Cursor<'_>) -> Result<Expression, ParseError>
     ensures { Reads (spec.named (view tokens.old)) result (view tokens.new) }
 {
     let name = tokens.word(alloc)?;
@@ -25,27 +24,30 @@ fn named(alloc: Global, tokens: &mut Cursor<'_>) -> Result<Primary, ParseError>
         Kind::Tick => {
             tokens.take();
             tokens.event()?;
-            Ok(Primary::Event(name))
+            Ok(Expression::Event(name))
         }
         Kind::LeftParen => {
             tokens.take();
             let argument = tokens.word(alloc)?;
             tokens.expect(Kind::RightParen)?;
-            Ok(Primary::Call(name, argument))
+            Ok(Expression::Call {
+                function: name,
+                argument,
+            })
         }
-        _ => Ok(Primary::Named(name)),
+        _ => Ok(Expression::Named(name)),
     }
 }
 
 #[cycle(expression)]
 #[tactic(auto, unfolding(crate::specs::Expressions::primary))]
-fn primary(alloc: Global, tokens: &mut Cursor<'_>, depth: usize) -> Result<Primary, ParseError>
+fn primary(alloc: Global, tokens: &mut Cursor<'_>, depth: usize) -> Result<Expression, ParseError>
     ensures { Reads (spec.primary (spec.nested depth) (view tokens.old)) result (view tokens.new) }
 {
     match tokens.peek() {
         Kind::Literal => {
             let (value, at) = tokens.literal()?;
-            Ok(Primary::Literal(value, at))
+            Ok(Expression::Literal { value, at })
         }
         Kind::LeftParen => nested(alloc, tokens, depth),
         _ => named(alloc, tokens),
@@ -54,46 +56,53 @@ fn primary(alloc: Global, tokens: &mut Cursor<'_>, depth: usize) -> Result<Prima
 
 #[cycle(expression)]
 #[tactic(auto, unfolding(crate::specs::Expressions::factor))]
-fn factor(alloc: Global, tokens: &mut Cursor<'_>, depth: usize) -> Result<Factor, ParseError>
+fn factor(alloc: Global, tokens: &mut Cursor<'_>, depth: usize) -> Result<Expression, ParseError>
     ensures { Reads (spec.factor (spec.nested depth) (view tokens.old)) result (view tokens.new) }
 {
     match tokens.peek() {
         Kind::Not => {
             let at = tokens.take();
-            let primary = primary(alloc, tokens, depth)?;
-            Ok(Factor {
-                negation: Some(at),
-                primary,
-            })
+            let operand = primary(alloc, tokens, depth)?;
+            let operand = Boxed::new(alloc, operand)?;
+            Ok(Expression::Not { at, operand })
         }
-        _ => {
-            let primary = primary(alloc, tokens, depth)?;
-            Ok(Factor {
-                negation: None,
-                primary,
-            })
-        }
+        _ => primary(alloc, tokens, depth),
     }
+}
+
+/// Reads the operator and the second operand of a comparison.
+#[cycle(expression)]
+fn comparison(
+    alloc: Global,
+    tokens: &mut Cursor<'_>,
+    depth: usize,
+    left: Expression,
+    operator: Relational,
+) -> Result<Expression, ParseError>
+    ensures { Reads (spec.comparison (spec.nested depth) left operator (view tokens.old)) result (view tokens.new) }
+{
+    let left = Boxed::new(alloc, left)?;
+    let at = tokens.take();
+    let right = factor(alloc, tokens, depth)?;
+    let right = Boxed::new(alloc, right)?;
+    Ok(Expression::Comparison {
+        left,
+        operator,
+        at,
+        right,
+    })
 }
 
 #[cycle(expression)]
 #[tactic(auto, unfolding(crate::specs::Expressions::relation))]
-fn relation(alloc: Global, tokens: &mut Cursor<'_>, depth: usize) -> Result<Relation, ParseError>
+fn relation(alloc: Global, tokens: &mut Cursor<'_>, depth: usize) -> Result<Expression, ParseError>
     ensures { Reads (spec.relation (spec.nested depth) (view tokens.old)) result (view tokens.new) }
 {
     let left = factor(alloc, tokens, depth)?;
     match tokens.peek() {
-        Kind::Equal => {
-            let at = tokens.take();
-            let right = factor(alloc, tokens, depth)?;
-            Ok(Relation::Compared(left, Relational::Equal, at, right))
-        }
-        Kind::Unequal => {
-            let at = tokens.take();
-            let right = factor(alloc, tokens, depth)?;
-            Ok(Relation::Compared(left, Relational::Unequal, at, right))
-        }
-        _ => Ok(Relation::Plain(left)),
+        Kind::Equal => comparison(alloc, tokens, depth, left, Relational::Equal),
+        Kind::Unequal => comparison(alloc, tokens, depth, left, Relational::Unequal),
+        _ => Ok(left),
     }
 }
 
@@ -103,65 +112,106 @@ fn operand(alloc: Global, tokens: &mut Cursor<'_>, depth: usize) -> Result<Opera
     ensures { Reads (spec.operand (spec.nested depth) (view tokens.old)) result (view tokens.new) }
 {
     let operator_at = tokens.take();
-    let relation = relation(alloc, tokens, depth)?;
+    let operand = relation(alloc, tokens, depth)?;
     Ok(Operand {
         operator_at,
-        relation,
+        operand,
     })
 }
 
-fn associative_of(kind: Kind) -> Option<Associative>
-    ensures { result ≡ spec.associative_of kind }
+fn logical_of(kind: Kind) -> Option<Logical>
+    ensures { result ≡ spec.logical_of kind }
 {
     match kind {
-        Kind::And => Some(Associative::And),
-        Kind::Or => Some(Associative::Or),
-        Kind::Xor => Some(Associative::Xor),
-        Kind::Xnor => Some(Associative::Xnor),
-        _ => None,
-    }
-}
-
-fn negated_of(kind: Kind) -> Option<Negated>
-    ensures { result ≡ spec.negated_of kind }
-{
-    match kind {
-        Kind::Nand => Some(Negated::Nand),
-        Kind::Nor => Some(Negated::Nor),
+        Kind::And => Some(Logical::And),
+        Kind::Or => Some(Logical::Or),
+        Kind::Xor => Some(Logical::Xor),
+        Kind::Xnor => Some(Logical::Xnor),
+        Kind::Nand => Some(Logical::Nand),
+        Kind::Nor => Some(Logical::Nor),
         _ => None,
     }
 }
 
 /// The kind of the operator's token.
-fn kind_of(operator: Associative) -> Kind
-    ensures { result ≡ associative_kind operator }
+fn kind_of(operator: Logical) -> Kind
+    ensures { result ≡ logical_kind operator }
 {
     match operator {
-        Associative::And => Kind::And,
-        Associative::Or => Kind::Or,
-        Associative::Xor => Kind::Xor,
-        Associative::Xnor => Kind::Xnor,
+        Logical::And => Kind::And,
+        Logical::Or => Kind::Or,
+        Logical::Xor => Kind::Xor,
+        Logical::Xnor => Kind::Xnor,
+        Logical::Nand => Kind::Nand,
+        Logical::Nor => Kind::Nor,
     }
 }
 
+/// Whether the operator may be written again: `nand` and `nor` may not (9.2.2).
+fn is_repeatable(operator: Logical) -> bool
+    ensures { result ≡ is_repeatable operator }
+{
+    !matches!(operator, Logical::Nand | Logical::Nor)
+}
+
+/// Reads further operands of the operator.
 #[cycle(expression)]
-#[tactic(auto, unfolding(sim_tree::specs::Input::sees, sim_tree::specs::Input::many))]
+#[tactic(auto, unfolding(sim_tree::specs::Input::sees, sim_tree::specs::Input::left))]
+fn more_operands(
+    alloc: Global,
+    tokens: &mut Cursor<'_>,
+    depth: usize,
+    operator: Logical,
+    second: Operand,
+) -> Result<Items<Operand>, ParseError>
+    ensures { Reads (spec.more_operands (spec.nested depth) true operator (second ∷ []) (view tokens.old)) result (view tokens.new) }
+{
+    let mut found = one(alloc, second)?;
+    for _turn in 0..tokens.left() {
+        if !tokens.sees(kind_of(operator)) {
+            return Ok(fitted(found));
+        }
+        found.push(operand(alloc, tokens, depth)?)?;
+    }
+    Ok(fitted(found))
+}
+
+#[cycle(expression)]
+#[tactic(auto, unfolding(crate::specs::Expressions::operands))]
 fn operands(
     alloc: Global,
     tokens: &mut Cursor<'_>,
     depth: usize,
-    operator: Associative,
+    operator: Logical,
 ) -> Result<Items<Operand>, ParseError>
     ensures { Reads (spec.operands (spec.nested depth) operator (view tokens.old)) result (view tokens.new) }
 {
-    let mut found = Items::new(alloc);
-    for _turn in 0..tokens.left() {
-        if !tokens.sees(kind_of(operator)) {
-            return Ok(found);
-        }
-        found.push(operand(alloc, tokens, depth)?)?;
+    let second = operand(alloc, tokens, depth)?;
+    if is_repeatable(operator) {
+        more_operands(alloc, tokens, depth, operator, second)
+    } else {
+        Ok(fitted(one(alloc, second)?))
     }
-    Ok(found)
+}
+
+/// Reads the operators and the operands after the first.
+#[cycle(expression)]
+fn chain(
+    alloc: Global,
+    tokens: &mut Cursor<'_>,
+    depth: usize,
+    first: Expression,
+    operator: Logical,
+) -> Result<Expression, ParseError>
+    ensures { Reads (spec.chain_by (spec.nested depth) first (Some operator) (view tokens.old)) result (view tokens.new) }
+{
+    let first = Boxed::new(alloc, first)?;
+    let rest = operands(alloc, tokens, depth, operator)?;
+    Ok(Expression::Chain {
+        operator,
+        first,
+        rest,
+    })
 }
 
 #[cycle(expression)]
@@ -174,24 +224,15 @@ fn expression_in(
     ensures { Reads (spec.expression_in (spec.nested depth) (view tokens.old)) result (view tokens.new) }
 {
     let first = relation(alloc, tokens, depth)?;
-    let kind = tokens.peek();
-    if let Some(operator) = negated_of(kind) {
-        let second = operand(alloc, tokens, depth)?;
-        return Ok(Expression::Pair(operator, first, second));
-    }
-    match associative_of(kind) {
-        Some(operator) => {
-            let second = operand(alloc, tokens, depth)?;
-            let rest = operands(alloc, tokens, depth, operator)?;
-            Ok(Expression::Chain(operator, first, second, rest))
-        }
-        None => Ok(Expression::Single(first)),
+    match logical_of(tokens.peek()) {
+        Some(operator) => chain(alloc, tokens, depth, first, operator),
+        None => Ok(first),
     }
 }
 
 #[cycle(expression)]
 #[tactic(auto, unfolding(crate::specs::Expressions::nested, sim_tree::specs::Input::left))]
-fn nested(alloc: Global, tokens: &mut Cursor<'_>, depth: usize) -> Result<Primary, ParseError>
+fn nested(alloc: Global, tokens: &mut Cursor<'_>, depth: usize) -> Result<Expression, ParseError>
     ensures { Reads (spec.nested depth (view tokens.old)) result (view tokens.new) }
 {
     if depth == 0 {
@@ -199,8 +240,9 @@ fn nested(alloc: Global, tokens: &mut Cursor<'_>, depth: usize) -> Result<Primar
     }
     let at = tokens.take();
     let inner = expression_in(alloc, tokens, depth - 1)?;
+    let inner = Boxed::new(alloc, inner)?;
     tokens.expect(Kind::RightParen)?;
-    Ok(Primary::Parenthesized(at, Boxed::new(alloc, inner)?))
+    Ok(Expression::Parenthesized { at, inner })
 }
 
 /// Reads an expression (IEEE 1076-2008, 9.1). `Syntax` comes at the first token with which none goes on, `TooDeep` at a
@@ -209,5 +251,5 @@ fn nested(alloc: Global, tokens: &mut Cursor<'_>, depth: usize) -> Result<Primar
 pub fn expression(alloc: Global, tokens: &mut Cursor<'_>) -> Result<Expression, ParseError>
     ensures { Reads (spec.expression (view tokens.old)) result (view tokens.new) }
 {
-    expression_in(alloc, tokens, MOST_OPEN)
+    expression_in(alloc, tokens, MOST_PARENTHESES)
 }

@@ -6,13 +6,14 @@ ghost use Rattle.sim_tree.specs.Input.{Reads, view};
 
 use crate::expressions::expression;
 use sim_token::Kind;
-use sim_tree::expression::Name;
-use sim_tree::list::put;
+use sim_tree::list::{Several, fitted};
+use sim_tree::name::Name;
+use sim_tree::time::TimeLiteral;
 use sim_tree::waveform::{
-    Choice, ConditionalWaveforms, DelayMechanism, Element, SignalAssignment, TimeLiteral,
+    ConcurrentSignalAssignment, ConditionalWaveform, ConditionalWaveforms, DelayMechanism, Element,
+    Waveform,
 };
 use sim_tree::{Cursor, ParseError};
-use sqlite_items::Items;
 use std::alloc::Global;
 
 #[tactic(auto, unfolding(crate::specs::Waveforms::time_from, sim_tree::specs::Times::is_time))]
@@ -21,16 +22,14 @@ fn time_from(alloc: Global, tokens: &mut Cursor<'_>, left: usize) -> Result<Time
 {
     let (digits, at) = tokens.number(alloc)?;
     let unit = tokens.unit()?;
-    let literal = TimeLiteral { digits, at, unit };
-    if literal.is_time() {
-        Ok(literal)
-    } else {
-        Err(ParseError::TimeRange(left))
+    match TimeLiteral::of(digits, at, unit) {
+        Some(literal) => Ok(literal),
+        None => Err(ParseError::TimeRange(left)),
     }
 }
 
-/// Reads a time: a number and a unit (IEEE 1076-2008, 5.2.4). `TimeRange` comes at the number, where the time is later than
-/// the latest.
+/// Reads a time: a number and a unit (IEEE 1076-2008, 5.2.4). `TimeRange` comes at the number, where the time is larger
+/// than the largest.
 #[tactic(auto, unfolding(crate::specs::Waveforms::time))]
 pub fn time(alloc: Global, tokens: &mut Cursor<'_>) -> Result<TimeLiteral, ParseError>
     ensures { Reads (spec.time (view tokens.old)) result (view tokens.new) }
@@ -57,19 +56,18 @@ fn element(alloc: Global, tokens: &mut Cursor<'_>) -> Result<Element, ParseError
 
 /// Reads a waveform (IEEE 1076-2008, 10.5.2.1).
 #[tactic(auto, unfolding(crate::specs::Waveforms::waveform, sim_tree::specs::Input::separated, sim_tree::specs::Input::sees))]
-pub fn waveform(alloc: Global, tokens: &mut Cursor<'_>) -> Result<Items<Element>, ParseError>
+pub fn waveform(alloc: Global, tokens: &mut Cursor<'_>) -> Result<Waveform, ParseError>
     ensures { Reads (spec.waveform (view tokens.old)) result (view tokens.new) }
 {
-    let mut found = Items::new(alloc);
-    put(alloc, &mut found, element(alloc, tokens)?)?;
+    let mut found = Several::new(alloc, element(alloc, tokens)?)?;
     for _turn in 0..tokens.left() {
         if !tokens.sees(Kind::Comma) {
-            return Ok(found);
+            return Ok(found.fitted());
         }
         tokens.take();
         found.push(element(alloc, tokens)?)?;
     }
-    Ok(found)
+    Ok(found.fitted())
 }
 
 /// Reads a delay mechanism, where one is written (IEEE 1076-2008, 10.5.2.1).
@@ -96,38 +94,39 @@ pub fn delay(alloc: Global, tokens: &mut Cursor<'_>) -> Result<DelayMechanism, P
     }
 }
 
-#[tactic(auto, unfolding(crate::specs::Waveforms::choice))]
-fn choice(
+/// Reads the condition of a waveform.
+#[tactic(auto, unfolding(crate::specs::Waveforms::condition))]
+fn condition(
     alloc: Global,
     tokens: &mut Cursor<'_>,
-    waveform: Items<Element>,
-) -> Result<Choice, ParseError>
-    ensures { Reads (spec.choice waveform (view tokens.old)) result (view tokens.new) }
+    waveform: Waveform,
+) -> Result<ConditionalWaveform, ParseError>
+    ensures { Reads (spec.condition waveform (view tokens.old)) result (view tokens.new) }
 {
     let condition = expression(alloc, tokens)?;
-    Ok(Choice {
+    Ok(ConditionalWaveform {
         waveform,
         condition,
     })
 }
 
-#[tactic(auto, unfolding(crate::specs::Waveforms::conditional, sim_tree::specs::Input::left))]
-fn conditional(alloc: Global, tokens: &mut Cursor<'_>) -> Result<ConditionalWaveforms, ParseError>
-    ensures { Reads (spec.conditional (view tokens.old)) result (view tokens.new) }
+#[tactic(auto, unfolding(crate::specs::Waveforms::waveforms, sim_tree::specs::Input::left))]
+fn waveforms(alloc: Global, tokens: &mut Cursor<'_>) -> Result<ConditionalWaveforms, ParseError>
+    ensures { Reads (spec.waveforms (view tokens.old)) result (view tokens.new) }
 {
-    let mut choices = Items::new(alloc);
+    let mut conditional = Vec::new(alloc);
     for _turn in 0..tokens.left() {
         let waveform = waveform(alloc, tokens)?;
         if !tokens.eat(Kind::When) {
             return Ok(ConditionalWaveforms {
-                choices,
+                conditional: fitted(conditional),
                 otherwise: Some(waveform),
             });
         }
-        choices.push(choice(alloc, tokens, waveform)?)?;
+        conditional.push(condition(alloc, tokens, waveform)?)?;
         if !tokens.eat(Kind::Else) {
             return Ok(ConditionalWaveforms {
-                choices,
+                conditional: fitted(conditional),
                 otherwise: None,
             });
         }
@@ -135,21 +134,21 @@ fn conditional(alloc: Global, tokens: &mut Cursor<'_>) -> Result<ConditionalWave
     Err(ParseError::Syntax(tokens.left()))
 }
 
-/// Reads what stands behind the target of a concurrent assignment, with its semicolon (IEEE 1076-2008, 11.6).
+/// Reads what stands after the target of a concurrent assignment, with its semicolon (IEEE 1076-2008, 11.6).
 #[tactic(auto, unfolding(crate::specs::Waveforms::assigned))]
 pub fn assigned(
     alloc: Global,
     tokens: &mut Cursor<'_>,
     label: Option<Name>,
     target: Name,
-) -> Result<SignalAssignment, ParseError>
+) -> Result<ConcurrentSignalAssignment, ParseError>
     ensures { Reads (spec.assigned label target (view tokens.old)) result (view tokens.new) }
 {
     tokens.expect(Kind::SignalAssign)?;
     let delay = delay(alloc, tokens)?;
-    let waveforms = conditional(alloc, tokens)?;
+    let waveforms = waveforms(alloc, tokens)?;
     tokens.expect(Kind::Semicolon)?;
-    Ok(SignalAssignment {
+    Ok(ConcurrentSignalAssignment {
         label,
         target,
         delay,

@@ -2,7 +2,7 @@
 use Rattle.std.proofs.Common.{◌≡◌, ℕ, zero, suc, Bool, true, false, ◌||◌, List, [], ◌∷◌, ◌++◌, length, map, Option, Some, None, refl, ◌∙◌, append_assoc}
 use Rattle.sim_token.specs.declared.kind.Kind.{Kind}
 use Rattle.sim_token.specs.declared.kind.Kind.TheVariants as k
-use Rattle.sim_tree.specs.declared.expression.Name.{Name}
+use Rattle.sim_tree.specs.Name.{Name}
 use Rattle.sim_tree.specs.declared.declaration.ObjectDeclaration.{ObjectDeclaration}
 use Rattle.sim_tree.specs.declared.unit.Sensitivity.{Sensitivity}
 use Rattle.sim_tree.specs.declared.unit.Association.{Association}
@@ -11,12 +11,16 @@ use Rattle.sim_tree.specs.declared.unit.Instantiated.TheVariants as made
 use Rattle.sim_tree.specs.Input.{Input, kind, next, left}
 use Rattle.sim_tree.specs.Writing.{Writing, mark, never, ◌▸◌, all_of, if_written, word_at, Fits}
 use Rattle.sim_tree.specs.Grammar as g
-use Rattle.sim_tree.specs.Grammar.{of_sensitivity, of_variable, of_process, of_actual, formally, is_named, of_association, of_associations, of_port_map, of_chosen, of_instantiated, of_instance, of_concurrent}
+use Rattle.sim_tree.specs.Grammar.{of_sensitivity, of_variable, of_process, of_actual, formally, is_named, of_association, of_associations}
+use Rattle.sim_tree.specs.Grammar.{of_port_map, of_chosen, of_instantiated, of_instance, of_concurrent}
 use Rattle.sim_tree.proofs.Fits.{Gives, then_, map_, done, refused, ◌&◌, split, none, never_fits, mark_at, marks}
 use Rattle.sim_tree.proofs.Tokens.{word_gives, literal_gives, eat_gives, eat_then, eaten_written, expect_gives}
 use Rattle.sim_tree.proofs.Lists.{many_all_gives}
 use Rattle.sim_expression.proofs.WaveformSound as waves
-use Rattle.sim_reading.specs.Concurrents.{sensitivity, process_body, process, actual, actual_by, associated, named_association, free_association, free_by, association, associations_from, associations, port_map, instance, chosen, entity_named, concurrent_assigned, concurrent_process, target_by, labelled, labelled_by, first_by, concurrent, concurrent_by, begins_concurrent, concurrents}
+use Rattle.sim_reading.specs.Concurrents.{sensitivity, process_body, process, actual, actual_by, associated, named_association, free_association}
+use Rattle.sim_reading.specs.Concurrents.{free_by, association, associations_from, associations, port_map, instance, chosen, entity_named}
+use Rattle.sim_reading.specs.Concurrents.{concurrent_assigned, concurrent_process, target_by, labelled, labelled_by, first_by, concurrent}
+use Rattle.sim_reading.specs.Concurrents.{concurrent_by, begins_concurrent, concurrents}
 use Rattle.sim_reading.proofs.Declared.{names_give, variables_give}
 use Rattle.sim_reading.proofs.Stated.{label_again_gives, statements_give}
 
@@ -24,7 +28,10 @@ sensitivity_gives : (i : Input) → Gives (λ x m. Fits 64 64 (of_sensitivity x)
 unfolding sensitivity
 sensitivity_gives i = eat_then _ _ 64 64 k.All i (λ z. absurd cc) (λ x. done x) (λ x. then_ (names_give {p = 64} {n = 64} i) (λ ns j y. done y))
 
-process_body_gives : (label : Option Name) (x : Sensitivity) (is : Bool) (vs : List ObjectDeclaration) (i a b c d e f t : Input) → Fits 64 64 (g.labelled label) i a → Fits 64 64 (mark k.Process) a b → Fits 64 64 (mark k.LeftParen) b c → Fits 64 64 (of_sensitivity x) c d → Fits 64 64 (mark k.RightParen) d e → Fits 64 64 (if_written is (mark k.Is)) e f → Fits 64 64 (all_of (map of_variable vs)) f t → Gives (λ y m. Fits 64 64 (of_process y) i m) (process_body label x is vs t)
+process_body_gives : (label : Option Name) (x : Sensitivity) (is : Bool) (vs : List ObjectDeclaration) (i a b c d e f t : Input)
+    → Fits 64 64 (g.labelled label) i a → Fits 64 64 (mark k.Process) a b → Fits 64 64 (mark k.LeftParen) b c → Fits 64 64 (of_sensitivity x) c d
+    → Fits 64 64 (mark k.RightParen) d e → Fits 64 64 (if_written is (mark k.Is)) e f → Fits 64 64 (all_of (map of_variable vs)) f t
+    → Gives (λ y m. Fits 64 64 (of_process y) i m) (process_body label x is vs t)
 unfolding process_body of_process
 process_body_gives label x is vs i a b c d e f t q r s u v w y =
     then_ (expect_gives {p = 64} {n = 64} k.Begin t (λ z. absurd cc)) (λ h j l.
@@ -57,7 +64,8 @@ actual_gives : (i : Input) → Gives (λ y m. Fits 64 64 (of_actual y) i m) (act
 unfolding actual
 actual_gives i = actual_by_gives i (kind i) refl
 
-associated_gives : (named : Bool) (f : Name) (i j : Input) → Fits 64 64 (formally named (Some f)) i j → Gives (λ y m. Fits 64 64 (of_association named y) i m) (associated f j)
+associated_gives : (named : Bool) (f : Name) (i j : Input) → Fits 64 64 (formally named (Some f)) i j
+    → Gives (λ y m. Fits 64 64 (of_association named y) i m) (associated f j)
 unfolding associated
 associated_gives named f i j h = then_ (actual_gives j) (λ x m y. done (h & y))
 
@@ -89,9 +97,10 @@ pub record Associated (named : Bool) (found : List Association) (i : Input) (xs 
   pub whole : xs ≡ found ++ more
   pub fits : Fits 64 64 (of_open named more) i j
 
-behind_comma : (named : Bool) (xs : List Association) (i j m : Input) → Fits 64 64 (mark k.Comma) i j → Fits 64 64 (of_open named xs) j m → Fits 64 64 (of_associations named xs) i m
-behind_comma named [] i j m x y = absurd (never_fits j m y)
-behind_comma named (a ∷ more) i j m x y = x & y
+after_comma : (named : Bool) (xs : List Association) (i j m : Input) → Fits 64 64 (mark k.Comma) i j → Fits 64 64 (of_open named xs) j m
+    → Fits 64 64 (of_associations named xs) i m
+after_comma named [] i j m x y = absurd (never_fits j m y)
+after_comma named (a ∷ more) i j m x y = x & y
 
 associations_give : (m : ℕ) (named : Bool) (found : List Association) (i : Input) → Gives (Associated named found i) (associations_from m named found i)
 unfolding associations_from
@@ -100,10 +109,16 @@ associations_give (suc m) named found i =
     then_ (association_gives named i) (λ a j x.
     eat_then _ _ 64 64 k.Comma j (λ z. absurd cc)
     (λ y. map_ (associations_give m (named || is_named a.formal) (found ++ a ∷ []) (next j)) (λ xs q r.
-    record { more = a ∷ r.more; whole = r.whole ∙ append_assoc found (a ∷ []) r.more; fits = x & behind_comma (named || is_named a.formal) r.more j (next j) q y r.fits }))
+    record {
+      more = a ∷ r.more;
+      whole = r.whole ∙ append_assoc found (a ∷ []) r.more;
+      fits = x & after_comma (named || is_named a.formal) r.more j
+          (next j) q y r.fits;
+    }))
     (λ y. done (record { more = a ∷ []; whole = refl; fits = x & none })))
 
-port_map_fits : (xs : List Association) (i a b c d e : Input) → Fits 64 64 (mark k.Port) i a → Fits 64 64 (mark k.Map) a b → Fits 64 64 (mark k.LeftParen) b c → Fits 64 64 (of_open false xs) c d → Fits 64 64 (mark k.RightParen) d e → Fits 64 64 (of_port_map xs) i e
+port_map_fits : (xs : List Association) (i a b c d e : Input) → Fits 64 64 (mark k.Port) i a → Fits 64 64 (mark k.Map) a b
+    → Fits 64 64 (mark k.LeftParen) b c → Fits 64 64 (of_open false xs) c d → Fits 64 64 (mark k.RightParen) d e → Fits 64 64 (of_port_map xs) i e
 port_map_fits [] i a b c d e q r s t u = absurd (never_fits c d t)
 port_map_fits (x ∷ xs) i a b c d e q r s t u = let v = split t in q & r & s & v.front & v.back & u
 
@@ -117,7 +132,8 @@ port_map_gives i = eat_then _ _ 64 64 k.Port i (λ z. absurd cc) (λ q.
     done (port_map_fits xs i (next i) b c d e q r s (rw t.whole t.fits) u))))))
     (λ q. done none)
 
-instance_gives : (label : Name) (unit : Instantiated) (i a b c : Input) → Fits 64 64 (word_at label) i a → Fits 64 64 (mark k.Colon) a b → Fits 64 64 (of_instantiated unit) b c → Gives (λ y m. Fits 64 64 (of_concurrent y) i m) (instance label unit c)
+instance_gives : (label : Name) (unit : Instantiated) (i a b c : Input) → Fits 64 64 (word_at label) i a → Fits 64 64 (mark k.Colon) a b
+    → Fits 64 64 (of_instantiated unit) b c → Gives (λ y m. Fits 64 64 (of_concurrent y) i m) (instance label unit c)
 unfolding instance of_instance of_concurrent
 instance_gives label unit i a b c x y z =
     then_ (port_map_gives c) (λ xs d u.
@@ -143,19 +159,23 @@ entity_named_gives i e =
 
 -- ---- statements
 
-assigned_gives : (label : Option Name) (target : Name) (i t j : Input) → Fits 64 64 (g.labelled label) i t → Fits 64 64 (word_at target) t j → Gives (λ y m. Fits 64 64 (of_concurrent y) i m) (concurrent_assigned label target j)
+assigned_gives : (label : Option Name) (target : Name) (i t j : Input) → Fits 64 64 (g.labelled label) i t → Fits 64 64 (word_at target) t j
+    → Gives (λ y m. Fits 64 64 (of_concurrent y) i m) (concurrent_assigned label target j)
 unfolding concurrent_assigned of_concurrent
 assigned_gives label target i t j l w = then_ (waves.assigned_gives {n = 64} label target i t j l w) (λ a m h. done h)
 
-processed_gives : (label : Option Name) (i a : Input) → Fits 64 64 (g.labelled label) i a → Gives (λ y m. Fits 64 64 (of_concurrent y) i m) (concurrent_process label a)
+processed_gives : (label : Option Name) (i a : Input) → Fits 64 64 (g.labelled label) i a
+    → Gives (λ y m. Fits 64 64 (of_concurrent y) i m) (concurrent_process label a)
 unfolding concurrent_process of_concurrent
 processed_gives label i a l = then_ (process_gives label i a l) (λ x m h. done h)
 
-target_by_gives : (label x : Name) (i a b j : Input) → Fits 64 64 (word_at label) i a → Fits 64 64 (mark k.Colon) a b → Fits 64 64 (word_at x) b j → (y : Kind) → Gives (λ y m. Fits 64 64 (of_concurrent y) i m) (target_by label x y j)
+target_by_gives : (label x : Name) (i a b j : Input) → Fits 64 64 (word_at label) i a → Fits 64 64 (mark k.Colon) a b → Fits 64 64 (word_at x) b j
+    → (y : Kind) → Gives (λ y m. Fits 64 64 (of_concurrent y) i m) (target_by label x y j)
 target_by_gives label x i a b j l c w k.SignalAssign = assigned_gives (Some label) x i b j (l & c) w
 target_by_gives label x i a b j l c w _ = instance_gives label (made.Component false x) i a b j l c (none & w)
 
-labelled_by_gives : (label : Name) (i a b : Input) → Fits 64 64 (word_at label) i a → Fits 64 64 (mark k.Colon) a b → (x : Kind) → kind b ≡ x → Gives (λ y m. Fits 64 64 (of_concurrent y) i m) (labelled_by label x b)
+labelled_by_gives : (label : Name) (i a b : Input) → Fits 64 64 (word_at label) i a → Fits 64 64 (mark k.Colon) a b → (x : Kind) → kind b ≡ x
+    → Gives (λ y m. Fits 64 64 (of_concurrent y) i m) (labelled_by label x b)
 labelled_by_gives label i a b l c k.Process e = processed_gives (Some label) i b (l & c)
 labelled_by_gives label i a b l c k.Component e =
     then_ (word_gives {p = 64} {n = 64} (next b)) (λ x j w.

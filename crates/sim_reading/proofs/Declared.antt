@@ -2,7 +2,7 @@
 use Rattle.std.proofs.Common.{◌≡◌, ℕ, Bool, true, List, [], ◌∷◌, map, refl}
 use Rattle.sim_token.specs.declared.kind.Kind.{Kind}
 use Rattle.sim_token.specs.declared.kind.Kind.TheVariants as k
-use Rattle.sim_tree.specs.declared.expression.Name.{Name}
+use Rattle.sim_tree.specs.Name.{Name}
 use Rattle.sim_tree.specs.declared.declaration.PortDeclaration.{PortDeclaration}
 use Rattle.sim_tree.specs.Input.{Input, ◌>>◌, take_token, kind, next, word, same_kind}
 use Rattle.sim_tree.specs.Writing.{This, just, mark, all_of, separated_by, if_written, word_at, Fits}
@@ -10,7 +10,8 @@ use Rattle.sim_tree.specs.Grammar.{of_names, of_initial, of_mode, of_port, of_po
 use Rattle.sim_tree.proofs.Fits.{Gives, then_, map_, done, ◌&◌, none, never_fits, marks}
 use Rattle.sim_tree.proofs.Tokens.{same_is, word_gives, literal_gives, repeat_gives, eat_gives, eat_then, sees_then, eaten_written, expect_gives}
 use Rattle.sim_tree.proofs.Lists.{separated_gives, many_all_gives}
-use Rattle.sim_reading.specs.Declarations.{names, repeated, initial, initial_by, mode, mode_by, port_of, port, port_list, ports, object, variables, component_end, component, begins_declaration, declaration, declaration_by, declarations}
+use Rattle.sim_reading.specs.Declarations.{names, repeated, initial, initial_by, mode, mode_by, port_of, port, port_list, ports, object, variables}
+use Rattle.sim_reading.specs.Declarations.{component_end, component, begins_declaration, declaration, declaration_by, declarations}
 
 module _ {p n : ℕ} where
   pub names_give : (i : Input) → Gives (λ ns j. Fits p n (of_names ns) i j) (names i)
@@ -21,7 +22,8 @@ module _ {p n : ℕ} where
   unfolding repeated
   repeated_gives text i = sees_then k.Word i (λ e. then_ (repeat_gives {p = p} {n = n} text i) (λ u j h. done h)) (λ e. done none)
 
-  initial_by_gives : (i j : Input) → Fits p n (mark k.VariableAssign) i j → (x : Kind) → kind j ≡ x → Gives (λ o m. Fits p n (of_initial o) i m) (initial_by x j)
+  initial_by_gives : (i j : Input) → Fits p n (mark k.VariableAssign) i j → (x : Kind) → kind j ≡ x
+      → Gives (λ o m. Fits p n (of_initial o) i m) (initial_by x j)
   initial_by_gives i j y k.Literal e = then_ (literal_gives {p = p} {n = n} j) (λ v m h. done (y & h))
   initial_by_gives i j y _ e = then_ (word_gives {p = p} {n = n} j) (λ v m h. done (y & h))
 
@@ -39,7 +41,8 @@ module _ {p n : ℕ} where
   unfolding mode
   mode_gives i = mode_by_gives i (kind i) refl
 
-  port_of_gives : (b : Bool) (ns : List Name) (i j m : Input) → Fits p n (if_written b (mark k.Signal)) i j → Fits p n (of_names ns) j m → Gives (λ x q. Fits p n (of_port x) i q) (port_of b ns m)
+  port_of_gives : (b : Bool) (ns : List Name) (i j m : Input) → Fits p n (if_written b (mark k.Signal)) i j → Fits p n (of_names ns) j m
+      → Gives (λ x q. Fits p n (of_port x) i q) (port_of b ns m)
   unfolding port_of of_port
   port_of_gives b ns i j m x y =
       then_ (expect_gives {p = p} {n = n} k.Colon m (λ z. absurd cc)) (λ u q c.
@@ -59,7 +62,9 @@ module _ {p n : ℕ} where
   unfolding port_list
   port_list_gives i = separated_gives p n k.Semicolon port of_port (λ z. absurd cc) (λ j. port_gives j) i
 
-  ports_fit : (xs : List PortDeclaration) (i j m q r s : Input) → Fits p n (mark k.Port) i j → Fits p n (mark k.LeftParen) j m → Fits p n (separated_by k.Semicolon (map of_port xs)) m q → Fits p n (mark k.RightParen) q r → Fits p n (mark k.Semicolon) r s → Fits p n (of_ports xs) i s
+  ports_fit : (xs : List PortDeclaration) (i j m q r s : Input) → Fits p n (mark k.Port) i j → Fits p n (mark k.LeftParen) j m
+      → Fits p n (separated_by k.Semicolon (map of_port xs)) m q → Fits p n (mark k.RightParen) q r → Fits p n (mark k.Semicolon) r s
+      → Fits p n (of_ports xs) i s
   ports_fit [] i j m q r s a b c d e = absurd (never_fits m q c)
   ports_fit (x ∷ xs) i j m q r s a b c d e = a & b & c & d & e
 
@@ -91,7 +96,9 @@ module _ {p n : ℕ} where
   unfolding variables
   variables_give i = many_all_gives p n (λ y. same_kind y k.Variable) (take_token >> object) of_variable (λ j e. variable_gives j e) i
 
-  component_end_gives : (x : Name) (is : Bool) (xs : List PortDeclaration) (i a b c d : Input) → Fits p n (mark k.Component) i a → Fits p n (word_at x) a b → Fits p n (if_written is (mark k.Is)) b c → Fits p n (of_ports xs) c d → Gives (λ y q. Fits p n (of_component y) i q) (component_end x is xs d)
+  component_end_gives : (x : Name) (is : Bool) (xs : List PortDeclaration) (i a b c d : Input) → Fits p n (mark k.Component) i a
+      → Fits p n (word_at x) a b → Fits p n (if_written is (mark k.Is)) b c → Fits p n (of_ports xs) c d
+      → Gives (λ y q. Fits p n (of_component y) i q) (component_end x is xs d)
   unfolding component_end of_component
   component_end_gives x is xs i a b c d e f g h =
       then_ (expect_gives {p = p} {n = n} k.End d (λ z. absurd cc)) (λ u j l.

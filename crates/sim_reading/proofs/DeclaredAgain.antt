@@ -2,7 +2,7 @@
 use Rattle.std.proofs.Common.{◌≡◌, ℕ, suc, ◌≤◌, Bool, true, false, List, [], ◌∷◌, length, map, Option, Some, None, Ok, refl, sym, subst}
 use Rattle.sim_token.specs.declared.kind.Kind.{Kind}
 use Rattle.sim_token.specs.declared.kind.Kind.TheVariants as k
-use Rattle.sim_tree.specs.declared.expression.Name.{Name}
+use Rattle.sim_tree.specs.Name.{Name}
 use Rattle.sim_tree.specs.declared.declaration.Initial.{Initial}
 use Rattle.sim_tree.specs.declared.declaration.Initial.TheVariants as first_values
 use Rattle.sim_tree.specs.declared.declaration.Mode.{Mode}
@@ -16,9 +16,11 @@ use Rattle.sim_tree.specs.Input.{Input, ◌>>◌, take_token, kind, word, same_k
 use Rattle.sim_tree.specs.Writing.{Mark, This, just, all_of, separated_by, if_written, word_at, Fits}
 use Rattle.sim_tree.specs.Grammar.{of_names, of_initial, of_mode, of_port, of_ports, of_object, of_variable, of_component, of_declaration}
 use Rattle.sim_tree.proofs.Fits.{split, none_read, never_fits, mark_read, less, other}
-use Rattle.sim_tree.proofs.Tokens.{is_same, not_same, word_read, word_kind, literal_read, literal_kind, repeat_read, this_kind, is_seen, not_seen, eat_read, eat_not, expect_read, written_read}
+use Rattle.sim_tree.proofs.Tokens.{is_same, not_same, word_read, word_kind, literal_read, literal_kind, repeat_read, this_kind, is_seen, not_seen}
+use Rattle.sim_tree.proofs.Tokens.{eat_read, eat_not, expect_read, written_read}
 use Rattle.sim_tree.proofs.Lists.{separated_again, many_all_again}
-use Rattle.sim_reading.specs.Declarations.{names, repeated, initial, mode, port_of, port, port_list, ports, object, variables, component_end, component, begins_declaration, declaration, declarations}
+use Rattle.sim_reading.specs.Declarations.{names, repeated, initial, mode, port_of, port, port_list, ports, object, variables, component_end}
+use Rattle.sim_reading.specs.Declarations.{component, begins_declaration, declaration, declarations}
 
 -- no first value follows
 abbrev NoFirst : Kind → Type 0
@@ -34,7 +36,8 @@ module _ {p n : ℕ} where
   unfolding names of_names
   names_again ns i j h stop = separated_again p n k.Comma word word_at (λ x. Unit {0}) tt (λ x a b f d. word_read a b x f) ns i j h tt stop
 
-  pub repeated_again : (text : List ℕ) (b : Bool) (i j : Input) → Fits p n (if_written b (just (This text))) i j → (kind j ≡ k.Word → ⊥) → repeated text i ≡ Ok (b, j)
+  pub repeated_again : (text : List ℕ) (b : Bool) (i j : Input) → Fits p n (if_written b (just (This text))) i j → (kind j ≡ k.Word → ⊥)
+      → repeated text i ≡ Ok (b, j)
   unfolding repeated
   repeated_again text true i j h stop = rw (is_seen k.Word i (this_kind text i j h), repeat_read text i j h) refl
   repeated_again text false i j h stop = rw (none_read h, not_seen k.Word j stop) refl
@@ -64,11 +67,23 @@ module _ {p n : ℕ} where
       let u = split t.back in
       let v = split u.back in
       let w = split v.back in
-      rw (written_read k.Signal i s.mid x.signal s.front (other (names_begin x.names s.mid t.mid t.front) (λ z. absurd cc)), names_again x.names s.mid t.mid t.front (other (mark_read t.mid u.mid k.Colon u.front).0 (λ z. absurd cc)), expect_read k.Colon t.mid u.mid u.front, mode_again x.mode u.mid v.mid v.front (word_kind v.mid w.mid x.mark w.front), word_read v.mid w.mid x.mark w.front, initial_again x.initial w.mid j w.back stop) refl
+      rw (
+        written_read k.Signal i s.mid x.signal s.front (other (names_begin x.names s.mid t.mid t.front) (λ z. absurd cc)),
+        names_again x.names s.mid
+            t.mid t.front (other (mark_read t.mid u.mid k.Colon u.front).0 (λ z. absurd cc)),
+        expect_read k.Colon t.mid u.mid u.front,
+        mode_again x.mode
+            u.mid v.mid v.front (word_kind v.mid w.mid x.mark w.front),
+        word_read v.mid w.mid x.mark w.front,
+        initial_again x.initial w.mid j w.back
+            stop,
+      ) refl
 
-  port_list_again : (xs : List PortDeclaration) (i j : Input) → Fits p n (separated_by k.Semicolon (map of_port xs)) i j → kind j ≡ k.RightParen → port_list i ≡ Ok (xs, j)
+  port_list_again : (xs : List PortDeclaration) (i j : Input) → Fits p n (separated_by k.Semicolon (map of_port xs)) i j → kind j ≡ k.RightParen
+      → port_list i ≡ Ok (xs, j)
   unfolding port_list
-  port_list_again xs i j h e = separated_again p n k.Semicolon port of_port NoFirst (λ z. absurd cc) (λ x a b f d. port_again x a b f d) xs i j h (other e (λ z. absurd cc)) (other e (λ z. absurd cc))
+  port_list_again xs i j h e = separated_again p n k.Semicolon port of_port NoFirst (λ z. absurd cc) (λ x a b f d. port_again x a b f d) xs i j h
+      (other e (λ z. absurd cc)) (other e (λ z. absurd cc))
 
   pub ports_again : (xs : List PortDeclaration) (i j : Input) → Fits p n (of_ports xs) i j → (kind j ≡ k.Port → ⊥) → ports i ≡ Ok (xs, j)
   unfolding ports
@@ -78,7 +93,14 @@ module _ {p n : ℕ} where
       let t = split s.back in
       let u = split t.back in
       let v = split u.back in
-      rw (eat_read k.Port i s.mid s.front, expect_read k.LeftParen s.mid t.mid t.front, port_list_again (x ∷ xs) t.mid u.mid u.front (mark_read u.mid v.mid k.RightParen v.front).0, expect_read k.RightParen u.mid v.mid v.front, expect_read k.Semicolon v.mid j v.back) refl
+      rw (
+        eat_read k.Port i s.mid s.front,
+        expect_read k.LeftParen s.mid t.mid t.front,
+        port_list_again (x ∷ xs) t.mid u.mid u.front
+            (mark_read u.mid v.mid k.RightParen v.front).0,
+        expect_read k.RightParen u.mid v.mid v.front,
+        expect_read k.Semicolon v.mid j v.back,
+      ) refl
 
   pub ports_lead : (P : Kind → Type 0) → P k.Port → (xs : List PortDeclaration) (i j : Input) → Fits p n (of_ports xs) i j → P (kind j) → P (kind i)
   ports_lead P f [] i j h e = subst (λ (x : Input). P (kind x)) (sym (none_read h)) e
@@ -91,7 +113,15 @@ module _ {p n : ℕ} where
       let t = split s.back in
       let u = split t.back in
       let v = split u.back in
-      rw (names_again x.names i s.mid s.front (other (mark_read s.mid t.mid k.Colon t.front).0 (λ z. absurd cc)), expect_read k.Colon s.mid t.mid t.front, word_read t.mid u.mid x.mark u.front, initial_again x.initial u.mid v.mid v.front (other (mark_read v.mid j k.Semicolon v.back).0 (λ z. absurd cc)), expect_read k.Semicolon v.mid j v.back) refl
+      rw (
+        names_again x.names i s.mid s.front (other (mark_read s.mid t.mid k.Colon t.front).0 (λ z. absurd cc)),
+        expect_read k.Colon s.mid t.mid
+            t.front,
+        word_read t.mid u.mid x.mark u.front,
+        initial_again x.initial u.mid v.mid v.front
+            (other (mark_read v.mid j k.Semicolon v.back).0 (λ z. absurd cc)),
+        expect_read k.Semicolon v.mid j v.back,
+      ) refl
 
   variable_again : (x : ObjectDeclaration) (i j : Input) → Fits p n (of_variable x) i j → (take_token >> object) i ≡ Ok (x, j)
   unfolding of_variable
@@ -105,11 +135,14 @@ module _ {p n : ℕ} where
   unfolding of_variable
   variable_less x i j h = less (Mark k.Variable) (of_object x) i j h
 
-  pub variables_again : (xs : List ObjectDeclaration) (i j : Input) → Fits p n (all_of (map of_variable xs)) i j → (kind j ≡ k.Variable → ⊥) → variables i ≡ Ok (xs, j)
+  pub variables_again : (xs : List ObjectDeclaration) (i j : Input) → Fits p n (all_of (map of_variable xs)) i j → (kind j ≡ k.Variable → ⊥)
+      → variables i ≡ Ok (xs, j)
   unfolding variables
-  variables_again xs i j h stop = many_all_again p n (λ y. same_kind y k.Variable) (take_token >> object) of_variable (λ x. Unit {0}) variable_starts (λ x e. tt) variable_less (λ x a b f d. variable_again x a b f) xs i j h tt (not_same (kind j) k.Variable stop)
+  variables_again xs i j h stop = many_all_again p n (λ y. same_kind y k.Variable) (take_token >> object) of_variable (λ x. Unit {0}) variable_starts
+      (λ x e. tt) variable_less (λ x a b f d. variable_again x a b f) xs i j h tt (not_same (kind j) k.Variable stop)
 
-  component_again : (x : ComponentDeclaration) (i j : Input) → Fits p n (of_component x) i j → (kind i ≡ k.Component) × (suc (length j) ≤ length i) × (component i ≡ Ok (x, j))
+  component_again : (x : ComponentDeclaration) (i j : Input) → Fits p n (of_component x) i j
+      → (kind i ≡ k.Component) × (suc (length j) ≤ length i) × (component i ≡ Ok (x, j))
   unfolding of_component component component_end
   component_again x i j h =
       let s = split h in
@@ -119,10 +152,27 @@ module _ {p n : ℕ} where
       let w = split v.back in
       let y = split w.back in
       let z = split y.back in
-      let stop = (mark_read v.mid w.mid k.End w.front).0 in
-      ((mark_read i s.mid k.Component s.front).0, less (Mark k.Component) _ i j h, rw (expect_read k.Component i s.mid s.front, word_read s.mid t.mid x.name t.front, written_read k.Is t.mid u.mid x.is u.front (ports_lead (λ a. a ≡ k.Is → ⊥) (λ a. absurd cc) x.ports u.mid v.mid v.front (other stop (λ a. absurd cc))), ports_again x.ports u.mid v.mid v.front (other stop (λ a. absurd cc)), expect_read k.End v.mid w.mid w.front, expect_read k.Component w.mid y.mid y.front, repeated_again x.name.text x.name_repeated y.mid z.mid z.front (other (mark_read z.mid j k.Semicolon z.back).0 (λ a. absurd cc)), expect_read k.Semicolon z.mid j z.back) refl)
+      let stop = (mark_read v.mid w.mid k.End w.front).0 in (
+        (mark_read i s.mid k.Component s.front).0,
+        less (Mark k.Component) _ i j h,
+        rw (
+          expect_read k.Component i s.mid s.front,
+          word_read s.mid t.mid x.name t.front,
+          written_read k.Is t.mid u.mid x.is u.front
+              (ports_lead (λ a. a ≡ k.Is → ⊥) (λ a. absurd cc) x.ports u.mid v.mid v.front (other stop (λ a. absurd cc))),
+          ports_again x.ports u.mid v.mid
+              v.front (other stop (λ a. absurd cc)),
+          expect_read k.End v.mid w.mid w.front,
+          expect_read k.Component w.mid y.mid y.front,
+          repeated_again
+              x.name.text x.name_repeated y.mid z.mid z.front (other (mark_read z.mid j k.Semicolon z.back).0 (λ a. absurd cc)),
+          expect_read k.Semicolon
+              z.mid j z.back,
+        ) refl,
+      )
 
-  declaration_again : (x : Declaration) (i j : Input) → Fits p n (of_declaration x) i j → (begins_declaration (kind i) ≡ true) × (suc (length j) ≤ length i) × (declaration i ≡ Ok (x, j))
+  declaration_again : (x : Declaration) (i j : Input) → Fits p n (of_declaration x) i j
+      → (begins_declaration (kind i) ≡ true) × (suc (length j) ≤ length i) × (declaration i ≡ Ok (x, j))
   unfolding of_declaration declaration
   declaration_again (declared.Signal x) i j h =
       let s = split h in
@@ -132,6 +182,9 @@ module _ {p n : ℕ} where
       let c = component_again x i j h in
       (rw c.0 refl, c.1, rw (c.0, c.2) refl)
 
-  pub declarations_again : (xs : List Declaration) (i j : Input) → Fits p n (all_of (map of_declaration xs)) i j → begins_declaration (kind j) ≡ false → declarations i ≡ Ok (xs, j)
+  pub declarations_again : (xs : List Declaration) (i j : Input) → Fits p n (all_of (map of_declaration xs)) i j → begins_declaration (kind j) ≡ false
+      → declarations i ≡ Ok (xs, j)
   unfolding declarations
-  declarations_again xs i j h stop = many_all_again p n begins_declaration declaration of_declaration (λ x. Unit {0}) (λ x a b f. (declaration_again x a b f).0) (λ x e. tt) (λ x a b f. (declaration_again x a b f).1) (λ x a b f d. (declaration_again x a b f).2) xs i j h tt stop
+  declarations_again xs i j h stop = many_all_again p n begins_declaration declaration of_declaration (λ x. Unit {0})
+      (λ x a b f. (declaration_again x a b f).0) (λ x e. tt) (λ x a b f. (declaration_again x a b f).1) (λ x a b f d. (declaration_again x a b f).2)
+      xs i j h tt stop

@@ -2,21 +2,24 @@
 use Rattle.std.proofs.Common.{◌≡◌, ℕ, zero, suc, List, map, Option, Some, None, refl}
 use Rattle.sim_token.specs.declared.kind.Kind.{Kind}
 use Rattle.sim_token.specs.declared.kind.Kind.TheVariants as k
-use Rattle.sim_tree.specs.declared.expression.Name.{Name}
+use Rattle.sim_tree.specs.Name.{Name}
+use Rattle.sim_tree.specs.declared.sequential.Statement.{Statement}
 use Rattle.sim_tree.specs.declared.sequential.Sequential.{Sequential}
 use Rattle.sim_tree.specs.declared.sequential.Branch.{Branch}
-use Rattle.sim_tree.specs.declared.sequential.Otherwise.{Otherwise}
 use Rattle.sim_tree.specs.Input.{Input, Parser, kind, next}
 use Rattle.sim_tree.specs.Writing.{mark, separated_by, word_at, Fits}
 use Rattle.sim_tree.specs.Grammar as g
-use Rattle.sim_tree.specs.Grammar.{of_expression, of_simple, of_variable_assignment, of_sequential, of_branch, of_otherwise, of_if, of_sequence}
+use Rattle.sim_tree.specs.Grammar.{of_expression, of_signal_assignment, of_variable_assignment, of_statement, of_sequential, of_branch, of_otherwise}
+use Rattle.sim_tree.specs.Grammar.{of_sequence}
 use Rattle.sim_tree.proofs.Fits.{Gives, then_, done, refused, ◌&◌, none, marks, if_fits}
 use Rattle.sim_tree.proofs.Tokens.{word_gives, repeat_gives, eat_then, sees_then, expect_gives}
 use Rattle.sim_tree.proofs.Lists.{separated_gives, many_all_gives}
-use Rattle.sim_tree.proofs.SequentialRules.{signal_is, variable_is, if_is, null_is, absent_is, else_is, branch_is, if_statement_is}
+use Rattle.sim_tree.proofs.SequentialRules.{signal_is, variable_is, if_is, null_is, branch_is, sequential_is}
 use Rattle.sim_expression.proofs.Sound.{expression_gives}
 use Rattle.sim_expression.proofs.WaveformSound.{delay_gives, waveform_gives}
-use Rattle.sim_reading.specs.Statements.{label_again, label_by, variable_assigned, signal_assigned, assigned, assigned_by, null, begins_statement, labelled, labelled_by, statement, statement_by, sequence, branch, branches, otherwise, if_end, if_statement, statements}
+use Rattle.sim_reading.specs.Statements.{label_again, label_by, variable_assigned, signal_assigned, assigned, assigned_by, null, with_label}
+use Rattle.sim_reading.specs.Statements.{begins_statement, labelled, labelled_by, statement, statement_by, sequence, branch, branches, otherwise}
+use Rattle.sim_reading.specs.Statements.{if_end, if_statement, statements}
 
 label_by_gives : (p n : ℕ) (label : Option Name) (i : Input) → Gives (λ b j. Fits p n (g.label_again b label) i j) (label_by label i)
 label_by_gives p n None i = refused
@@ -26,55 +29,66 @@ pub label_again_gives : {p n : ℕ} (label : Option Name) (i : Input) → Gives 
 unfolding label_again
 label_again_gives {p} {n} label i = sees_then k.Word i (λ e. label_by_gives p n label i) (λ e. done none)
 
-variable_gives : (n : ℕ) (label : Option Name) (target : Name) (i t j : Input) → Fits 64 n (g.labelled label) i t → Fits 64 n (word_at target) t j → kind j ≡ k.VariableAssign → Gives (λ x m. Fits 64 n (of_sequential x) i m) (variable_assigned label target j)
+variable_gives : (n : ℕ) (l : Option Name) (target : Name) (t j : Input) → Fits 64 n (word_at target) t j → kind j ≡ k.VariableAssign
+    → Gives (λ x m. Fits 64 n (of_statement x l) t m) (variable_assigned target j)
 unfolding variable_assigned of_variable_assignment
-variable_gives n label target i t j l w e =
+variable_gives n l target t j w e =
     then_ (expression_gives {n = n} (next j)) (λ v m x.
     then_ (expect_gives {p = 64} {n = n} k.Semicolon m (λ z. absurd cc)) (λ u q y.
-    done (rw variable_is (l & w & marks j k.VariableAssign e (λ z. absurd cc) & x & y))))
+    done (rw variable_is (w & marks j k.VariableAssign e (λ z. absurd cc) & x & y))))
 
-signal_gives : (n : ℕ) (label : Option Name) (target : Name) (i t j : Input) → Fits 64 n (g.labelled label) i t → Fits 64 n (word_at target) t j → Gives (λ x m. Fits 64 n (of_sequential x) i m) (signal_assigned label target j)
-unfolding signal_assigned of_simple
-signal_gives n label target i t j l w =
+signal_gives : (n : ℕ) (l : Option Name) (target : Name) (t j : Input) → Fits 64 n (word_at target) t j
+    → Gives (λ x m. Fits 64 n (of_statement x l) t m) (signal_assigned target j)
+unfolding signal_assigned of_signal_assignment
+signal_gives n l target t j w =
     then_ (expect_gives {p = 64} {n = n} k.SignalAssign j (λ z. absurd cc)) (λ u m x.
     then_ (delay_gives {n = n} m) (λ d q y.
     then_ (waveform_gives {n = n} q) (λ v r z.
     then_ (expect_gives {p = 64} {n = n} k.Semicolon r (λ z. absurd cc)) (λ o s f.
-    done (rw signal_is (l & w & x & y & z & f))))))
+    done (rw signal_is (w & x & y & z & f))))))
 
-assigned_by_gives : (n : ℕ) (label : Option Name) (target : Name) (i t j : Input) → Fits 64 n (g.labelled label) i t → Fits 64 n (word_at target) t j → (x : Kind) → kind j ≡ x → Gives (λ x m. Fits 64 n (of_sequential x) i m) (assigned_by label target x j)
-assigned_by_gives n label target i t j l w k.VariableAssign e = variable_gives n label target i t j l w e
-assigned_by_gives n label target i t j l w _ e = signal_gives n label target i t j l w
+assigned_by_gives : (n : ℕ) (l : Option Name) (target : Name) (t j : Input) → Fits 64 n (word_at target) t j → (x : Kind) → kind j ≡ x
+    → Gives (λ x m. Fits 64 n (of_statement x l) t m) (assigned_by target x j)
+assigned_by_gives n l target t j w k.VariableAssign e = variable_gives n l target t j w e
+assigned_by_gives n l target t j w _ e = signal_gives n l target t j w
 
-assigned_gives : (n : ℕ) (label : Option Name) (target : Name) (i t j : Input) → Fits 64 n (g.labelled label) i t → Fits 64 n (word_at target) t j → Gives (λ x m. Fits 64 n (of_sequential x) i m) (assigned label target j)
+assigned_gives : (n : ℕ) (l : Option Name) (target : Name) (t j : Input) → Fits 64 n (word_at target) t j
+    → Gives (λ x m. Fits 64 n (of_statement x l) t m) (assigned target j)
 unfolding assigned
-assigned_gives n label target i t j l w = assigned_by_gives n label target i t j l w (kind j) refl
+assigned_gives n l target t j w = assigned_by_gives n l target t j w (kind j) refl
 
-null_gives : (n : ℕ) (label : Option Name) (i t : Input) → Fits 64 n (g.labelled label) i t → kind t ≡ k.Null → Gives (λ x m. Fits 64 n (of_sequential x) i m) (null label t)
+null_gives : (n : ℕ) (l : Option Name) (t : Input) → kind t ≡ k.Null → Gives (λ x m. Fits 64 n (of_statement x l) t m) (null t)
 unfolding null
-null_gives n label i t l e =
+null_gives n l t e =
     then_ (expect_gives {p = 64} {n = n} k.Semicolon (next t) (λ z. absurd cc)) (λ u m x.
-    done (rw null_is (l & marks t k.Null e (λ z. absurd cc) & x)))
+    done (rw null_is (marks t k.Null e (λ z. absurd cc) & x)))
 
-abbrev Inner : ℕ → (Option Name → Parser Sequential) → Type 0
-Inner n inner = (label : Option Name) (i t : Input) → Fits 64 n (g.labelled label) i t → kind t ≡ k.If → Gives (λ x m. Fits 64 n (of_sequential x) i m) (inner label t)
+-- a label or none, and then a statement
+labels_give : (n : ℕ) (l : Option Name) (i t j : Input) (reader : Parser Statement) → Fits 64 n (g.labelled l) i t
+    → Gives (λ x m. Fits 64 n (of_statement x l) t m) (reader j) → Gives (λ x m. Fits 64 n (of_sequential x) i m) (with_label l reader j)
+labels_give n l i t j reader h ok = then_ ok (λ x m y. done (rw sequential_is (h & y)))
 
-module _ (inner : Option Name → Parser Sequential) (n : ℕ) (ok : Inner n inner) where
-  labelled_by_gives : (label : Option Name) (i t : Input) → Fits 64 n (g.labelled label) i t → (x : Kind) → kind t ≡ x → Gives (λ x m. Fits 64 n (of_sequential x) i m) (labelled_by inner label x t)
-  labelled_by_gives label i t l k.If e = ok label i t l e
-  labelled_by_gives label i t l k.Null e = null_gives n label i t l e
-  labelled_by_gives label i t l _ e = then_ (word_gives {p = 64} {n = n} t) (λ x j w. assigned_gives n label x i t j l w)
+abbrev Inner : ℕ → (Option Name → Parser Statement) → Type 0
+Inner n inner = (l : Option Name) (t : Input) → kind t ≡ k.If → Gives (λ x m. Fits 64 n (of_statement x l) t m) (inner l t)
 
-  labelled_gives : (label : Option Name) (i t : Input) → Fits 64 n (g.labelled label) i t → Gives (λ x m. Fits 64 n (of_sequential x) i m) (labelled inner label t)
+module _ (inner : Option Name → Parser Statement) (n : ℕ) (ok : Inner n inner) where
+  labelled_by_gives : (l : Option Name) (t : Input) → (x : Kind) → kind t ≡ x → Gives (λ x m. Fits 64 n (of_statement x l) t m) (labelled_by inner l x t)
+  labelled_by_gives l t k.If e = ok l t e
+  labelled_by_gives l t k.Null e = null_gives n l t e
+  labelled_by_gives l t _ e = then_ (word_gives {p = 64} {n = n} t) (λ x j w. assigned_gives n l x t j w)
+
+  labelled_gives : (l : Option Name) (t : Input) → Gives (λ x m. Fits 64 n (of_statement x l) t m) (labelled inner l t)
   unfolding labelled
-  labelled_gives label i t l = labelled_by_gives label i t l (kind t) refl
+  labelled_gives l t = labelled_by_gives l t (kind t) refl
 
   statement_by_gives : (i : Input) (x : Kind) → kind i ≡ x → Gives (λ x m. Fits 64 n (of_sequential x) i m) (statement_by inner x i)
-  statement_by_gives i k.If e = ok None i i none e
-  statement_by_gives i k.Null e = null_gives n None i i none e
+  statement_by_gives i k.If e = labels_give n None i i i (inner None) none (ok None i e)
+  statement_by_gives i k.Null e = labels_give n None i i i null none (null_gives n None i e)
   statement_by_gives i _ e =
       then_ (word_gives {p = 64} {n = n} i) (λ x j w.
-      eat_then _ _ 64 n k.Colon j (λ z. absurd cc) (λ c. labelled_gives (Some x) i (next j) (w & c)) (λ c. assigned_gives n None x i i j none w))
+      eat_then _ _ 64 n k.Colon j (λ z. absurd cc)
+      (λ c. labels_give n (Some x) i (next j) (next j) (labelled inner (Some x)) (w & c) (labelled_gives (Some x) (next j)))
+      (λ c. labels_give n None i i j (assigned x) none (assigned_gives n None x i j w)))
 
   statement_gives : (i : Input) → Gives (λ x m. Fits 64 n (of_sequential x) i m) (statement inner i)
   unfolding statement
@@ -99,25 +113,27 @@ module _ (inner : Option Name → Parser Sequential) (n : ℕ) (ok : Inner n inn
   otherwise_gives : (i : Input) → Gives (λ x m. Fits 64 n (of_otherwise x) i m) (otherwise inner i)
   unfolding otherwise
   otherwise_gives i = eat_then _ _ 64 n k.Else i (λ z. absurd cc)
-      (λ x. then_ (sequence_gives (next i)) (λ ss m y. done (rw else_is (x & y))))
-      (λ x. done (rw absent_is none))
+      (λ x. then_ (sequence_gives (next i)) (λ ss m y. done (x & y)))
+      (λ x. done none)
 
-if_end_gives : (n : ℕ) (label : Option Name) (bs : List Branch) (x : Otherwise) (i t a b c : Input) → Fits 64 (suc n) (g.labelled label) i t → Fits 64 (suc n) (mark k.If) t a → Fits 64 n (separated_by k.Elsif (map of_branch bs)) a b → Fits 64 n (of_otherwise x) b c → Gives (λ x m. Fits 64 (suc n) (of_sequential x) i m) (if_end label bs x c)
+if_end_gives : (n : ℕ) (l : Option Name) (bs : List Branch) (x : Option (List Sequential)) (t a b c : Input) → Fits 64 (suc n) (mark k.If) t a
+    → Fits 64 n (separated_by k.Elsif (map of_branch bs)) a b → Fits 64 n (of_otherwise x) b c
+    → Gives (λ x m. Fits 64 (suc n) (of_statement x l) t m) (if_end l bs x c)
 unfolding if_end
-if_end_gives n label bs x i t a b c l f d e =
+if_end_gives n l bs x t a b c f d e =
     then_ (expect_gives {p = 64} {n = suc n} k.End c (λ z. absurd cc)) (λ u m y.
     then_ (expect_gives {p = 64} {n = suc n} k.If m (λ z. absurd cc)) (λ v q z.
-    then_ (label_again_gives {p = 64} {n = suc n} label q) (λ w r o.
+    then_ (label_again_gives {p = 64} {n = suc n} l q) (λ w r o.
     then_ (expect_gives {p = 64} {n = suc n} k.Semicolon r (λ z. absurd cc)) (λ j s h.
-    done (rw (if_is, if_statement_is) (l & f & if_fits (d & e) & y & z & o & h))))))
+    done (rw if_is (f & if_fits (d & e) & y & z & o & h))))))
 
 if_gives : (n : ℕ) → Inner n (if_statement n)
 unfolding if_statement
-if_gives zero label i t l e = refused
-if_gives (suc n) label i t l e =
+if_gives zero l t e = refused
+if_gives (suc n) l t e =
     then_ (branches_give (if_statement n) n (if_gives n) (next t)) (λ bs j x.
     then_ (otherwise_gives (if_statement n) n (if_gives n) j) (λ o m y.
-    if_end_gives n label bs o i t (next t) j m l (marks t k.If e (λ z. absurd cc)) x y))
+    if_end_gives n l bs o t (next t) j m (marks t k.If e (λ z. absurd cc)) x y))
 
 pub statements_give : (i : Input) → Gives (λ xs m. Fits 64 64 (of_sequence xs) i m) (statements i)
 unfolding statements

@@ -3,15 +3,17 @@ use Rattle.std.proofs.Common.{◌≡◌, ℕ, zero, suc, Bool, List, [], ◌∷�
 use Rattle.std.proofs.lemmas.List.{append-nil}
 use Rattle.sim_token.specs.declared.kind.Kind.{Kind}
 use Rattle.sim_token.specs.declared.kind.Kind.TheVariants as k
-use Rattle.sim_tree.specs.declared.expression.Name.{Name}
+use Rattle.sim_tree.specs.Name.{Name}
 use Rattle.sim_tree.specs.declared.declaration.Declaration.{Declaration}
 use Rattle.sim_tree.specs.Input.{Input, kind, next, left}
 use Rattle.sim_tree.specs.Writing.{mark, all_of, separated_by, some_of, word_at, Fits}
-use Rattle.sim_tree.specs.Grammar.{of_declaration, of_suffixes, of_selection, of_selected, of_context_item, of_entity, of_architecture, of_library_unit, of_unit, of_file, IsFile}
+use Rattle.sim_tree.specs.Grammar.{of_declaration, of_suffixes, of_selection, of_selected, of_context_item, of_entity, of_architecture}
+use Rattle.sim_tree.specs.Grammar.{of_library_unit, of_unit, of_units, IsFile}
 use Rattle.sim_tree.proofs.Fits.{Gives, then_, map_, done, refused, ◌&◌, none, marks}
 use Rattle.sim_tree.proofs.Tokens.{word_gives, eat_gives, eat_then, sees_then, eaten_written, expect_gives}
 use Rattle.sim_tree.proofs.Lists.{many_gives, many_all_gives, separated_gives}
-use Rattle.sim_reading.specs.Units.{suffixes_from, suffixes, selected, selected_names, context_item, item_by, begins_context, context, entity, architecture_body, architecture, library_unit, library_by, unit, goes_on, units_of, finish, finish_by, file}
+use Rattle.sim_reading.specs.Units.{suffixes_from, suffixes, selected, selected_names, context_item, item_by, begins_context, context, entity}
+use Rattle.sim_reading.specs.Units.{architecture_body, architecture, library_unit, library_by, unit, goes_on, units_of, finish, finish_by, file}
 use Rattle.sim_reading.proofs.Declared.{names_give, repeated_gives, ports_give, declarations_give}
 use Rattle.sim_reading.proofs.Concurred.{concurrents_give}
 
@@ -33,7 +35,8 @@ suffixes_give (suc m) found i =
     eat_then _ _ 64 64 k.All j (λ z. absurd cc)
     (λ y. done (record { more = []; whole = sym (append-nil found); fits = x & y; some = x & y }))
     (λ y. then_ (word_gives {p = 64} {n = 64} j) (λ w q z. sees_then k.Dot q
-    (λ e. map_ (suffixes_give m (found ++ w ∷ []) q) (λ r s f. record { more = w ∷ f.more; whole = f.whole ∙ append_assoc found (w ∷ []) f.more; fits = x & z & f.fits; some = x & z & f.fits }))
+    (λ e. map_ (suffixes_give m (found ++ w ∷ []) q) (λ r s f. record
+    { more = w ∷ f.more; whole = f.whole ∙ append_assoc found (w ∷ []) f.more; fits = x & z & f.fits; some = x & z & f.fits }))
     (λ e. done (record { more = w ∷ []; whole = refl; fits = x & z & none; some = x & z & none })))))
 
 selected_gives : (i : Input) → Gives (λ x m. Fits 64 64 (of_selected x) i m) (selected i)
@@ -76,7 +79,9 @@ entity_gives i =
     then_ (expect_gives {p = 64} {n = 64} k.Semicolon j (λ z. absurd cc)) (λ y m n.
     done (q & r & s & t & f & eaten_written k.Entity e g word h & l & n)))))))))
 
-architecture_body_gives : (x y : Name) (ds : List Declaration) (i a b c d e f : Input) → Fits 64 64 (mark k.Architecture) i a → Fits 64 64 (word_at x) a b → Fits 64 64 (mark k.Of) b c → Fits 64 64 (word_at y) c d → Fits 64 64 (mark k.Is) d e → Fits 64 64 (all_of (map of_declaration ds)) e f → Gives (λ z m. Fits 64 64 (of_architecture z) i m) (architecture_body x y ds f)
+architecture_body_gives : (x y : Name) (ds : List Declaration) (i a b c d e f : Input) → Fits 64 64 (mark k.Architecture) i a
+    → Fits 64 64 (word_at x) a b → Fits 64 64 (mark k.Of) b c → Fits 64 64 (word_at y) c d → Fits 64 64 (mark k.Is) d e
+    → Fits 64 64 (all_of (map of_declaration ds)) e f → Gives (λ z m. Fits 64 64 (of_architecture z) i m) (architecture_body x y ds f)
 unfolding architecture_body of_architecture
 architecture_body_gives x y ds i a b c d e f q r s t u v =
     then_ (expect_gives {p = 64} {n = 64} k.Begin f (λ z. absurd cc)) (λ w g h.
@@ -113,14 +118,15 @@ unit_gives i =
 units_give : (i : Input) → Gives (λ xs m. Fits 64 64 (some_of (map of_unit xs)) i m) (units_of i)
 unfolding units_of left
 units_give i = then_ (unit_gives i) (λ x j h.
-    map_ (many_gives 64 64 goes_on unit of_unit (λ xs. all_of (map of_unit xs)) refl (λ a xs. refl) (λ m e. unit_gives m) (length j) (x ∷ []) j) (λ xs m r. rw r.whole (h & r.fits)))
+    map_ (many_gives 64 64 goes_on unit of_unit (λ xs. all_of (map of_unit xs)) refl (λ a xs. refl) (λ m e. unit_gives m) (length j) (x ∷ []) j)
+    (λ xs m r. rw r.whole (h & r.fits)))
 
 finish_by_gives : (i m : Input) → m ≡ i → Gives (λ u q. (q ≡ i) × (q ≡ [])) (finish_by m m)
 finish_by_gives i [] e = done (e, refl)
 finish_by_gives i (t ∷ ts) e = refused
 
 pub file_gives : (i : Input) → Gives (λ x m. IsFile x i) (file i)
-unfolding file finish of_file
+unfolding file finish of_units
 file_gives i =
     then_ (units_give i) (λ xs m h.
     then_ (finish_by_gives m m refl) (λ u q e.

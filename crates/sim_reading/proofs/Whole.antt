@@ -1,15 +1,16 @@
 -- The laws of a whole text.
-use Rattle.std.proofs.Common.{◌≡◌, ℕ, [], Ok, Err, sym, ap, subst, ◌∙◌}
+use Rattle.std.proofs.Common.{◌≡◌, ℕ, List, [], Ok, Err, refl, sym, ap, subst, ◌∙◌}
 use Rattle.sim_tree.specs.declared.error.ParseError.{ParseError}
-use Rattle.sim_tree.specs.declared.error.ParseError.TheVariants.{TimeRange}
-use Rattle.sim_tree.specs.Late.{IsLate}
+use Rattle.sim_tree.specs.declared.error.ParseError.TheVariants.{TimeRange, TooDeep}
+use Rattle.sim_tree.specs.Faults.{IsTooLarge, IsOpening}
 use Rattle.sim_tree.proofs.Late.{Blame}
 use Rattle.sim_reading.proofs.TextLate.{file_late}
-use Rattle.sim_tree.specs.declared.unit.DesignFile.{DesignFile}
+use Rattle.sim_tree.specs.DesignFile.{DesignFile}
+use Rattle.sim_tree.specs.declared.unit.DesignUnit.{DesignUnit}
 use Rattle.sim_tree.specs.Input.{Input, Outcome}
-use Rattle.sim_tree.specs.Grammar.{IsFile}
+use Rattle.sim_tree.specs.Grammar.{AreUnits, IsFile}
 use Rattle.sim_tree.proofs.Fits.{Hits}
-use Rattle.sim_reading.specs.Units.{file}
+use Rattle.sim_reading.specs.Units.{file, units_of, finish}
 use Rattle.sim_reading.proofs.United.{file_gives}
 use Rattle.sim_reading.proofs.UnitedAgain.{file_again}
 
@@ -31,5 +32,15 @@ is_refused i e y f h = let both : ok_of (y, []) ≡ Err e = sym (file_again y i 
 pub one_file : (i : Input) (a b : DesignFile) → IsFile a i → IsFile b i → a ≡ b
 one_file i a b x y = is_only i [] b a (file_again b i y) x
 
-pub late_time : (i : Input) (n : ℕ) → file i ≡ Err (TimeRange n) → IsLate i n
-late_time i n e = subst (λ (o : Outcome DesignFile). Blame i o) e (file_late i).blame
+-- a fault of a time stands at one that is too large
+pub large_time : (i : Input) (n : ℕ) → file i ≡ Err (TimeRange n) → IsTooLarge i n
+large_time i n e = subst (λ (o : Outcome DesignFile). Blame i o) e (file_late i).blame
+
+-- a fault of depth stands at what opens parentheses or an if
+pub deep_opening : (i : Input) (n : ℕ) → file i ≡ Err (TooDeep n) → IsOpening i n
+deep_opening i n e = subst (λ (o : Outcome DesignFile). Blame i o) e (file_late i).blame
+
+-- units that are read up to the end of the tokens are written with them
+pub units_read : (i j m : Input) (xs : List DesignUnit) → units_of i ≡ Ok (xs, j) → finish j ≡ Ok (tt, m) → AreUnits xs i
+unfolding file
+units_read i j m xs e f = let read : file i ≡ Ok (record { units = xs }, m) = rw (e, f) refl in is_found i m (record { units = xs }) read

@@ -2,7 +2,7 @@
 use Rattle.std.specs.Prelude.{ℕ, zero, suc, Bool, true, false, ◌||◌, if◌then◌else◌, List, [], ◌∷◌, ◌++◌, Option, Some, None}
 use Rattle.sim_token.specs.declared.kind.Kind.{Kind}
 use Rattle.sim_token.specs.declared.kind.Kind.TheVariants as k
-use Rattle.sim_tree.specs.declared.expression.Name.{Name}
+use Rattle.sim_tree.specs.Name.{Name}
 use Rattle.sim_tree.specs.declared.declaration.ObjectDeclaration.{ObjectDeclaration}
 use Rattle.sim_tree.specs.declared.unit.Sensitivity.{Sensitivity}
 use Rattle.sim_tree.specs.declared.unit.Sensitivity.TheVariants as sensitivities
@@ -41,7 +41,7 @@ process_body label sensitive is found = do
   expect k.Semicolon
   pure (record { label = label; sensitivity = sensitive; is = is; variables = found; statements = body; label_repeated = again })
 
--- a process behind its label
+-- a process after its label
 unfoldable pub process : Option Name → Parser Process
 process label = do
   expect k.Process
@@ -70,7 +70,7 @@ actual_by _ = do
 unfoldable pub actual : Parser Actual
 actual = peek >>= actual_by
 
--- what stands behind the arrow of a formal
+-- what stands after the arrow of a formal
 unfoldable pub associated : Name → Parser Association
 associated formal = do
   x ← actual
@@ -101,7 +101,7 @@ free_association = peek >>= free_by
 unfoldable pub association : Bool → Parser Association
 association named = if named then named_association else free_association
 
--- further associations, and at most so many
+-- further associations, at most that many
 unfoldable pub associations_from : ℕ → Bool → List Association → Parser (List Association)
 associations_from zero named found = refuse
 associations_from (suc n) named found = do
@@ -124,7 +124,7 @@ port_map = do
     expect k.RightParen
     pure found) else pure []
 
--- what stands behind the component or the entity of an instance
+-- what stands after the component or the entity of an instance
 unfoldable pub instance : Name → Instantiated → Parser Concurrent
 instance label unit = do
   found ← port_map
@@ -152,24 +152,24 @@ entity_named = do
 
 -- ---- statements
 
--- a concurrent assignment from behind its target (11.6)
+-- a concurrent assignment from after its target (11.6)
 unfoldable pub concurrent_assigned : Option Name → Name → Parser Concurrent
 concurrent_assigned label target = do
   found ← assigned label target
   pure (c.Assignment found)
 
--- a process behind its label
+-- a process after its label
 unfoldable pub concurrent_process : Option Name → Parser Concurrent
 concurrent_process label = do
   found ← process label
   pure (c.Process found)
 
--- an assignment or an instance, from behind its first name
+-- an assignment or an instance, from after its first name
 abbrev pub target_by : Name → Name → Kind → Parser Concurrent
 target_by label n k.SignalAssign = concurrent_assigned (Some label) n
 target_by label n _ = instance label (made.Component false n)
 
--- a statement behind its label, by the kind of its first token
+-- a statement after its label, by the kind of its first token
 abbrev pub labelled_by : Name → Kind → Parser Concurrent
 labelled_by label k.Process = concurrent_process (Some label)
 labelled_by label k.Component = do
@@ -184,11 +184,11 @@ labelled_by label _ = do
   kind ← peek
   target_by label n kind
 
--- a statement behind its label
+-- a statement after its label
 unfoldable pub labelled : Name → Parser Concurrent
 labelled label = peek >>= labelled_by label
 
--- a statement from behind its first name
+-- a statement from after its first name
 abbrev pub first_by : Name → Kind → Parser Concurrent
 first_by first k.SignalAssign = concurrent_assigned None first
 first_by first _ = do

@@ -2,7 +2,7 @@
 use Rattle.std.specs.Prelude.{ℕ, Bool, true, false, if◌then◌else◌, List, [], Option, Some, None, Ok}
 use Rattle.sim_token.specs.declared.kind.Kind.{Kind}
 use Rattle.sim_token.specs.declared.kind.Kind.TheVariants as k
-use Rattle.sim_tree.specs.declared.expression.Name.{Name}
+use Rattle.sim_tree.specs.Name.{Name}
 use Rattle.sim_tree.specs.declared.declaration.Initial.{Initial}
 use Rattle.sim_tree.specs.declared.declaration.Initial.TheVariants as first_values
 use Rattle.sim_tree.specs.declared.declaration.Mode.{Mode}
@@ -48,7 +48,7 @@ mode_by _ = pure None
 unfoldable pub mode : Parser (Option Mode)
 mode = peek >>= mode_by
 
--- what stands behind the names of ports
+-- what stands after the names of ports
 unfoldable pub port_of : Bool → List Name → Parser PortDeclaration
 port_of signal ns = do
   expect k.Colon

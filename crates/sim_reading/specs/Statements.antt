@@ -3,13 +3,12 @@ use Rattle.std.specs.Prelude.{ℕ, zero, suc, Bool, true, false, if◌then◌els
 use Rattle.sim_token.specs.declared.kind.Kind.{Kind}
 use Rattle.sim_token.specs.declared.kind.Kind.TheVariants as k
 use Rattle.sim_tree.specs.declared.error.ParseError.TheVariants.{TooDeep}
-use Rattle.sim_tree.specs.declared.expression.Name.{Name}
-use Rattle.sim_tree.specs.declared.sequential.Sequential.{Sequential}
-use Rattle.sim_tree.specs.declared.sequential.Sequential.TheVariants as s
-use Rattle.sim_tree.specs.declared.sequential.IfStatement.{roll-IfStatement}
+use Rattle.sim_tree.specs.Name.{Name}
+use Rattle.sim_tree.specs.declared.sequential.Statement.{Statement}
+use Rattle.sim_tree.specs.declared.sequential.Statement.TheVariants as s
+use Rattle.sim_tree.specs.declared.sequential.Sequential.{Sequential, roll-Sequential}
 use Rattle.sim_tree.specs.declared.sequential.Branch.{Branch, roll-Branch}
-use Rattle.sim_tree.specs.declared.sequential.Otherwise.{Otherwise}
-use Rattle.sim_tree.specs.declared.sequential.Otherwise.TheVariants as o
+use Rattle.sim_tree.specs.Limits.{most_ifs}
 use Rattle.sim_tree.specs.Input.{Parser, ◌>>=◌, ◌>>◌, pure, refuse, peek, take_token, word, repeat, sees, eat, expect, many, separated, left}
 use Rattle.sim_expression.specs.Expressions.{expression}
 use Rattle.sim_expression.specs.Waveforms.{delay, waveform}
@@ -23,38 +22,44 @@ label_by (Some n) = repeat n.text >> pure true
 unfoldable pub label_again : Option Name → Parser Bool
 label_again label = λ i. if sees k.Word i then label_by label i else Ok (false, i)
 
--- a variable assignment from behind its target (10.6)
-unfoldable pub variable_assigned : Option Name → Name → Parser Sequential
-variable_assigned label target = do
+-- a variable assignment from after its target (10.6)
+unfoldable pub variable_assigned : Name → Parser Statement
+variable_assigned target = do
   take_token
   value ← expression
   expect k.Semicolon
-  pure (s.Variable (record { label = label; target = target; value = value }))
+  pure (s.Variable (record { target = target; value = value }))
 
--- a signal assignment from behind its target (10.5.2)
-unfoldable pub signal_assigned : Option Name → Name → Parser Sequential
-signal_assigned label target = do
+-- a signal assignment from after its target (10.5.2)
+unfoldable pub signal_assigned : Name → Parser Statement
+signal_assigned target = do
   expect k.SignalAssign
   d ← delay
   w ← waveform
   expect k.Semicolon
-  pure (s.Signal (record { label = label; target = target; delay = d; waveform = w }))
+  pure (s.Signal (record { target = target; delay = d; waveform = w }))
 
--- an assignment, by the kind of the token behind its target
-abbrev pub assigned_by : Option Name → Name → Kind → Parser Sequential
-assigned_by label target k.VariableAssign = variable_assigned label target
-assigned_by label target _ = signal_assigned label target
+-- an assignment, by the kind of the token after its target
+abbrev pub assigned_by : Name → Kind → Parser Statement
+assigned_by target k.VariableAssign = variable_assigned target
+assigned_by target _ = signal_assigned target
 
--- an assignment, from behind its target
-unfoldable pub assigned : Option Name → Name → Parser Sequential
-assigned label target = peek >>= assigned_by label target
+-- an assignment, from after its target
+unfoldable pub assigned : Name → Parser Statement
+assigned target = peek >>= assigned_by target
 
--- a null statement behind its label (10.14)
-unfoldable pub null : Option Name → Parser Sequential
-null label = do
+-- a null statement (10.14)
+unfoldable pub null : Parser Statement
+null = do
   take_token
   expect k.Semicolon
-  pure (s.Null label)
+  pure s.Null
+
+-- a statement with its label, or with none
+abbrev pub with_label : Option Name → Parser Statement → Parser Sequential
+with_label label reader = do
+  x ← reader
+  pure (roll-Sequential (record { label = label; statement = x }))
 
 -- whether a token of this kind begins a sequential statement
 abbrev pub begins_statement : Kind → Bool
@@ -63,28 +68,33 @@ begins_statement k.If = true
 begins_statement k.Null = true
 begins_statement _ = false
 
--- The parameter reads an if statement behind its label.
-module _ (inner : Option Name → Parser Sequential) where
-  -- a statement behind its label, by the kind of its first token
-  abbrev pub labelled_by : Option Name → Kind → Parser Sequential
+-- The parameter reads an if statement after its label.
+module _ (inner : Option Name → Parser Statement) where
+  -- a statement after its label, by the kind of its first token
+  abbrev pub labelled_by : Option Name → Kind → Parser Statement
   labelled_by label k.If = inner label
-  labelled_by label k.Null = null label
+  labelled_by label k.Null = null
   labelled_by label _ = do
     target ← word
-    assigned label target
+    assigned target
 
-  -- a statement behind its label
-  unfoldable pub labelled : Option Name → Parser Sequential
+  -- a statement after its label
+  unfoldable pub labelled : Option Name → Parser Statement
   labelled label = peek >>= labelled_by label
+
+  -- a statement from after its first name: its label, or the target of an assignment
+  abbrev pub named_by : Name → Parser Sequential
+  named_by first = do
+    is_label ← eat k.Colon
+    if is_label then with_label (Some first) (labelled (Some first)) else with_label None (assigned first)
 
   -- a sequential statement, by the kind of its first token
   abbrev pub statement_by : Kind → Parser Sequential
-  statement_by k.If = inner None
-  statement_by k.Null = null None
+  statement_by k.If = with_label None (inner None)
+  statement_by k.Null = with_label None null
   statement_by _ = do
     first ← word
-    is_label ← eat k.Colon
-    if is_label then labelled (Some first) else assigned None first
+    named_by first
 
   -- a sequential statement (10.1)
   unfoldable pub statement : Parser Sequential
@@ -94,7 +104,7 @@ module _ (inner : Option Name → Parser Sequential) where
   unfoldable pub sequence : Parser (List Sequential)
   sequence = many begins_statement statement
 
-  -- a condition and the statements behind its `then`
+  -- a condition and the statements after its `then`
   unfoldable pub branch : Parser Branch
   branch = do
     condition ← expression
@@ -102,29 +112,29 @@ module _ (inner : Option Name → Parser Sequential) where
     found ← sequence
     pure (roll-Branch (record { condition = condition; statements = found }))
 
-  -- what stands behind `if` and behind each `elsif`
+  -- what stands after `if` and after each `elsif`
   unfoldable pub branches : Parser (List Branch)
   branches = separated k.Elsif branch
 
   -- `else` and its statements, where it is written
-  unfoldable pub otherwise : Parser Otherwise
+  unfoldable pub otherwise : Parser (Option (List Sequential))
   otherwise = do
     is_else ← eat k.Else
     if is_else then (do
       found ← sequence
-      pure (o.Else found)) else pure o.Absent
+      pure (Some found)) else pure None
 
 -- the end of an if statement
-unfoldable pub if_end : Option Name → List Branch → Otherwise → Parser Sequential
+unfoldable pub if_end : Option Name → List Branch → Option (List Sequential) → Parser Statement
 if_end label found last = do
   expect k.End
   expect k.If
   again ← label_again label
   expect k.Semicolon
-  pure (s.If (roll-IfStatement (record { label = label; branches = found; otherwise = last; label_repeated = again })))
+  pure (s.If found last again)
 
--- an if statement behind its label, in which at most so many are open
-unfoldable pub if_statement : ℕ → Option Name → Parser Sequential
+-- an if statement after its label, in which at most that many may be open
+unfoldable pub if_statement : ℕ → Option Name → Parser Statement
 if_statement zero label = λ i. Err (TooDeep (left i))
 if_statement (suc depth) label = do
   take_token
@@ -132,6 +142,6 @@ if_statement (suc depth) label = do
   last ← otherwise (if_statement depth)
   if_end label found last
 
--- statements with at most 64 ifs open (10.1)
+-- statements with at most as many ifs open as there may be (10.1)
 unfoldable pub statements : Parser (List Sequential)
-statements = sequence (if_statement 64)
+statements = sequence (if_statement most_ifs)

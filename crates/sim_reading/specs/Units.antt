@@ -3,7 +3,7 @@ use Rattle.std.specs.Prelude.{ℕ, zero, suc, Bool, true, false, not, if◌then�
 use Rattle.sim_token.specs.declared.kind.Kind.{Kind}
 use Rattle.sim_token.specs.declared.kind.Kind.TheVariants as k
 use Rattle.sim_tree.specs.declared.error.ParseError.TheVariants.{Syntax}
-use Rattle.sim_tree.specs.declared.expression.Name.{Name}
+use Rattle.sim_tree.specs.Name.{Name}
 use Rattle.sim_tree.specs.declared.declaration.Declaration.{Declaration}
 use Rattle.sim_tree.specs.declared.unit.SelectedName.{SelectedName}
 use Rattle.sim_tree.specs.declared.unit.ContextItem.{ContextItem}
@@ -13,14 +13,15 @@ use Rattle.sim_tree.specs.declared.unit.Architecture.{Architecture}
 use Rattle.sim_tree.specs.declared.unit.LibraryUnit.{LibraryUnit}
 use Rattle.sim_tree.specs.declared.unit.LibraryUnit.TheVariants as units
 use Rattle.sim_tree.specs.declared.unit.DesignUnit.{DesignUnit}
-use Rattle.sim_tree.specs.declared.unit.DesignFile.{DesignFile}
-use Rattle.sim_tree.specs.Input.{Input, Outcome, Parser, ◌>>=◌, ◌>>◌, pure, refuse, peek, take_token, word, sees, eat, expect, many, many_from, separated, same_kind, left}
+use Rattle.sim_tree.specs.DesignFile.{DesignFile}
+use Rattle.sim_tree.specs.Input.{Input, Outcome, Parser, ◌>>=◌, ◌>>◌, pure, refuse, peek, take_token, word, sees, eat, expect, many, many_from}
+use Rattle.sim_tree.specs.Input.{separated, same_kind, left}
 use Rattle.sim_reading.specs.Declarations.{names, ports, repeated, declarations}
 use Rattle.sim_reading.specs.Concurrents.{concurrents}
 
 -- ---- context clauses
 
--- further suffixes, and at most so many, and whether the last is `all`
+-- further suffixes, at most that many, and whether the last is `all`
 unfoldable pub suffixes_from : ℕ → List Name → Parser (List Name × Bool)
 suffixes_from zero found = refuse
 suffixes_from (suc n) found = do

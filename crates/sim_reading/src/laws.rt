@@ -1,12 +1,12 @@
 //! Laws of the reading of a file.
 
 ghost use Rattle.std.specs.Prelude.{◌≡◌, ℕ, List, [], Ok, Err};
-ghost use Rattle.sim_token.specs.declared.token.Token.{Token};
+ghost use Rattle.sim_token.specs.Token.{Token};
 ghost use Rattle.sim_tree.specs.declared.error.ParseError.{ParseError};
-ghost use Rattle.sim_tree.specs.declared.error.ParseError.TheVariants.{TimeRange};
-ghost use Rattle.sim_tree.specs.declared.unit.DesignFile.{DesignFile};
+ghost use Rattle.sim_tree.specs.declared.error.ParseError.TheVariants.{TimeRange, TooDeep};
+ghost use Rattle.sim_tree.specs.DesignFile.{DesignFile};
 ghost use Rattle.sim_tree.specs.Grammar.{IsFile};
-ghost use Rattle.sim_tree.specs.Late.{IsLate};
+ghost use Rattle.sim_tree.specs.Faults.{IsTooLarge, IsOpening};
 ghost use Rattle.sim_reading.specs.Units as spec;
 
 /// A file that is read from tokens is written with them, within the limits.
@@ -29,7 +29,12 @@ pub fn what_is_refused_is_no_file()
     ensures { (tokens : List Token) (file : DesignFile) (e : ParseError) → spec.file tokens ≡ Err e → IsFile file tokens → ⊥ }
 {}
 
-/// A fault of a time stands at a number that is too late with its unit.
-pub fn a_fault_of_a_time_is_at_a_late_one()
-    ensures { (tokens : List Token) (n : ℕ) → spec.file tokens ≡ Err (TimeRange n) → IsLate tokens n }
+/// A fault of a time stands at a number that is too large with its unit.
+pub fn a_fault_of_a_time_is_at_a_large_one()
+    ensures { (tokens : List Token) (n : ℕ) → spec.file tokens ≡ Err (TimeRange n) → IsTooLarge tokens n }
+{}
+
+/// A fault of depth stands at a parenthesis or an `if` that opens.
+pub fn a_fault_of_depth_is_at_an_opening()
+    ensures { (tokens : List Token) (n : ℕ) → spec.file tokens ≡ Err (TooDeep n) → IsOpening tokens n }
 {}

@@ -4,7 +4,7 @@ use Rattle.sim_tree.specs.declared.expression.Expression.{Expression}
 use Rattle.sim_tree.specs.Input.{Parser, ◌>>=◌, ◌>>◌, pure, expect}
 use Rattle.sim_expression.specs.Expressions.{expression}
 
--- a condition and the `then` behind it
+-- a condition and the `then` after it
 unfoldable pub condition : Parser Expression
 condition = do
   found ← expression

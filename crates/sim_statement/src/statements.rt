@@ -8,20 +8,19 @@ ghost use Rattle.sim_tree.specs.Input.{Reads, view};
 use sim_expression::expressions::expression;
 use sim_expression::waveforms::{delay, waveform};
 use sim_token::Kind;
-use sim_tree::expression::{Expression, Name};
-use sim_tree::list::put;
-use sim_tree::sequential::{
-    Branch, IfStatement, Otherwise, Sequential, SimpleAssignment, VariableAssignment,
-};
+use sim_tree::expression::Expression;
+use sim_tree::list::{fitted, one};
+use sim_tree::name::Name;
+use sim_tree::sequential::{Branch, Sequential, SignalAssignment, Statement, VariableAssignment};
 use sim_tree::{Cursor, ParseError};
 use sqlite_items::Items;
 use std::alloc::Global;
 
 /// How many ifs of one process may be open.
-const MOST_OPEN: usize = 64;
+const MOST_IFS: usize = 64;
 
-/// Reads the label again, where a word stands, and says whether one does. `Syntax` comes at another word, and at any where
-/// there is no label.
+/// Reads the label written again, where a word stands, and says whether one does. `Syntax` comes at another word, and at any
+/// where there is no label.
 #[tactic(auto, unfolding(sim_reading::specs::Statements::label_again, sim_tree::specs::Input::left))]
 pub fn label_again(tokens: &mut Cursor<'_>, label: &Option<Name>) -> Result<bool, ParseError>
     ensures { Reads (spec.label_again label.now (view tokens.old)) result (view tokens.new) }
@@ -31,7 +30,7 @@ pub fn label_again(tokens: &mut Cursor<'_>, label: &Option<Name>) -> Result<bool
     }
     match label {
         Some(name) => {
-            tokens.repeat(name.text.as_slice())?;
+            tokens.repeat(name.text())?;
             Ok(true)
         }
         None => Err(ParseError::Syntax(tokens.left())),
@@ -42,36 +41,29 @@ pub fn label_again(tokens: &mut Cursor<'_>, label: &Option<Name>) -> Result<bool
 fn variable_assigned(
     alloc: Global,
     tokens: &mut Cursor<'_>,
-    label: Option<Name>,
     target: Name,
-) -> Result<Sequential, ParseError>
-    ensures { Reads (spec.variable_assigned label target (view tokens.old)) result (view tokens.new) }
+) -> Result<Statement, ParseError>
+    ensures { Reads (spec.variable_assigned target (view tokens.old)) result (view tokens.new) }
 {
     tokens.take();
     let value = expression(alloc, tokens)?;
     tokens.expect(Kind::Semicolon)?;
-    Ok(Sequential::Variable(VariableAssignment {
-        label,
-        target,
-        value,
-    }))
+    Ok(Statement::Variable(VariableAssignment { target, value }))
 }
 
 #[tactic(auto, unfolding(sim_reading::specs::Statements::signal_assigned))]
 fn signal_assigned(
     alloc: Global,
     tokens: &mut Cursor<'_>,
-    label: Option<Name>,
     target: Name,
-) -> Result<Sequential, ParseError>
-    ensures { Reads (spec.signal_assigned label target (view tokens.old)) result (view tokens.new) }
+) -> Result<Statement, ParseError>
+    ensures { Reads (spec.signal_assigned target (view tokens.old)) result (view tokens.new) }
 {
     tokens.expect(Kind::SignalAssign)?;
     let delay = delay(alloc, tokens)?;
     let waveform = waveform(alloc, tokens)?;
     tokens.expect(Kind::Semicolon)?;
-    Ok(Sequential::Signal(SimpleAssignment {
-        label,
+    Ok(Statement::Signal(SignalAssignment {
         target,
         delay,
         waveform,
@@ -79,27 +71,22 @@ fn signal_assigned(
 }
 
 #[tactic(auto, unfolding(sim_reading::specs::Statements::assigned))]
-fn assigned(
-    alloc: Global,
-    tokens: &mut Cursor<'_>,
-    label: Option<Name>,
-    target: Name,
-) -> Result<Sequential, ParseError>
-    ensures { Reads (spec.assigned label target (view tokens.old)) result (view tokens.new) }
+fn assigned(alloc: Global, tokens: &mut Cursor<'_>, target: Name) -> Result<Statement, ParseError>
+    ensures { Reads (spec.assigned target (view tokens.old)) result (view tokens.new) }
 {
     match tokens.peek() {
-        Kind::VariableAssign => variable_assigned(alloc, tokens, label, target),
-        _ => signal_assigned(alloc, tokens, label, target),
+        Kind::VariableAssign => variable_assigned(alloc, tokens, target),
+        _ => signal_assigned(alloc, tokens, target),
     }
 }
 
 #[tactic(auto, unfolding(sim_reading::specs::Statements::null))]
-fn null(tokens: &mut Cursor<'_>, label: Option<Name>) -> Result<Sequential, ParseError>
-    ensures { Reads (spec.null label (view tokens.old)) result (view tokens.new) }
+fn null(tokens: &mut Cursor<'_>) -> Result<Statement, ParseError>
+    ensures { Reads (spec.null (view tokens.old)) result (view tokens.new) }
 {
     tokens.take();
     tokens.expect(Kind::Semicolon)?;
-    Ok(Sequential::Null(label))
+    Ok(Statement::Null)
 }
 
 fn begins_statement(kind: Kind) -> bool
@@ -108,23 +95,47 @@ fn begins_statement(kind: Kind) -> bool
     matches!(kind, Kind::Word | Kind::If | Kind::Null)
 }
 
+/// Reads a statement after its label, or one that has none and begins with no name.
 #[cycle(statement)]
 #[tactic(auto, unfolding(sim_reading::specs::Statements::labelled))]
 fn labelled(
     alloc: Global,
     tokens: &mut Cursor<'_>,
     depth: usize,
-    label: Option<Name>,
-) -> Result<Sequential, ParseError>
-    ensures { Reads (spec.labelled (spec.if_statement depth) label (view tokens.old)) result (view tokens.new) }
+    label: &Option<Name>,
+) -> Result<Statement, ParseError>
+    ensures { Reads (spec.labelled (spec.if_statement depth) label.now (view tokens.old)) result (view tokens.new) }
 {
     match tokens.peek() {
         Kind::If => if_statement(alloc, tokens, depth, label),
-        Kind::Null => null(tokens, label),
+        Kind::Null => null(tokens),
         _ => {
             let target = tokens.word(alloc)?;
-            assigned(alloc, tokens, label, target)
+            assigned(alloc, tokens, target)
         }
+    }
+}
+
+/// Reads a statement from after its first name: its label, or the target of an assignment.
+#[cycle(statement)]
+fn named(
+    alloc: Global,
+    tokens: &mut Cursor<'_>,
+    depth: usize,
+    first: Name,
+) -> Result<Sequential, ParseError>
+    ensures { Reads (spec.named_by (spec.if_statement depth) first (view tokens.old)) result (view tokens.new) }
+{
+    if tokens.eat(Kind::Colon) {
+        let label = Some(first);
+        let statement = labelled(alloc, tokens, depth, &label)?;
+        Ok(Sequential { label, statement })
+    } else {
+        let statement = assigned(alloc, tokens, first)?;
+        Ok(Sequential {
+            label: None,
+            statement,
+        })
     }
 }
 
@@ -134,15 +145,23 @@ fn statement(alloc: Global, tokens: &mut Cursor<'_>, depth: usize) -> Result<Seq
     ensures { Reads (spec.statement (spec.if_statement depth) (view tokens.old)) result (view tokens.new) }
 {
     match tokens.peek() {
-        Kind::If => if_statement(alloc, tokens, depth, None),
-        Kind::Null => null(tokens, None),
+        Kind::If => {
+            let statement = if_statement(alloc, tokens, depth, &None)?;
+            Ok(Sequential {
+                label: None,
+                statement,
+            })
+        }
+        Kind::Null => {
+            let statement = null(tokens)?;
+            Ok(Sequential {
+                label: None,
+                statement,
+            })
+        }
         _ => {
             let first = tokens.word(alloc)?;
-            if tokens.eat(Kind::Colon) {
-                labelled(alloc, tokens, depth, Some(first))
-            } else {
-                assigned(alloc, tokens, None, first)
-            }
+            named(alloc, tokens, depth, first)
         }
     }
 }
@@ -156,14 +175,14 @@ fn sequence(
 ) -> Result<Items<Sequential>, ParseError>
     ensures { Reads (spec.sequence (spec.if_statement depth) (view tokens.old)) result (view tokens.new) }
 {
-    let mut found = Items::new(alloc);
+    let mut found = Vec::new(alloc);
     for _turn in 0..tokens.left() {
         if !begins_statement(tokens.peek()) {
-            return Ok(found);
+            return Ok(fitted(found));
         }
-        put(alloc, &mut found, statement(alloc, tokens, depth)?)?;
+        found.push(statement(alloc, tokens, depth)?)?;
     }
-    Ok(found)
+    Ok(fitted(found))
 }
 
 #[tactic(auto, unfolding(crate::specs::Conditions::condition))]
@@ -197,49 +216,51 @@ fn branches(
 ) -> Result<Items<Branch>, ParseError>
     ensures { Reads (spec.branches (spec.if_statement depth) (view tokens.old)) result (view tokens.new) }
 {
-    let mut found = Items::new(alloc);
-    put(alloc, &mut found, branch(alloc, tokens, depth)?)?;
+    let mut found = one(alloc, branch(alloc, tokens, depth)?)?;
     for _turn in 0..tokens.left() {
         if !tokens.sees(Kind::Elsif) {
-            return Ok(found);
+            return Ok(fitted(found));
         }
         tokens.take();
         found.push(branch(alloc, tokens, depth)?)?;
     }
-    Ok(found)
+    Ok(fitted(found))
 }
 
 #[cycle(statement)]
 #[tactic(auto, unfolding(sim_reading::specs::Statements::otherwise))]
-fn otherwise(alloc: Global, tokens: &mut Cursor<'_>, depth: usize) -> Result<Otherwise, ParseError>
+fn otherwise(
+    alloc: Global,
+    tokens: &mut Cursor<'_>,
+    depth: usize,
+) -> Result<Option<Items<Sequential>>, ParseError>
     ensures { Reads (spec.otherwise (spec.if_statement depth) (view tokens.old)) result (view tokens.new) }
 {
     if !tokens.eat(Kind::Else) {
-        return Ok(Otherwise::Absent);
+        return Ok(None);
     }
     let statements = sequence(alloc, tokens, depth)?;
-    Ok(Otherwise::Else(statements))
+    Ok(Some(statements))
 }
 
 #[tactic(auto, unfolding(sim_reading::specs::Statements::if_end))]
 fn if_end(
     tokens: &mut Cursor<'_>,
-    label: Option<Name>,
+    label: &Option<Name>,
     branches: Items<Branch>,
-    otherwise: Otherwise,
-) -> Result<Sequential, ParseError>
-    ensures { Reads (spec.if_end label branches otherwise (view tokens.old)) result (view tokens.new) }
+    otherwise: Option<Items<Sequential>>,
+) -> Result<Statement, ParseError>
+    ensures { Reads (spec.if_end label.now branches otherwise (view tokens.old)) result (view tokens.new) }
 {
     tokens.expect(Kind::End)?;
     tokens.expect(Kind::If)?;
-    let label_repeated = label_again(tokens, &label)?;
+    let label_repeated = label_again(tokens, label)?;
     tokens.expect(Kind::Semicolon)?;
-    Ok(Sequential::If(IfStatement {
-        label,
+    Ok(Statement::If {
         branches,
         otherwise,
         label_repeated,
-    }))
+    })
 }
 
 #[cycle(statement)]
@@ -248,9 +269,9 @@ fn if_statement(
     alloc: Global,
     tokens: &mut Cursor<'_>,
     depth: usize,
-    label: Option<Name>,
-) -> Result<Sequential, ParseError>
-    ensures { Reads (spec.if_statement depth label (view tokens.old)) result (view tokens.new) }
+    label: &Option<Name>,
+) -> Result<Statement, ParseError>
+    ensures { Reads (spec.if_statement depth label.now (view tokens.old)) result (view tokens.new) }
 {
     if depth == 0 {
         return Err(ParseError::TooDeep(tokens.left()));
@@ -266,5 +287,5 @@ fn if_statement(
 pub fn statements(alloc: Global, tokens: &mut Cursor<'_>) -> Result<Items<Sequential>, ParseError>
     ensures { Reads (spec.statements (view tokens.old)) result (view tokens.new) }
 {
-    sequence(alloc, tokens, MOST_OPEN)
+    sequence(alloc, tokens, MOST_IFS)
 }

@@ -1,54 +1,83 @@
 -- Where the faults of a file stand among its tokens.
-use Rattle.std.proofs.Common.{◌≡◌, ◌≢◌, ℕ, get_or, ◌+◌, ◌-◌, ◌<◌, ◌≤◌, ◌⊎◌, inl, inr, List, ◌∷◌, ◌++◌, length, Some, None, Err, refl, sym, ap, subst, ◌∙◌, arith, length-append}
+use Rattle.std.proofs.Common.{◌≡◌, ◌≢◌, ℕ, get_or, ◌+◌, ◌-◌, ◌<◌, ◌≤◌, ◌⊎◌, inl, inr, List, ◌∷◌, ◌++◌, length, Some, None, Err, refl, sym, ap, subst}
+use Rattle.std.proofs.Common.{◌∙◌, arith, length-append}
 use Rattle.std.specs.List.{slice_get, Contains}
-use Rattle.std.proofs.lemmas.List.Elements.{Contains-get_or}
+use Rattle.std.proofs.lemmas.List.Elements.{Contains-get_or, Contains-append_right}
 use Rattle.std.proofs.lemmas.Option.{slice_get_read, slice_get_cases}
 use Rattle.std.proofs.Math.Seq.{get_or-append_seam}
-use Rattle.sim_token.specs.declared.token.Token.{Token}
-use Rattle.sim_token.specs.declared.error.TextError.TheVariants as fault
-use Rattle.sim_tree.specs.declared.unit.DesignFile.{DesignFile}
+use Rattle.sim_token.specs.Token.{Token}
 use Rattle.sim_tree.specs.declared.error.ParseError.{ParseError}
 use Rattle.sim_tree.specs.declared.error.ParseError.TheVariants as error
-use Rattle.sim_tree.specs.Grammar.{IsFile}
 use Rattle.sim_tree.specs.Input.{Input, Reads}
-use Rattle.sim_tree.specs.Late.{IsLate}
+use Rattle.sim_tree.specs.Faults.{IsTooLarge, IsOpening}
 use Rattle.sim_reading.specs.Units.{file}
-use Rattle.sim_reading.proofs.Whole.{is_refused, late_time}
-use Rattle.sim_text.specs.Faults.{place_of, start_or, fault_of, HasLateTime, IsPlace, IsPlaced}
+use Rattle.sim_reading.proofs.Whole.{is_refused, large_time, deep_opening}
+use Rattle.sim_text.specs.Faults.{place_of, start_or, fault_of, HasLargeTime, OpensAt, IsPlace, AreNoFile, IsFaultOf}
 
 seam : {X : Type 0} (front : List X) (x : X) (rest : List X) → slice_get (front ++ x ∷ rest) (length front) ≡ Some x
-seam front x rest = slice_get_read (front ++ x ∷ rest) (length (front ++ x ∷ rest)) (length front) x refl (simp length-append (omega arith)) (sym (get_or-append_seam front x rest x))
+seam front x rest = slice_get_read (front ++ x ∷ rest) (length (front ++ x ∷ rest)) (length front) x refl (simp length-append (omega arith))
+    (sym (get_or-append_seam front x rest x))
 
-place_is : (tokens : List Token) (n end : ℕ) (l : IsLate tokens n) → place_of tokens n end ≡ l.number.start
+place_is : (tokens : List Token) (n end : ℕ) (l : IsTooLarge tokens n) → place_of tokens n end ≡ l.number.start
 place_is tokens n end l =
-    let e : length tokens ≡ length l.front + n = ap length l.whole ∙ length-append l.front (l.number ∷ l.word ∷ l.rest) ∙ ap (λ k. length l.front + k) l.count in
+    let e : length tokens ≡ length l.front + n = ap length l.whole ∙ length-append l.front (l.number ∷ l.word ∷ l.rest) ∙ ap (λ k. length l.front + k)
+    l.count in
     let at : length tokens - n ≡ length l.front = omega arith in
-    let found : slice_get tokens (length tokens - n) ≡ Some l.number = ap (slice_get tokens) at ∙ ap (λ ts. slice_get ts (length l.front)) l.whole ∙ seam l.front l.number (l.word ∷ l.rest) in
+    let found : slice_get tokens (length tokens - n) ≡ Some l.number = ap (slice_get tokens) at ∙ ap (λ ts. slice_get ts (length l.front)) l.whole ∙
+    seam l.front l.number (l.word ∷ l.rest) in
     ap (λ o. start_or o end) found
 
-late_at : (tokens : List Token) (n end : ℕ) → IsLate tokens n → HasLateTime tokens (place_of tokens n end)
-late_at tokens n end l = record { front = l.front; number = l.number; word = l.word; rest = l.rest; unit = l.unit; whole = l.whole; place = sym (place_is tokens n end l); digits = l.digits; named = l.named; late = l.late }
+large_at : (tokens : List Token) (n end : ℕ) → IsTooLarge tokens n → HasLargeTime tokens (place_of tokens n end)
+large_at tokens n end l = record {
+  front = l.front;
+  number = l.number;
+  word = l.word;
+  rest = l.rest;
+  unit = l.unit;
+  whole = l.whole;
+  place = sym
+      (place_is tokens n end l);
+  digits = l.digits;
+  named = l.named;
+  large = l.large;
+}
 
-pub refused_of : (i m : Input) (end : ℕ) (e : ParseError) → Reads (file i) (Err e) m → fault_of i end e ≢ fault.Memory → (other : DesignFile) → IsFile other i → ⊥
-refused_of i m end e r some other w = is_refused i e other (r (λ p. some (ap (fault_of i end) p))) w
+opening_is : (tokens : List Token) (n end : ℕ) (o : IsOpening tokens n) → place_of tokens n end ≡ o.token.start
+opening_is tokens n end o =
+    let e : length tokens ≡ length o.front + n = ap length o.whole ∙ length-append o.front (o.token ∷ o.rest) ∙ ap (λ k. length o.front + k) o.count in
+    let at : length tokens - n ≡ length o.front = omega arith in
+    let found : slice_get tokens (length tokens - n) ≡ Some o.token =
+    ap (slice_get tokens) at ∙ ap (λ ts. slice_get ts (length o.front)) o.whole ∙ seam o.front o.token o.rest in
+    ap (λ t. start_or t end) found
 
-pub late_of : (i m : Input) (end at : ℕ) (e : ParseError) → Reads (file i) (Err e) m → fault_of i end e ≡ fault.TimeRange at → HasLateTime i at
-late_of i m end at error.OutOfMemory r p = absurd cc
-late_of i m end at (error.Syntax n) r p = absurd cc
-late_of i m end at (error.TooDeep n) r p = absurd cc
-late_of i m end at (error.TimeRange n) r p =
-    let here : place_of i n end ≡ at = cc in
-    subst (HasLateTime i) here (late_at i n end (late_time i n (r (λ q. absurd cc))))
+opens_at : (tokens : List Token) (n end : ℕ) → IsOpening tokens n → OpensAt tokens (place_of tokens n end)
+opens_at tokens n end o = record {
+  token = o.token;
+  among = subst (λ ts. Contains ts o.token) (sym o.whole) (Contains-append_right o.front (o.token ∷ o.rest) o.token (0, omega arith, refl));
+  opens = o.opens;
+  place = sym (opening_is tokens n end o);
+}
 
-place_in : (tokens : List Token) (i end : ℕ) → ((x : Token) × (i < length tokens) × (slice_get tokens i ≡ Some x) × (get_or tokens i x ≡ x)) ⊎ ((length tokens ≤ i) × (slice_get tokens i ≡ None)) → IsPlace tokens end (start_or (slice_get tokens i) end)
-place_in tokens i end (inl (x, inside, found, is)) = inr (x, subst (Contains tokens) is (Contains-get_or tokens i x inside), sym (ap (λ o. start_or o end) found))
+place_in : (tokens : List Token) (i end : ℕ)
+    → ((x : Token) × (i < length tokens) × (slice_get tokens i ≡ Some x) × (get_or tokens i x ≡ x)) ⊎
+    ((length tokens ≤ i) × (slice_get tokens i ≡ None)) → IsPlace tokens end (start_or (slice_get tokens i) end)
+place_in tokens i end (inl (x, inside, found, is)) = inr (
+  x,
+  subst (Contains tokens) is (Contains-get_or tokens i x inside),
+  sym
+      (ap (λ o. start_or o end) found),
+)
 place_in tokens i end (inr (past, none)) = inl (ap (λ o. start_or o end) none)
 
 place_at : (tokens : List Token) (n end : ℕ) → IsPlace tokens end (place_of tokens n end)
 place_at tokens n end = place_in tokens (length tokens - n) end (slice_get_cases tokens (length tokens - n)).1
 
-pub placed_of : (tokens : List Token) (end : ℕ) (e : ParseError) → IsPlaced tokens end (fault_of tokens end e)
-placed_of tokens end error.OutOfMemory = tt
-placed_of tokens end (error.Syntax n) = place_at tokens n end
-placed_of tokens end (error.TooDeep n) = place_at tokens n end
-placed_of tokens end (error.TimeRange n) = tt
+no_file : (i m : Input) (e : ParseError) → e ≢ error.OutOfMemory → Reads (file i) (Err e) m → AreNoFile i
+no_file i m e some r = λ other w. is_refused i e other (r some) w
+
+-- the fault that is told of the tokens is one that they have
+pub told_of : (i m : Input) (end : ℕ) (e : ParseError) → Reads (file i) (Err e) m → IsFaultOf i end (fault_of i end e)
+told_of i m end error.OutOfMemory r = tt
+told_of i m end (error.Syntax n) r = (no_file i m (error.Syntax n) (λ p. absurd cc) r, place_at i n end)
+told_of i m end (error.TooDeep n) r = (no_file i m (error.TooDeep n) (λ p. absurd cc) r, opens_at i n end (deep_opening i n (r (λ q. absurd cc))))
+told_of i m end (error.TimeRange n) r = (no_file i m (error.TimeRange n) (λ p. absurd cc) r, large_at i n end (large_time i n (r (λ q. absurd cc))))

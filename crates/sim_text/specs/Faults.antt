@@ -1,13 +1,15 @@
--- The faults of a text.
+-- The faults of a text's tokens, with their places.
 use Rattle.std.specs.Prelude.{◌≡◌, ℕ, ◌-◌, ◌<◌, ◌⊎◌, List, ◌∷◌, ◌++◌, length, slice_get, Contains, Option, Some, None}
 use Rattle.sim_logic.specs.declared.time.Unit.{Unit as TimeUnit}
-use Rattle.sim_logic.specs.declared.time.TheConstants.{LATEST}
+use Rattle.sim_logic.specs.Time.{largest_time}
 use Rattle.sim_token.specs.declared.kind.Kind.TheVariants as k
-use Rattle.sim_token.specs.declared.token.Token.{Token}
+use Rattle.sim_token.specs.Token.{Token}
 use Rattle.sim_token.specs.declared.error.TextError.{TextError}
 use Rattle.sim_token.specs.declared.error.TextError.TheVariants as fault
 use Rattle.sim_tree.specs.declared.error.ParseError.{ParseError}
 use Rattle.sim_tree.specs.declared.error.ParseError.TheVariants as error
+use Rattle.sim_tree.specs.DesignFile.{DesignFile}
+use Rattle.sim_tree.specs.Grammar.{IsFile}
 use Rattle.sim_tree.specs.Times.{time_of}
 use Rattle.sim_tree.specs.Writing.{UnitWord, Stands}
 
@@ -15,7 +17,7 @@ abbrev pub start_or : Option Token → ℕ → ℕ
 start_or (Some t) end = t.start
 start_or None end = end
 
--- where the token starts that has so many from it on; behind the last one the text ends
+-- where the token starts that has this many from it on; after the last one the text ends
 abbrev pub place_of : List Token → ℕ → ℕ → ℕ
 place_of tokens left end = start_or (slice_get tokens (length tokens - left)) end
 
@@ -26,40 +28,12 @@ fault_of tokens end (error.Syntax left) = fault.Syntax (place_of tokens left end
 fault_of tokens end (error.TooDeep left) = fault.TooDeep (place_of tokens left end)
 fault_of tokens end (error.TimeRange left) = fault.TimeRange (place_of tokens left end)
 
--- The tokens themselves are at fault.
-abbrev pub IsLexical : TextError → Type 0
-IsLexical (fault.BadByte at) = Unit {0}
-IsLexical (fault.OpenComment at) = Unit {0}
-IsLexical (fault.BadLiteral at) = Unit {0}
-IsLexical _ = ⊥
-
--- What the tokens say is at fault.
-abbrev pub IsSyntactic : TextError → Type 0
-IsSyntactic (fault.Syntax at) = Unit {0}
-IsSyntactic (fault.TooDeep at) = Unit {0}
-IsSyntactic (fault.TimeRange at) = Unit {0}
-IsSyntactic _ = ⊥
-
--- No memory, or what the tokens say is at fault.
-abbrev pub OfTokens : TextError → Type 0
-OfTokens fault.Memory = Unit {0}
-OfTokens (fault.Syntax at) = Unit {0}
-OfTokens (fault.TooDeep at) = Unit {0}
-OfTokens (fault.TimeRange at) = Unit {0}
-OfTokens _ = ⊥
-
 -- At this byte starts a token, or the text ends there.
 abbrev pub IsPlace : List Token → ℕ → ℕ → Type 0
 IsPlace tokens end at = (at ≡ end) ⊎ ((t : Token) × Contains tokens t × (t.start ≡ at))
 
--- The fault stands at a token, or where the text ends.
-abbrev pub IsPlaced : List Token → ℕ → TextError → Type 0
-IsPlaced tokens end (fault.Syntax at) = IsPlace tokens end at
-IsPlaced tokens end (fault.TooDeep at) = IsPlace tokens end at
-IsPlaced tokens end _ = Unit {0}
-
--- At this byte starts a number that gives, with the unit behind it, a time later than the latest (5.2.4).
-pub record HasLateTime (tokens : List Token) (at : ℕ) : Type 0 where
+-- At this byte starts the number of a time that is, with the unit after it, larger than the largest (5.2.4).
+pub record HasLargeTime (tokens : List Token) (at : ℕ) : Type 0 where
   pub front : List Token
   pub number : Token
   pub word : Token
@@ -69,4 +43,23 @@ pub record HasLateTime (tokens : List Token) (at : ℕ) : Type 0 where
   pub place : number.start ≡ at
   pub digits : number.kind ≡ k.Number
   pub named : Stands (UnitWord unit) word
-  pub late : LATEST < time_of number.text unit
+  pub large : largest_time < time_of number.text unit
+
+-- At this byte starts a token that opens a pair of parentheses or an if statement.
+pub record OpensAt (tokens : List Token) (at : ℕ) : Type 0 where
+  pub token : Token
+  pub among : Contains tokens token
+  pub opens : (token.kind ≡ k.LeftParen) ⊎ (token.kind ≡ k.If)
+  pub place : token.start ≡ at
+
+-- No file is written with the tokens, within the limits.
+abbrev pub AreNoFile : List Token → Type 0
+AreNoFile tokens = (file : DesignFile) → IsFile file tokens → ⊥
+
+-- Why the tokens of a text of this length are no file.
+abbrev pub IsFaultOf : List Token → ℕ → TextError → Type 0
+IsFaultOf tokens end fault.Memory = Unit {0}
+IsFaultOf tokens end (fault.Syntax at) = AreNoFile tokens × IsPlace tokens end at
+IsFaultOf tokens end (fault.TooDeep at) = AreNoFile tokens × OpensAt tokens at
+IsFaultOf tokens end (fault.TimeRange at) = AreNoFile tokens × HasLargeTime tokens at
+IsFaultOf tokens end _ = ⊥

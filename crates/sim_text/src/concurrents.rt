@@ -10,7 +10,8 @@ use sim_expression::waveforms::assigned;
 use sim_statement::statements::{label_again, statements};
 use sim_token::Kind;
 use sim_tree::declaration::ObjectDeclaration;
-use sim_tree::expression::Name;
+use sim_tree::list::fitted;
+use sim_tree::name::Name;
 use sim_tree::unit::{
     Actual, Association, Concurrent, Instance, Instantiated, Process, Sensitivity,
 };
@@ -80,9 +81,9 @@ fn actual(alloc: Global, tokens: &mut Cursor<'_>) -> Result<Actual, ParseError>
     match tokens.peek() {
         Kind::Literal => {
             let (value, at) = tokens.literal()?;
-            Ok(Actual::Literal(value, at))
+            Ok(Actual::Literal { value, at })
         }
-        Kind::Open => Ok(Actual::Open(tokens.take())),
+        Kind::Open => Ok(Actual::Open { at: tokens.take() }),
         _ => Ok(Actual::Named(tokens.word(alloc)?)),
     }
 }
@@ -165,14 +166,14 @@ fn is_named(formal: &Option<Name>) -> bool
 fn associations(alloc: Global, tokens: &mut Cursor<'_>) -> Result<Items<Association>, ParseError>
     ensures { Reads (spec.associations (view tokens.old)) result (view tokens.new) }
 {
-    let mut found = Items::new(alloc);
+    let mut found = Vec::new(alloc);
     let mut named = false;
     for _turn in 0..tokens.left() {
         let association = association(alloc, tokens, named)?;
         named = named || is_named(&association.formal);
         found.push(association)?;
         if !tokens.eat(Kind::Comma) {
-            return Ok(found);
+            return Ok(fitted(found));
         }
     }
     Err(ParseError::Syntax(tokens.left()))
@@ -231,7 +232,11 @@ fn entity_named(alloc: Global, tokens: &mut Cursor<'_>) -> Result<Instantiated, 
     tokens.expect(Kind::Dot)?;
     let entity = tokens.word(alloc)?;
     let architecture = chosen(alloc, tokens)?;
-    Ok(Instantiated::Entity(library, entity, architecture))
+    Ok(Instantiated::Entity {
+        library,
+        entity,
+        architecture,
+    })
 }
 
 #[tactic(auto, unfolding(sim_reading::specs::Concurrents::concurrent_assigned))]
@@ -260,7 +265,7 @@ fn concurrent_process(
 }
 
 /// Reads an assignment to this name, or an instance of the component with this name.
-fn behind_name(
+fn after_name(
     alloc: Global,
     tokens: &mut Cursor<'_>,
     label: Name,
@@ -270,7 +275,15 @@ fn behind_name(
 {
     match tokens.peek() {
         Kind::SignalAssign => concurrent_assigned(alloc, tokens, Some(label), name),
-        _ => instance(alloc, tokens, label, Instantiated::Component(false, name)),
+        _ => instance(
+            alloc,
+            tokens,
+            label,
+            Instantiated::Component {
+                word_written: false,
+                component: name,
+            },
+        ),
     }
 }
 
@@ -283,7 +296,15 @@ fn labelled(alloc: Global, tokens: &mut Cursor<'_>, label: Name) -> Result<Concu
         Kind::Component => {
             tokens.take();
             let name = tokens.word(alloc)?;
-            instance(alloc, tokens, label, Instantiated::Component(true, name))
+            instance(
+                alloc,
+                tokens,
+                label,
+                Instantiated::Component {
+                    word_written: true,
+                    component: name,
+                },
+            )
         }
         Kind::Entity => {
             let unit = entity_named(alloc, tokens)?;
@@ -291,13 +312,13 @@ fn labelled(alloc: Global, tokens: &mut Cursor<'_>, label: Name) -> Result<Concu
         }
         _ => {
             let name = tokens.word(alloc)?;
-            behind_name(alloc, tokens, label, name)
+            after_name(alloc, tokens, label, name)
         }
     }
 }
 
 /// Reads an assignment to this name, or a statement with this label.
-fn behind_first(
+fn after_first(
     alloc: Global,
     tokens: &mut Cursor<'_>,
     first: Name,
@@ -321,7 +342,7 @@ fn concurrent(alloc: Global, tokens: &mut Cursor<'_>) -> Result<Concurrent, Pars
         Kind::Process => concurrent_process(alloc, tokens, None),
         _ => {
             let first = tokens.word(alloc)?;
-            behind_first(alloc, tokens, first)
+            after_first(alloc, tokens, first)
         }
     }
 }
@@ -337,12 +358,12 @@ fn begins_concurrent(kind: Kind) -> bool
 pub fn concurrents(alloc: Global, tokens: &mut Cursor<'_>) -> Result<Items<Concurrent>, ParseError>
     ensures { Reads (spec.concurrents (view tokens.old)) result (view tokens.new) }
 {
-    let mut found = Items::new(alloc);
+    let mut found = Vec::new(alloc);
     for _turn in 0..tokens.left() {
         if !begins_concurrent(tokens.peek()) {
-            return Ok(found);
+            return Ok(fitted(found));
         }
         found.push(concurrent(alloc, tokens)?)?;
     }
-    Ok(found)
+    Ok(fitted(found))
 }

@@ -7,4 +7,4 @@ mod units;
 
 pub use sim_token::{Kind, TextError, Token, tokens};
 pub use sim_tree as tree;
-pub use text::{file_of, parse};
+pub use text::parse;

@@ -8,11 +8,10 @@ use crate::concurrents::concurrents;
 use sim_declaration::declarations::{declarations, names, ports, repeated};
 use sim_token::Kind;
 use sim_tree::declaration::Declaration;
-use sim_tree::expression::Name;
-use sim_tree::unit::{
-    Architecture, ContextItem, DesignFile, DesignUnit, Entity, LibraryUnit, SelectedName,
-};
-use sim_tree::{Cursor, ParseError};
+use sim_tree::list::{Several, fitted};
+use sim_tree::name::Name;
+use sim_tree::unit::{Architecture, ContextItem, DesignUnit, Entity, LibraryUnit, SelectedName};
+use sim_tree::{Cursor, DesignFile, ParseError};
 use sqlite_items::Items;
 use std::alloc::Global;
 
@@ -20,15 +19,15 @@ use std::alloc::Global;
 fn suffixes(alloc: Global, tokens: &mut Cursor<'_>) -> Result<(Items<Name>, bool), ParseError>
     ensures { Reads (spec.suffixes (view tokens.old)) result (view tokens.new) }
 {
-    let mut found = Items::new(alloc);
+    let mut found = Vec::new(alloc);
     for _turn in 0..tokens.left() {
         tokens.expect(Kind::Dot)?;
         if tokens.eat(Kind::All) {
-            return Ok((found, true));
+            return Ok((fitted(found), true));
         }
         found.push(tokens.word(alloc)?)?;
         if !tokens.sees(Kind::Dot) {
-            return Ok((found, false));
+            return Ok((fitted(found), false));
         }
     }
     Err(ParseError::Syntax(tokens.left()))
@@ -48,19 +47,21 @@ fn selected(alloc: Global, tokens: &mut Cursor<'_>) -> Result<SelectedName, Pars
 }
 
 #[tactic(auto, unfolding(sim_reading::specs::Units::selected_names, sim_tree::specs::Input::separated))]
-fn selected_names(alloc: Global, tokens: &mut Cursor<'_>) -> Result<Items<SelectedName>, ParseError>
+fn selected_names(
+    alloc: Global,
+    tokens: &mut Cursor<'_>,
+) -> Result<Several<SelectedName>, ParseError>
     ensures { Reads (spec.selected_names (view tokens.old)) result (view tokens.new) }
 {
-    let mut found = Items::new(alloc);
-    found.push(selected(alloc, tokens)?)?;
+    let mut found = Several::new(alloc, selected(alloc, tokens)?)?;
     for _turn in 0..tokens.left() {
         if !tokens.sees(Kind::Comma) {
-            return Ok(found);
+            return Ok(found.fitted());
         }
         tokens.take();
         found.push(selected(alloc, tokens)?)?;
     }
-    Ok(found)
+    Ok(found.fitted())
 }
 
 #[tactic(auto, unfolding(sim_reading::specs::Units::context_item))]
@@ -93,14 +94,14 @@ fn begins_context(kind: Kind) -> bool
 fn context(alloc: Global, tokens: &mut Cursor<'_>) -> Result<Items<ContextItem>, ParseError>
     ensures { Reads (spec.context (view tokens.old)) result (view tokens.new) }
 {
-    let mut found = Items::new(alloc);
+    let mut found = Vec::new(alloc);
     for _turn in 0..tokens.left() {
         if !begins_context(tokens.peek()) {
-            return Ok(found);
+            return Ok(fitted(found));
         }
         found.push(context_item(alloc, tokens)?)?;
     }
-    Ok(found)
+    Ok(fitted(found))
 }
 
 #[tactic(auto, unfolding(sim_reading::specs::Units::entity))]
@@ -113,7 +114,7 @@ fn entity(alloc: Global, tokens: &mut Cursor<'_>) -> Result<Entity, ParseError>
     let ports = ports(alloc, tokens)?;
     tokens.expect(Kind::End)?;
     let word_repeated = tokens.eat(Kind::Entity);
-    let name_repeated = repeated(tokens, name.text.as_slice())?;
+    let name_repeated = repeated(tokens, name.text())?;
     tokens.expect(Kind::Semicolon)?;
     Ok(Entity {
         name,
@@ -137,7 +138,7 @@ fn architecture_body(
     let statements = concurrents(alloc, tokens)?;
     tokens.expect(Kind::End)?;
     let word_repeated = tokens.eat(Kind::Architecture);
-    let name_repeated = repeated(tokens, name.text.as_slice())?;
+    let name_repeated = repeated(tokens, name.text())?;
     tokens.expect(Kind::Semicolon)?;
     Ok(Architecture {
         name,
@@ -185,18 +186,17 @@ fn unit(alloc: Global, tokens: &mut Cursor<'_>) -> Result<DesignUnit, ParseError
 }
 
 #[tactic(auto, unfolding(sim_reading::specs::Units::units_of))]
-fn units_of(alloc: Global, tokens: &mut Cursor<'_>) -> Result<Items<DesignUnit>, ParseError>
+fn units_of(alloc: Global, tokens: &mut Cursor<'_>) -> Result<Several<DesignUnit>, ParseError>
     ensures { Reads (spec.units_of (view tokens.old)) result (view tokens.new) }
 {
-    let mut found = Items::new(alloc);
-    found.push(unit(alloc, tokens)?)?;
+    let mut found = Several::new(alloc, unit(alloc, tokens)?)?;
     for _turn in 0..tokens.left() {
         if tokens.sees(Kind::EndOfText) {
-            return Ok(found);
+            return Ok(found.fitted());
         }
         found.push(unit(alloc, tokens)?)?;
     }
-    Ok(found)
+    Ok(found.fitted())
 }
 
 #[tactic(auto, unfolding(sim_reading::specs::Units::finish, sim_tree::specs::Input::left))]
@@ -217,5 +217,5 @@ pub fn file(alloc: Global, tokens: &mut Cursor<'_>) -> Result<DesignFile, ParseE
 {
     let units = units_of(alloc, tokens)?;
     finish(tokens)?;
-    Ok(DesignFile { units })
+    Ok(DesignFile::new(units))
 }

@@ -5,4 +5,5 @@ use Rattle.sim_reading.specs.Declarations.{port_list, port}
 use Rattle.sim_declaration.proofs.declarations.port_list.Given as goal
 
 abbrev pub invariant-loop-turn : goal.invariant-loop-turn
-invariant-loop-turn l = port_list (view l.fn.tokens) ≡ many_from (λ y. same_kind y k.Semicolon) (take_token >> port) (l._turn-end - l._turn) l.found (view l.tokens)
+invariant-loop-turn l = port_list (view l.fn.tokens) ≡ many_from (λ y. same_kind y k.Semicolon) (take_token >> port) (l._turn-end - l._turn)
+    l.found.items (view l.tokens)

@@ -9,23 +9,27 @@ use Rattle.sim_expression.proofs.waveforms.waveform.Goals as goal
 pub returns-then-not-sees : goal.returns-then-not-sees
 unfolding many_from sees
 returns-then-not-sees c =
-    let e = one_more (λ n. many_from (λ y. same_kind y k.Comma) (take_token >> element) n c.loop-turn.found (view c.loop-turn.tokens)) _ c.loop-turn._turn c.loop-turn-test.true c.loop-turn.invariant in
+    let e = one_more (λ n. many_from (λ y. same_kind y k.Comma) (take_token >> element) n c.loop-turn.found (view c.loop-turn.tokens)) _
+    c.loop-turn._turn c.loop-turn-test.true c.loop-turn.invariant in
     first_of (search rules, grind (arith, common_steps))
 
 pub returns-in_err-element-2 : goal.returns-in_err-element-2
 unfolding many_from sees
 returns-in_err-element-2 c =
-    let e = one_more (λ n. many_from (λ y. same_kind y k.Comma) (take_token >> element) n c.loop-turn.found (view c.loop-turn.tokens)) _ c.loop-turn._turn c.loop-turn-test.true c.loop-turn.invariant in
+    let e = one_more (λ n. many_from (λ y. same_kind y k.Comma) (take_token >> element) n c.loop-turn.found (view c.loop-turn.tokens)) _
+    c.loop-turn._turn c.loop-turn-test.true c.loop-turn.invariant in
     first_of (search rules, grind (arith, common_steps))
 
 pub loop-turn-preserved : goal.loop-turn-preserved
 unfolding many_from sees
 loop-turn-preserved c =
-    let e = one_more (λ n. many_from (λ y. same_kind y k.Comma) (take_token >> element) n c.loop-turn.found (view c.loop-turn.tokens)) _ c.loop-turn._turn c.loop-turn-test.true c.loop-turn.invariant in
+    let e = one_more (λ n. many_from (λ y. same_kind y k.Comma) (take_token >> element) n c.loop-turn.found (view c.loop-turn.tokens)) _
+    c.loop-turn._turn c.loop-turn-test.true c.loop-turn.invariant in
     first_of (search rules, grind (arith, common_steps))
 
 pub returns : goal.returns
 unfolding many_from sees
 returns c =
-    let e = no_more (λ n. many_from (λ y. same_kind y k.Comma) (take_token >> element) n c.loop-turn.found (view c.loop-turn.tokens)) _ c.loop-turn._turn c.loop-turn-test.false c.loop-turn.invariant in
+    let e = no_more (λ n. many_from (λ y. same_kind y k.Comma) (take_token >> element) n c.loop-turn.found (view c.loop-turn.tokens)) _
+    c.loop-turn._turn c.loop-turn-test.false c.loop-turn.invariant in
     first_of (search rules, grind (arith, common_steps))

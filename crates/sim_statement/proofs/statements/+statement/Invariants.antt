@@ -10,23 +10,28 @@ decreases-if_statement l = 8 * l.depth
 abbrev pub decreases-labelled : goal.decreases-labelled
 decreases-labelled l = 8 * l.depth + 1
 
+abbrev pub decreases-named : goal.decreases-named
+decreases-named l = 8 * l.depth + 2
+
 abbrev pub decreases-statement : goal.decreases-statement
-decreases-statement l = 8 * l.depth + 2
+decreases-statement l = 8 * l.depth + 3
 
 abbrev pub decreases-sequence : goal.decreases-sequence
-decreases-sequence l = 8 * l.depth + 3
+decreases-sequence l = 8 * l.depth + 4
 
 abbrev pub decreases-branch : goal.decreases-branch
-decreases-branch l = 8 * l.depth + 4
+decreases-branch l = 8 * l.depth + 5
 
 abbrev pub decreases-otherwise : goal.decreases-otherwise
-decreases-otherwise l = 8 * l.depth + 4
+decreases-otherwise l = 8 * l.depth + 5
 
 abbrev pub decreases-branches : goal.decreases-branches
-decreases-branches l = 8 * l.depth + 5
+decreases-branches l = 8 * l.depth + 6
 
 abbrev pub invariant-sequence-loop-turn : goal.invariant-sequence-loop-turn
-invariant-sequence-loop-turn l = sequence (if_statement l.depth) (view l.fn.tokens) ≡ many_from begins_statement (statement (if_statement l.depth)) (l._turn-end - l._turn) l.found (view l.tokens)
+invariant-sequence-loop-turn l = sequence (if_statement l.depth) (view l.fn.tokens) ≡ many_from begins_statement (statement (if_statement l.depth))
+    (l._turn-end - l._turn) l.found.items (view l.tokens)
 
 abbrev pub invariant-branches-loop-turn : goal.invariant-branches-loop-turn
-invariant-branches-loop-turn l = branches (if_statement l.depth) (view l.fn.tokens) ≡ many_from (λ y. same_kind y k.Elsif) (take_token >> branch (if_statement l.depth)) (l._turn-end - l._turn) l.found (view l.tokens)
+invariant-branches-loop-turn l = branches (if_statement l.depth) (view l.fn.tokens) ≡ many_from (λ y. same_kind y k.Elsif)
+    (take_token >> branch (if_statement l.depth)) (l._turn-end - l._turn) l.found.items (view l.tokens)

@@ -4,4 +4,4 @@ use Rattle.sim_reading.specs.Concurrents.{associations, associations_from}
 use Rattle.sim_text.proofs.concurrents.associations.Given as goal
 
 abbrev pub invariant-loop-turn : goal.invariant-loop-turn
-invariant-loop-turn l = associations (view l.fn.tokens) ≡ associations_from (l._turn-end - l._turn) l.named l.found (view l.tokens)
+invariant-loop-turn l = associations (view l.fn.tokens) ≡ associations_from (l._turn-end - l._turn) l.named l.found.items (view l.tokens)

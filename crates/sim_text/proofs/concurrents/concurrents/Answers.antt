@@ -8,23 +8,27 @@ use Rattle.sim_text.proofs.concurrents.concurrents.Goals as goal
 pub returns-then-not-begins_concurrent : goal.returns-then-not-begins_concurrent
 unfolding many_from
 returns-then-not-begins_concurrent c =
-    let e = one_more (λ n. many_from begins_concurrent concurrent n c.loop-turn.found (view c.loop-turn.tokens)) _ c.loop-turn._turn c.loop-turn-test.true c.loop-turn.invariant in
+    let e = one_more (λ n. many_from begins_concurrent concurrent n c.loop-turn.found.items (view c.loop-turn.tokens)) _ c.loop-turn._turn
+    c.loop-turn-test.true c.loop-turn.invariant in
     first_of (search rules, grind (arith, common_steps))
 
 pub returns-in_err-concurrent : goal.returns-in_err-concurrent
 unfolding many_from
 returns-in_err-concurrent c =
-    let e = one_more (λ n. many_from begins_concurrent concurrent n c.loop-turn.found (view c.loop-turn.tokens)) _ c.loop-turn._turn c.loop-turn-test.true c.loop-turn.invariant in
+    let e = one_more (λ n. many_from begins_concurrent concurrent n c.loop-turn.found.items (view c.loop-turn.tokens)) _ c.loop-turn._turn
+    c.loop-turn-test.true c.loop-turn.invariant in
     first_of (search rules, grind (arith, common_steps))
 
 pub loop-turn-preserved : goal.loop-turn-preserved
 unfolding many_from
 loop-turn-preserved c =
-    let e = one_more (λ n. many_from begins_concurrent concurrent n c.loop-turn.found (view c.loop-turn.tokens)) _ c.loop-turn._turn c.loop-turn-test.true c.loop-turn.invariant in
+    let e = one_more (λ n. many_from begins_concurrent concurrent n c.loop-turn.found.items (view c.loop-turn.tokens)) _ c.loop-turn._turn
+    c.loop-turn-test.true c.loop-turn.invariant in
     first_of (search rules, grind (arith, common_steps))
 
 pub returns : goal.returns
 unfolding many_from
 returns c =
-    let e = no_more (λ n. many_from begins_concurrent concurrent n c.loop-turn.found (view c.loop-turn.tokens)) _ c.loop-turn._turn c.loop-turn-test.false c.loop-turn.invariant in
+    let e = no_more (λ n. many_from begins_concurrent concurrent n c.loop-turn.found.items (view c.loop-turn.tokens)) _ c.loop-turn._turn
+    c.loop-turn-test.false c.loop-turn.invariant in
     first_of (search rules, grind (arith, common_steps))

@@ -1,9 +1,9 @@
-use Rattle.std.proofs.Common.{◌∙◌, sym, subst, [], Err}
+use Rattle.std.proofs.Common.{sym, subst, [], Err}
 use Rattle.sim_tree.specs.Input.{Reads, view}
 use Rattle.sim_reading.specs.Units.{file}
 use Rattle.sim_reading.proofs.Whole.{is_found, is_only}
-use Rattle.sim_text.specs.Faults.{IsPlaced}
-use Rattle.sim_text.proofs.Places.{refused_of, late_of, placed_of}
+use Rattle.sim_text.specs.Faults.{IsFaultOf}
+use Rattle.sim_text.proofs.Places.{told_of}
 use Rattle.sim_text.proofs.text.file_of.Goals as goal
 
 pub returns-in-Ok-clause-found : goal.returns-in-Ok-clause-found
@@ -17,13 +17,4 @@ returns-in-Ok-clause-only c =
 pub returns-in-Err-clause-refused : goal.returns-in-Err-clause-refused
 returns-in-Err-clause-refused c =
     let read : Reads (file c.args.tokens.now) (Err c.in-Err.error) [] = subst (λ i. Reads (file i) (Err c.in-Err.error) []) c.new.ensures c.in-Err.ensures in
-    λ some other w. refused_of c.args.tokens.now [] c.args.end c.in-Err.error read (λ p. some (c.fault_of.ensures ∙ p)) other w
-
-pub returns-in-Err-clause-late : goal.returns-in-Err-clause-late
-returns-in-Err-clause-late c =
-    let read : Reads (file c.args.tokens.now) (Err c.in-Err.error) [] = subst (λ i. Reads (file i) (Err c.in-Err.error) []) c.new.ensures c.in-Err.ensures in
-    λ at p. late_of c.args.tokens.now [] c.args.end at c.in-Err.error read (sym c.fault_of.ensures ∙ p)
-
-pub returns-in-Err-clause-placed : goal.returns-in-Err-clause-placed
-returns-in-Err-clause-placed c =
-    subst (IsPlaced c.args.tokens.now c.args.end) (sym c.fault_of.ensures) (placed_of c.args.tokens.now c.args.end c.in-Err.error)
+    subst (IsFaultOf c.args.tokens.now c.args.end) (sym c.fault_of.ensures) (told_of c.args.tokens.now [] c.args.end c.in-Err.error read)

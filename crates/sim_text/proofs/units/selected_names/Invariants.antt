@@ -5,4 +5,5 @@ use Rattle.sim_reading.specs.Units.{selected_names, selected}
 use Rattle.sim_text.proofs.units.selected_names.Given as goal
 
 abbrev pub invariant-loop-turn : goal.invariant-loop-turn
-invariant-loop-turn l = selected_names (view l.fn.tokens) ≡ many_from (λ y. same_kind y k.Comma) (take_token >> selected) (l._turn-end - l._turn) l.found (view l.tokens)
+invariant-loop-turn l = selected_names (view l.fn.tokens) ≡ many_from (λ y. same_kind y k.Comma) (take_token >> selected) (l._turn-end - l._turn)
+    l.found (view l.tokens)

@@ -1,0 +1,176 @@
+//! The cursor over tokens.
+
+use crate::written::{put_ascii, put_at, put_name};
+use sim_logic::{Logic, Unit};
+use sim_text::{Kind, tokens};
+use sim_tree::{Cursor, ParseError};
+use std::alloc::Global;
+use std::test::Fail;
+
+/// The word at the front of a text with its place.
+fn word(alloc: Global, text: &str) -> Result<String, Fail> {
+    let tokens = tokens(alloc, text.as_bytes())?;
+    let mut cursor = Cursor::new(tokens.as_slice());
+    let name = cursor.word(alloc)?;
+    let mut line = String::new(alloc);
+    put_name(&mut line, &name)?;
+    Ok(line)
+}
+
+#[test]
+fn a_word_is_read_with_its_place(rt: HostRuntime) -> Result<(), Fail> {
+    assert_eq!(rt; word(rt.alloc(), " Ab_C;")?.as_str(), "ab_c@1");
+    Ok(())
+}
+
+/// The digits of the number at the front of a text with their place.
+fn number(alloc: Global, text: &str) -> Result<String, Fail> {
+    let tokens = tokens(alloc, text.as_bytes())?;
+    let mut cursor = Cursor::new(tokens.as_slice());
+    let (digits, at) = cursor.number(alloc)?;
+    let mut line = String::new(alloc);
+    put_ascii(&mut line, digits.as_slice())?;
+    put_at(&mut line, "", at)?;
+    Ok(line)
+}
+
+#[test]
+fn a_number_is_read_with_its_place(rt: HostRuntime) -> Result<(), Fail> {
+    assert_eq!(rt; number(rt.alloc(), " 01_2;")?.as_str(), "012@1");
+    Ok(())
+}
+
+/// The character literal at the front of a text.
+fn literal(alloc: Global, text: &str) -> Result<(Logic, usize), Fail> {
+    let tokens = tokens(alloc, text.as_bytes())?;
+    let mut cursor = Cursor::new(tokens.as_slice());
+    let found = cursor.literal()?;
+    Ok(found)
+}
+
+#[test]
+fn a_literal_is_read_as_its_value(rt: HostRuntime) -> Result<(), Fail> {
+    for (text, wanted) in [
+        ("'U'", Logic::U),
+        ("'X'", Logic::X),
+        ("'0'", Logic::Zero),
+        ("'1'", Logic::One),
+        ("'Z'", Logic::Z),
+        ("'W'", Logic::W),
+        ("'L'", Logic::L),
+        ("'H'", Logic::H),
+        ("'-'", Logic::Dash),
+    ] {
+        assert_eq!(rt; literal(rt.alloc(), text)?, (wanted, 0));
+    }
+    Ok(())
+}
+
+/// The unit at the front of a text.
+fn unit(alloc: Global, text: &str) -> Result<Unit, Fail> {
+    let tokens = tokens(alloc, text.as_bytes())?;
+    let mut cursor = Cursor::new(tokens.as_slice());
+    let found = cursor.unit()?;
+    Ok(found)
+}
+
+#[test]
+fn a_unit_is_read_by_its_name(rt: HostRuntime) -> Result<(), Fail> {
+    for (text, wanted) in [
+        ("fs", Unit::Fs),
+        ("PS", Unit::Ps),
+        ("Ns", Unit::Ns),
+        ("us", Unit::Us),
+        ("ms", Unit::Ms),
+        ("sec", Unit::Sec),
+        ("min", Unit::Min),
+        ("hr", Unit::Hr),
+    ] {
+        assert_eq!(rt; unit(rt.alloc(), text)?, wanted);
+    }
+    Ok(())
+}
+
+/// Goes past `event`, another word than `ab`, and that word; and says what was refused, and how many tokens are left.
+fn pass_words(alloc: Global, text: &str) -> Result<(Option<ParseError>, usize), Fail> {
+    let tokens = tokens(alloc, text.as_bytes())?;
+    let mut cursor = Cursor::new(tokens.as_slice());
+    cursor.event()?;
+    let refused = cursor.repeat(b"ab".as_slice()).err();
+    cursor.repeat(b"abc".as_slice())?;
+    Ok((refused, cursor.left()))
+}
+
+#[test]
+fn words_are_passed_in_any_case(rt: HostRuntime) -> Result<(), Fail> {
+    let found = pass_words(rt.alloc(), "Event ABC")?;
+    assert_eq!(rt; found, (Some(ParseError::Syntax(1)), 0));
+    Ok(())
+}
+
+/// The place of a `(`; whether a comma and then a semicolon were passed; and the places of two tokens after them.
+fn pass_delimiters(alloc: Global, text: &str) -> Result<(usize, bool, bool, usize, usize), Fail> {
+    let tokens = tokens(alloc, text.as_bytes())?;
+    let mut cursor = Cursor::new(tokens.as_slice());
+    let open = cursor.expect(Kind::LeftParen)?;
+    let comma = cursor.eat(Kind::Comma);
+    let semicolon = cursor.eat(Kind::Semicolon);
+    let next = cursor.take();
+    Ok((open, comma, semicolon, next, cursor.take()))
+}
+
+#[test]
+fn tokens_are_passed_by_their_kind(rt: HostRuntime) -> Result<(), Fail> {
+    let found = pass_delimiters(rt.alloc(), " (;and")?;
+    assert_eq!(rt; found, (1, false, true, 3, 0));
+    Ok(())
+}
+
+/// Whether a token of this kind comes next, or none where it is the end.
+fn shows(alloc: Global, text: &str, kind: Kind) -> Result<bool, Fail> {
+    let tokens = tokens(alloc, text.as_bytes())?;
+    let cursor = Cursor::new(tokens.as_slice());
+    let is_end = kind == Kind::EndOfText;
+    Ok(cursor.peek() == kind && cursor.sees(kind) && cursor.is_empty() == is_end)
+}
+
+#[test]
+fn a_cursor_shows_what_comes_next(rt: HostRuntime) -> Result<(), Fail> {
+    for (text, kind, wanted) in [
+        ("and", Kind::And, true),
+        ("or and", Kind::And, false),
+        ("--", Kind::EndOfText, true),
+        ("and", Kind::EndOfText, false),
+    ] {
+        assert!(rt; shows(rt.alloc(), text, kind)? == wanted, "{text}");
+    }
+    Ok(())
+}
+
+/// Tries to read a word, a number and a literal where a `(` stands; and says what was refused.
+fn refused_values(alloc: Global, text: &str) -> Result<[Option<ParseError>; 3], Fail> {
+    let tokens = tokens(alloc, text.as_bytes())?;
+    let mut cursor = Cursor::new(tokens.as_slice());
+    let word = cursor.word(alloc).err();
+    let number = cursor.number(alloc).err();
+    let literal = cursor.literal().err();
+    Ok([word, number, literal])
+}
+
+/// The same of a unit, `event` and a `)`.
+fn refused_words(alloc: Global, text: &str) -> Result<[Option<ParseError>; 3], Fail> {
+    let tokens = tokens(alloc, text.as_bytes())?;
+    let mut cursor = Cursor::new(tokens.as_slice());
+    let unit = cursor.unit().err();
+    let event = cursor.event().err();
+    let close = cursor.expect(Kind::RightParen).err();
+    Ok([unit, event, close])
+}
+
+#[test]
+fn a_token_of_another_kind_is_left_where_it_is(rt: HostRuntime) -> Result<(), Fail> {
+    let wanted = [Some(ParseError::Syntax(1)); 3];
+    assert_eq!(rt; refused_values(rt.alloc(), "(")?, wanted);
+    assert_eq!(rt; refused_words(rt.alloc(), "(")?, wanted);
+    Ok(())
+}
