@@ -1,0 +1,3 @@
+pub mod Names
+pub mod Single
+pub mod Values
