@@ -3,6 +3,7 @@
 #![tactic(auto)]
 
 mod drivers;
+mod listing;
 mod reading;
 
 use anyhow::{Context, Result, bail};
@@ -15,6 +16,7 @@ fn main(rt: HostRuntime) -> Result<()> {
     let count = count.parse::<u64>().context("the count is no number")?;
     match subject.as_str() {
         "drivers" => drivers::run(&rt, count),
+        "listing" => listing::run(&rt, count),
         "tokens" => reading::run_tokens(&rt, count),
         "parse" => reading::run_parse(&rt, count),
         _ => bail!("no such subject"),

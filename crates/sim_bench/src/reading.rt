@@ -22,7 +22,7 @@ fn count_tokens(alloc: Global, text: &[u8]) -> Result<usize, TextError> {
 
 fn count_units(alloc: Global, text: &[u8]) -> Result<usize, TextError> {
     let found = parse(alloc, text)?;
-    Ok(found.units.len())
+    Ok(found.units().len())
 }
 
 /// Times the lexer.
@@ -41,7 +41,7 @@ pub fn run_tokens<R: Print + Eprint + Input + Clock + AllocGlobal>(
     Ok(())
 }
 
-/// Times the lexer and the parser behind it.
+/// Times the lexer and the parser after it.
 pub fn run_parse<R: Print + Eprint + Input + Clock + AllocGlobal>(
     rt: &R,
     count: u64,

@@ -1,137 +1,89 @@
 -- The words and the source of the program.
-use Rattle.std.proofs.Common.{◌≡◌, ◌≢◌, ℕ, ◌≤◌, ◌<◌, subst, length-append, true, false, List, [], ◌∷◌, ◌++◌, length, map, get_or, Option, Some, None, inl, inr, refl, sym, ap, ◌∙◌, append-nil, arith}
-use Rattle.std.specs.Prelude.{◌⊎◌, codes}
-use Rattle.std.specs.String.{string_bytes}
-use Rattle.std.proofs.KnownBytes.{Keeps-refl}
-use Rattle.std.proofs.lemmas.Slice.Eq.{bytes_eq-Decides}
+use Rattle.std.proofs.Common.{◌≡◌, ◌≢◌, ℕ, ◌≤◌, ◌<◌, subst, length-append, false, List, ◌++◌, length, Option, Some, None, inl, inr, refl, sym, ap}
+use Rattle.std.proofs.Common.{◌∙◌, append-nil, arith}
+use Rattle.std.specs.Prelude.{◌⊎◌, Result, Err}
+use Rattle.sim_token.specs.Limits.{most_bytes}
 use Rattle.sim_token.specs.declared.error.TextError.{TextError}
 use Rattle.sim_token.specs.declared.error.TextError.TheVariants as fault
+use Rattle.sim_text.specs.Texts.{IsFault, IsFaulty}
+use Rattle.sim_options.specs.declared.options.Options.{Options}
+use Rattle.sim_options.specs.Asks.{Asks, AreRefused}
+use Rattle.sim_options.specs.Options.{are_in_range}
 use Rattle.sim_run.specs.declared.error.RunError.{RunError}
 use Rattle.sim_run.specs.declared.error.RunError.TheVariants as refusal
-use Rattle.sim_run.specs.declared.options.Options.{Options}
 use Rattle.sim_run.specs.declared.program.Failure.{Failure}
 use Rattle.sim_run.specs.declared.program.Failure.TheVariants as failure
-use Rattle.sim_run.specs.Options.{are_in_range}
-use Rattle.sim_run.specs.Session.{are_request, AreRequest, ReadsSource, IsWhole, OfKnown, RefusesText, RunsOn, IsCaused, Fails, status_of}
-use Rattle.sim_run.specs.Simulation.{IsRefusal, IsOther, ReachesLimit}
-use Rattle.sim_run.specs.Texts.{IsFault, IsFaulty}
-
--- ---- the words
-
-pub request_words : {S : Type 0} (bytes : S → List ℕ) (items : List S) (top : S) → are_request (map bytes items) ≡ true → top ≡ get_or items 1 top → map bytes items ≡ codes "--top" ∷ bytes top ∷ []
-request_words bytes [] top e h = absurd cc
-request_words bytes (a ∷ []) top e h = absurd cc
-request_words bytes (a ∷ b ∷ []) top e h =
-    let flag : bytes a ≡ codes "--top" = (bytes_eq-Decides (bytes a) (codes "--top")).0 e in
-    ap (λ x. x ∷ bytes b ∷ []) flag ∙ ap (λ x. codes "--top" ∷ bytes x ∷ []) (sym h)
-request_words bytes (a ∷ b ∷ c ∷ ds) top e h = absurd cc
-
-words_request : (words : List (List ℕ)) (options : Options) → AreRequest words options → are_request words ≡ true
-words_request words options r = ap are_request r.words_are
-
-request_in_range : (words : List (List ℕ)) (options : Options) → AreRequest words options → are_in_range options.stop options.limit options.workers ≡ true
-request_in_range words options r = rw (r.stop, r.limit, r.workers) refl
+use Rattle.sim_run.specs.Run.{ReachesLimit}
+use Rattle.sim_run.specs.Session.{ReadsSource, IsWhole, HasText, HasRun, HasOptions, IsFailure, status_of}
+use Rattle.sim_run.specs.Simulation.{HasDesign, IsRefusal, IsOther}
 
 -- ---- the source
 
-pub whole_source : (old new : Option (List ℕ)) (text : List ℕ) → ReadsSource old new text → length text ≤ 1048576 → IsWhole old text
-whole_source None new text r short = tt
-whole_source (Some xs) None text r short = absurd r.consumed
-whole_source (Some xs) (Some ys) text r short = elim r.enough [
-  | inl long ↦ absurd (omega arith)
-  | inr end ↦ r.consumed ∙ (ap (λ (l : List ℕ). text ++ l) end ∙ append-nil text)
+-- the text that the reader had: it is what was read, or both are too long
+source_text : (unread left : Option (List ℕ)) (source : List ℕ) → ReadsSource unread left source
+    → (text : List ℕ) × IsWhole unread text × ((source ≡ text) ⊎ ((most_bytes < length source) × (most_bytes < length text)))
+source_text None left source r = (source, tt, inl refl)
+source_text (Some xs) None source r = absurd r.consumed
+source_text (Some xs) (Some ys) source r = elim r.enough [
+  | inl long ↦ (xs, refl, inr (omega arith, let e = ap length r.consumed in omega (arith, e, length-append source ys)))
+  | inr end ↦ (xs, refl, inl (sym (r.consumed ∙ (ap (λ (l : List ℕ). source ++ l) end ∙ append-nil source))))
 ]
 
-known : (unread left : Option (List ℕ)) (text : List ℕ) (P : List ℕ → Type 0) → ReadsSource unread left text → length text ≤ 1048576 → P text → OfKnown unread P
-known None left text P r short p = tt
-known (Some xs) left text P r short p = subst P (sym (whole_source (Some xs) left text r short)) p
+too_much : (source : List ℕ) → most_bytes < length source → length source ≤ most_bytes → ⊥
+too_much source long short = absurd (omega arith)
 
-longer : (unread left : Option (List ℕ)) (text : List ℕ) → ReadsSource unread left text → 1048576 < length text → OfKnown unread (λ whole. 1048576 < length whole)
-longer None left text r long = tt
-longer (Some xs) None text r long = absurd r.consumed
-longer (Some xs) (Some ys) text r long = let e = ap length r.consumed in omega (arith, e, length-append text ys)
+-- what is true of a text that is not too long is true of that which the reader had
+pub read_text : (unread left : Option (List ℕ)) (source : List ℕ) (Holds : List ℕ → Type 0) → ReadsSource unread left source
+    → length source ≤ most_bytes → Holds source → HasText unread Holds
+read_text unread left source Holds r short p =
+    let t = source_text unread left source r in
+    elim t.2 [
+      | inl e ↦ record { text = t.0; whole = t.1; holds = subst Holds e p }
+      | inr (long, _) ↦ absurd (too_much source long short)
+    ]
 
 -- ---- failures
 
-faulty : (unread left : Option (List ℕ)) (text top : List ℕ) (e : TextError) → ReadsSource unread left text → length text ≤ 1048576 → e ≢ fault.Memory → IsFault text e → OfKnown unread (λ whole. IsFaulty whole ⊎ IsOther whole top)
-faulty unread left text top e r short told is = known unread left text (λ whole. IsFaulty whole ⊎ IsOther whole top) r short (inl (record { found = e; known = told; is = is }))
+-- a refusal of a text that is too long is one of every such text
+refusal_of : (source text : List ℕ) (options : Options) (e : RunError) → most_bytes < length source → most_bytes < length text
+    → IsRefusal source options e → IsRefusal text options e
+refusal_of source text options refusal.Options long longer p = p
+refusal_of source text options (refusal.Text fault.Memory) long longer p = tt
+refusal_of source text options (refusal.Text fault.TooLong) long longer p = longer
+refusal_of source text options (refusal.Text (fault.BadByte at)) long longer p = absurd (too_much source long p.short)
+refusal_of source text options (refusal.Text (fault.OpenComment at)) long longer p = absurd (too_much source long p.short)
+refusal_of source text options (refusal.Text (fault.BadLiteral at)) long longer p = absurd (too_much source long p.short)
+refusal_of source text options (refusal.Text (fault.Syntax at)) long longer p = absurd (too_much source long p.short)
+refusal_of source text options (refusal.Text (fault.TooDeep at)) long longer p = absurd (too_much source long p.short)
+refusal_of source text options (refusal.Text (fault.TimeRange at)) long longer p = absurd (too_much source long p.short)
+refusal_of source text options refusal.NotYet long longer p = absurd (too_much source long p.is_text.short)
+refusal_of source text options (refusal.CycleLimit l) long longer p = absurd (too_much source long p.1.is_design.is_text.short)
+refusal_of source text options refusal.Memory long longer p = tt
+refusal_of source text options refusal.Write long longer p = absurd p
 
-too_long : (unread left : Option (List ℕ)) (text top : List ℕ) → ReadsSource unread left text → 1048576 < length text → OfKnown unread (λ whole. IsFaulty whole ⊎ IsOther whole top)
-too_long None left text top r long = tt
-too_long (Some xs) left text top r long = inl (record { found = fault.TooLong; known = λ e. absurd cc; is = longer (Some xs) left text r long })
+text_refused : (unread left : Option (List ℕ)) (source : List ℕ) (options : Options) (e : RunError) → ReadsSource unread left source
+    → IsRefusal source options e → HasText unread (λ text. IsRefusal text options e)
+text_refused unread left source options e r p =
+    let t = source_text unread left source r in
+    elim t.2 [
+      | inl is ↦ record { text = t.0; whole = t.1; holds = subst (λ text. IsRefusal text options e) is p }
+      | inr (long, longer) ↦ record { text = t.0; whole = t.1; holds = refusal_of source t.0 options e long longer p }
+    ]
 
-refused : (unread left : Option (List ℕ)) (text top : List ℕ) (e : TextError) → ReadsSource unread left text → e ≢ fault.Memory → IsFault text e → OfKnown unread (λ whole. IsFaulty whole ⊎ IsOther whole top)
-refused unread left text top fault.Memory r told is = absurd (told refl)
-refused unread left text top fault.TooLong r told is = too_long unread left text top r is
-refused unread left text top (fault.BadByte at) r told is = faulty unread left text top (fault.BadByte at) r is.short told is
-refused unread left text top (fault.OpenComment at) r told is = faulty unread left text top (fault.OpenComment at) r is.short told is
-refused unread left text top (fault.BadLiteral at) r told is = faulty unread left text top (fault.BadLiteral at) r is.short told is
-refused unread left text top (fault.Syntax at) r told is = faulty unread left text top (fault.Syntax at) r is.short told is
-refused unread left text top (fault.TooDeep at) r told is = faulty unread left text top (fault.TooDeep at) r is.short told is
-refused unread left text top (fault.TimeRange at) r told is = faulty unread left text top (fault.TimeRange at) r is.0.short told is
+pub run_fails : (unread left : Option (List ℕ)) (source : List ℕ) (options : Options) (e : RunError) → ReadsSource unread left source
+    → (e ≢ refusal.Write → IsRefusal source options e) → IsFailure unread options (failure.Run e)
+run_fails unread left source options refusal.Write r p = tt
+run_fails unread left source options refusal.Options r p = text_refused unread left source options refusal.Options r (p (λ q. absurd cc))
+run_fails unread left source options (refusal.Text f) r p = text_refused unread left source options (refusal.Text f) r (p (λ q. absurd cc))
+run_fails unread left source options refusal.NotYet r p = text_refused unread left source options refusal.NotYet r (p (λ q. absurd cc))
+run_fails unread left source options (refusal.CycleLimit l) r p = text_refused unread left source options (refusal.CycleLimit l) r (p (λ q. absurd cc))
+run_fails unread left source options refusal.Memory r p = text_refused unread left source options refusal.Memory r (p (λ q. absurd cc))
 
-module _ (words : List (List ℕ)) (unread left : Option (List ℕ)) (source : List ℕ) (options : Options) (old new : Option (List ℕ)) (r : AreRequest words options) (read : ReadsSource unread left source) where
-  refuses : (e : TextError) → e ≢ fault.Memory → IsFault source e → RefusesText words unread
-  refuses e told is = record { options = options; request = r; refused = refused unread left source (string_bytes options.top) e read told is }
-
-  text_caused : (e : TextError) → IsFault source e → IsCaused words unread (failure.Run (refusal.Text e))
-  text_caused fault.Memory is = tt
-  text_caused fault.TooLong is = refuses fault.TooLong (λ e. absurd cc) is
-  text_caused (fault.BadByte at) is = refuses (fault.BadByte at) (λ e. absurd cc) is
-  text_caused (fault.OpenComment at) is = refuses (fault.OpenComment at) (λ e. absurd cc) is
-  text_caused (fault.BadLiteral at) is = refuses (fault.BadLiteral at) (λ e. absurd cc) is
-  text_caused (fault.Syntax at) is = refuses (fault.Syntax at) (λ e. absurd cc) is
-  text_caused (fault.TooDeep at) is = refuses (fault.TooDeep at) (λ e. absurd cc) is
-  text_caused (fault.TimeRange at) is = refuses (fault.TimeRange at) (λ e. absurd cc) is
-
-  other : IsOther source (string_bytes options.top) → RefusesText words unread
-  other is = record {
-    options = options;
-    request = r;
-    refused = known unread left source (λ whole. IsFaulty whole ⊎ IsOther whole (string_bytes options.top)) read is.is_text.short (inr is);
-  }
-
-  runs_on : ReachesLimit source options → RunsOn words unread
-  runs_on is = record { options = options; request = r; reaches = known unread left source (λ whole. ReachesLimit whole options) read is.is_design.is_text.short is }
-
-  pub run_fails : (e : RunError) → (e ≡ refusal.Options → are_in_range options.stop options.limit options.workers ≡ false) → IsRefusal source options old new e → Fails words unread old new (failure.Run e)
-  run_fails (refusal.CycleLimit l) out k = record { explains = words_request words options r; caused = runs_on k.1; quiet = λ _. k.2 }
-  run_fails refusal.Write out k = record { explains = words_request words options r; caused = tt; quiet = λ other. absurd (other refl) }
-  run_fails refusal.Options out k = let never : true ≡ false = sym (request_in_range words options r) ∙ out refl in absurd cc
-  run_fails (refusal.Text f) out k = record { explains = words_request words options r; caused = text_caused f k.0; quiet = λ _. k.1 }
-  run_fails refusal.NotYet out k = record { explains = words_request words options r; caused = other k.0; quiet = λ _. k.1 }
-  run_fails refusal.Memory out k = record { explains = words_request words options r; caused = tt; quiet = λ _. k }
-
-pub source_fails : (words : List (List ℕ)) (unread : Option (List ℕ)) (options : Options) (f : Failure) (old : Option (List ℕ)) → AreRequest words options → (f ≡ failure.Read) ⊎ (f ≡ failure.Memory) → Fails words unread old old f
-source_fails words unread options failure.Read old r e = record { explains = words_request words options r; caused = tt; quiet = λ _. Keeps-refl old }
-source_fails words unread options failure.Memory old r e = record { explains = words_request words options r; caused = tt; quiet = λ _. Keeps-refl old }
-source_fails words unread options failure.Words old r (inl e) = absurd cc
-source_fails words unread options failure.Words old r (inr e) = absurd cc
-source_fails words unread options (failure.Run x) old r (inl e) = absurd cc
-source_fails words unread options (failure.Run x) old r (inr e) = absurd cc
+pub failed_write : (e : RunError) → ◌≡◌ {A = Result (Unit {0}) Failure} (Err (failure.Run e)) (Err (failure.Run refusal.Write)) → ◌≡◌
+    {A = Result (Unit {0}) RunError} (Err e) (Err refusal.Write)
+failed_write e is = cc
 
 -- ---- statuses
-
-text_refused : (words : List (List ℕ)) (unread : Option (List ℕ)) (e : TextError) → status_of (failure.Run (refusal.Text e)) ≡ 1 → IsCaused words unread (failure.Run (refusal.Text e)) → RefusesText words unread
-text_refused words unread fault.Memory e c = absurd (omega arith)
-text_refused words unread fault.TooLong e c = c
-text_refused words unread (fault.BadByte at) e c = c
-text_refused words unread (fault.OpenComment at) e c = c
-text_refused words unread (fault.BadLiteral at) e c = c
-text_refused words unread (fault.Syntax at) e c = c
-text_refused words unread (fault.TooDeep at) e c = c
-text_refused words unread (fault.TimeRange at) e c = c
-
-pub status_1 : (words : List (List ℕ)) (unread : Option (List ℕ)) (f : Failure) → status_of f ≡ 1 → IsCaused words unread f → RefusesText words unread
-status_1 words unread failure.Words e c = absurd (omega arith)
-status_1 words unread failure.Read e c = absurd (omega arith)
-status_1 words unread failure.Memory e c = absurd (omega arith)
-status_1 words unread (failure.Run refusal.Options) e c = absurd (omega arith)
-status_1 words unread (failure.Run (refusal.Text f)) e c = text_refused words unread f e c
-status_1 words unread (failure.Run refusal.NotYet) e c = c
-status_1 words unread (failure.Run (refusal.CycleLimit l)) e c = absurd (omega arith)
-status_1 words unread (failure.Run refusal.Write) e c = absurd (omega arith)
-status_1 words unread (failure.Run refusal.Memory) e c = absurd (omega arith)
 
 text_not_limit : (e : TextError) → status_of (failure.Run (refusal.Text e)) ≡ 3 → ⊥
 text_not_limit fault.Memory e = absurd (omega arith)
@@ -143,13 +95,78 @@ text_not_limit (fault.Syntax at) e = absurd (omega arith)
 text_not_limit (fault.TooDeep at) e = absurd (omega arith)
 text_not_limit (fault.TimeRange at) e = absurd (omega arith)
 
-pub status_3 : (words : List (List ℕ)) (unread : Option (List ℕ)) (f : Failure) → status_of f ≡ 3 → IsCaused words unread f → RunsOn words unread
-status_3 words unread failure.Words e c = absurd (omega arith)
-status_3 words unread failure.Read e c = absurd (omega arith)
-status_3 words unread failure.Memory e c = absurd (omega arith)
-status_3 words unread (failure.Run refusal.Options) e c = absurd (omega arith)
-status_3 words unread (failure.Run (refusal.Text f)) e c = absurd (text_not_limit f e)
-status_3 words unread (failure.Run refusal.NotYet) e c = absurd (omega arith)
-status_3 words unread (failure.Run (refusal.CycleLimit l)) e c = c
-status_3 words unread (failure.Run refusal.Write) e c = absurd (omega arith)
-status_3 words unread (failure.Run refusal.Memory) e c = absurd (omega arith)
+text_not_words : (e : TextError) → status_of (failure.Run (refusal.Text e)) ≡ 2 → ⊥
+text_not_words fault.Memory e = absurd (omega arith)
+text_not_words fault.TooLong e = absurd (omega arith)
+text_not_words (fault.BadByte at) e = absurd (omega arith)
+text_not_words (fault.OpenComment at) e = absurd (omega arith)
+text_not_words (fault.BadLiteral at) e = absurd (omega arith)
+text_not_words (fault.Syntax at) e = absurd (omega arith)
+text_not_words (fault.TooDeep at) e = absurd (omega arith)
+text_not_words (fault.TimeRange at) e = absurd (omega arith)
+
+module _ (words : List (List ℕ)) (unread : Option (List ℕ)) (options : Options) (a : Asks words options) where
+  pub has_run : (Holds : List ℕ → Options → Type 0) → HasText unread (λ text. Holds text options) → HasRun words unread Holds
+  has_run Holds p = record { options = options; asked = a; read = p }
+
+  faulty : (e : TextError) → e ≢ fault.Memory → HasText unread (λ text. IsFault text e) → HasRun words unread (λ text o. IsFaulty text ⊎ IsOther text o)
+  faulty e known p = has_run (λ text o. IsFaulty text ⊎ IsOther text o)
+      (record { text = p.text; whole = p.whole; holds = inl (record { found = e; known = known; is = p.holds }) })
+
+  pub status_1 : (f : Failure) → status_of f ≡ 1 → IsFailure unread options f → HasRun words unread (λ text o. IsFaulty text ⊎ IsOther text o)
+  status_1 failure.Read e p = absurd (omega arith)
+  status_1 failure.Memory e p = absurd (omega arith)
+  status_1 (failure.Run refusal.Options) e p = absurd (omega arith)
+  status_1 (failure.Run (refusal.Text fault.Memory)) e p = absurd (omega arith)
+  status_1 (failure.Run (refusal.Text fault.TooLong)) e p = faulty fault.TooLong (λ q. absurd cc) p
+  status_1 (failure.Run (refusal.Text (fault.BadByte at))) e p = faulty (fault.BadByte at) (λ q. absurd cc) p
+  status_1 (failure.Run (refusal.Text (fault.OpenComment at))) e p = faulty (fault.OpenComment at) (λ q. absurd cc) p
+  status_1 (failure.Run (refusal.Text (fault.BadLiteral at))) e p = faulty (fault.BadLiteral at) (λ q. absurd cc) p
+  status_1 (failure.Run (refusal.Text (fault.Syntax at))) e p = faulty (fault.Syntax at) (λ q. absurd cc) p
+  status_1 (failure.Run (refusal.Text (fault.TooDeep at))) e p = faulty (fault.TooDeep at) (λ q. absurd cc) p
+  status_1 (failure.Run (refusal.Text (fault.TimeRange at))) e p = faulty (fault.TimeRange at) (λ q. absurd cc) p
+  status_1 (failure.Run refusal.NotYet) e p = has_run (λ text o. IsFaulty text ⊎ IsOther text o)
+      (record { text = p.text; whole = p.whole; holds = inr p.holds })
+  status_1 (failure.Run (refusal.CycleLimit l)) e p = absurd (omega arith)
+  status_1 (failure.Run refusal.Write) e p = absurd (omega arith)
+  status_1 (failure.Run refusal.Memory) e p = absurd (omega arith)
+
+  pub status_3 : (f : Failure) → status_of f ≡ 3 → IsFailure unread options f
+      → HasRun words unread (λ text o. HasDesign text o (λ design. ReachesLimit design o))
+  status_3 failure.Read e p = absurd (omega arith)
+  status_3 failure.Memory e p = absurd (omega arith)
+  status_3 (failure.Run refusal.Options) e p = absurd (omega arith)
+  status_3 (failure.Run (refusal.Text f)) e p = absurd (text_not_limit f e)
+  status_3 (failure.Run refusal.NotYet) e p = absurd (omega arith)
+  status_3 (failure.Run (refusal.CycleLimit l)) e p = has_run (λ text o. HasDesign text o (λ design. ReachesLimit design o))
+      (record { text = p.text; whole = p.whole; holds = p.holds.1 })
+  status_3 (failure.Run refusal.Write) e p = absurd (omega arith)
+  status_3 (failure.Run refusal.Memory) e p = absurd (omega arith)
+
+  out_of_range : (unread' : Option (List ℕ)) (f : Failure) → status_of f ≡ 2 → IsFailure unread' options f
+      → are_in_range options.stop options.limit options.workers ≡ false
+  out_of_range unread' failure.Read e p = absurd (omega arith)
+  out_of_range unread' failure.Memory e p = absurd (omega arith)
+  out_of_range unread' (failure.Run refusal.Options) e p = p.holds
+  out_of_range unread' (failure.Run (refusal.Text f)) e p = absurd (text_not_words f e)
+  out_of_range unread' (failure.Run refusal.NotYet) e p = absurd (omega arith)
+  out_of_range unread' (failure.Run (refusal.CycleLimit l)) e p = absurd (omega arith)
+  out_of_range unread' (failure.Run refusal.Write) e p = absurd (omega arith)
+  out_of_range unread' (failure.Run refusal.Memory) e p = absurd (omega arith)
+
+  pub status_2 : (f : Failure) → status_of f ≡ 2 → IsFailure unread options f
+      → AreRefused words ⊎ HasOptions words (λ o. are_in_range o.stop o.limit o.workers ≡ false)
+  status_2 f e p = inr (record { options = options; asked = a; holds = out_of_range unread f e p })
+
+  -- nothing was written, or a write failed
+  pub stopped : (Holds : List ℕ → Options → Type 0) {Quiet Helped : Type 0} (f : Failure) → (f ≢ failure.Run refusal.Write → Quiet) →
+      (◌≡◌ {A = Result (Unit {0}) Failure} (Err f) (Err (failure.Run refusal.Write)) → HasText unread (λ text. Holds text options)) → Quiet ⊎
+      (HasRun words unread Holds ⊎ Helped)
+  stopped Holds failure.Read quiet part = inl (quiet (λ e. absurd cc))
+  stopped Holds failure.Memory quiet part = inl (quiet (λ e. absurd cc))
+  stopped Holds (failure.Run refusal.Options) quiet part = inl (quiet (λ e. absurd cc))
+  stopped Holds (failure.Run (refusal.Text f)) quiet part = inl (quiet (λ e. absurd cc))
+  stopped Holds (failure.Run refusal.NotYet) quiet part = inl (quiet (λ e. absurd cc))
+  stopped Holds (failure.Run (refusal.CycleLimit l)) quiet part = inl (quiet (λ e. absurd cc))
+  stopped Holds (failure.Run refusal.Memory) quiet part = inl (quiet (λ e. absurd cc))
+  stopped Holds (failure.Run refusal.Write) quiet part = inr (inl (has_run Holds (part refl)))

@@ -7,8 +7,10 @@ use Rattle.sim_logic.specs.Resolution.{resolved}
 use Rattle.sim_wave.specs.declared.delay.Delay.TheVariants.{Inertial}
 use Rattle.sim_wave.specs.Driver.{Transaction, Waveform, next_of, taken}
 use Rattle.sim_wave.specs.Edit.{edited}
-use Rattle.sim_run.specs.declared.record.Record.{Record}
+use Rattle.sim_store.specs.declared.record.Record.{Record}
 use Rattle.sim_run.specs.declared.form.Source.{Source}
+use Rattle.sim_store.specs.Behaviour.{Behaviour}
+use Rattle.sim_run.specs.Form.{IsInTime}
 use Rattle.sim_run.specs.State.{State}
 
 -- the value of the net: the resolution of its drivers' values, or without a driver the signal's first value
@@ -65,7 +67,7 @@ abbrev pub carried_on : Logic → Option ℕ → State → State
 carried_on initial None s = s
 carried_on initial (Some time) s = updated initial time s
 
--- the state after the initialization and so many cycles
+-- the state after the initialization and n cycles
 unfoldable pub state_after : Source → ℕ → State
 state_after s zero = started s
 state_after s (suc n) = carried_on s.initial (next_time (state_after s n).drivers) (state_after s n)
@@ -92,14 +94,23 @@ records_after s (suc n) = records_after s n ++ record_of (state_after s (suc n))
 
 abbrev pub names_of : Option Source → List (List ℕ)
 names_of None = []
-names_of (Some s) = s.name ∷ []
+names_of (Some s) = s.name.text ∷ []
 
--- the next transaction's time after so many cycles
+-- the next transaction's time after n cycles
 abbrev pub next_after : Option Source → ℕ → Option ℕ
 next_after None n = None
 next_after (Some s) n = next_time (state_after s n).drivers
 
--- the records of the initialization and of so many cycles
+-- the records of the initialization and of n cycles
 abbrev pub records_of : Option Source → ℕ → List Record
 records_of None n = record { time = 0; delta = 0; changes = [] } ∷ []
 records_of (Some s) n = records_after s n
+
+-- how the design behaves
+abbrev pub behaviour_of : Option Source → Behaviour
+behaviour_of design = record { names = names_of design; records = records_of design; next = next_after design }
+
+-- The name of the design's signal is text, and its delays are at most the greatest time.
+abbrev pub CanRun : Option Source → Type 0
+CanRun None = Unit {0}
+CanRun (Some s) = IsInTime s.elements

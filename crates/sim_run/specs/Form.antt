@@ -2,32 +2,29 @@
 -- type std_logic and assignments of one character literal each to it.
 use Rattle.std.specs.Prelude.{◌≡◌, ℕ, ◌≤◌, Bool, false, List, [], ◌∷◌, length, codes, Option, Some, None, All}
 use Rattle.std.specs.List.{AllZip, list_any}
-use Rattle.std.specs.Str.{bytes_eq, chars, IsAscii, IsUtf8}
+use Rattle.std.specs.Str.{bytes_eq, chars, IsAscii}
 use Rattle.caseless.specs.Caseless.{IsDefaultMatch}
 use Rattle.sim_logic.specs.declared.logic.Logic.{Logic}
 use Rattle.sim_logic.specs.declared.logic.Logic.TheVariants.{U}
-use Rattle.sim_logic.specs.declared.time.TheConstants.{LATEST}
+use Rattle.sim_logic.specs.Time.{largest_time}
 use Rattle.sim_tree.specs.declared.expression.Expression.{Expression}
 use Rattle.sim_tree.specs.declared.expression.Expression.TheVariants as expression
-use Rattle.sim_tree.specs.declared.expression.Relation.TheVariants as relation
-use Rattle.sim_tree.specs.declared.expression.Factor.{roll-Factor}
-use Rattle.sim_tree.specs.declared.expression.Primary.TheVariants as primary
-use Rattle.sim_tree.specs.declared.waveform.TimeLiteral.{TimeLiteral}
+use Rattle.sim_tree.specs.Times.{TimeLiteral}
 use Rattle.sim_tree.specs.declared.waveform.Element.{Element}
 use Rattle.sim_tree.specs.declared.waveform.DelayMechanism.TheVariants as delay
-use Rattle.sim_tree.specs.declared.waveform.SignalAssignment.{SignalAssignment}
+use Rattle.sim_tree.specs.declared.waveform.ConcurrentSignalAssignment.{ConcurrentSignalAssignment}
 use Rattle.sim_tree.specs.declared.declaration.Initial.{Initial}
 use Rattle.sim_tree.specs.declared.declaration.Initial.TheVariants as initial
 use Rattle.sim_tree.specs.declared.declaration.ObjectDeclaration.{ObjectDeclaration}
 use Rattle.sim_tree.specs.declared.declaration.Declaration.{Declaration}
 use Rattle.sim_tree.specs.declared.declaration.Declaration.TheVariants as declaration
-use Rattle.sim_tree.specs.declared.expression.Name.{Name}
+use Rattle.sim_tree.specs.Name.{Name}
 use Rattle.sim_tree.specs.declared.unit.Concurrent.{Concurrent}
 use Rattle.sim_tree.specs.declared.unit.Concurrent.TheVariants as concurrent
 use Rattle.sim_tree.specs.declared.unit.Entity.{Entity}
 use Rattle.sim_tree.specs.declared.unit.Architecture.{Architecture}
 use Rattle.sim_tree.specs.declared.unit.LibraryUnit.TheVariants as library
-use Rattle.sim_tree.specs.declared.unit.DesignFile.{DesignFile}
+use Rattle.sim_tree.specs.DesignFile.{DesignFile}
 use Rattle.sim_tree.specs.Times.{time_of}
 use Rattle.sim_run.specs.declared.form.Source.{Source}
 
@@ -38,7 +35,7 @@ Text = List ℕ
 
 -- a character literal, and no operator
 abbrev pub literal : Logic → ℕ → Expression
-literal value at = expression.Single (relation.Plain (roll-Factor (record { negation = None; primary = primary.Literal value at })))
+literal value at = expression.Literal value at
 
 -- The expression is this character literal.
 pub record IsLiteral (written : Expression) (value : Logic) : Type 0 where
@@ -50,10 +47,10 @@ abbrev pub delay_of : Option TimeLiteral → ℕ
 delay_of None = 0
 delay_of (Some t) = time_of t.digits t.unit
 
--- The delay is so many femtoseconds, no later than the latest time.
+-- The delay in femtoseconds, which is no larger than the largest time.
 pub record IsDelay (written : Option TimeLiteral) (delay : ℕ) : Type 0 where
   pub is : delay_of written ≡ delay
-  pub in_time : delay ≤ LATEST
+  pub in_time : delay ≤ largest_time
 
 -- The waveform is one character literal: its element is this delay and this value.
 pub record IsElement (waveform : List Element) (element : ℕ × Logic) : Type 0 where
@@ -64,13 +61,13 @@ pub record IsElement (waveform : List Element) (element : ℕ × Logic) : Type 0
 
 -- The statement is `S <= LITERAL [after TIME] ;`, for the signal S of this name.
 pub record Assigns (signal : Text) (statement : Concurrent) (element : ℕ × Logic) : Type 0 where
-  pub assignment : SignalAssignment
+  pub assignment : ConcurrentSignalAssignment
   pub waveform : List Element
   pub is : statement ≡ concurrent.Assignment assignment
   pub unlabelled : assignment.label ≡ None
   pub target : assignment.target.text ≡ signal
   pub delay : assignment.delay ≡ delay.Unwritten
-  pub unconditional : assignment.waveforms ≡ record { choices = []; otherwise = Some waveform }
+  pub unconditional : assignment.waveforms ≡ record { conditional = []; otherwise = Some waveform }
   pub element_is : IsElement waveform element
 
 -- ---- the signal
@@ -89,14 +86,11 @@ IsFirstValue (Some (initial.Literal written at)) value = value ≡ written
 IsFirstValue (Some (initial.Named name)) value = ⊥
 
 -- The declaration is `signal S : std_logic [:= LITERAL] ;`.
-pub record Declares (written : Declaration) (signal : Text) (value : Logic) : Type 0 where
+pub record Declares (written : Declaration) (name : Name) (value : Logic) : Type 0 where
   pub object : ObjectDeclaration
-  pub name : Name
   pub is : written ≡ declaration.Signal object
   pub names : object.names ≡ name ∷ []
-  pub named : name.text ≡ signal
-  pub text : IsUtf8 signal
-  pub free : is_predefined signal ≡ false
+  pub free : is_predefined name.text ≡ false
   pub mark : object.mark.text ≡ codes "std_logic"
   pub first_value : IsFirstValue object.initial value
 
@@ -108,25 +102,25 @@ pub record Drives (statements : List Concurrent) (signal : Text) (elements : Lis
 -- The architecture has one signal and assignments to it, or nothing.
 abbrev pub HasBody : List Declaration → List Concurrent → Option Source → Type 0
 HasBody [] [] None = Unit {0}
-HasBody (d ∷ []) statements (Some s) = Declares d s.name s.initial × Drives statements s.name s.elements
+HasBody (d ∷ []) statements (Some s) = Declares d s.name s.initial × Drives statements s.name.text s.elements
 HasBody _ _ _ = ⊥
 
--- the delays are at most the greatest time, 2^62 - 1 fs
+-- no delay is larger than the largest time
 abbrev pub IsInTime : List (ℕ × Logic) → Type 0
-IsInTime elements = All (λ (e : ℕ × Logic). e.0 ≤ LATEST) elements
+IsInTime elements = All (λ (e : ℕ × Logic). e.0 ≤ largest_time) elements
 
 -- ---- the design file
 
 -- An entity of this name is the top: they are one without regard to case. A top with a byte above 127 names no entity.
 pub record IsTop (top entity : Text) : Type 0 where
   pub ascii : IsAscii top
-  pub text : IsUtf8 entity
   pub same : IsDefaultMatch (chars top) (chars entity)
 
--- The file has an entity without ports, which is the top, and behind it its architecture.
+-- The file has an entity without ports, which is the top, and after it its architecture.
 pub record IsPair (top : Text) (file : DesignFile) (architecture : Architecture) : Type 0 where
   pub entity : Entity
-  pub units : file.units ≡ record { context = []; library_unit = library.Entity entity } ∷ record { context = []; library_unit = library.Architecture architecture } ∷ []
+  pub units : file.units ≡ record { context = []; library_unit = library.Entity entity } ∷ record
+      { context = []; library_unit = library.Architecture architecture } ∷ []
   pub portless : entity.ports ≡ []
   pub is_top : IsTop top entity.name.text
   pub entity_free : is_predefined entity.name.text ≡ false

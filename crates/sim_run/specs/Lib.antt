@@ -1,12 +1,8 @@
 pub mod Cycle
 pub mod Form
-pub mod History
 pub mod Listing
-pub mod Options
-pub mod Outcome
 pub mod Run
 pub mod Session
 pub mod Simulation
 pub mod State
-pub mod Texts
 pub mod Writing

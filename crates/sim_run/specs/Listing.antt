@@ -2,21 +2,24 @@
 use Rattle.std.specs.Prelude.{ℕ, ◌-◌, List, [], ◌∷◌, ◌++◌, length, decimal, codes, slice_index_or, flat_map}
 use Rattle.sim_logic.specs.declared.logic.Logic.{Logic}
 use Rattle.sim_logic.specs.Logic.{byte_of}
-use Rattle.sim_run.specs.declared.record.Record.{Record}
-use Rattle.sim_run.specs.History.{event_count}
+use Rattle.sim_store.specs.declared.record.Record.{Record}
+use Rattle.sim_store.specs.History.{event_count}
 
 -- some pieces of text, one after another
 abbrev pub joined : List (List ℕ) → List ℕ
 joined pieces = flat_map (λ (piece : List ℕ). piece) pieces
 
+-- how each line of a cycle begins: TIME DELTA
+abbrev pub head_of : Record → List ℕ
+head_of r = decimal r.time ++ codes " " ++ decimal r.delta ++ codes " "
+
 -- TIME DELTA NAME VALUE
-abbrev pub line_of : List ℕ → List ℕ → List (List ℕ) → ℕ × Logic → List ℕ
-line_of time delta names change =
-    joined (time ∷ codes " " ∷ delta ∷ codes " " ∷ slice_index_or names change.0 [] ∷ codes " " ∷ (byte_of change.1 ∷ []) ∷ codes "\n" ∷ [])
+abbrev pub line_of : List ℕ → List (List ℕ) → ℕ × Logic → List ℕ
+line_of head names change = joined (head ∷ slice_index_or names change.0 [] ∷ codes " " ∷ (byte_of change.1 ∷ []) ∷ codes "\n" ∷ [])
 
 -- a line for each change of a cycle
 abbrev pub lines_of : List (List ℕ) → Record → List ℕ
-lines_of names r = flat_map (line_of (decimal r.time) (decimal r.delta) names) r.changes
+lines_of names r = flat_map (line_of (head_of r) names) r.changes
 
 -- done CYCLES EVENTS
 abbrev pub last_line : List Record → List ℕ

@@ -1,39 +1,32 @@
--- A whole run of a design of the form that is run today.
-use Rattle.std.specs.Prelude.{◌≡◌, ℕ, ◌<◌, ◌≤◌, List, Option, None, Some}
-use Rattle.std.specs.Str.{IsUtf8}
-use Rattle.sim_run.specs.declared.form.Source.{Source}
-use Rattle.sim_run.specs.State.{State}
-use Rattle.sim_run.specs.declared.record.Record.{Record}
-use Rattle.sim_run.specs.declared.error.RunError.{RunError}
-use Rattle.sim_run.specs.declared.error.RunError.TheVariants as refusal
-use Rattle.sim_run.specs.Cycle.{state_after, records_after, next_time, next_after, names_of, records_of}
-use Rattle.sim_run.specs.Form.{IsInTime}
-use Rattle.sim_run.specs.History.{History, event_count}
-use Rattle.sim_run.specs.Outcome.{IsOver, FinishedAfter, LimitReached, HasOutcome}
+-- A run, whatever the design, by how the design behaves.
+use Rattle.std.specs.Prelude.{◌≡◌, ℕ, List, Option}
+use Rattle.std.specs.Io.KnownBytes.{Appends}
+use Rattle.sim_store.specs.Behaviour.{Behaviour}
+use Rattle.sim_store.specs.History.{History}
+use Rattle.sim_store.specs.Outcome.{FinishedAfter, LimitReached, HasOutcome}
+use Rattle.sim_options.specs.declared.options.Options.{Options}
+use Rattle.sim_run.specs.Listing.{listing}
+use Rattle.sim_run.specs.Writing.{AppendsPart}
 
--- The name of the design's signal is text, and its delays are at most the greatest time.
-abbrev pub CanRun : Option Source → Type 0
-CanRun None = Unit {0}
-CanRun (Some s) = IsUtf8 s.name × IsInTime s.elements
-
--- the run of the design finished with this history
-pub record Finishes (found : Option Source) (stop limit : ℕ) (history : History) : Type 0 where
+-- The run is finished up to the stop time and within the limit, with this history (IEEE 1076-2008, 14.7.5.1).
+pub record Finishes (design : Behaviour) (options : Options) (history : History) : Type 0 where
   pub cycles : ℕ
-  pub outcome : HasOutcome (next_after found) stop limit (FinishedAfter cycles)
-  pub names : history.names ≡ names_of found
-  pub records : history.records ≡ records_of found cycles
+  pub outcome : HasOutcome design.next options.stop options.limit (FinishedAfter cycles)
+  pub names : history.names ≡ design.names
+  pub records : history.records ≡ design.records cycles
 
--- why the run of the design has no history
-abbrev pub IsRefused : Option Source → ℕ → ℕ → RunError → Type 0
-IsRefused found stop limit (refusal.CycleLimit l) = (l ≡ limit) × HasOutcome (next_after found) stop limit LimitReached
-IsRefused found stop limit refusal.Memory = Unit {0}
-IsRefused found stop limit _ = ⊥
+-- The run needs more cycles than the limit.
+abbrev pub ReachesLimit : Behaviour → Options → Type 0
+ReachesLimit design options = HasOutcome design.next options.stop options.limit LimitReached
 
--- so many cycles were carried out, and the run was not over before
-pub record IsCarried (source : Source) (stop n : ℕ) (state : State) (records : List Record) (events : ℕ) : Type 0 where
-  pub state_is : state ≡ state_after source n
-  pub records_are : records ≡ records_after source n
-  pub events_are : events ≡ event_count records
-  pub few : events ≤ n
-  pub early : state.delta ≤ n
-  pub not_over : (m : ℕ) → m < n → IsOver (next_time (state_after source m).drivers) stop → ⊥
+-- The run is finished, and its listing was written.
+pub record Lists (design : Behaviour) (options : Options) (old new : Option (List ℕ)) : Type 0 where
+  pub history : History
+  pub finishes : Finishes design options history
+  pub written : Appends old new (listing history.names history.records)
+
+-- The run is finished, and a proper front of its listing was written.
+pub record ListsPart (design : Behaviour) (options : Options) (old new : Option (List ℕ)) : Type 0 where
+  pub history : History
+  pub finishes : Finishes design options history
+  pub written : AppendsPart old new (listing history.names history.records)

@@ -1,27 +1,18 @@
 -- What the program promises of its words, its input and its output.
-use Rattle.std.specs.Prelude.{◌≡◌, ◌≢◌, ℕ, Bool, true, false, List, [], ◌∷◌, codes, length, Option, Some, None, ◌⊎◌}
-use Rattle.std.specs.Str.{bytes_eq}
+use Rattle.std.specs.Prelude.{◌≡◌, ℕ, ◌+◌, List, length, Option, Some, None, ◌⊎◌}
 use Rattle.std.specs.String.{string_bytes}
-use Rattle.std.specs.Io.KnownBytes.{Keeps, Consumes, IsAtEnd}
+use Rattle.std.specs.Io.KnownBytes.{Appends, Keeps, Consumes, IsAtEnd}
+use Rattle.sim_token.specs.Limits.{most_bytes}
 use Rattle.sim_token.specs.declared.error.TextError.TheVariants as fault
+use Rattle.sim_options.specs.declared.fault.CliFault.{CliFault}
+use Rattle.sim_options.specs.declared.fault.CliFault.TheVariants as cli
+use Rattle.sim_options.specs.declared.options.Options.{Options}
+use Rattle.sim_options.specs.Asks.{Asks, AsksForHelp}
 use Rattle.sim_run.specs.declared.error.RunError.TheVariants as refusal
-use Rattle.sim_run.specs.declared.options.Options.{Options}
 use Rattle.sim_run.specs.declared.program.Failure.{Failure}
 use Rattle.sim_run.specs.declared.program.Failure.TheVariants as failure
-use Rattle.sim_run.specs.Simulation.{Lists, ReachesLimit, IsOther}
-use Rattle.sim_run.specs.Texts.{IsFaulty}
-
--- whether the words are `--top` and a name
-abbrev pub are_request : List (List ℕ) → Bool
-are_request (flag ∷ top ∷ []) = bytes_eq flag (codes "--top")
-are_request _ = false
-
--- The words ask for a run with these options: `--top NAME`, and no more.
-pub record AreRequest (words : List (List ℕ)) (options : Options) : Type 0 where
-  pub words_are : words ≡ codes "--top" ∷ string_bytes options.top ∷ []
-  pub stop : options.stop ≡ 4611686018427387903
-  pub limit : options.limit ≡ 10000
-  pub workers : options.workers ≡ 1
+use Rattle.sim_run.specs.Simulation.{IsRefusal}
+use Rattle.sim_run.specs.Writing.{AppendsPart}
 
 -- the bytes that a reader had were these, if they are known
 abbrev pub IsWhole : Option (List ℕ) → List ℕ → Type 0
@@ -31,60 +22,48 @@ IsWhole (Some bytes) text = bytes ≡ text
 -- What was read, up to one byte more than a text may have.
 pub record ReadsSource (old new : Option (List ℕ)) (text : List ℕ) : Type 0 where
   pub consumed : Consumes old new text
-  pub enough : (length text ≡ 1048577) ⊎ IsAtEnd new
+  pub enough : (length text ≡ most_bytes + 1) ⊎ IsAtEnd new
 
--- The listing of the text that the reader had was written, for the top that the words name.
-pub record Succeeds (words : List (List ℕ)) (unread old new : Option (List ℕ)) : Type 0 where
-  pub options : Options
-  pub request : AreRequest words options
+-- The reader had a text of which this is true.
+pub record HasText (unread : Option (List ℕ)) (Holds : List ℕ → Type 0) : Type 0 where
   pub text : List ℕ
   pub whole : IsWhole unread text
-  pub lists : Lists text options old new
+  pub holds : Holds text
 
--- What is said of the bytes that a reader had, if they are known.
-abbrev pub OfKnown : Option (List ℕ) → (List ℕ → Type 0) → Type 0
-OfKnown None P = Unit {0}
-OfKnown (Some text) P = P text
-
--- The words name a top, and the text that the reader had is at fault, or its design is not of the form that is run.
-pub record RefusesText (words : List (List ℕ)) (unread : Option (List ℕ)) : Type 0 where
+-- The words ask for a run of the text that the reader had, and of that text and the options this is true.
+pub record HasRun (words : List (List ℕ)) (unread : Option (List ℕ)) (Holds : List ℕ → Options → Type 0) : Type 0 where
   pub options : Options
-  pub request : AreRequest words options
-  pub refused : OfKnown unread (λ text. IsFaulty text ⊎ IsOther text (string_bytes options.top))
+  pub asked : Asks words options
+  pub read : HasText unread (λ text. Holds text options)
 
--- The words name a top, and the run of the design in the text that the reader had needs more cycles than the limit.
-pub record RunsOn (words : List (List ℕ)) (unread : Option (List ℕ)) : Type 0 where
+-- The words ask for a run with options of which this is true.
+pub record HasOptions (words : List (List ℕ)) (Holds : Options → Type 0) : Type 0 where
   pub options : Options
-  pub request : AreRequest words options
-  pub reaches : OfKnown unread (λ text. ReachesLimit text options)
+  pub asked : Asks words options
+  pub holds : Holds options
 
--- Where no write failed nothing was written.
-abbrev pub IsQuiet : Failure → Option (List ℕ) → Option (List ℕ) → Type 0
-IsQuiet f old new = f ≢ failure.Run refusal.Write → Keeps old new
+-- The words ask for help, and a text was written of which this is true.
+pub record HasHelp (words : List (List ℕ)) (Holds : List ℕ → Type 0) : Type 0 where
+  pub asked : AsksForHelp words
+  pub text : List ℕ
+  pub holds : Holds text
 
--- The words are refused exactly where they are no request, and the options that they stand for never are.
-abbrev pub Explains : List (List ℕ) → Failure → Type 0
-Explains words failure.Words = are_request words ≡ false
-Explains words (failure.Run refusal.Options) = ⊥
-Explains words _ = are_request words ≡ true
+-- What the program answers and writes where the words are no options: the text of the help with status 0, or a proper front of it with 4, where
+-- a write failed; for other words nothing, with status 2, or with 4 where memory was short.
+abbrev pub IsAnswerTo : CliFault → ℕ → Option (List ℕ) → Option (List ℕ) → Type 0
+IsAnswerTo (cli.Help text) status old new = ((status ≡ 0) × Appends old new (string_bytes text)) ⊎ ((status ≡ 4) × AppendsPart old new (string_bytes text))
+IsAnswerTo (cli.Refused text) status old new = (status ≡ 2) × Keeps old new
+IsAnswerTo cli.Memory status old new = (status ≡ 4) × Keeps old new
 
--- The cause of a failure, where the text has it.
-abbrev pub IsCaused : List (List ℕ) → Option (List ℕ) → Failure → Type 0
-IsCaused words unread (failure.Run (refusal.Text fault.Memory)) = Unit {0}
-IsCaused words unread (failure.Run (refusal.Text _)) = RefusesText words unread
-IsCaused words unread (failure.Run refusal.NotYet) = RefusesText words unread
-IsCaused words unread (failure.Run (refusal.CycleLimit limit)) = RunsOn words unread
-IsCaused words unread _ = Unit {0}
-
--- what a failure says of the words and the text, and what was written
-pub record Fails (words : List (List ℕ)) (unread old new : Option (List ℕ)) (f : Failure) : Type 0 where
-  pub explains : Explains words f
-  pub caused : IsCaused words unread f
-  pub quiet : IsQuiet f old new
+-- Why the program failed, in a run with these options of the text that the reader had.
+abbrev pub IsFailure : Option (List ℕ) → Options → Failure → Type 0
+IsFailure unread options (failure.Run refusal.Write) = Unit {0}
+IsFailure unread options (failure.Run e) = HasText unread (λ text. IsRefusal text options e)
+IsFailure unread options failure.Read = Unit {0}
+IsFailure unread options failure.Memory = Unit {0}
 
 -- the status of the program (0 is success)
 abbrev pub status_of : Failure → ℕ
-status_of failure.Words = 2
 status_of failure.Read = 4
 status_of failure.Memory = 4
 status_of (failure.Run refusal.Options) = 2

@@ -8,7 +8,7 @@ AppendsPart None new bs = Unit {0}
 AppendsPart (Some xs) None bs = ⊥
 AppendsPart (Some xs) (Some ys) bs = (n : ℕ) × (n < length bs) × (ys ≡ xs ++ take n bs)
 
--- A writer, behind which held was gathered, is given bs: it took what was written, and the rest is gathered.
+-- A writer, after which held was gathered, is given bs: it took what was written, and the rest is gathered.
 pub record Gathers (old : Option (List ℕ)) (held : List ℕ) (new : Option (List ℕ)) (left bs : List ℕ) : Type 0 where
   pub written : List ℕ
   pub appended : Appends old new written

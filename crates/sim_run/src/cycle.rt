@@ -4,10 +4,11 @@ ghost use Rattle.sim_logic.specs.Logic.{is_same};
 ghost use Rattle.sim_wave.specs.Driver.{taken};
 ghost use Rattle.sim_run.specs.Cycle as spec;
 ghost use Rattle.sim_run.specs.Form.{IsInTime};
+ghost use Rattle.sim_logic.specs.Time.{largest_time};
 
 use crate::form::Source;
-use crate::record::Record;
-use sim_logic::{LATEST, Logic, resolve};
+use sim_logic::{Logic, resolve};
+use sim_store::Record;
 use sim_wave::{Delay, Driver};
 use sqlite_items::Items;
 use std::alloc::{AllocError, Global};
@@ -67,7 +68,7 @@ fn idle(alloc: Global, source: &Source) -> Result<Vec<Driver>, AllocError>
 
 /// A driver once its process assigned an element to it at the start, with inertial delay.
 fn driven(alloc: Global, initial: Logic, element: (u64, Logic)) -> Result<Driver, AllocError>
-    requires { element.0 ≤ LATEST }
+    requires { element.0 ≤ largest_time }
     ensures { IfOk result (λ d. d ≡ spec.driven initial element) }
 {
     let mut driver = Driver::new(alloc, initial);
@@ -125,7 +126,7 @@ fn is_same(a: Logic, b: Logic) -> bool
     a == b
 }
 
-/// The delta number of a cycle at `time`, behind one at `last`.
+/// The delta number of a cycle at `time`, after one at `last`.
 fn next_delta(time: u64, last: u64, delta: u64) -> u64
     requires { delta + 1 < 2 ^ 64 }
     ensures { result ≡ spec.next_delta time last delta }

@@ -1,6 +1,6 @@
 //! A run that came to its end.
 
-use crate::record::Record;
+use sim_store::Record;
 use std::marker::Model;
 
 /// The records of a finished run, and the names of its nets.
@@ -13,7 +13,7 @@ pub struct Finished {
 
 impl Model for Finished {
     ghost use Rattle.std.specs.Prelude.{◌≡◌, map, string_bytes};
-    ghost use Rattle.sim_run.specs.History.{History, IsHistory, event_count};
+    ghost use Rattle.sim_store.specs.History.{History, IsHistory, event_count};
 
     ghost Value = { History };
 
@@ -24,10 +24,10 @@ impl Model for Finished {
 
 impl Finished {
     ghost use Rattle.std.specs.Prelude.{◌≡◌, ◌+◌, ◌<◌, ◌^◌, map, length, string_bytes};
-    ghost use Rattle.sim_run.specs.History.{IsHistory, event_count};
+    ghost use Rattle.sim_store.specs.History.{IsHistory, event_count};
 
-    /// The run with these names and records, which had so many events.
-    pub(crate) fn new(names: Vec<String>, records: Vec<Record>, events: u64) -> Finished
+    /// The run with these names and records, which had this many events after the initialization.
+    pub fn new(names: Vec<String>, records: Vec<Record>, events: u64) -> Finished
         requires history { IsHistory (map string_bytes names.items) records.items }
         requires events { events ≡ event_count records.items }
         ensures names { result.names ≡ map string_bytes names.items }

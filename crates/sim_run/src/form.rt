@@ -5,18 +5,21 @@ ghost use Rattle.sim_logic.specs.declared.logic.Logic as logic;
 ghost use Rattle.sim_tree.specs.declared.unit.Architecture as unit;
 ghost use Rattle.sim_run.specs.declared.form.FormError.TheVariants as errors;
 ghost use Rattle.sim_run.specs.declared.form.Source as source;
+ghost use Rattle.sim_tree.specs.Name.{Name};
 ghost use Rattle.sim_run.specs.Form as form;
 ghost use Rattle.sim_run.specs.Form.{IsTop, IsLiteral, IsDelay, IsElement, Assigns, IsFirstValue, Declares, Drives, HasBody, IsPair, IsForm};
 
 use caseless::default_caseless_match_str;
 use sim_logic::Logic;
-use sim_tree::declaration::{Declaration, Initial, ObjectDeclaration};
-use sim_tree::expression::{Expression, Factor, Primary, Relation};
-use sim_tree::unit::{Architecture, Concurrent, DesignFile, DesignUnit, Entity, LibraryUnit};
-use sim_tree::waveform::{DelayMechanism, Element, TimeLiteral};
+use sim_tree::DesignFile;
+use sim_tree::declaration::{Declaration, Initial};
+use sim_tree::expression::Expression;
+use sim_tree::name::Name;
+use sim_tree::time::TimeLiteral;
+use sim_tree::unit::{Architecture, Concurrent, LibraryUnit};
+use sim_tree::waveform::{DelayMechanism, Element};
 use sqlite_items::Items;
 use std::alloc::{AllocError, AllocFailed, Global};
-use std::str;
 
 /// The most drivers that a design may have.
 const MOST_DRIVERS: usize = 16_384;
@@ -48,9 +51,9 @@ impl<T: Drop> From<AllocFailed<T>> for FormError {
 
 /// The one signal of a design, with an element for each of its drivers: the delay in femtoseconds and the value that it is
 /// assigned at the start.
-#[derive(Debug, Drop)]
+#[derive(Drop)]
 pub struct Source {
-    pub name: Items<u8>,
+    pub name: Name,
     pub initial: Logic,
     pub elements: Items<(u64, Logic)>,
 }
@@ -60,28 +63,18 @@ fn literal_of(expression: &Expression) -> Option<Logic>
     ensures { MatchOption result ((v : logic.Logic) → IsLiteral expression.now v → ⊥) (λ v. IsLiteral expression.now v) }
 {
     match expression {
-        Expression::Single(
-            Relation::Plain(
-                Factor {
-                    negation: None,
-                    primary: Primary::Literal(value, _),
-                },
-            ),
-        ) => Some(*value),
+        Expression::Literal { value, .. } => Some(*value),
         _ => None,
     }
 }
 
 /// A delay in femtoseconds; where none is written, 0.
-fn delay_of(after: &Option<TimeLiteral>) -> Option<u64>
-    ensures { MatchOption result ((d : ℕ) → IsDelay after.now d → ⊥) (λ d. IsDelay after.now d) }
+fn delay_of(after: &Option<TimeLiteral>) -> u64
+    ensures { IsDelay after.now result }
 {
     match after {
-        None => Some(0),
-        Some(time) => {
-            let time = time.time()?;
-            Some(time.fs())
-        }
+        None => 0,
+        Some(time) => time.time().fs(),
     }
 }
 
@@ -91,7 +84,7 @@ fn element_of(waveform: &[Element]) -> Option<(u64, Logic)>
 {
     match waveform {
         [element] => {
-            let delay = delay_of(&element.after)?;
+            let delay = delay_of(&element.after);
             let value = literal_of(&element.value)?;
             Some((delay, value))
         }
@@ -107,9 +100,9 @@ fn assigned(statement: &Concurrent, signal: &[u8]) -> Option<(u64, Logic)>
         return None;
     };
     if assignment.label.is_some()
-        || assignment.target.text.as_slice() != signal
+        || assignment.target.text() != signal
         || !matches!(assignment.delay, DelayMechanism::Unwritten)
-        || !assignment.waveforms.choices.is_empty()
+        || !assignment.waveforms.conditional.is_empty()
     {
         return None;
     }
@@ -128,7 +121,8 @@ fn elements(
     statements: &[Concurrent],
     signal: &[u8],
 ) -> Result<Items<(u64, Logic)>, FormError>
-    ensures { MatchResult result (λ found. Drives statements.now signal.now found) (λ e. e ≡ errors.NotYet → (found : List (ℕ × logic.Logic)) → Drives statements.now signal.now found → ⊥) }
+    ensures { MatchResult result (λ found. Drives statements.now signal.now found)
+        (λ e. e ≡ errors.NotYet → (found : List (ℕ × logic.Logic)) → Drives statements.now signal.now found → ⊥) }
 {
     if statements.len() > MOST_DRIVERS {
         return Err(FormError::NotYet);
@@ -161,14 +155,14 @@ fn first_value(initial: &Option<Initial>) -> Option<Logic>
 {
     match initial {
         None => Some(Logic::U),
-        Some(Initial::Literal(value, _)) => Some(*value),
+        Some(Initial::Literal { value, .. }) => Some(*value),
         Some(Initial::Named(_)) => None,
     }
 }
 
 /// The name and the first value of a signal that is declared alone.
-fn declared(declaration: &Declaration) -> Option<(&[u8], Logic)>
-    ensures { MatchOption result ((name : List ℕ) (v : logic.Logic) → Declares declaration.now name v → ⊥) (λ s. Declares declaration.now s.0.now s.1) }
+fn declared(declaration: &Declaration) -> Option<(&Name, Logic)>
+    ensures { MatchOption result ((name : Name) (v : logic.Logic) → Declares declaration.now name v → ⊥) (λ s. Declares declaration.now s.0.now s.1) }
 {
     let Declaration::Signal(object) = declaration else {
         return None;
@@ -176,19 +170,17 @@ fn declared(declaration: &Declaration) -> Option<(&[u8], Logic)>
     let [name] = object.names.as_slice() else {
         return None;
     };
-    if str::from_utf8(name.text.as_slice()).is_err()
-        || is_predefined(name.text.as_slice())
-        || object.mark.text.as_slice() != b"std_logic".as_slice()
-    {
+    if is_predefined(name.text()) || object.mark.text() != b"std_logic".as_slice() {
         return None;
     }
     let value = first_value(&object.initial)?;
-    Some((name.text.as_slice(), value))
+    Some((name, value))
 }
 
 /// The design of an architecture: its signal, if it has one.
 fn body(alloc: Global, architecture: &Architecture) -> Result<Option<Source>, FormError>
-    ensures { MatchResult result (λ s. HasBody architecture.now.declarations architecture.now.statements s) (λ e. e ≡ errors.NotYet → (s : Option source.Source) → HasBody architecture.now.declarations architecture.now.statements s → ⊥) }
+    ensures { MatchResult result (λ s. HasBody architecture.now.declarations architecture.now.statements s)
+        (λ e. e ≡ errors.NotYet → (s : Option source.Source) → HasBody architecture.now.declarations architecture.now.statements s → ⊥) }
 {
     match architecture.declarations.as_slice() {
         [] if architecture.statements.is_empty() => Ok(None),
@@ -196,8 +188,8 @@ fn body(alloc: Global, architecture: &Architecture) -> Result<Option<Source>, Fo
             let Some((name, initial)) = declared(declaration) else {
                 return Err(FormError::NotYet);
             };
-            let elements = elements(alloc, architecture.statements.as_slice(), name)?;
-            let name = Items::from_slice(alloc, name)?;
+            let elements = elements(alloc, architecture.statements.as_slice(), name.text())?;
+            let name = name.try_copy(alloc)?;
             Ok(Some(Source {
                 name,
                 initial,
@@ -209,20 +201,17 @@ fn body(alloc: Global, architecture: &Architecture) -> Result<Option<Source>, Fo
 }
 
 /// Whether an entity of this name is the top.
-fn is_top(top: &str, entity: &[u8]) -> bool
+fn is_top(top: &str, entity: &str) -> bool
     ensures { (result ≡ true) ↔ IsTop top.now entity.now }
 {
-    match str::from_utf8(entity) {
-        Ok(entity) => top.is_ascii() && default_caseless_match_str(top, entity),
-        Err(_) => false,
-    }
+    top.is_ascii() && default_caseless_match_str(top, entity)
 }
 
-/// The architecture of a file that has an entity without ports, which is the top, and behind it its architecture.
+/// The architecture of a file that has an entity without ports, which is the top, and after it its architecture.
 fn architecture_of<'a>(file: &'a DesignFile, top: &str) -> Option<&'a Architecture>
     ensures { MatchOption result ((a : unit.Architecture) → IsPair top.now file.now a → ⊥) (λ a. IsPair top.now file.now a.now) }
 {
-    let [first, second] = file.units.as_slice() else {
+    let [first, second] = file.units() else {
         return None;
     };
     let LibraryUnit::Entity(entity) = &first.library_unit else {
@@ -234,10 +223,10 @@ fn architecture_of<'a>(file: &'a DesignFile, top: &str) -> Option<&'a Architectu
     if first.context.is_empty()
         && second.context.is_empty()
         && entity.ports.is_empty()
-        && is_top(top, entity.name.text.as_slice())
-        && !is_predefined(entity.name.text.as_slice())
-        && !is_predefined(architecture.name.text.as_slice())
-        && architecture.entity.text.as_slice() == entity.name.text.as_slice()
+        && is_top(top, entity.name.as_str())
+        && !is_predefined(entity.name.text())
+        && !is_predefined(architecture.name.text())
+        && architecture.entity.text() == entity.name.text()
     {
         Some(architecture)
     } else {
@@ -248,7 +237,8 @@ fn architecture_of<'a>(file: &'a DesignFile, top: &str) -> Option<&'a Architectu
 /// The design of a file of this form: its signal, if it has one. `NotYet` comes exactly where the file is not of the form, or
 /// its entity is not the top.
 pub fn read_form(alloc: Global, file: &DesignFile, top: &str) -> Result<Option<Source>, FormError>
-    ensures { MatchResult result (λ found. IsForm top.now file.now found) (λ e. e ≡ errors.NotYet → (found : Option source.Source) → IsForm top.now file.now found → ⊥) }
+    ensures { MatchResult result (λ found. IsForm top.now file.now found)
+        (λ e. e ≡ errors.NotYet → (found : Option source.Source) → IsForm top.now file.now found → ⊥) }
 {
     match architecture_of(file, top) {
         Some(architecture) => {

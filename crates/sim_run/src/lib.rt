@@ -7,20 +7,15 @@ mod error;
 mod finished;
 mod form;
 mod listing;
-mod options;
 mod program;
-mod record;
 mod run;
 mod simulation;
 
 pub use error::RunError;
 pub use finished::Finished;
 pub use listing::write_listing;
-pub use options::Options;
 pub use program::session;
-pub use record::Record;
+pub use sim_options::{CliFault, Options, read_options};
+pub use sim_store::Record;
 pub use sim_text::TextError;
 pub use simulation::simulate;
-
-#[cfg(test)]
-mod tests;

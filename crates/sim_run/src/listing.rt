@@ -2,42 +2,57 @@
 ghost use Rattle.std.specs.Prelude.{◌≡◌, ◌++◌, ◌<◌, length, OnOk, OnErr, All, map, flat_map, string_bytes, decimal, ℕ};
 ghost use Rattle.std.specs.Io.KnownBytes.{Appends};
 ghost use Rattle.sim_logic.specs.declared.logic.Logic as logic;
-ghost use Rattle.sim_run.specs.History.{IsHistory, IsNamed};
-ghost use Rattle.sim_run.specs.Listing.{line_of, lines_of, last_line, listing};
+ghost use Rattle.sim_store.specs.History.{IsHistory, IsNamed};
+ghost use Rattle.sim_run.specs.Listing.{head_of, line_of, lines_of, last_line, listing};
 ghost use Rattle.sim_run.specs.Writing.{AppendsPart, Gathers};
 
 use crate::block::{Block, put_all, write_out};
 use crate::error::RunError;
 use crate::finished::Finished;
-use crate::record::Record;
+use arrayvec::ArrayVec;
 use itoa::Buffer;
 use sim_logic::Logic;
+use sim_store::Record;
 use std::io::Write;
+
+/// How each line of a cycle begins, of two numbers.
+type Head = ArrayVec<u8, 96>;
+
+/// `TIME DELTA `.
+fn head_of(entry: &Record) -> Head
+    ensures { result.items ≡ head_of entry.now }
+{
+    let mut time = Buffer::new();
+    let mut delta = Buffer::new();
+    let mut head = Head::new();
+    head.try_extend_from_slice(time.format(entry.time).as_bytes())
+        .unwrap();
+    head.push(b' ');
+    head.try_extend_from_slice(delta.format(entry.delta).as_bytes())
+        .unwrap();
+    head.push(b' ');
+    head
+}
 
 /// The line of a change: `TIME DELTA NAME VALUE`.
 fn put_line<'a, W: Write>(
     out: &mut W,
     block: &mut Block,
     names: &'a [String],
-    time: &'a [u8],
-    delta: &'a [u8],
+    head: &'a [u8],
     net: usize,
     value: Logic,
 ) -> Result<(), RunError>
     requires { net < length names.now }
     ensures ok { OnOk result (Gathers (W.contents out.old) block.old.items (W.contents out.new) block.new.items
-        (line_of time.now delta.now (map string_bytes names.now) (net, value))) }
+        (line_of head.now (map string_bytes names.now) (net, value))) }
     ensures part { OnErr result (AppendsPart (W.contents out.old) (W.contents out.new) (block.old.items ++
-        line_of time.now delta.now (map string_bytes names.now) (net, value))) }
+        line_of head.now (map string_bytes names.now) (net, value))) }
     ensures err { OnErr result (result ≡ Err RunError.Write) }
 {
     let name = names[net].as_str().as_bytes();
-    let value = [value.to_byte()];
-    put_all(
-        out,
-        block,
-        &[time, b" ", delta, b" ", name, b" ", &value, b"\n"],
-    )
+    let tail = [b' ', value.to_byte(), b'\n'];
+    put_all(out, block, &[head, name, &tail])
 }
 
 /// The lines of a cycle's changes.
@@ -45,19 +60,18 @@ fn put_changes<W: Write>(
     out: &mut W,
     block: &mut Block,
     names: &[String],
-    time: &[u8],
-    delta: &[u8],
+    head: &[u8],
     changes: &[(usize, Logic)],
 ) -> Result<(), RunError>
     requires { All (λ (c : ℕ × logic.Logic). c.0 < length names.now) changes.now }
     ensures ok { OnOk result (Gathers (W.contents out.old) block.old.items (W.contents out.new) block.new.items
-        (flat_map (line_of time.now delta.now (map string_bytes names.now)) changes.now)) }
+        (flat_map (line_of head.now (map string_bytes names.now)) changes.now)) }
     ensures part { OnErr result (AppendsPart (W.contents out.old) (W.contents out.new) (block.old.items ++
-        flat_map (line_of time.now delta.now (map string_bytes names.now)) changes.now)) }
+        flat_map (line_of head.now (map string_bytes names.now)) changes.now)) }
     ensures err { OnErr result (result ≡ Err RunError.Write) }
 {
     for (net, value) in changes {
-        put_line(out, block, names, time, delta, *net, *value)?;
+        put_line(out, block, names, head, *net, *value)?;
     }
     Ok(())
 }
@@ -70,15 +84,13 @@ fn put_record<W: Write>(
     entry: &Record,
 ) -> Result<(), RunError>
     requires { IsNamed (length names.now) entry.now }
-    ensures ok { OnOk result (Gathers (W.contents out.old) block.old.items (W.contents out.new) block.new.items (lines_of (map string_bytes names.now) entry.now)) }
+    ensures ok { OnOk result (Gathers (W.contents out.old) block.old.items (W.contents out.new) block.new.items
+        (lines_of (map string_bytes names.now) entry.now)) }
     ensures part { OnErr result (AppendsPart (W.contents out.old) (W.contents out.new) (block.old.items ++ lines_of (map string_bytes names.now) entry.now)) }
     ensures err { OnErr result (result ≡ Err RunError.Write) }
 {
-    let mut time = Buffer::new();
-    let mut delta = Buffer::new();
-    let time = time.format(entry.time).as_bytes();
-    let delta = delta.format(entry.delta).as_bytes();
-    put_changes(out, block, names, time, delta, entry.changes.as_slice())
+    let head = head_of(entry);
+    put_changes(out, block, names, head.as_slice(), entry.changes.as_slice())
 }
 
 /// The lines of all cycles.
@@ -89,8 +101,10 @@ fn put_records<W: Write>(
     records: &[Record],
 ) -> Result<(), RunError>
     requires { All (IsNamed (length names.now)) records.now }
-    ensures ok { OnOk result (Gathers (W.contents out.old) block.old.items (W.contents out.new) block.new.items (flat_map (lines_of (map string_bytes names.now)) records.now)) }
-    ensures part { OnErr result (AppendsPart (W.contents out.old) (W.contents out.new) (block.old.items ++ flat_map (lines_of (map string_bytes names.now)) records.now)) }
+    ensures ok { OnOk result (Gathers (W.contents out.old) block.old.items (W.contents out.new) block.new.items
+        (flat_map (lines_of (map string_bytes names.now)) records.now)) }
+    ensures part { OnErr result (AppendsPart (W.contents out.old) (W.contents out.new)
+        (block.old.items ++ flat_map (lines_of (map string_bytes names.now)) records.now)) }
     ensures err { OnErr result (result ≡ Err RunError.Write) }
 {
     for record in records {

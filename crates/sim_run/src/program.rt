@@ -1,15 +1,23 @@
 //! The program, over any reader and two writers.
-ghost use Rattle.std.specs.Prelude.{◌≡◌, ◌≤◌, ◌<◌, ◌↔◌, ◌⊎◌, false, codes, IfOk, IfErr, MatchOption, MatchResult, map, string_bytes};
-ghost use Rattle.std.specs.Io.KnownBytes.{Keeps};
-ghost use Rattle.std.specs.Str.{bytes_eq};
-ghost use Rattle.sim_run.specs.Session.{are_request, AreRequest, ReadsSource, Succeeds, RefusesText, RunsOn, Fails, status_of};
+ghost use Rattle.std.specs.Prelude.{◌≡◌, ◌≢◌, ◌≤◌, ◌<◌, ◌⊎◌, false, codes, OnOk, IfOk, IfErr, [], ◌∷◌, map, string_bytes};
+ghost use Rattle.std.specs.Io.KnownBytes.{Appends, Keeps};
+ghost use Rattle.std.specs.Str.Parse.{starts_with_minus};
+ghost use Rattle.sim_text.specs.Texts.{IsFaulty};
+ghost use Rattle.sim_token.specs.Pieces.{Text};
+ghost use Rattle.sim_options.specs.Asks.{AreRefused};
+ghost use Rattle.sim_options.specs.Options.{are_in_range};
+ghost use Rattle.sim_run.specs.declared.error.RunError.TheVariants as refusal;
+ghost use Rattle.sim_run.specs.declared.program.Failure.TheVariants as failure;
+ghost use Rattle.sim_run.specs.Run.{ReachesLimit, Lists, ListsPart};
+ghost use Rattle.sim_run.specs.Session.{ReadsSource, HasText, HasRun, HasOptions, HasHelp, IsAnswerTo, IsFailure, status_of};
+ghost use Rattle.sim_run.specs.Simulation.{HasDesign, IsOther};
+ghost use Rattle.sim_run.specs.Writing.{AppendsPart};
 
 use crate::block::write_whole;
 use crate::error::RunError;
-use crate::options::Options;
 use crate::simulation::simulate;
 use arrayvec::ArrayVec;
-use sim_logic::LATEST;
+use sim_options::{CliFault, Options, read_options};
 use sim_text::TextError;
 use std::alloc::Global;
 use std::io::{Read, Write};
@@ -26,18 +34,12 @@ const MOST_READS: u32 = 2_097_154;
 /// How many bytes are asked of a read.
 const CHUNK: usize = 16_384;
 
-/// The cycle limit where none is asked for.
-const DEFAULT_LIMIT: u32 = 10_000;
-
 /// More bytes than any line on standard error has.
 const LONGEST_LINE: usize = 64;
 
-/// Why the program ends with a status other than 0.
+/// Why a run that the words ask for has no listing.
 #[derive(Clone, Copy, Debug, PartialEq, Eq, Error)]
 pub enum Failure {
-    /// The words are not `--top` and a name.
-    #[error("Options")]
-    Words,
     /// A read failed, or there were too many of them.
     #[error("Read")]
     Read,
@@ -55,43 +57,10 @@ fn status_of_failure(failure: Failure) -> u8
     match failure {
         Failure::Run(RunError::Text(TextError::Memory)) => 4,
         Failure::Run(RunError::Text(_) | RunError::NotYet) => 1,
-        Failure::Words | Failure::Run(RunError::Options) => 2,
+        Failure::Run(RunError::Options) => 2,
         Failure::Run(RunError::CycleLimit { .. }) => 3,
         Failure::Read | Failure::Memory | Failure::Run(RunError::Write | RunError::Memory) => 4,
     }
-}
-
-fn is_top_flag(word: &str) -> bool
-    ensures { result ≡ bytes_eq word.now (codes "--top") }
-{
-    word == "--top"
-}
-
-/// Whether the words are `--top` and a name.
-fn are_request(words: &[String]) -> bool
-    ensures { result ≡ are_request (map string_bytes words.now) }
-{
-    match words {
-        [flag, _top] => is_top_flag(flag.as_str()),
-        _ => false,
-    }
-}
-
-/// The options that the words ask for.
-fn options_of(words: Vec<String>) -> Option<Options>
-    ensures { MatchOption result (are_request (map string_bytes words.items) ≡ false) (λ o. AreRequest (map string_bytes words.items) o) }
-{
-    let mut words = words;
-    if !are_request(words.as_slice()) {
-        return None;
-    }
-    let top = words.remove(1);
-    Some(Options {
-        top,
-        stop: LATEST,
-        limit: DEFAULT_LIMIT,
-        workers: 1,
-    })
 }
 
 /// What the reader has left, up to one byte more than a text may have.
@@ -119,21 +88,23 @@ fn read_source<R: Read>(alloc: Global, input: &mut R) -> Result<Vec<u8>, Failure
     Err(Failure::Read)
 }
 
-/// Reads the source and writes the listing that the words ask for.
+/// Reads the source and writes the listing of its run.
 fn carry_out<T: Threads + Wait + Sync, R: Read, W: Write>(
     rt: &T,
     alloc: Global,
-    words: Vec<String>,
+    options: &Options,
     input: &mut R,
     out: &mut W,
 ) -> Result<(), Failure>
-    ensures { MatchResult result (λ _. Succeeds (map string_bytes words.items) (R.remaining input.old) (W.contents out.old) (W.contents out.new)) (λ f. Fails (map string_bytes words.items) (R.remaining input.old) (W.contents out.old) (W.contents out.new) f) }
+    ensures listed { OnOk result (HasText (R.remaining input.old) (λ text. HasDesign text options.now (λ design.
+        Lists design options.now (W.contents out.old) (W.contents out.new)))) }
+    ensures part { result ≡ Err (failure.Run refusal.Write) → HasText (R.remaining input.old) (λ text. HasDesign text options.now (λ design.
+        ListsPart design options.now (W.contents out.old) (W.contents out.new))) }
+    ensures failed { IfErr result (λ f. IsFailure (R.remaining input.old) options.now f) }
+    ensures quiet { IfErr result (λ f. f ≢ failure.Run refusal.Write → Keeps (W.contents out.old) (W.contents out.new)) }
 {
-    let Some(options) = options_of(words) else {
-        return Err(Failure::Words);
-    };
     let source = read_source(alloc, input)?;
-    match simulate(rt, alloc, source.as_slice(), &options, out) {
+    match simulate(rt, alloc, source.as_slice(), options, out) {
         Ok(()) => Ok(()),
         Err(refusal) => Err(Failure::Run(refusal)),
     }
@@ -146,10 +117,42 @@ fn tell<E: Write>(err: &mut E, failure: Failure) {
     let _ = write_whole(err, line.as_slice());
 }
 
+/// Writes the text of the help.
+fn show<W: Write>(out: &mut W, text: &str) -> u8
+    ensures { ((result ≡ 0) × Appends (W.contents out.old) (W.contents out.new) text.now)
+        ⊎ ((result ≡ 4) × AppendsPart (W.contents out.old) (W.contents out.new) text.now) }
+{
+    if write_whole(out, text.as_bytes()).is_ok() {
+        0
+    } else {
+        4
+    }
+}
+
+/// Answers words that are no options.
+fn explain<W: Write, E: Write>(fault: &CliFault, out: &mut W, err: &mut E) -> u8
+    ensures { IsAnswerTo fault.now result (W.contents out.old) (W.contents out.new) }
+{
+    match fault {
+        CliFault::Help(text) => show(out, text.as_str()),
+        CliFault::Refused(text) => {
+            let _ = write_whole(err, text.as_bytes());
+            2
+        }
+        CliFault::Memory => {
+            tell(err, Failure::Memory);
+            4
+        }
+    }
+}
+
 /// The whole program: it takes its words, without its own name; reads the source from `input`; writes the listing to `out`, or
 /// a line `vsim: ` with the refusal's text to `err`; and answers its status. That is 0 where the listing was written, 1 where
 /// the text was refused, 2 where the words or the options were, 3 where the run needs more cycles than the limit, and 4 where
 /// memory was short, or reading or writing failed. It reads at most 1,048,577 bytes, by at most 2,097,154 reads.
+///
+/// Where the words ask for help, its text goes to `out`, with status 0; where they are refused, the lines of `clap` that say why go
+/// to `err`. Then nothing is read.
 pub fn session<T: Threads + Wait + Sync, R: Read, W: Write, E: Write>(
     rt: &T,
     alloc: Global,
@@ -159,13 +162,29 @@ pub fn session<T: Threads + Wait + Sync, R: Read, W: Write, E: Write>(
     err: &mut E,
 ) -> u8
     ensures status { result ≤ 4 }
-    ensures success { result ≡ 0 → Succeeds (map string_bytes words.items) (R.remaining input.old) (W.contents out.old) (W.contents out.new) }
-    ensures words { (result ≡ 2) ↔ (are_request (map string_bytes words.items) ≡ false) }
-    ensures refused { result ≡ 1 → RefusesText (map string_bytes words.items) (R.remaining input.old) }
-    ensures limit { result ≡ 3 → RunsOn (map string_bytes words.items) (R.remaining input.old) }
+    ensures success { result ≡ 0 → HasRun (map string_bytes words.items) (R.remaining input.old) (λ text options. HasDesign text options (λ design.
+        Lists design options (W.contents out.old) (W.contents out.new)))
+        ⊎ HasHelp (map string_bytes words.items) (λ help. Appends (W.contents out.old) (W.contents out.new) help) }
+    ensures text { result ≡ 1 → HasRun (map string_bytes words.items) (R.remaining input.old) (λ text options. IsFaulty text ⊎ IsOther text options) }
+    ensures words { result ≡ 2 → AreRefused (map string_bytes words.items) ⊎ HasOptions (map string_bytes words.items) (λ options.
+        are_in_range options.stop options.limit options.workers ≡ false) }
+    // `--top NAME` alone is not refused.
+    ensures alone { (name : Text) → map string_bytes words.items ≡ codes "--top" ∷ name ∷ [] → starts_with_minus name ≡ false → result ≢ 2 }
+    ensures limit { result ≡ 3 →
+        HasRun (map string_bytes words.items) (R.remaining input.old) (λ text options.
+        HasDesign text options (λ design. ReachesLimit design options)) }
     ensures quiet { 0 < result → result < 4 → Keeps (W.contents out.old) (W.contents out.new) }
+    // Memory was short, or reading or writing failed: nothing was written, or a proper front of the listing or of the help.
+    ensures stopped { result ≡ 4 → Keeps (W.contents out.old) (W.contents out.new)
+        ⊎ (HasRun (map string_bytes words.items) (R.remaining input.old) (λ text options.
+        HasDesign text options (λ design. ListsPart design options (W.contents out.old) (W.contents out.new)))
+        ⊎ HasHelp (map string_bytes words.items) (λ help. AppendsPart (W.contents out.old) (W.contents out.new) help)) }
 {
-    match carry_out(rt, alloc, words, input, out) {
+    let options = match read_options(alloc, words) {
+        Ok(options) => options,
+        Err(fault) => return explain(&fault, out, err),
+    };
+    match carry_out(rt, alloc, &options, input, out) {
         Ok(()) => 0,
         Err(failure) => {
             tell(err, failure);

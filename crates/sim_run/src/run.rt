@@ -1,18 +1,19 @@
 //! A whole run of a design of the form that is run today, on the calling thread.
-ghost use Rattle.std.specs.Prelude.{◌≡◌, ◌≤◌, map, string_bytes, Some, [], ◌∷◌, IfOk, MatchOption, MatchResult};
-ghost use Rattle.sim_run.specs.Cycle.{next_time, names_of};
+ghost use Rattle.std.specs.Prelude.{◌≡◌, ◌≤◌, ◌⊎◌, map, string_bytes, Some, [], ◌∷◌, IfOk, IfErr, MatchOption};
+ghost use Rattle.sim_store.specs.Outcome.{IsOver};
+ghost use Rattle.sim_run.specs.declared.error.RunError.TheVariants as refusal;
+ghost use Rattle.sim_run.specs.Cycle.{next_time, names_of, behaviour_of, CanRun};
 ghost use Rattle.sim_run.specs.Form.{IsInTime};
-ghost use Rattle.sim_run.specs.Outcome.{IsOver};
-ghost use Rattle.sim_run.specs.Run.{CanRun, Finishes, IsRefused};
+ghost use Rattle.sim_run.specs.Run.{Finishes, ReachesLimit};
 
 use crate::cycle::Net;
 use crate::error::RunError;
 use crate::finished::Finished;
 use crate::form::Source;
-use crate::record::Record;
+use sim_options::Options;
+use sim_store::Record;
 use sqlite_items::Items;
 use std::alloc::{AllocError, Global};
-use std::str;
 
 /// The time of the next transaction, if it is not later than the stop time.
 fn next_within(net: &Net, stop: u64) -> Option<u64>
@@ -29,19 +30,20 @@ fn run_source(
     alloc: Global,
     source: &Source,
     names: Vec<String>,
-    stop: u64,
-    limit: u32,
+    options: &Options,
 ) -> Result<Finished, RunError>
     requires names { map string_bytes names.items ≡ names_of (Some source.now) }
     requires in_time { IsInTime source.now.elements }
-    ensures { MatchResult result (λ f. Finishes (Some source.now) stop limit f) (λ e. IsRefused (Some source.now) stop limit e) }
+    ensures finished { IfOk result (λ f. Finishes (behaviour_of (Some source.now)) options.now f) }
+    ensures refused { IfErr result (λ e. (e ≡ refusal.Memory)
+        ⊎ ((e ≡ refusal.CycleLimit options.now.limit) × ReachesLimit (behaviour_of (Some source.now)) options.now)) }
 {
     let mut net = Net::started(alloc, source)?;
     let mut records = Vec::new(alloc);
     records.push(net.first_record(alloc)?)?;
     let mut events: u64 = 0;
-    for _cycle in 0..limit {
-        match next_within(&net, stop) {
+    for _cycle in 0..options.limit {
+        match next_within(&net, options.stop) {
             None => return Ok(Finished::new(names, records, events)),
             Some(time) => {
                 net.update(alloc, source.initial, time)?;
@@ -51,9 +53,11 @@ fn run_source(
             }
         }
     }
-    match next_within(&net, stop) {
+    match next_within(&net, options.stop) {
         None => Ok(Finished::new(names, records, events)),
-        Some(_) => Err(RunError::CycleLimit { limit }),
+        Some(_) => Err(RunError::CycleLimit {
+            limit: options.limit,
+        }),
     }
 }
 
@@ -72,15 +76,11 @@ fn run_empty(alloc: Global) -> Result<Finished, AllocError>
 
 /// The names of the nets.
 fn names(alloc: Global, design: &Option<Source>) -> Result<Vec<String>, AllocError>
-    requires { CanRun design.now }
     ensures { IfOk result (λ v. map string_bytes v.items ≡ names_of design.now) }
 {
     let mut names = Vec::new(alloc);
     if let Some(source) = design {
-        match str::from_utf8(source.name.as_slice()) {
-            Ok(name) => names.push(String::from_str(alloc, name)?)?,
-            Err(_) => unreachable!(),
-        }
+        names.push(String::from_str(alloc, source.name.as_str())?)?;
     }
     Ok(names)
 }
@@ -89,15 +89,16 @@ fn names(alloc: Global, design: &Option<Source>) -> Result<Vec<String>, AllocErr
 pub fn run_design(
     alloc: Global,
     design: &Option<Source>,
-    stop: u64,
-    limit: u32,
+    options: &Options,
 ) -> Result<Finished, RunError>
     requires { CanRun design.now }
-    ensures { MatchResult result (λ f. Finishes design.now stop limit f) (λ e. IsRefused design.now stop limit e) }
+    ensures finished { IfOk result (λ f. Finishes (behaviour_of design.now) options.now f) }
+    ensures refused { IfErr result (λ e. (e ≡ refusal.Memory)
+        ⊎ ((e ≡ refusal.CycleLimit options.now.limit) × ReachesLimit (behaviour_of design.now) options.now)) }
 {
     let names = names(alloc, design)?;
     match design {
-        Some(source) => run_source(alloc, source, names, stop, limit),
+        Some(source) => run_source(alloc, source, names, options),
         None => Ok(run_empty(alloc)?),
     }
 }

@@ -1,35 +1,28 @@
 //! From the text of a design to its listing.
-ghost use Rattle.std.specs.Prelude.{◌≡◌, ◌↔◌, false, Err, MatchResult};
-ghost use Rattle.sim_run.specs.Options.{are_in_range};
-ghost use Rattle.sim_run.specs.Simulation.{IsDesignOf, IsUnread, Simulates, IsNotRun, Lists, IsRefusal};
-ghost use Rattle.sim_run.specs.Texts.{IsText, IsFault};
+ghost use Rattle.std.specs.Prelude.{◌≡◌, ◌≢◌, ◌↔◌, false, Err, OnOk, IfErr, MatchResult};
+ghost use Rattle.std.specs.Io.KnownBytes.{Keeps};
+ghost use Rattle.sim_options.specs.Options.{are_in_range};
+ghost use Rattle.sim_run.specs.Run.{Finishes, Lists, ListsPart};
+ghost use Rattle.sim_run.specs.Simulation.{IsDesignOf, HasDesign, IsRefusal};
 
 use crate::error::RunError;
 use crate::finished::Finished;
 use crate::form::{FormError, Source, read_form};
 use crate::listing::write_listing;
-use crate::options::Options;
 use crate::run::run_design;
-use sim_text::tree::unit::DesignFile;
-use sim_text::{TextError, parse};
+use sim_options::Options;
+use sim_text::parse;
 use std::alloc::Global;
 use std::io::Write;
 use std::sync::Wait;
 use std::thread::Threads;
 
-/// The file that a text is.
-fn file_of(alloc: Global, source: &[u8]) -> Result<DesignFile, TextError>
-    ensures { MatchResult result (λ file. IsText source.now file) (λ e. IsFault source.now e) }
+/// The design of a text of the form that is run today.
+fn design_of(alloc: Global, source: &[u8], options: &Options) -> Result<Option<Source>, RunError>
+    ensures { MatchResult result (λ design. IsDesignOf source.now options.now design) (λ e. IsRefusal source.now options.now e) }
 {
-    parse(alloc, source)
-}
-
-/// The design of a text of the form that is run.
-fn design_of(alloc: Global, source: &[u8], top: &str) -> Result<Option<Source>, RunError>
-    ensures { MatchResult result (λ design. IsDesignOf source.now top.now design) (λ e. IsUnread source.now top.now e) }
-{
-    let file = file_of(alloc, source)?;
-    match read_form(alloc, &file, top) {
+    let file = parse(alloc, source)?;
+    match read_form(alloc, &file, options.top.as_str()) {
         Ok(design) => Ok(design),
         Err(FormError::NotYet) => Err(RunError::NotYet),
         Err(FormError::Memory) => Err(RunError::Memory),
@@ -38,10 +31,10 @@ fn design_of(alloc: Global, source: &[u8], top: &str) -> Result<Option<Source>, 
 
 /// The finished run of a text.
 fn run_text(alloc: Global, source: &[u8], options: &Options) -> Result<Finished, RunError>
-    ensures { MatchResult result (λ f. Simulates source.now options.now f) (λ e. IsNotRun source.now options.now e) }
+    ensures { MatchResult result (λ f. HasDesign source.now options.now (λ design. Finishes design options.now f)) (λ e. IsRefusal source.now options.now e) }
 {
-    let design = design_of(alloc, source, options.top.as_str())?;
-    run_design(alloc, &design, options.stop, options.limit)
+    let design = design_of(alloc, source, options)?;
+    run_design(alloc, &design, options)
 }
 
 /// Simulates the design in a text and writes its listing. The refusals, in the order in which they are looked for: `Options`
@@ -57,7 +50,13 @@ pub fn simulate<R: Threads + Wait + Sync, W: Write>(
     out: &mut W,
 ) -> Result<(), RunError>
     ensures options { (result ≡ Err RunError.Options) ↔ (are_in_range options.now.stop options.now.limit options.now.workers ≡ false) }
-    ensures listing { MatchResult result (λ _. Lists source.now options.now (W.contents out.old) (W.contents out.new)) (λ e. IsRefusal source.now options.now (W.contents out.old) (W.contents out.new) e) }
+    ensures listed { OnOk result (HasDesign source.now options.now (λ design. Lists design options.now (W.contents out.old) (W.contents out.new))) }
+    // Where a write failed, the run is finished, and a proper front of its listing was written.
+    ensures part { result ≡ Err RunError.Write → HasDesign source.now options.now (λ design.
+        ListsPart design options.now (W.contents out.old) (W.contents out.new)) }
+    // Any other refusal has its reason, and nothing was written.
+    ensures refused { IfErr result (λ e. e ≢ RunError.Write → IsRefusal source.now options.now e) }
+    ensures quiet { IfErr result (λ e. e ≢ RunError.Write → Keeps (W.contents out.old) (W.contents out.new)) }
 {
     if !options.are_in_range() {
         return Err(RunError::Options);

@@ -43,28 +43,6 @@ fn a_listing_is_written_with_status_0(rt: HostRuntime) -> Result<(), Fail> {
 }
 
 #[test]
-fn other_words_are_refused_with_status_2(rt: HostRuntime) -> Result<(), Fail> {
-    let alloc = rt.alloc();
-    for given in ["", "--top", "--tip t", "--top t --workers 0"] {
-        let mut input = TEXT;
-        let mut out = Vec::new(alloc);
-        let mut err = Vec::new(alloc);
-        let status = session(
-            &rt,
-            alloc,
-            words(alloc, given)?,
-            &mut input,
-            &mut out,
-            &mut err,
-        );
-        assert_eq!(rt; status, 2);
-        assert!(rt; out.is_empty());
-        assert_eq!(rt; err.as_slice(), b"vsim: Options\n".as_slice());
-    }
-    Ok(())
-}
-
-#[test]
 fn refusals_have_their_status_and_line(rt: HostRuntime) -> Result<(), Fail> {
     let alloc = rt.alloc();
     let mut endless = Endless;
@@ -81,20 +59,6 @@ fn refusals_have_their_status_and_line(rt: HostRuntime) -> Result<(), Fail> {
     assert_eq!(rt; status, 1);
     assert!(rt; out.is_empty());
     assert_eq!(rt; err.as_slice(), b"vsim: TooLong\n".as_slice());
-
-    let mut other = b"entity t is end;".as_slice();
-    let mut err = Vec::new(alloc);
-    let status = session(
-        &rt,
-        alloc,
-        words(alloc, "--top t")?,
-        &mut other,
-        &mut out,
-        &mut err,
-    );
-    assert_eq!(rt; status, 1);
-    assert!(rt; out.is_empty());
-    assert_eq!(rt; err.as_slice(), b"vsim: NotYet\n".as_slice());
 
     let mut failing = Dripping {
         rest: &TEXT[..40],
@@ -145,5 +109,28 @@ fn a_failed_write_has_status_4_even_where_the_line_fails_too(rt: HostRuntime) ->
         assert_eq!(rt; out.taken.as_slice(), &LISTING[..10]);
         assert_eq!(rt; err.taken.as_slice(), line);
     }
+    Ok(())
+}
+
+#[test]
+fn help_to_a_writer_that_fails_has_status_4(rt: HostRuntime) -> Result<(), Fail> {
+    let alloc = rt.alloc();
+    let mut input = TEXT;
+    let mut out = Failing {
+        taken: Vec::new(alloc),
+        a_call: 8192,
+        in_all: 10,
+    };
+    let mut err = Vec::new(alloc);
+    let status = session(
+        &rt,
+        alloc,
+        words(alloc, "--help")?,
+        &mut input,
+        &mut out,
+        &mut err,
+    );
+    assert_eq!(rt; status, 4);
+    assert_eq!(rt; out.taken.len(), 10);
     Ok(())
 }

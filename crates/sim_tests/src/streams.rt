@@ -3,7 +3,7 @@
 use std::io;
 use std::io::{ErrorKind, Read, Write};
 
-/// A writer that takes at most so many bytes a call, and fails once it has taken so many in all.
+/// A writer that takes at most `a_call` bytes a call, and fails once it has taken `in_all`.
 #[derive(Drop)]
 pub struct Failing {
     pub taken: Vec<u8>,
@@ -27,7 +27,7 @@ impl Write for Failing {
     }
 }
 
-/// A reader that gives one byte a call, and fails behind the last, if it is to.
+/// A reader that gives one byte a call, and fails after the last, if it is to.
 #[derive(Drop)]
 pub struct Dripping<'a> {
     pub rest: &'a [u8],

@@ -4,4 +4,5 @@ use Rattle.sim_run.specs.Writing.{Gathers}
 use Rattle.sim_run.proofs.block.put_all.Given as goal
 
 abbrev pub invariant-loop-piece : goal.invariant-loop-piece
-invariant-loop-piece g l = Gathers (g.W.Write.contents l.initial.out) l.initial.block.items (g.W.Write.contents l.out) l.block.items (flat_map (λ p. p.now) (take l.piece-index l.pieces))
+invariant-loop-piece g l = Gathers (g.W.Write.contents l.initial.out) l.initial.block.items (g.W.Write.contents l.out) l.block.items
+    (flat_map (λ p. p.now) (take l.piece-index l.pieces))

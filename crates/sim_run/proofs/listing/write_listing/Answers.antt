@@ -5,15 +5,20 @@ use Rattle.sim_run.proofs.listing.write_listing.Goals as goal
 pub returns-in_err-put_last-clause-part : goal.returns-in_err-put_last-clause-part
 returns-in_err-put_last-clause-part g c =
     let lines = rw (c.names.ensures, c.records.ensures.records) at c.in_ok-put_records.ensures.ok in
-    let all = stops_then (g.W.Write.contents c.args.out.now) (g.W.Write.contents c.put_records.new.out) (g.W.Write.contents c.put_last.new.out) c.new-block.result.items c.put_records.new.block.items _ _ lines c.in_err-put_last.ensures.part in
+    let all = stops_then (g.W.Write.contents c.args.out.now) (g.W.Write.contents c.put_records.new.out) (g.W.Write.contents c.put_last.new.out)
+    c.new-block.result.items c.put_records.new.block.items _ _ lines c.in_err-put_last.ensures.part in
     on_err _ _ (rw c.new-block.ensures at all)
 
 pub returns-clause-part : goal.returns-clause-part
 returns-clause-part g c =
     let lines = rw (c.names.ensures, c.records.ensures.records) at c.in_ok-put_records.ensures.ok in
-    on_err_weaker _ (λ p. all_stops (g.W.Write.contents c.args.out.now) (g.W.Write.contents c.put_last.new.out) (g.W.Write.contents c.write_out.new.out) c.new-block.result.items c.put_last.new.block.items _ c.new-block.ensures (gathers_then lines c.in_ok-put_last.ensures.ok) p) c.write_out.ensures.part
+    on_err_weaker _ (λ p. all_stops (g.W.Write.contents c.args.out.now) (g.W.Write.contents c.put_last.new.out)
+    (g.W.Write.contents c.write_out.new.out) c.new-block.result.items c.put_last.new.block.items _ c.new-block.ensures
+    (gathers_then lines c.in_ok-put_last.ensures.ok) p) c.write_out.ensures.part
 
 pub returns-clause-ok : goal.returns-clause-ok
 returns-clause-ok g c =
     let lines = rw (c.names.ensures, c.records.ensures.records) at c.in_ok-put_records.ensures.ok in
-    on_ok_weaker _ (λ p. all_out (g.W.Write.contents c.args.out.now) (g.W.Write.contents c.put_last.new.out) (g.W.Write.contents c.write_out.new.out) c.new-block.result.items c.put_last.new.block.items _ c.new-block.ensures (gathers_then lines c.in_ok-put_last.ensures.ok) p) c.write_out.ensures.ok
+    on_ok_weaker _ (λ p. all_out (g.W.Write.contents c.args.out.now) (g.W.Write.contents c.put_last.new.out) (g.W.Write.contents c.write_out.new.out)
+    c.new-block.result.items c.put_last.new.block.items _ c.new-block.ensures (gathers_then lines c.in_ok-put_last.ensures.ok) p)
+    c.write_out.ensures.ok

@@ -6,4 +6,5 @@ run_design-requires c = design_can_run _ _ _ c.in_ok-design.ensures
 
 pub returns : goal.returns
 returns c =
-    text_run c.args.source.now c.args.options.now c.in_ok-design.design c.run_design.result (rw c.as_str.ensures.value at c.in_ok-design.ensures) c.run_design.ensures
+    text_run c.args.source.now c.args.options.now c.in_ok-design.design c.run_design.result c.in_ok-design.ensures c.run_design.ensures.finished
+    c.run_design.ensures.refused

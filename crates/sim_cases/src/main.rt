@@ -1,0 +1,113 @@
+//! Gives the program each case of the files that its words name, and tells the number of cases and each that is answered in
+//! another way than the case says: `sim_cases FILE ..`.
+//!
+//! A file has lines. An empty one, and one that begins with `#`, says nothing. Each other begins with a mark and a blank:
+//!
+//! | Mark | What stands after the blank |
+//! |---|---|
+//! | `=` | the name of a case, which begins here |
+//! | `$` | the words, parted by blanks; where there is no such line, `--top t` |
+//! | `<` | a line of the text; no line feed stands after the last |
+//! | `+` | more of the text's last line |
+//! | `*` | a number, and after a blank more of that line, as many times |
+//! | `_` | a number: as many blanks more in that line |
+//! | `>` | a line that is to be written to standard output |
+//! | `!` | a line that is to be written to standard error |
+//! | `?` | the status; where there is no such line, 0 |
+//! | `~` | `>` or `!`: what is written there is not compared |
+//! | `-` | why the design does not run yet: the answer is to be `NotYet`, and what the case says holds once it runs |
+#![tactic(auto)]
+
+mod case;
+mod file;
+mod outcome;
+
+use crate::case::Case;
+use crate::file::cases;
+use crate::outcome::{Outcome, answered, compare};
+use anyhow::{Context, Result};
+use std::rt::Files;
+use std::sync::Wait;
+use std::thread::Threads;
+use std::{env, fs};
+
+/// How many cases there were.
+#[derive(Clone, Copy)]
+struct Counts {
+    same: u64,
+    not_yet: u64,
+    differ: u64,
+}
+
+/// Tells in which way a case differs.
+fn tell<R: Print>(rt: &R, name: &str, outcome: Outcome) -> Result<()> {
+    match outcome {
+        Outcome::Same | Outcome::NotYet => {}
+        Outcome::OtherStatus(status) => println!(rt; "differs in status, {status}: {name}")?,
+        Outcome::OtherOutput => println!(rt; "differs in standard output: {name}")?,
+        Outcome::OtherError => println!(rt; "differs in standard error: {name}")?,
+        Outcome::RunsNow => println!(rt; "differs, not NotYet: {name}")?,
+    }
+    Ok(())
+}
+
+/// Gives the program a case.
+fn run_case<R: Threads + Wait + Sync + AllocGlobal>(
+    rt: &R,
+    case: Case,
+) -> Result<(String, Outcome)> {
+    let mut case = case;
+    let words = std::mem::replace(&mut case.words, Vec::new(rt.alloc()));
+    let answer = answered(rt, rt.alloc(), words, case.text.as_slice());
+    let outcome = compare(&case, &answer);
+    Ok((case.name, outcome))
+}
+
+fn counted(counts: Counts, outcome: Outcome) -> Counts {
+    match outcome {
+        Outcome::Same => Counts {
+            same: counts.same.saturating_add(1),
+            ..counts
+        },
+        Outcome::NotYet => Counts {
+            not_yet: counts.not_yet.saturating_add(1),
+            ..counts
+        },
+        _ => Counts {
+            differ: counts.differ.saturating_add(1),
+            ..counts
+        },
+    }
+}
+
+/// Gives the program the cases of a file.
+fn run_file<R: Threads + Wait + Sync + AllocGlobal + Files + Print>(
+    rt: &R,
+    name: &str,
+) -> Result<()> {
+    let file = fs::read(rt, name).context("a file of cases cannot be read")?;
+    let mut counts = Counts {
+        same: 0,
+        not_yet: 0,
+        differ: 0,
+    };
+    for case in cases(rt.alloc(), file.as_slice())? {
+        let (name, outcome) = run_case(rt, case)?;
+        tell(rt, name.as_str(), outcome)?;
+        counts = counted(counts, outcome);
+    }
+    let Counts {
+        same,
+        not_yet,
+        differ,
+    } = counts;
+    println!(rt; "{name}: {same} as they are to be, {not_yet} not run yet, {differ} differ")?;
+    Ok(())
+}
+
+fn main(rt: HostRuntime) -> Result<()> {
+    for name in env::args(&rt)?.skip(1) {
+        run_file(&rt, name.as_str())?;
+    }
+    Ok(())
+}

@@ -1,0 +1,73 @@
+//! What the program makes of a case.
+
+use crate::case::Case;
+use sim_run::session;
+use std::alloc::Global;
+use std::sync::Wait;
+use std::thread::Threads;
+
+/// How the program's answer and that of the case compare.
+#[derive(Clone, Copy, PartialEq, Eq)]
+pub enum Outcome {
+    Same,
+    /// The answer is `NotYet`, as it is to be.
+    NotYet,
+    OtherStatus(u32),
+    OtherOutput,
+    OtherError,
+    /// The case is marked as one that does not run yet, and it does.
+    RunsNow,
+}
+
+/// What the program answers and writes.
+#[derive(Drop)]
+pub struct Answer {
+    pub status: u32,
+    pub output: Vec<u8>,
+    pub error: Vec<u8>,
+}
+
+/// Gives the program the words and the text of a case.
+pub fn answered<R: Threads + Wait + Sync>(
+    rt: &R,
+    alloc: Global,
+    words: Vec<String>,
+    text: &[u8],
+) -> Answer {
+    let mut input = text;
+    let mut output = Vec::new(alloc);
+    let mut error = Vec::new(alloc);
+    let status = u32::from(session(rt, alloc, words, &mut input, &mut output, &mut error));
+    Answer {
+        status,
+        output,
+        error,
+    }
+}
+
+/// Compares the answer to a case of a design that does not run yet.
+fn compare_not_yet(answer: &Answer) -> Outcome {
+    if answer.status == 1
+        && answer.output.is_empty()
+        && answer.error.as_slice() == b"vsim: NotYet\n".as_slice()
+    {
+        Outcome::NotYet
+    } else {
+        Outcome::RunsNow
+    }
+}
+
+/// Compares the answer to a case with that of the case.
+pub fn compare(case: &Case, answer: &Answer) -> Outcome {
+    if case.is_not_yet {
+        compare_not_yet(answer)
+    } else if answer.status != case.status {
+        Outcome::OtherStatus(answer.status)
+    } else if case.compares_output && answer.output.as_slice() != case.output.as_slice() {
+        Outcome::OtherOutput
+    } else if case.compares_error && answer.error.as_slice() != case.error.as_slice() {
+        Outcome::OtherError
+    } else {
+        Outcome::Same
+    }
+}
