@@ -1,5 +1,5 @@
-pub mod Sound
-pub mod Complete
-pub mod WaveformSound
-pub mod WaveformComplete
-pub mod ExpressionLate
+pub mod ExpressionsSound
+pub mod ExpressionsComplete
+pub mod WaveformsSound
+pub mod WaveformsComplete
+pub mod FaultPlaces

@@ -11,7 +11,7 @@ use Rattle.sim_tree.specs.declared.error.ParseError.TheVariants as error
 use Rattle.sim_tree.specs.Input.{Input, Reads}
 use Rattle.sim_tree.specs.Faults.{IsTooLarge, IsOpening}
 use Rattle.sim_reading.specs.Units.{file}
-use Rattle.sim_reading.proofs.Whole.{is_refused, large_time, deep_opening}
+use Rattle.sim_reading.proofs.WholeFiles.{is_refused, large_time, deep_opening}
 use Rattle.sim_text.specs.Faults.{place_of, start_or, fault_of, HasLargeTime, OpensAt, IsPlace, AreNoFile, IsFaultOf}
 
 seam : {X : Type 0} (front : List X) (x : X) (rest : List X) → slice_get (front ++ x ∷ rest) (length front) ≡ Some x

@@ -24,10 +24,10 @@ over v u.Hr h = omega arith
 abbrev pub Value : ℕ → List ℕ → ℕ
 Value v ds = fold (λ (n b : ℕ). 10 * n + (b - 48)) v ds
 
-pub too_late : (ds : List ℕ) (i v : ℕ) (unit : TimeUnit) → i < length ds → Value v (drop i ds) ≡ value_of ds → 461168601842738790 < v
+pub too_large : (ds : List ℕ) (i v : ℕ) (unit : TimeUnit) → i < length ds → Value v (drop i ds) ≡ value_of ds → 461168601842738790 < v
     → largest_time < time_of ds unit
 unfolding time_of
-too_late ds i v unit lt e h =
+too_large ds i v unit lt e h =
     let step : Value v (drop i ds) ≡ Value (10 * v + (get_or ds i 0 - 48)) (drop (suc i) ds) = rw (drop-cons ds i 0 lt) refl in
     let more = grows (drop (suc i) ds) (10 * v + (get_or ds i 0 - 48)) in
     over (value_of ds) unit (omega (arith, step, e, more))

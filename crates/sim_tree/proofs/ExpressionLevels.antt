@@ -12,7 +12,7 @@ use Rattle.sim_tree.specs.declared.expression.Expression.TheVariants as e
 use Rattle.sim_tree.specs.Input.{Input}
 use Rattle.sim_tree.specs.Writing.{MarkAt, LiteralAt, This, just, mark, ◌▸◌, in_parentheses, word_at, Fits}
 use Rattle.sim_tree.specs.Grammar.{relational_kind, Levels, levels_of, of_expression, of_primary, of_relation, of_factor}
-use Rattle.sim_tree.proofs.Fits.{never_fits}
+use Rattle.sim_tree.proofs.Writings.{never_fits}
 use Rattle.sim_tree.proofs.ExpressionRules.{literal_levels, named_levels, event_levels, call_levels, parenthesized_levels, not_levels}
 use Rattle.sim_tree.proofs.ExpressionRules.{compared_levels, chain_levels, operands_of, cases_expression}
 

@@ -1,11 +1,11 @@
 pub mod Turns
 pub mod Names
 pub mod Digits
-pub mod Fits
+pub mod Writings
 pub mod Tokens
 pub mod Lists
 pub mod ExpressionRules
 pub mod ExpressionLevels
 pub mod ExpressionStarts
 pub mod SequentialRules
-pub mod Late
+pub mod FaultPlaces

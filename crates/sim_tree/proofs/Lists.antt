@@ -5,7 +5,7 @@ use Rattle.sim_token.specs.declared.kind.Kind.{Kind}
 use Rattle.sim_token.specs.declared.kind.Kind.TheVariants as k
 use Rattle.sim_tree.specs.Input.{Input, Parser, and_then, ◌>>◌, take_token, kind, place, next, left, same_kind, many_from, many, separated}
 use Rattle.sim_tree.specs.Writing.{Writing, Mark, nothing, mark, ◌▸◌, all_of, each_after, separated_by, Fits}
-use Rattle.sim_tree.proofs.Fits.{Gives, then_, map_, done, ◌&◌, split, none, none_read, never_fits, marks, mark_read, less}
+use Rattle.sim_tree.proofs.Writings.{Gives, then_, map_, done, ◌&◌, split, none, none_read, never_fits, marks, mark_read, less}
 use Rattle.sim_tree.proofs.Tokens.{same_is, is_same, not_same}
 
 -- what was found, and more that is written here

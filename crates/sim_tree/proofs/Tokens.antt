@@ -17,7 +17,7 @@ use Rattle.sim_tree.specs.Input.{Input, Outcome, Parser, and_then, token_as, fou
 use Rattle.sim_tree.specs.Input.{word, name_of, literal, logic_of, literal_of, placed, number, number_of, unit, unit_in, unit_of, repeat, word_is}
 use Rattle.sim_tree.specs.Input.{event}
 use Rattle.sim_tree.specs.Writing.{Piece, WordAt, LiteralAt, NumberAt, UnitWord, This, Stands, just, mark, word_at, unit_name, if_written, Fits}
-use Rattle.sim_tree.proofs.Fits.{Gives, done, refused, one, marks, mark_read, none_to, none_read}
+use Rattle.sim_tree.proofs.Writings.{Gives, done, refused, one, marks, mark_read, none_to, none_read}
 
 -- ---- kinds
 

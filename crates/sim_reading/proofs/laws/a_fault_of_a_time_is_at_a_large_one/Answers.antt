@@ -1,4 +1,4 @@
-use Rattle.sim_reading.proofs.Whole.{large_time}
+use Rattle.sim_reading.proofs.WholeFiles.{large_time}
 use Rattle.sim_reading.proofs.laws.a_fault_of_a_time_is_at_a_large_one.Goals as goal
 
 pub returns : goal.returns

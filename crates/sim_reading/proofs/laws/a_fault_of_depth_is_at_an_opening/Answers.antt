@@ -1,4 +1,4 @@
-use Rattle.sim_reading.proofs.Whole.{deep_opening}
+use Rattle.sim_reading.proofs.WholeFiles.{deep_opening}
 use Rattle.sim_reading.proofs.laws.a_fault_of_depth_is_at_an_opening.Goals as goal
 
 pub returns : goal.returns

@@ -1,4 +1,4 @@
-use Rattle.sim_reading.proofs.Whole.{one_file}
+use Rattle.sim_reading.proofs.WholeFiles.{one_file}
 use Rattle.sim_reading.proofs.laws.no_tokens_are_two_files.Goals as goal
 
 pub returns : goal.returns

@@ -1,4 +1,4 @@
-use Rattle.sim_reading.proofs.Whole.{is_found}
+use Rattle.sim_reading.proofs.WholeFiles.{is_found}
 use Rattle.sim_reading.proofs.laws.what_is_read_is_written_so.Goals as goal
 
 pub returns : goal.returns

@@ -1,4 +1,4 @@
-use Rattle.sim_reading.proofs.Whole.{is_refused}
+use Rattle.sim_reading.proofs.WholeFiles.{is_refused}
 use Rattle.sim_reading.proofs.laws.what_is_refused_is_no_file.Goals as goal
 
 pub returns : goal.returns

@@ -1,4 +1,4 @@
-use Rattle.sim_reading.proofs.UnitedAgain.{file_again}
+use Rattle.sim_reading.proofs.UnitsComplete.{file_again}
 use Rattle.sim_reading.proofs.laws.what_is_written_is_read.Goals as goal
 
 pub returns : goal.returns

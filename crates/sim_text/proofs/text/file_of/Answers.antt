@@ -1,7 +1,7 @@
 use Rattle.std.proofs.Common.{sym, subst, [], Err}
 use Rattle.sim_tree.specs.Input.{Reads, view}
 use Rattle.sim_reading.specs.Units.{file}
-use Rattle.sim_reading.proofs.Whole.{is_found, is_only}
+use Rattle.sim_reading.proofs.WholeFiles.{is_found, is_only}
 use Rattle.sim_text.specs.Faults.{IsFaultOf}
 use Rattle.sim_text.proofs.Places.{told_of}
 use Rattle.sim_text.proofs.text.file_of.Goals as goal

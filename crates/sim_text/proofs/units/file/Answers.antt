@@ -1,5 +1,5 @@
 use Rattle.sim_tree.specs.Input.{view}
-use Rattle.sim_reading.proofs.Whole.{units_read}
+use Rattle.sim_reading.proofs.WholeFiles.{units_read}
 use Rattle.sim_text.proofs.units.file.Goals as goal
 
 pub new-requires : goal.new-requires

@@ -2,12 +2,12 @@ use Rattle.std.proofs.Common.{◌≤◌, ◌<◌, ℕ, subst, arith}
 use Rattle.std.specs.Option.{SomeIff}
 use Rattle.sim_logic.specs.Time.{largest_time}
 use Rattle.sim_tree.specs.Times.{time_of}
-use Rattle.sim_tree.proofs.Digits.{too_late, in_time}
+use Rattle.sim_tree.proofs.Digits.{too_large, in_time}
 use Rattle.sim_tree.proofs.time.written_time.Goals as goal
 
 pub returns-then-count : goal.returns-then-count
 returns-then-count c =
-    let late : largest_time < time_of c.args.digits.now c.args.unit = too_late c.args.digits.now c.loop-digit.digit-index c.loop-digit.count
+    let large : largest_time < time_of c.args.digits.now c.args.unit = too_large c.args.digits.now c.loop-digit.digit-index c.loop-digit.count
     c.args.unit c.loop-digit-test.true c.loop-digit.invariant.1 c.if-count.true in
     λ h. omega arith
 

@@ -1,4 +1,6 @@
--- What is read as a design unit or a file is written so.
+-- What is read as a design unit or a file is written so. For each reader there is a lemma that it `Gives` its writing: the tokens that it goes past are
+-- the spelling of the tree that it answers. It goes through the reader's steps with `then_` and puts the writings of its parts together with `◌&◌`;
+-- lists by induction on the tokens that are left.
 use Rattle.std.proofs.Common.{◌≡◌, ℕ, zero, suc, Bool, List, [], ◌∷◌, ◌++◌, length, map, refl, sym, subst, ◌∙◌, append_assoc}
 use Rattle.std.proofs.lemmas.List.{append-nil}
 use Rattle.sim_token.specs.declared.kind.Kind.{Kind}
@@ -9,13 +11,13 @@ use Rattle.sim_tree.specs.Input.{Input, kind, next, left}
 use Rattle.sim_tree.specs.Writing.{mark, all_of, separated_by, some_of, word_at, Fits}
 use Rattle.sim_tree.specs.Grammar.{of_declaration, of_suffixes, of_selection, of_selected, of_context_item, of_entity, of_architecture}
 use Rattle.sim_tree.specs.Grammar.{of_library_unit, of_unit, of_units, IsFile}
-use Rattle.sim_tree.proofs.Fits.{Gives, then_, map_, done, refused, ◌&◌, none, marks}
+use Rattle.sim_tree.proofs.Writings.{Gives, then_, map_, done, refused, ◌&◌, none, marks}
 use Rattle.sim_tree.proofs.Tokens.{word_gives, eat_gives, eat_then, sees_then, eaten_written, expect_gives}
 use Rattle.sim_tree.proofs.Lists.{many_gives, many_all_gives, separated_gives}
 use Rattle.sim_reading.specs.Units.{suffixes_from, suffixes, selected, selected_names, context_item, item_by, begins_context, context, entity}
 use Rattle.sim_reading.specs.Units.{architecture_body, architecture, library_unit, library_by, unit, goes_on, units_of, finish, finish_by, file}
-use Rattle.sim_reading.proofs.Declared.{names_give, repeated_gives, ports_give, declarations_give}
-use Rattle.sim_reading.proofs.Concurred.{concurrents_give}
+use Rattle.sim_reading.proofs.DeclarationsSound.{names_give, repeated_gives, ports_give, declarations_give}
+use Rattle.sim_reading.proofs.ConcurrentsSound.{concurrents_give}
 
 -- what was found, and more that is written here
 record Suffixed (found : List Name) (i : Input) (r : List Name × Bool) (j : Input) : Type 0 where

@@ -1,4 +1,6 @@
--- What is written as a declaration is read so.
+-- What is written as a declaration is read so. From the writing, taken apart by `split`, follow the tokens that the reader sees at each step, and so its
+-- answer; lists by induction on the tokens that are left. What stands after a list or an optional part matters: it must not go on with it, so a lemma
+-- asks of the next token that it does not.
 use Rattle.std.proofs.Common.{◌≡◌, ℕ, suc, ◌≤◌, Bool, true, false, List, [], ◌∷◌, length, map, Option, Some, None, Ok, refl, sym, subst}
 use Rattle.sim_token.specs.declared.kind.Kind.{Kind}
 use Rattle.sim_token.specs.declared.kind.Kind.TheVariants as k
@@ -15,7 +17,7 @@ use Rattle.sim_tree.specs.declared.declaration.Declaration.TheVariants as declar
 use Rattle.sim_tree.specs.Input.{Input, ◌>>◌, take_token, kind, word, same_kind}
 use Rattle.sim_tree.specs.Writing.{Mark, This, just, all_of, separated_by, if_written, word_at, Fits}
 use Rattle.sim_tree.specs.Grammar.{of_names, of_initial, of_mode, of_port, of_ports, of_object, of_variable, of_component, of_declaration}
-use Rattle.sim_tree.proofs.Fits.{split, none_read, never_fits, mark_read, less, other}
+use Rattle.sim_tree.proofs.Writings.{split, none_read, never_fits, mark_read, less, other}
 use Rattle.sim_tree.proofs.Tokens.{is_same, not_same, word_read, word_kind, literal_read, literal_kind, repeat_read, this_kind, is_seen, not_seen}
 use Rattle.sim_tree.proofs.Tokens.{eat_read, eat_not, expect_read, written_read}
 use Rattle.sim_tree.proofs.Lists.{separated_again, many_all_again}

@@ -1,4 +1,6 @@
--- What is read as an expression is written so.
+-- What is read as an expression is written so. For each reader there is a lemma that it `Gives` its writing: the tokens that it goes past are the
+-- spelling of the tree that it answers. It goes through the reader's steps with `then_` and puts the writings of its parts together with `◌&◌`;
+-- parentheses inside one another by induction on how many may still open.
 use Rattle.std.proofs.Common.{◌≡◌, ℕ, zero, suc, Bool, true, false, List, [], ◌∷◌, ◌++◌, map, Option, Some, None, refl, sym}
 use Rattle.std.proofs.lemmas.List.{append-nil}
 use Rattle.sim_token.specs.declared.kind.Kind.{Kind}
@@ -13,7 +15,7 @@ use Rattle.sim_tree.specs.declared.expression.Logical.TheVariants as logical
 use Rattle.sim_tree.specs.Input.{Input, Parser, kind, next, left}
 use Rattle.sim_tree.specs.Writing.{Writing, all_of, word_at, Fits}
 use Rattle.sim_tree.specs.Grammar.{relational_kind, logical_kind, is_repeatable, more_operands, of_expression, of_primary, of_relation, of_factor, of_operand}
-use Rattle.sim_tree.proofs.Fits.{Gives, then_, map_, done, refused, ◌&◌, none, opened_fits, mark_at, marks}
+use Rattle.sim_tree.proofs.Writings.{Gives, then_, map_, done, refused, ◌&◌, none, opened_fits, mark_at, marks}
 use Rattle.sim_tree.proofs.Tokens.{same_is, word_gives, literal_gives, event_gives, expect_gives}
 use Rattle.sim_tree.proofs.Lists.{many_gives}
 use Rattle.sim_tree.proofs.ExpressionRules.{literal_is, named_is, event_is, call_is, parenthesized_is, not_is, compared_is, operand_is, chain_is, operands_of}

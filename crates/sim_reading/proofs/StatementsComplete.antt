@@ -1,4 +1,6 @@
--- What is written as a sequential statement is read so.
+-- What is written as a sequential statement is read so. From the writing, taken apart by `split`, follow the tokens that the reader sees at each step,
+-- and so its answer; ifs inside one another by induction on how many may still open. What stands after a list or an optional part matters: it must not
+-- go on with it, so a lemma asks of the next token that it does not.
 use Rattle.std.proofs.Common.{◌≡◌, ℕ, zero, suc, ◌≤◌, Bool, true, false, List, length, map, Option, Some, None, Ok, refl, sym, subst, arith}
 use Rattle.sim_token.specs.declared.kind.Kind.{Kind}
 use Rattle.sim_token.specs.declared.kind.Kind.TheVariants as k
@@ -15,12 +17,12 @@ use Rattle.sim_tree.specs.Writing.{Piece, Mark, WordAt, Writing, just, mark, ◌
 use Rattle.sim_tree.specs.Grammar as g
 use Rattle.sim_tree.specs.Grammar.{of_expression, of_delay, of_waveform, of_signal_assignment, of_variable_assignment, of_statement, of_sequential}
 use Rattle.sim_tree.specs.Grammar.{of_branch, of_otherwise, of_sequence}
-use Rattle.sim_tree.proofs.Fits.{split, only, none_read, never_fits, mark_read, less, then_less, other, if_read, if_none}
+use Rattle.sim_tree.proofs.Writings.{split, only, none_read, never_fits, mark_read, less, then_less, other, if_read, if_none}
 use Rattle.sim_tree.proofs.Tokens.{word_read, word_kind, repeat_read, this_kind, is_seen, not_seen, eat_read, eat_not, expect_read}
 use Rattle.sim_tree.proofs.Lists.{separated_again, many_all_again}
 use Rattle.sim_tree.proofs.SequentialRules.{signal_is, variable_is, if_is, null_is, branch_is, sequential_is, cases_statement, cases_branch, cases_sequential}
-use Rattle.sim_expression.proofs.Complete.{expression_again}
-use Rattle.sim_expression.proofs.WaveformComplete.{closed_ends, waveform_again, waveform_opens, delay_again, opens_no_delay}
+use Rattle.sim_expression.proofs.ExpressionsComplete.{expression_again}
+use Rattle.sim_expression.proofs.WaveformsComplete.{closed_ends, waveform_again, waveform_opens, delay_again, opens_no_delay}
 use Rattle.sim_reading.specs.Statements.{label_again, variable_assigned, signal_assigned, assigned, null, begins_statement, labelled, statement}
 use Rattle.sim_reading.specs.Statements.{sequence, branch, branches, otherwise, if_end, if_statement, statements}
 

@@ -1,4 +1,6 @@
--- What is written as a design unit or a file is read so.
+-- What is written as a design unit or a file is read so. From the writing, taken apart by `split`, follow the tokens that the reader sees at each step,
+-- and so its answer; lists by induction on the tokens that are left. What stands after a list or an optional part matters: it must not go on with it, so
+-- a lemma asks of the next token that it does not.
 use Rattle.std.proofs.Common.{◌≡◌, ℕ, zero, suc, ◌≤◌, Bool, true, false, List, [], ◌∷◌, ◌++◌, length, map, Ok, refl, append_assoc, arith}
 use Rattle.std.proofs.lemmas.List.{append-nil}
 use Rattle.sim_token.specs.declared.kind.Kind.{Kind}
@@ -17,13 +19,13 @@ use Rattle.sim_tree.specs.Input.{Input, kind, left}
 use Rattle.sim_tree.specs.Writing.{Mark, This, if_written, just, mark, ◌▸◌, all_of, separated_by, some_of, word_at, Fits}
 use Rattle.sim_tree.specs.Grammar.{of_suffixes, of_selection, of_selected, of_context_item, of_entity, of_architecture, of_library_unit, of_unit}
 use Rattle.sim_tree.specs.Grammar.{of_units, IsFile}
-use Rattle.sim_tree.proofs.Fits.{split, none_read, never_fits, mark_read, shorter, less, then_less, other}
+use Rattle.sim_tree.proofs.Writings.{split, none_read, never_fits, mark_read, shorter, less, then_less, other}
 use Rattle.sim_tree.proofs.Tokens.{is_same, not_same, word_read, word_kind, this_kind, is_seen, not_seen, eat_read, eat_not, expect_read, written_read}
 use Rattle.sim_tree.proofs.Lists.{many_again, many_all_again, separated_again, all_begin}
 use Rattle.sim_reading.specs.Units.{suffixes_from, suffixes, selected, selected_names, context_item, begins_context, context, entity}
 use Rattle.sim_reading.specs.Units.{architecture_body, architecture, library_unit, unit, goes_on, units_of, finish, file}
-use Rattle.sim_reading.proofs.DeclaredAgain.{names_again, repeated_again, ports_again, declarations_again}
-use Rattle.sim_reading.proofs.ConcurredAgain.{concurrents_again}
+use Rattle.sim_reading.proofs.DeclarationsComplete.{names_again, repeated_again, ports_again, declarations_again}
+use Rattle.sim_reading.proofs.ConcurrentsComplete.{concurrents_again}
 
 -- a selected name ends before such a token
 abbrev NoDot : Kind → Type 0

@@ -1,4 +1,6 @@
--- What is read as a concurrent statement is written so.
+-- What is read as a concurrent statement is written so. For each reader there is a lemma that it `Gives` its writing: the tokens that it goes past are
+-- the spelling of the tree that it answers. It goes through the reader's steps with `then_` and puts the writings of its parts together with `◌&◌`;
+-- lists by induction on the tokens that are left.
 use Rattle.std.proofs.Common.{◌≡◌, ℕ, zero, suc, Bool, true, false, ◌||◌, List, [], ◌∷◌, ◌++◌, length, map, Option, Some, None, refl, ◌∙◌, append_assoc}
 use Rattle.sim_token.specs.declared.kind.Kind.{Kind}
 use Rattle.sim_token.specs.declared.kind.Kind.TheVariants as k
@@ -13,16 +15,16 @@ use Rattle.sim_tree.specs.Writing.{Writing, mark, never, ◌▸◌, all_of, if_w
 use Rattle.sim_tree.specs.Grammar as g
 use Rattle.sim_tree.specs.Grammar.{of_sensitivity, of_variable, of_process, of_actual, formally, is_named, of_association, of_associations}
 use Rattle.sim_tree.specs.Grammar.{of_port_map, of_chosen, of_instantiated, of_instance, of_concurrent}
-use Rattle.sim_tree.proofs.Fits.{Gives, then_, map_, done, refused, ◌&◌, split, none, never_fits, mark_at, marks}
+use Rattle.sim_tree.proofs.Writings.{Gives, then_, map_, done, refused, ◌&◌, split, none, never_fits, mark_at, marks}
 use Rattle.sim_tree.proofs.Tokens.{word_gives, literal_gives, eat_gives, eat_then, eaten_written, expect_gives}
 use Rattle.sim_tree.proofs.Lists.{many_all_gives}
-use Rattle.sim_expression.proofs.WaveformSound as waves
+use Rattle.sim_expression.proofs.WaveformsSound as waves
 use Rattle.sim_reading.specs.Concurrents.{sensitivity, process_body, process, actual, actual_by, associated, named_association, free_association}
 use Rattle.sim_reading.specs.Concurrents.{free_by, association, associations_from, associations, port_map, instance, chosen, entity_named}
 use Rattle.sim_reading.specs.Concurrents.{concurrent_assigned, concurrent_process, target_by, labelled, labelled_by, first_by, concurrent}
 use Rattle.sim_reading.specs.Concurrents.{concurrent_by, begins_concurrent, concurrents}
-use Rattle.sim_reading.proofs.Declared.{names_give, variables_give}
-use Rattle.sim_reading.proofs.Stated.{label_again_gives, statements_give}
+use Rattle.sim_reading.proofs.DeclarationsSound.{names_give, variables_give}
+use Rattle.sim_reading.proofs.StatementsSound.{label_again_gives, statements_give}
 
 sensitivity_gives : (i : Input) → Gives (λ x m. Fits 64 64 (of_sensitivity x) i m) (sensitivity i)
 unfolding sensitivity

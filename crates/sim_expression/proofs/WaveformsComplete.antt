@@ -1,4 +1,6 @@
--- What is written as a waveform or a delay is read so.
+-- What is written as a waveform or a delay is read so. From the writing, taken apart by `split`, follow the tokens that the reader sees at each step,
+-- and so its answer; lists by induction on the tokens that are left. What stands after a list or an optional part matters: it must not go on with it, so
+-- a lemma asks of the next token that it does not.
 use Rattle.std.proofs.Common.{◌≡◌, ℕ, zero, suc, ◌<◌, ◌≤◌, Bool, true, false, cond, List, [], ◌∷◌, ◌++◌, length, Option, Some, None, Ok, refl, sym}
 use Rattle.std.proofs.Common.{◌∙◌, append_assoc, arith}
 use Rattle.std.proofs.lemmas.List.{append-nil}
@@ -18,11 +20,11 @@ use Rattle.sim_tree.specs.Times.{is_time, time_of}
 use Rattle.sim_tree.specs.Input.{Input, ◌>>=◌, pure, kind, left, eat}
 use Rattle.sim_tree.specs.Writing.{NumberAt, UnitWord, just, mark, ◌▸◌, Fits}
 use Rattle.sim_tree.specs.Grammar.{of_expression, of_time, of_after, of_element, of_waveform, of_conditional, of_more, of_alternatives, of_waveforms, of_delay}
-use Rattle.sim_tree.proofs.Fits.{split, none_read, never_fits, mark_read, shorter, takes_split}
+use Rattle.sim_tree.proofs.Writings.{split, none_read, never_fits, mark_read, shorter, takes_split}
 use Rattle.sim_tree.proofs.Tokens.{number_read, unit_read, eat_read, eat_not, expect_read}
 use Rattle.sim_tree.proofs.Lists.{separated_again}
 use Rattle.sim_expression.specs.Waveforms.{time, time_from, element, waveform, delay, delay_by, condition, alternatives_from, waveforms, assigned}
-use Rattle.sim_expression.proofs.Complete.{binds, opens, expression_opens, expression_again}
+use Rattle.sim_expression.proofs.ExpressionsComplete.{binds, opens, expression_opens, expression_again}
 
 pub time_again : {p n : ℕ} (t : TimeLiteral) (i m : Input) → Fits p n (of_time t) i m → time i ≡ Ok (t, m)
 unfolding time time_from of_time is_time

@@ -1,4 +1,6 @@
--- What is written as a concurrent statement is read so.
+-- What is written as a concurrent statement is read so. From the writing, taken apart by `split`, follow the tokens that the reader sees at each step,
+-- and so its answer; lists by induction on the tokens that are left. What stands after a list or an optional part matters: it must not go on with it, so
+-- a lemma asks of the next token that it does not.
 use Rattle.std.proofs.Common.{◌≡◌, ℕ, zero, suc, ◌≤◌, Bool, true, false, ◌||◌, List, [], ◌∷◌, ◌++◌, length, map, Option, Some, None, Ok, refl}
 use Rattle.std.proofs.Common.{append_assoc, arith}
 use Rattle.sim_token.specs.declared.kind.Kind.{Kind}
@@ -25,16 +27,16 @@ use Rattle.sim_tree.specs.Grammar as g
 use Rattle.sim_tree.specs.Grammar.{of_delay, of_waveforms, of_concurrent_assignment, of_sensitivity, of_variable, of_sequence, of_process, of_actual}
 use Rattle.sim_tree.specs.Grammar.{formally, is_named, of_association, of_associations, of_port_map, of_chosen, of_instantiated, of_instance}
 use Rattle.sim_tree.specs.Grammar.{of_concurrent}
-use Rattle.sim_tree.proofs.Fits.{◌&◌, split, only, none_read, never_fits, mark_at_read, mark_read, shorter, less, less_then, other}
+use Rattle.sim_tree.proofs.Writings.{◌&◌, split, only, none_read, never_fits, mark_at_read, mark_read, shorter, less, less_then, other}
 use Rattle.sim_tree.proofs.Tokens.{word_read, word_kind, literal_read, literal_kind, eat_read, eat_not, expect_read, written_read}
 use Rattle.sim_tree.proofs.Lists.{many_all_again, all_begin}
-use Rattle.sim_expression.proofs.WaveformComplete as waves
+use Rattle.sim_expression.proofs.WaveformsComplete as waves
 use Rattle.sim_reading.specs.Concurrents.{sensitivity, process_body, process, actual, associated, named_association, free_association, association}
 use Rattle.sim_reading.specs.Concurrents.{associations_from, associations, port_map, instance, chosen, entity_named, concurrent_assigned}
 use Rattle.sim_reading.specs.Concurrents.{concurrent_process, target_by, labelled, first_by, concurrent, begins_concurrent, concurrents}
-use Rattle.sim_reading.proofs.DeclaredAgain.{names_begin, names_again, variables_again}
-use Rattle.sim_reading.proofs.StatedAgain.{label_again_again, statements_again}
-use Rattle.sim_reading.proofs.Concurred.{of_open}
+use Rattle.sim_reading.proofs.DeclarationsComplete.{names_begin, names_again, variables_again}
+use Rattle.sim_reading.proofs.StatementsComplete.{label_again_again, statements_again}
+use Rattle.sim_reading.proofs.ConcurrentsSound.{of_open}
 
 sensitivity_again : (y : Sensitivity) (i j : Input) → Fits 64 64 (of_sensitivity y) i j → kind j ≡ k.RightParen → sensitivity i ≡ Ok (y, j)
 unfolding sensitivity

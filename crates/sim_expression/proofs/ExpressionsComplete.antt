@@ -1,4 +1,6 @@
--- What is written as an expression is read so.
+-- What is written as an expression is read so. From the writing, taken apart by `split`, follow the tokens that the reader sees at each step, and so its
+-- answer; parentheses inside one another by induction on how many may still open. What stands after a list or an optional part matters: it must not go
+-- on with it, so a lemma asks of the next token that it does not.
 use Rattle.std.proofs.Common.{◌≡◌, ℕ, zero, suc, ◌<◌, ◌≤◌, Bool, true, false, List, [], ◌∷◌, ◌++◌, length, map, Some, Ok, inl, inr, refl, ap, sym}
 use Rattle.std.proofs.Common.{subst, ◌∙◌, arith}
 use Rattle.sim_token.specs.declared.kind.Kind.{Kind}
@@ -14,7 +16,7 @@ use Rattle.sim_tree.specs.declared.expression.Logical.TheVariants as logical
 use Rattle.sim_tree.specs.Input.{Input, Parser, kind, left, same_kind, many_from}
 use Rattle.sim_tree.specs.Writing.{MarkAt, just, ◌▸◌, Fits}
 use Rattle.sim_tree.specs.Grammar.{relational_kind, logical_kind, is_repeatable, more_operands, of_expression, of_primary, of_relation, of_factor, of_operand}
-use Rattle.sim_tree.proofs.Fits.{Halves, split, none_read, never_fits, opened_read, opened_none, mark_at_read, mark_read, less}
+use Rattle.sim_tree.proofs.Writings.{Halves, split, none_read, never_fits, opened_read, opened_none, mark_at_read, mark_read, less}
 use Rattle.sim_tree.proofs.Tokens.{is_same, not_same, same_is, word_read, word_kind, literal_read, literal_kind, event_read, expect_read}
 use Rattle.sim_tree.proofs.Lists.{many_again, list_follows}
 use Rattle.sim_tree.proofs.ExpressionRules.{parenthesized_is, operand_is, operands_of, cases_operand}
@@ -22,7 +24,7 @@ use Rattle.sim_tree.proofs.ExpressionLevels.{factor_cases, relation_cases, expre
 use Rattle.sim_expression.specs.Expressions as spec
 use Rattle.sim_expression.specs.Expressions.{named, named_by, goes_on, logical_of, primary, factor, factor_by, relation, relation_by, operand}
 use Rattle.sim_expression.specs.Expressions.{operands, chain_by, expression_in, nested, expression}
-use Rattle.sim_expression.proofs.Sound.{operands_w}
+use Rattle.sim_expression.proofs.ExpressionsSound.{operands_w}
 
 -- how far into what stands before it a token reaches: 3 into a name, 2 into a factor, 1 into a relation
 abbrev pub binds : Kind → ℕ

@@ -1,4 +1,6 @@
--- What is read as a waveform or a delay is written so.
+-- What is read as a waveform or a delay is written so. For each reader there is a lemma that it `Gives` its writing: the tokens that it goes past are
+-- the spelling of the tree that it answers. It goes through the reader's steps with `then_` and puts the writings of its parts together with `◌&◌`;
+-- lists by induction on the tokens that are left.
 use Rattle.std.proofs.Common.{◌≡◌, ℕ, zero, suc, Bool, true, false, cond, List, [], ◌∷◌, ◌++◌, length, Option, Some, None, Err, refl, sym, ◌∙◌}
 use Rattle.std.proofs.Common.{append_assoc, arith}
 use Rattle.std.proofs.lemmas.List.{append-nil}
@@ -17,11 +19,11 @@ use Rattle.sim_tree.specs.Input.{Input, pure, kind, next, left}
 use Rattle.sim_tree.specs.Writing.{NumberAt, UnitWord, just, mark, word_at, Fits}
 use Rattle.sim_tree.specs.Grammar.{of_expression, of_time, of_element, of_waveform, of_conditional, of_more, of_alternatives, of_waveforms, of_delay}
 use Rattle.sim_tree.specs.Grammar.{labelled, of_concurrent_assignment}
-use Rattle.sim_tree.proofs.Fits.{Gives, then_, map_, done, refused, ◌&◌, none, none_to, never_fits, marks, takes_append}
+use Rattle.sim_tree.proofs.Writings.{Gives, then_, map_, done, refused, ◌&◌, none, none_to, never_fits, marks, takes_append}
 use Rattle.sim_tree.proofs.Tokens.{number_gives, unit_gives, Eaten, eat_gives, eat_then, expect_gives}
 use Rattle.sim_tree.proofs.Lists.{separated_gives}
 use Rattle.sim_expression.specs.Waveforms.{time, time_from, delayed, element, waveform, delay, delay_by, condition, alternatives_from, waveforms, assigned}
-use Rattle.sim_expression.proofs.Sound.{expression_gives}
+use Rattle.sim_expression.proofs.ExpressionsSound.{expression_gives}
 
 time_parts : (p n : ℕ) (d : List ℕ × ℕ) (u : TimeUnit) (i j m : Input) → Fits p n (just (NumberAt d.0 d.1)) i j → Fits p n (just (UnitWord u)) j m
     → is_time d.0 u ≡ true → Fits p n (of_time (record { digits = d.0; at = d.1; unit = u })) i m

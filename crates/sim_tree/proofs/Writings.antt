@@ -1,4 +1,7 @@
--- Writings one after the other, and what a parser gives.
+-- Writings one after the other, and what a reader gives. `Fits p n w i j` says that the tokens from i up to j are the writing w, with at most p
+-- parentheses and n ifs open; writings in a row are put together by `◌&◌` and taken apart by `split`. `Gives q (r i)` says that q holds of what the
+-- reader r reads and of what is left, if it reads anything; a reader made of readers is gone through by `then_`, each step with what the one before it
+-- has shown.
 use Rattle.std.proofs.Common.{◌≡◌, ℕ, suc, ◌≤◌, List, [], ◌∷◌, ◌++◌, length, ◌+◌, Ok, Err, refl, sym, subst, ◌∙◌, arith}
 use Rattle.sim_token.specs.declared.kind.Kind.{Kind}
 use Rattle.sim_token.specs.declared.kind.Kind.TheVariants as k

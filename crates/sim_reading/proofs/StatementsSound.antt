@@ -1,4 +1,6 @@
--- What is read as a sequential statement is written so.
+-- What is read as a sequential statement is written so. For each reader there is a lemma that it `Gives` its writing: the tokens that it goes past are
+-- the spelling of the tree that it answers. It goes through the reader's steps with `then_` and puts the writings of its parts together with `◌&◌`; ifs
+-- inside one another by induction on how many may still open.
 use Rattle.std.proofs.Common.{◌≡◌, ℕ, zero, suc, List, map, Option, Some, None, refl}
 use Rattle.sim_token.specs.declared.kind.Kind.{Kind}
 use Rattle.sim_token.specs.declared.kind.Kind.TheVariants as k
@@ -11,12 +13,12 @@ use Rattle.sim_tree.specs.Writing.{mark, separated_by, word_at, Fits}
 use Rattle.sim_tree.specs.Grammar as g
 use Rattle.sim_tree.specs.Grammar.{of_expression, of_signal_assignment, of_variable_assignment, of_statement, of_sequential, of_branch, of_otherwise}
 use Rattle.sim_tree.specs.Grammar.{of_sequence}
-use Rattle.sim_tree.proofs.Fits.{Gives, then_, done, refused, ◌&◌, none, marks, if_fits}
+use Rattle.sim_tree.proofs.Writings.{Gives, then_, done, refused, ◌&◌, none, marks, if_fits}
 use Rattle.sim_tree.proofs.Tokens.{word_gives, repeat_gives, eat_then, sees_then, expect_gives}
 use Rattle.sim_tree.proofs.Lists.{separated_gives, many_all_gives}
 use Rattle.sim_tree.proofs.SequentialRules.{signal_is, variable_is, if_is, null_is, branch_is, sequential_is}
-use Rattle.sim_expression.proofs.Sound.{expression_gives}
-use Rattle.sim_expression.proofs.WaveformSound.{delay_gives, waveform_gives}
+use Rattle.sim_expression.proofs.ExpressionsSound.{expression_gives}
+use Rattle.sim_expression.proofs.WaveformsSound.{delay_gives, waveform_gives}
 use Rattle.sim_reading.specs.Statements.{label_again, label_by, variable_assigned, signal_assigned, assigned, assigned_by, null, with_label}
 use Rattle.sim_reading.specs.Statements.{begins_statement, labelled, labelled_by, statement, statement_by, sequence, branch, branches, otherwise}
 use Rattle.sim_reading.specs.Statements.{if_end, if_statement, statements}

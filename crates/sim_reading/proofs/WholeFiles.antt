@@ -1,18 +1,19 @@
--- The laws of a whole text.
+-- The laws of a whole text, from its four halves. What is read as a file is written so (UnitsSound), and what is written so is read (UnitsComplete). As
+-- a reader has one answer, no tokens are two files, and tokens that are refused are none; where a fault stands is in FaultPlaces.
 use Rattle.std.proofs.Common.{◌≡◌, ℕ, List, [], Ok, Err, refl, sym, ap, subst, ◌∙◌}
 use Rattle.sim_tree.specs.declared.error.ParseError.{ParseError}
 use Rattle.sim_tree.specs.declared.error.ParseError.TheVariants.{TimeRange, TooDeep}
 use Rattle.sim_tree.specs.Faults.{IsTooLarge, IsOpening}
-use Rattle.sim_tree.proofs.Late.{Blame}
-use Rattle.sim_reading.proofs.TextLate.{file_late}
+use Rattle.sim_tree.proofs.FaultPlaces.{Blame}
+use Rattle.sim_reading.proofs.FaultPlaces.{file_blames}
 use Rattle.sim_tree.specs.DesignFile.{DesignFile}
 use Rattle.sim_tree.specs.declared.unit.DesignUnit.{DesignUnit}
 use Rattle.sim_tree.specs.Input.{Input, Outcome}
 use Rattle.sim_tree.specs.Grammar.{AreUnits, IsFile}
-use Rattle.sim_tree.proofs.Fits.{Hits}
+use Rattle.sim_tree.proofs.Writings.{Hits}
 use Rattle.sim_reading.specs.Units.{file, units_of, finish}
-use Rattle.sim_reading.proofs.United.{file_gives}
-use Rattle.sim_reading.proofs.UnitedAgain.{file_again}
+use Rattle.sim_reading.proofs.UnitsSound.{file_gives}
+use Rattle.sim_reading.proofs.UnitsComplete.{file_again}
 
 pub is_found : (i j : Input) (x : DesignFile) → file i ≡ Ok (x, j) → IsFile x i
 is_found i j x e = let g = subst (λ (o : Outcome DesignFile). Hits (λ y m. IsFile y i) o) e (file_gives i).gives in g
@@ -34,11 +35,11 @@ one_file i a b x y = is_only i [] b a (file_again b i y) x
 
 -- a fault of a time stands at one that is too large
 pub large_time : (i : Input) (n : ℕ) → file i ≡ Err (TimeRange n) → IsTooLarge i n
-large_time i n e = subst (λ (o : Outcome DesignFile). Blame i o) e (file_late i).blame
+large_time i n e = subst (λ (o : Outcome DesignFile). Blame i o) e (file_blames i).blame
 
 -- a fault of depth stands at what opens parentheses or an if
 pub deep_opening : (i : Input) (n : ℕ) → file i ≡ Err (TooDeep n) → IsOpening i n
-deep_opening i n e = subst (λ (o : Outcome DesignFile). Blame i o) e (file_late i).blame
+deep_opening i n e = subst (λ (o : Outcome DesignFile). Blame i o) e (file_blames i).blame
 
 -- units that are read up to the end of the tokens are written with them
 pub units_read : (i j m : Input) (xs : List DesignUnit) → units_of i ≡ Ok (xs, j) → finish j ≡ Ok (tt, m) → AreUnits xs i
