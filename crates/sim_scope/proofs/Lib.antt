@@ -1,0 +1,2 @@
+pub mod FirstFaults
+pub mod Regions
