@@ -1,0 +1,4 @@
+pub mod Bodies
+pub mod Designs
+pub mod Processes
+pub mod Waveforms

@@ -1,0 +1,10 @@
+//! What a variable holds.
+
+use sim_logic::Logic;
+
+/// The value of a variable: of type std_ulogic, or boolean.
+#[derive(Clone, Copy, Debug, PartialEq, Eq)]
+pub enum Held {
+    Bit(Logic),
+    Truth(bool),
+}
