@@ -1,0 +1,5 @@
+pub mod Judgements
+pub mod Sequences
+pub mod SoundWaveforms
+pub mod Turns
+pub mod Typed

@@ -1,0 +1,5 @@
+pub mod Carried
+pub mod Laws
+pub mod Statements
+pub mod Types
+pub mod Waveforms
