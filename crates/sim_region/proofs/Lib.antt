@@ -1,0 +1,4 @@
+pub mod Declaring
+pub mod FaultLoops
+pub mod LabelRules
+pub mod NameLists

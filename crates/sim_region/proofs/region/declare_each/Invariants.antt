@@ -1,0 +1,7 @@
+use Rattle.std.proofs.Common.{◌≡◌, drop}
+use Rattle.sim_region.specs.DeclaredNames.{named_by}
+use Rattle.sim_region.specs.Regions.{naming}
+use Rattle.sim_region.proofs.region.declare_each.Given as goal
+
+abbrev pub invariant-loop-name : goal.invariant-loop-name
+invariant-loop-name l = naming l.scope (named_by (drop l.name-index l.names)) ≡ naming l.fn.scope (named_by l.names)

@@ -1,0 +1,9 @@
+use Rattle.std.proofs.Common.{◌≡◌, ◌+◌, drop}
+use Rattle.sim_scope.specs.Scopes.{declaring}
+use Rattle.sim_region.specs.Regions.{objects}
+use Rattle.sim_region.proofs.region.declare_objects.Given as goal
+
+abbrev pub invariant-loop-name : goal.invariant-loop-name
+invariant-loop-name l =
+    (declaring l.scope (objects l.object l.place (drop l.name-index l.names)) ≡ declaring l.fn.scope (objects l.object l.first l.names))
+    × (l.place ≡ l.first + l.name-index)

@@ -1,0 +1,4 @@
+pub mod DeclaredNames
+pub mod Regions
+pub mod Ports
+pub mod DeclarationFaults

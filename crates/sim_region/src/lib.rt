@@ -1,0 +1,11 @@
+//! The declarative regions of a design, and the faults of its declarations.
+#![tactic(auto)]
+
+pub mod check;
+pub mod names;
+pub mod port;
+pub mod region;
+pub mod value;
+
+pub use names::Names;
+pub use port::Port;

@@ -1,0 +1,325 @@
+//! The declarative regions of a design (IEEE 1076-2008, 12.1), from its declarations.
+
+ghost use Rattle.std.specs.Prelude.{◌≡◌, ◌+◌, [], length, OnOk, IfOk};
+ghost use Rattle.sim_scope.specs.Scopes.{declaring, means};
+ghost use Rattle.sim_region.specs.DeclaredNames.{named_by, body_names};
+ghost use Rattle.sim_region.specs.Regions as spec;
+
+use crate::names::Names;
+use crate::port::mode_of;
+use sim_scope::scope::{Meaning, Scope, Type, look_up};
+use sim_tree::declaration::{Declaration, Mode, ObjectDeclaration, PortDeclaration};
+use sim_tree::name::Name;
+use sim_tree::unit::{Concurrent, Process};
+use std::alloc::{AllocError, Global};
+
+/// What an object is that is declared: all but its place. Its type is absent where the type mark is at fault.
+#[derive(Clone, Copy)]
+pub enum Object {
+    Port { mode: Mode, type_: Option<Type> },
+    Signal { type_: Option<Type> },
+    Variable { type_: Option<Type> },
+}
+
+impl Object {
+    /// What its name means, by its place.
+    fn meaning(self, place: usize) -> Meaning
+        ensures { result ≡ spec.meaning_of self place }
+    {
+        match self {
+            Object::Port { mode, type_ } => Meaning::Port {
+                object: place,
+                mode,
+                type_,
+            },
+            Object::Signal { type_ } => Meaning::Signal {
+                object: place,
+                type_,
+            },
+            Object::Variable { type_ } => Meaning::Variable { place, type_ },
+        }
+    }
+}
+
+/// Where the next signal and the next component of an architecture stand.
+#[derive(Clone, Copy)]
+struct Places {
+    signal: usize,
+    component: usize,
+}
+
+/// The type that a mark of this meaning stands for: boolean only where an object may be boolean.
+pub fn type_marked(may_be_boolean: bool, meaning: Option<Meaning>) -> Option<Type>
+    ensures { result ≡ spec.type_marked may_be_boolean meaning }
+{
+    match meaning {
+        Some(Meaning::LogicMark { resolved: _ }) => Some(Type::Logic),
+        Some(Meaning::BooleanMark) if may_be_boolean => Some(Type::Boolean),
+        _ => None,
+    }
+}
+
+/// The next place: there is one for each name that memory can hold.
+fn next(place: usize) -> Result<usize, AllocError>
+    ensures { IfOk result (λ n. n ≡ place + 1) }
+{
+    let next = place.checked_add(1).ok_or(AllocError)?;
+    Ok(next)
+}
+
+/// Declares names of which nothing else is known.
+#[tactic(auto, unfolding(crate::specs::Regions::labels, crate::specs::DeclaredNames::named_by, sim_scope::specs::Scopes::declaring))]
+fn declare_each<'a>(scope: &mut Scope<'a>, names: &[&'a Name]) -> Result<(), AllocError>
+    ensures { OnOk result (scope.new ≡ spec.naming scope.old (named_by names.now)) }
+{
+    for name in names {
+        scope.declare(name.text(), Meaning::Label)?;
+    }
+    Ok(())
+}
+
+/// Declares names of which nothing else is known, as labels.
+pub fn declare_labels<'a>(scope: &mut Scope<'a>, names: &Names<'a>) -> Result<(), AllocError>
+    ensures { OnOk result (scope.new ≡ spec.naming scope.old names.now) }
+{
+    declare_each(scope, names.as_slice())?;
+    Ok(())
+}
+
+/// Declares objects in a row, the first at this place, and gives the place after the last.
+#[tactic(auto, using(crate::proofs::Declaring::in_pieces), unfolding(crate::specs::Regions::objects, sim_scope::specs::Scopes::declaring))]
+fn declare_objects<'a>(
+    scope: &mut Scope<'a>,
+    object: Object,
+    first: usize,
+    names: &'a [Name],
+) -> Result<usize, AllocError>
+    ensures declared { OnOk result (scope.new ≡ declaring scope.old (spec.objects object first names.now)) }
+    ensures place { IfOk result (λ place. place ≡ first + length names.now) }
+{
+    let mut place = first;
+    for name in names {
+        scope.declare(name.text(), object.meaning(place))?;
+        place = next(place)?;
+    }
+    Ok(place)
+}
+
+/// The type that the mark of objects names, where one region stands in another.
+fn mark_type(
+    inner: &Scope<'_>,
+    outer: &Scope<'_>,
+    may_be_boolean: bool,
+    mark: &Name,
+) -> Option<Type>
+    ensures { result ≡ spec.mark_type (means inner.now outer.now) may_be_boolean mark.now }
+{
+    type_marked(may_be_boolean, look_up(inner, outer, mark.text()))
+}
+
+/// Declares the ports of a declaration, the first at this place, and gives the place after the last.
+fn declare_port<'a>(
+    scope: &mut Scope<'a>,
+    inner: &Scope<'_>,
+    outer: &Scope<'_>,
+    place: usize,
+    port: &'a PortDeclaration,
+) -> Result<usize, AllocError>
+    ensures declared { OnOk result (scope.new ≡ declaring scope.old (spec.port_objects (means inner.now outer.now) place port.now)) }
+    ensures place { IfOk result (λ after. after ≡ place + length port.now.names) }
+{
+    let object = Object::Port {
+        mode: mode_of(port.mode),
+        type_: mark_type(inner, outer, false, &port.mark),
+    };
+    let after = declare_objects(scope, object, place, port.names.as_slice())?;
+    Ok(after)
+}
+
+/// Declares ports, the first at place 0. A mark is looked up in two regions.
+#[tactic(auto, using(crate::proofs::Declaring::in_pieces), unfolding(crate::specs::Regions::ports, sim_scope::specs::Scopes::declaring))]
+fn declare_ports<'a>(
+    scope: &mut Scope<'a>,
+    inner: &Scope<'_>,
+    outer: &Scope<'_>,
+    ports: &'a [PortDeclaration],
+) -> Result<(), AllocError>
+    ensures { OnOk result (scope.new ≡ declaring scope.old (spec.ports (means inner.now outer.now) 0 ports.now)) }
+{
+    let mut place = 0;
+    for port in ports {
+        place = declare_port(scope, inner, outer, place, port)?;
+    }
+    Ok(())
+}
+
+/// Declares the variables of a declaration, the first at this place, and gives the place after the last.
+fn declare_variable<'a>(
+    scope: &mut Scope<'a>,
+    inner: &Scope<'_>,
+    outer: &Scope<'_>,
+    place: usize,
+    variable: &'a ObjectDeclaration,
+) -> Result<usize, AllocError>
+    ensures declared { OnOk result (scope.new ≡ declaring scope.old (spec.variable_objects (means inner.now outer.now) place variable.now)) }
+    ensures place { IfOk result (λ after. after ≡ place + length variable.now.names) }
+{
+    let object = Object::Variable {
+        type_: mark_type(inner, outer, true, &variable.mark),
+    };
+    let after = declare_objects(scope, object, place, variable.names.as_slice())?;
+    Ok(after)
+}
+
+/// Declares variables, the first at place 0. A mark is looked up in two regions.
+#[tactic(auto, using(crate::proofs::Declaring::in_pieces), unfolding(crate::specs::Regions::variables, sim_scope::specs::Scopes::declaring))]
+fn declare_variables<'a>(
+    scope: &mut Scope<'a>,
+    inner: &Scope<'_>,
+    outer: &Scope<'_>,
+    variables: &'a [ObjectDeclaration],
+) -> Result<(), AllocError>
+    ensures { OnOk result (scope.new ≡ declaring scope.old (spec.variables (means inner.now outer.now) 0 variables.now)) }
+{
+    let mut place = 0;
+    for variable in variables {
+        place = declare_variable(scope, inner, outer, place, variable)?;
+    }
+    Ok(())
+}
+
+/// Declares the signals of a declaration, or its component, and gives the places after them.
+#[tactic(auto, using(crate::proofs::Declaring::in_pieces))]
+fn declare_declaration<'a>(
+    scope: &mut Scope<'a>,
+    inner: &Scope<'_>,
+    outer: &Scope<'_>,
+    places: Places,
+    declaration: &'a Declaration,
+) -> Result<Places, AllocError>
+    ensures names { OnOk result (scope.new ≡ declaring scope.old (spec.declared (means inner.now outer.now) places.signal places.component declaration.now)) }
+    ensures signal { IfOk result (λ after. after.signal ≡ places.signal + spec.signal_count declaration.now) }
+    ensures component { IfOk result (λ after. after.component ≡ places.component + spec.component_count declaration.now) }
+{
+    match declaration {
+        Declaration::Signal(signals) => {
+            let object = Object::Signal {
+                type_: mark_type(inner, outer, false, &signals.mark),
+            };
+            let signal = declare_objects(scope, object, places.signal, signals.names.as_slice())?;
+            Ok(Places {
+                signal,
+                component: places.component,
+            })
+        }
+        Declaration::Component(component) => {
+            let meaning = Meaning::Component {
+                place: places.component,
+            };
+            scope.declare(component.name.text(), meaning)?;
+            Ok(Places {
+                signal: places.signal,
+                component: next(places.component)?,
+            })
+        }
+    }
+}
+
+/// Declares signals and components, the first signal at this place. A mark is looked up in two regions.
+#[tactic(auto, using(crate::proofs::Declaring::in_pieces), unfolding(crate::specs::Regions::declarations, sim_scope::specs::Scopes::declaring))]
+fn declare_declarations<'a>(
+    scope: &mut Scope<'a>,
+    inner: &Scope<'_>,
+    outer: &Scope<'_>,
+    signal: usize,
+    declarations: &'a [Declaration],
+) -> Result<(), AllocError>
+    ensures { OnOk result (scope.new ≡ declaring scope.old (spec.declarations (means inner.now outer.now) signal 0 declarations.now)) }
+{
+    let mut places = Places {
+        signal,
+        component: 0,
+    };
+    for declaration in declarations {
+        places = declare_declaration(scope, inner, outer, places, declaration)?;
+    }
+    Ok(())
+}
+
+/// Names of which nothing else is known, as a region.
+pub fn labels<'a>(alloc: Global, names: &Names<'a>) -> Result<Scope<'a>, AllocError>
+    ensures { IfOk result (λ s. s ≡ spec.naming [] names.now) }
+{
+    let mut scope = Scope::new(alloc);
+    declare_labels(&mut scope, names)?;
+    Ok(scope)
+}
+
+/// The region of the ports of an entity, in an empty one, or of a component, in that of its architecture.
+#[tactic(auto, unfolding(crate::specs::Regions::ports_region))]
+pub fn ports<'a>(
+    alloc: Global,
+    ports: &'a [PortDeclaration],
+    outer: &Scope<'_>,
+) -> Result<Scope<'a>, AllocError>
+    ensures { IfOk result (λ s. s ≡ spec.ports_region outer.now ports.now) }
+{
+    let names = Names::of_ports(alloc, ports)?;
+    let own = labels(alloc, &names)?;
+    let mut scope = Scope::new(alloc);
+    declare_ports(&mut scope, &own, outer, ports)?;
+    Ok(scope)
+}
+
+/// The names that an architecture sees, of which nothing else is known.
+fn architecture_labels<'a>(
+    alloc: Global,
+    ports: &Names<'a>,
+    declarations: &'a [Declaration],
+    statements: &'a [Concurrent],
+) -> Result<Scope<'a>, AllocError>
+    ensures { IfOk result (λ s. s ≡ spec.naming (spec.naming [] ports.now) (body_names declarations.now statements.now)) }
+{
+    let names = Names::of_body(alloc, declarations, statements)?;
+    let mut scope = labels(alloc, ports)?;
+    declare_labels(&mut scope, &names)?;
+    Ok(scope)
+}
+
+/// The region of an architecture: the ports of its entity, its declarations and its labels.
+#[tactic(auto, unfolding(crate::specs::Regions::architecture_region))]
+pub fn architecture<'a>(
+    alloc: Global,
+    ports: &'a [PortDeclaration],
+    declarations: &'a [Declaration],
+    statements: &'a [Concurrent],
+) -> Result<Scope<'a>, AllocError>
+    ensures { IfOk result (λ s. s ≡ spec.architecture_region ports.now declarations.now statements.now) }
+{
+    let names = Names::of_ports(alloc, ports)?;
+    let own = architecture_labels(alloc, &names, declarations, statements)?;
+    let nothing = Scope::new(alloc);
+    let mut scope = self::ports(alloc, ports, &nothing)?;
+    declare_declarations(&mut scope, &own, &nothing, names.len(), declarations)?;
+    let labels = Names::of_concurrents(alloc, statements)?;
+    declare_labels(&mut scope, &labels)?;
+    Ok(scope)
+}
+
+/// The region of a process, which stands in that of its architecture.
+#[tactic(auto, unfolding(crate::specs::Regions::process_region))]
+pub fn process<'a>(
+    alloc: Global,
+    outer: &Scope<'_>,
+    process: &'a Process,
+) -> Result<Scope<'a>, AllocError>
+    ensures { IfOk result (λ s. s ≡ spec.process_region outer.now process.now) }
+{
+    let names = Names::of_process(alloc, process)?;
+    let own = self::labels(alloc, &names)?;
+    let mut scope = Scope::new(alloc);
+    declare_variables(&mut scope, &own, outer, process.variables.as_slice())?;
+    let labels = Names::of_statements(alloc, process.statements.as_slice())?;
+    declare_labels(&mut scope, &labels)?;
+    Ok(scope)
+}
