@@ -1,0 +1,3 @@
+pub mod StatementRules
+pub mod Translations
+pub mod WaveformTimes

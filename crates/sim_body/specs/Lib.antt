@@ -1,0 +1,4 @@
+pub mod Expressions
+pub mod Statements
+pub mod Timed
+pub mod Within

@@ -1,0 +1,13 @@
+//! The bodies of processes: expressions and statements of the tree, with names as places.
+#![tactic(auto)]
+
+pub mod assigned;
+pub mod expressions;
+pub mod names;
+pub mod statements;
+pub mod targets;
+pub mod timed;
+pub mod waveforms;
+
+pub use names::Names;
+pub use targets::Targets;
