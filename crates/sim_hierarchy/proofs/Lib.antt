@@ -1,0 +1,13 @@
+pub mod Rises
+pub mod Added
+pub mod Made
+pub mod Sound
+pub mod Whole
+pub mod Scenes
+pub mod Collected
+pub mod Numbers
+pub mod Settled
+pub mod Law
+pub mod Totals
+pub mod Chains
+pub mod Within

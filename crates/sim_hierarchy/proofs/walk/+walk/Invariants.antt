@@ -1,0 +1,20 @@
+use Rattle.std.proofs.Common.{◌≡◌, ◌+◌, ◌*◌, drop, []}
+use Rattle.sim_hierarchy.specs.Laid as spec
+use Rattle.sim_hierarchy.proofs.walk.+walk.Given as goal
+
+abbrev pub decreases-block : goal.decreases-block
+decreases-block l = 4 * l.levels
+
+abbrev pub decreases-instance : goal.decreases-instance
+decreases-instance l = 4 * l.levels + 1
+
+abbrev pub decreases-instances : goal.decreases-instances
+decreases-instances l = 4 * l.levels + 2
+
+abbrev pub decreases-inside : goal.decreases-inside
+decreases-inside l = 4 * l.levels + 3
+
+abbrev pub invariant-instances-loop-each : goal.invariant-instances-loop-each
+invariant-instances-loop-each l =
+    spec.instances_laid (spec.laid l.blocks l.levels) l.blocks l.homes l.prefix (drop l.each-index l.list) l.nets l.own l.flat
+    ≡ spec.instances_laid (spec.laid l.blocks l.levels) l.blocks l.homes l.prefix l.list [] l.fn.own l.fn.flat

@@ -1,0 +1,175 @@
+//! How much there is below a block, found level by level without laying it.
+
+ghost use Rattle.std.specs.Prelude.{◌≡◌, ◌<◌, IfOk, length, slice_index_or};
+ghost use Rattle.std.specs.List.{All};
+ghost use Rattle.sim_hierarchy.specs.Blocks.{IsBlock, no_block};
+ghost use Rattle.sim_hierarchy.specs.Counts as spec;
+
+use crate::blocks::{Block, Instance, Link, Template};
+use crate::homes::net_at;
+use sqlite_items::Items;
+use std::alloc::{AllocError, Global};
+
+/// What is counted.
+#[derive(Clone, Copy, Debug)]
+pub enum Kind {
+    Nets,
+    Processes,
+    Drivers,
+    /// The top is none.
+    Instances,
+}
+
+/// One more than a design may have.
+const ABOVE: usize = 16_385;
+
+/// How many levels of instances there are below the top.
+const LEVELS: usize = 32;
+
+/// No more than is above the limit.
+fn capped(number: usize) -> usize
+    ensures { result ≡ spec.capped number }
+{
+    number.min(ABOVE)
+}
+
+fn sum(left: usize, right: usize) -> usize
+    ensures { result ≡ spec.sum left right }
+{
+    capped(capped(left) + capped(right))
+}
+
+/// How many ports are associated with nothing that has a net.
+#[tactic(auto, unfolding(crate::specs::Counts::unlinked_counted))]
+fn unlinked(links: &[Link]) -> usize
+    ensures { result ≡ spec.unlinked_counted links.now 0 }
+{
+    let mut number = 0;
+    for link in links {
+        number = more_unlinked(*link, number);
+    }
+    number
+}
+
+fn more_unlinked(link: Link, number: usize) -> usize
+    ensures { result ≡ spec.more_unlinked link number }
+{
+    match link {
+        Link::To(_) => number,
+        Link::Constant(_) | Link::Open => sum(number, 1),
+    }
+}
+
+#[tactic(auto, unfolding(crate::specs::Counts::targets_counted))]
+fn targets(templates: &[Template]) -> usize
+    ensures { result ≡ spec.targets_counted templates.now 0 }
+{
+    let mut number = 0;
+    for template in templates {
+        number = sum(number, template.targets.as_slice().len());
+    }
+    number
+}
+
+/// What a block has by itself.
+fn own(kind: Kind, block: &Block) -> usize
+    ensures { result ≡ spec.own_counted kind block.now }
+{
+    match kind {
+        Kind::Nets => capped(block.signals.as_slice().len()),
+        Kind::Processes => capped(block.processes.as_slice().len()),
+        Kind::Drivers => targets(block.processes.as_slice()),
+        Kind::Instances => 0,
+    }
+}
+
+/// What an instance adds to its block.
+fn step(kind: Kind, instance: &Instance) -> usize
+    ensures { result ≡ spec.step_counted kind instance.now }
+{
+    match kind {
+        Kind::Nets => unlinked(instance.links.as_slice()),
+        Kind::Processes | Kind::Drivers => 0,
+        Kind::Instances => 1,
+    }
+}
+
+/// A block's number, from those that its instances' blocks have a level below.
+#[tactic(auto, unfolding(crate::specs::Counts::instances_counted))]
+fn row(kind: Kind, table: &[usize], instances: &[Instance], own: usize) -> usize
+    ensures { result ≡ spec.instances_counted kind table.now instances.now own }
+{
+    let mut number = own;
+    for instance in instances {
+        number = sum(
+            sum(number, step(kind, instance)),
+            net_at(table, instance.block),
+        );
+    }
+    number
+}
+
+#[tactic(auto, unfolding(crate::specs::Counts::first_table))]
+fn first(alloc: Global, kind: Kind, blocks: &[Block]) -> Result<Items<usize>, AllocError>
+    ensures { IfOk result (λ r. r ≡ spec.first_table kind blocks.now) }
+{
+    let mut table = Items::new(alloc);
+    for block in blocks {
+        table.push(own(kind, block))?;
+    }
+    Ok(table)
+}
+
+#[tactic(auto, unfolding(crate::specs::Counts::next_table))]
+fn next(
+    alloc: Global,
+    kind: Kind,
+    table: &[usize],
+    blocks: &[Block],
+) -> Result<Items<usize>, AllocError>
+    ensures { IfOk result (λ r. r ≡ spec.next_table kind table.now blocks.now) }
+{
+    let mut rows = Items::new(alloc);
+    for block in blocks {
+        rows.push(row(kind, table, block.instances.as_slice(), own(kind, block)))?;
+    }
+    Ok(rows)
+}
+
+/// The numbers of the blocks with so many levels below them.
+#[tactic(auto, unfolding(crate::specs::Counts::table_at))]
+fn tables(
+    alloc: Global,
+    kind: Kind,
+    blocks: &[Block],
+    levels: usize,
+) -> Result<Items<usize>, AllocError>
+    ensures { IfOk result (λ r. r ≡ spec.table_at kind blocks.now levels) }
+{
+    let mut table = first(alloc, kind, blocks)?;
+    for _turn in 0..levels {
+        table = next(alloc, kind, table.as_slice(), blocks)?;
+    }
+    Ok(table)
+}
+
+/// What the top adds: each of its ports is a net.
+fn top_added(kind: Kind, block: &Block) -> usize
+    ensures { result ≡ spec.top_counted kind block.now }
+{
+    match kind {
+        Kind::Nets => capped(block.ports.as_slice().len()),
+        Kind::Processes | Kind::Drivers | Kind::Instances => 0,
+    }
+}
+
+/// How many nets, processes, drivers or instances the flat design has, if that is within the limit.
+pub fn count(alloc: Global, blocks: &[Block], top: usize, kind: Kind) -> Result<usize, AllocError>
+    requires known { All (IsBlock blocks.now) blocks.now }
+    requires top { top < length blocks.now }
+    ensures { IfOk result (λ n. n ≡ spec.capped (spec.number kind blocks.now top)) }
+{
+    let table = tables(alloc, kind, blocks, LEVELS)?;
+    let number = net_at(table.as_slice(), top);
+    Ok(sum(number, top_added(kind, &blocks[top])))
+}

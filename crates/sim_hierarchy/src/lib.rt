@@ -1,0 +1,16 @@
+//! The expansion of a hierarchy: from architectures whose names are places to the flat design.
+#![tactic(auto)]
+
+pub mod blocks;
+pub mod counts;
+pub mod depth;
+mod homes;
+mod leaves;
+pub mod limits;
+mod names;
+mod processes;
+pub mod rising;
+mod walk;
+
+pub use blocks::{Block, Instance, Link, Object, Port, Template};
+pub use walk::expand;

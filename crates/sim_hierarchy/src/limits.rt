@@ -1,0 +1,48 @@
+//! Whether a hierarchy keeps to the limits of a design, found without laying it.
+
+ghost use Rattle.std.specs.Prelude.{◌≡◌, ◌<◌, ◌≤◌, IfOk, Decides, length};
+ghost use Rattle.std.specs.List.{All};
+ghost use Rattle.sim_design.specs.Designs.{most};
+ghost use Rattle.sim_hierarchy.specs.Blocks.{IsBlock};
+ghost use Rattle.sim_hierarchy.specs.Limits as spec;
+ghost use Rattle.sim_hierarchy.specs.Counts.{number};
+
+use crate::blocks::Block;
+use crate::counts::{Kind, count};
+use crate::depth::is_too_deep;
+use std::alloc::{AllocError, Global};
+
+/// How many of a kind there may be.
+const MOST: usize = 16_384;
+
+/// Whether there are no more of a kind than there may be.
+#[tactic(auto, using(crate::proofs::Within::is_within))]
+fn is_within(alloc: Global, blocks: &[Block], top: usize, kind: Kind) -> Result<bool, AllocError>
+    requires known { All (IsBlock blocks.now) blocks.now }
+    requires top { top < length blocks.now }
+    ensures { IfOk result (λ b. Decides b (number kind blocks.now top ≤ most)) }
+{
+    let number = count(alloc, blocks, top, kind)?;
+    let found = number <= MOST;
+    Ok(found)
+}
+
+/// Whether the flat design is within its limits, and so are the instances and their depth.
+pub fn fits(alloc: Global, blocks: &[Block], top: usize) -> Result<bool, AllocError>
+    requires known { All (IsBlock blocks.now) blocks.now }
+    requires top { top < length blocks.now }
+    ensures { IfOk result (λ b. Decides b (spec.Fits blocks.now top)) }
+{
+    let deep = is_too_deep(alloc, blocks, top)?;
+    let nets = is_within(alloc, blocks, top, Kind::Nets)?;
+    let processes = is_within(alloc, blocks, top, Kind::Processes)?;
+    let drivers = is_within(alloc, blocks, top, Kind::Drivers)?;
+    let instances = is_within(alloc, blocks, top, Kind::Instances)?;
+    Ok(all(deep, nets, processes, drivers, instances))
+}
+
+fn all(deep: bool, nets: bool, processes: bool, drivers: bool, instances: bool) -> bool
+    ensures { result ≡ spec.all deep nets processes drivers instances }
+{
+    !deep && nets && processes && drivers && instances
+}

@@ -1,0 +1,207 @@
+//! The walk over the hierarchy: each instance before what stands below it, in text order.
+
+ghost use Rattle.std.specs.Prelude.{◌≡◌, ◌<◌, ◌++◌, [], IfOk, OnOk, length, slice_index_or};
+ghost use Rattle.std.specs.List.{All};
+ghost use Rattle.sim_hierarchy.specs.Blocks.{IsBlock, IsInstance, IsWithinLimits, size};
+ghost use Rattle.sim_hierarchy.specs.Flat.{flat};
+ghost use Rattle.sim_hierarchy.specs.Laid as spec;
+
+use crate::blocks::{Block, Instance, Link};
+use crate::homes::housed;
+use crate::leaves::{none, ports, signals};
+use crate::names::below;
+use crate::processes::{Sketch, processes};
+use sim_design::process::Homes;
+use sim_design::{Design, Net, Source};
+use sqlite_items::Items;
+use std::alloc::{AllocError, Global};
+
+/// The top, and 32 levels of instances below it.
+const LEVELS: usize = 33;
+
+/// Lays a block and what stands below it, so many levels, and gives the nets.
+#[cycle(walk)]
+#[tactic(auto, unfolding(crate::specs::Laid::laid))]
+fn block(
+    alloc: Global,
+    blocks: &[Block],
+    levels: usize,
+    prefix: &str,
+    links: &[Link],
+    outer: &[usize],
+    at: &Block,
+    around: &mut [Items<Source>],
+    flat: &mut Sketch,
+) -> Result<Items<Net>, AllocError>
+    requires known { All (IsBlock blocks.now) blocks.now }
+    requires here { IsBlock blocks.now at.now }
+    ensures { IfOk result (λ r. (r, around.new, flat.new) ≡ spec.laid blocks.now levels prefix.now links.now outer.now at.now around.old flat.old) }
+{
+    if levels == 0 {
+        return Ok(Items::new(alloc));
+    }
+    let homes = housed(alloc, outer, links, at, flat)?;
+    let nets = inside(
+        alloc,
+        blocks,
+        levels - 1,
+        prefix,
+        links,
+        &homes,
+        at,
+        around,
+        flat,
+    )?;
+    Ok(nets)
+}
+
+/// Lays what stands in a block whose ports and signals have these nets.
+#[cycle(walk)]
+#[tactic(auto, unfolding(crate::specs::Laid::inside_laid))]
+fn inside(
+    alloc: Global,
+    blocks: &[Block],
+    levels: usize,
+    prefix: &str,
+    links: &[Link],
+    homes: &Homes,
+    at: &Block,
+    around: &mut [Items<Source>],
+    flat: &mut Sketch,
+) -> Result<Items<Net>, AllocError>
+    requires known { All (IsBlock blocks.now) blocks.now }
+    requires here { IsBlock blocks.now at.now }
+    requires placed { length homes.now ≡ size at.now }
+    ensures { IfOk result (λ r. (r, around.new, flat.new)
+        ≡ spec.inside_laid (spec.laid blocks.now levels) blocks.now prefix.now links.now homes.now at.now around.old flat.old) }
+{
+    let mut own = none(alloc, homes.as_slice().len())?;
+    processes(
+        alloc,
+        homes,
+        at,
+        at.processes.as_slice(),
+        own.as_mut_slice(),
+        flat,
+    )?;
+    let more = instances(
+        alloc,
+        blocks,
+        levels,
+        homes.as_slice(),
+        prefix,
+        at,
+        at.instances.as_slice(),
+        own.as_mut_slice(),
+        flat,
+    )?;
+    let mut nets = ports(
+        alloc,
+        prefix,
+        links,
+        own.as_slice(),
+        at.ports.as_slice(),
+        around,
+    )?;
+    signals(
+        alloc,
+        prefix,
+        own.as_slice(),
+        at.ports.as_slice().len(),
+        at.signals.as_slice(),
+        &mut nets,
+    )?;
+    nets.append(more)?;
+    Ok(nets)
+}
+
+/// Lays instances of a block.
+#[cycle(walk)]
+#[tactic(auto, unfolding(crate::specs::Laid::instances_laid))]
+fn instances(
+    alloc: Global,
+    blocks: &[Block],
+    levels: usize,
+    homes: &[usize],
+    prefix: &str,
+    at: &Block,
+    list: &[Instance],
+    own: &mut [Items<Source>],
+    flat: &mut Sketch,
+) -> Result<Items<Net>, AllocError>
+    requires known { All (IsBlock blocks.now) blocks.now }
+    requires here { All (IsInstance blocks.now at.now) list.now }
+    ensures { IfOk result (λ r. (r, own.new, flat.new)
+        ≡ spec.instances_laid (spec.laid blocks.now levels) blocks.now homes.now prefix.now list.now [] own.old flat.old) }
+{
+    let mut nets = Items::new(alloc);
+    for each in list {
+        let more = instance(alloc, blocks, levels, homes, prefix, at, each, own, flat)?;
+        nets.append(more)?;
+    }
+    Ok(nets)
+}
+
+/// Lays an instance of a block.
+#[cycle(walk)]
+#[tactic(auto, using(crate::proofs::Made::block_at))]
+fn instance(
+    alloc: Global,
+    blocks: &[Block],
+    levels: usize,
+    homes: &[usize],
+    prefix: &str,
+    at: &Block,
+    each: &Instance,
+    own: &mut [Items<Source>],
+    flat: &mut Sketch,
+) -> Result<Items<Net>, AllocError>
+    requires known { All (IsBlock blocks.now) blocks.now }
+    requires here { IsInstance blocks.now at.now each.now }
+    ensures { IfOk result (λ r. (r, own.new, flat.new)
+        ≡ spec.instance_laid (spec.laid blocks.now levels) blocks.now homes.now prefix.now each.now own.old flat.old) }
+{
+    let prefix = below(alloc, prefix, &each.label)?;
+    block(
+        alloc,
+        blocks,
+        levels,
+        prefix.as_str(),
+        each.links.as_slice(),
+        homes,
+        &blocks[each.block],
+        own,
+        flat,
+    )
+}
+
+/// The flat design of the hierarchy under a block, in which instances stand no deeper than 32 (`fits` says whether there are deeper ones).
+pub fn expand(alloc: Global, blocks: &[Block], top: usize) -> Result<Design, AllocError>
+    requires known { All (IsBlock blocks.now) blocks.now }
+    requires top { top < length blocks.now }
+    requires bounds { IsWithinLimits (flat blocks.now top) }
+    ensures { IfOk result (λ d. d ≡ flat blocks.now top) }
+{
+    let mut flat = Sketch {
+        nets: 0,
+        processes: Items::new(alloc),
+        drivers: Items::new(alloc),
+    };
+    let nets = block(
+        alloc,
+        blocks,
+        LEVELS,
+        "",
+        &[],
+        &[],
+        &blocks[top],
+        &mut [],
+        &mut flat,
+    )?;
+    let Sketch {
+        processes,
+        drivers,
+        ..
+    } = flat;
+    Design::new(alloc, nets, processes, drivers)
+}
