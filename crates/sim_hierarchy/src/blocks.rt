@@ -44,6 +44,8 @@ pub struct Template {
 #[derive(Drop)]
 pub struct Instance {
     pub label: Name,
+    /// Where the entity or the component is named.
+    pub at: usize,
     pub block: usize,
     /// One for each port of that block.
     pub links: Items<Link>,

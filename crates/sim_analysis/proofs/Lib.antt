@@ -1,0 +1,3 @@
+pub mod EntityNames
+pub mod KnownNames
+pub mod Turns

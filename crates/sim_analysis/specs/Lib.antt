@@ -1,0 +1,5 @@
+pub mod BodyNames
+pub mod Entities
+pub mod Statements
+pub mod Architectures
+pub mod Files

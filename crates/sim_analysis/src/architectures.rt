@@ -1,0 +1,162 @@
+//! The faults of architectures (IEEE 1076-2008, 3.3).
+
+ghost use Rattle.std.specs.Prelude.{◌≡◌, [], OnOk};
+ghost use Rattle.std.specs.Option.{option_copied};
+ghost use Rattle.sim_scope.specs.Faults.{first_of};
+ghost use Rattle.sim_instance.specs.Libraries.{architectures_at};
+ghost use Rattle.sim_analysis.specs.BodyNames.{with_name};
+ghost use Rattle.sim_analysis.specs.Architectures as spec;
+
+use crate::body_names::BodyNames;
+use crate::statements::check_statements;
+use sim_instance::Library;
+use sim_instance::interface::components;
+use sim_region::check::{check_architecture, check_predefined};
+use sim_region::region;
+use sim_scope::fault::note;
+use sim_scope::{Fault, Kind};
+use sim_tree::declaration::PortDeclaration;
+use sim_tree::unit::{Architecture, Entity};
+use std::alloc::{AllocError, Global};
+
+/// The first entity of a name.
+fn entity_named<'a>(library: &Library<'a>, name: &[u8]) -> Option<&'a Entity>
+    ensures { option_copied result ≡ spec.entity_named library.now name.now }
+{
+    match library.entity_place(name) {
+        None => None,
+        Some(place) => library.entities().get(place).copied(),
+    }
+}
+
+/// Notes an architecture of no entity of the file, or of one that has an architecture of its name already.
+#[tactic(auto, unfolding(sim_scope::specs::Faults::first_of))]
+fn check_unit(
+    place: Option<usize>,
+    again: bool,
+    architecture: &Architecture,
+    first: &mut Option<Fault>,
+)
+    ensures { first.new ≡ first_of first.old (spec.unit_faults place again architecture.now) }
+{
+    match place {
+        None => note(first, Kind::Unknown, architecture.entity.at()),
+        Some(_) => {
+            if again {
+                note(first, Kind::Duplicate, architecture.name.at());
+            }
+        }
+    }
+}
+
+/// Notes the faults of the names of an architecture, which is known from then on.
+#[tactic(auto, using(sim_scope::proofs::FirstFaults::first_of_both), unfolding(crate::specs::Architectures::name_faults))]
+fn check_name<'a>(
+    library: &Library<'_>,
+    known: &mut BodyNames<'a>,
+    architecture: &'a Architecture,
+    first: &mut Option<Fault>,
+) -> Result<(), AllocError>
+    ensures faults { OnOk result (first.new ≡ first_of first.old (spec.name_faults library.now known.old architecture.now)) }
+    ensures known { OnOk result (known.new ≡ with_name known.old architecture.now.entity.text architecture.now.name.text) }
+{
+    check_predefined(&architecture.name, first);
+    let place = library.entity_place(architecture.entity.text());
+    let is_new = known.insert(architecture.entity.text(), architecture.name.text())?;
+    check_unit(place, !is_new, architecture, first);
+    Ok(())
+}
+
+/// Notes the faults of the names of architectures.
+#[tactic(auto, unfolding(crate::specs::Architectures::names_faults, sim_instance::specs::Libraries::architectures_at, sim_scope::specs::Faults::first_of))]
+fn check_names(
+    alloc: Global,
+    library: &Library<'_>,
+    architectures: &[&Architecture],
+    first: &mut Option<Fault>,
+) -> Result<(), AllocError>
+    ensures { OnOk result (first.new ≡ first_of first.old (spec.names_faults library.now [] (architectures_at architectures.now))) }
+{
+    let mut known = BodyNames::new(alloc);
+    for architecture in architectures {
+        check_name(library, &mut known, architecture, first)?;
+    }
+    Ok(())
+}
+
+/// Notes the faults of the declarations and statements of an architecture of an entity with these ports.
+#[tactic(auto, using(sim_scope::proofs::FirstFaults::first_of_both), unfolding(crate::specs::Architectures::body_faults))]
+fn check_body(
+    alloc: Global,
+    library: &Library<'_>,
+    ports: &[PortDeclaration],
+    architecture: &Architecture,
+    first: &mut Option<Fault>,
+) -> Result<(), AllocError>
+    ensures { OnOk result (first.new ≡ first_of first.old (spec.body_faults library.now ports.now architecture.now)) }
+{
+    let declarations = architecture.declarations.as_slice();
+    let statements = architecture.statements.as_slice();
+    let region = region::architecture(alloc, ports, declarations, statements)?;
+    let components = components(alloc, declarations)?;
+    check_architecture(alloc, &region, ports, declarations, statements, first)?;
+    check_statements(
+        alloc,
+        library,
+        &region,
+        components.as_slice(),
+        statements,
+        first,
+    )?;
+    Ok(())
+}
+
+/// Notes the faults of the declarations and statements of an architecture, where its entity is known.
+#[tactic(auto, unfolding(sim_scope::specs::Faults::first_of))]
+fn check_known(
+    alloc: Global,
+    library: &Library<'_>,
+    architecture: &Architecture,
+    first: &mut Option<Fault>,
+) -> Result<(), AllocError>
+    ensures { OnOk result (first.new ≡ first_of first.old (spec.known_faults library.now architecture.now)) }
+{
+    match entity_named(library, architecture.entity.text()) {
+        None => Ok(()),
+        Some(entity) => {
+            check_body(alloc, library, entity.ports.as_slice(), architecture, first)?;
+            Ok(())
+        }
+    }
+}
+
+/// Notes the faults of the declarations and statements of architectures.
+#[tactic(auto, unfolding(crate::specs::Architectures::bodies_faults, sim_instance::specs::Libraries::architectures_at, sim_scope::specs::Faults::first_of))]
+fn check_bodies(
+    alloc: Global,
+    library: &Library<'_>,
+    architectures: &[&Architecture],
+    first: &mut Option<Fault>,
+) -> Result<(), AllocError>
+    ensures { OnOk result (first.new ≡ first_of first.old (spec.bodies_faults library.now (architectures_at architectures.now))) }
+{
+    for architecture in architectures {
+        check_known(alloc, library, architecture, first)?;
+    }
+    Ok(())
+}
+
+/// Notes the faults of architectures (3.3), each with the first entity of the name that it gives.
+#[tactic(auto, using(sim_scope::proofs::FirstFaults::first_of_both), unfolding(crate::specs::Architectures::architectures_faults))]
+pub fn check_architectures(
+    alloc: Global,
+    library: &Library<'_>,
+    architectures: &[&Architecture],
+    first: &mut Option<Fault>,
+) -> Result<(), AllocError>
+    ensures { OnOk result (first.new ≡ first_of first.old (spec.architectures_faults library.now (architectures_at architectures.now))) }
+{
+    check_names(alloc, library, architectures, first)?;
+    check_bodies(alloc, library, architectures, first)?;
+    Ok(())
+}

@@ -1,0 +1,7 @@
+pub mod Alike
+pub mod MapLoops
+pub mod Maps
+pub mod PlaceLoops
+pub mod Reading
+pub mod ReferencePlaces
+pub mod SoundInstances

@@ -1,0 +1,6 @@
+pub mod Instances
+pub mod Interfaces
+pub mod Laws
+pub mod Libraries
+pub mod Places
+pub mod PortMaps

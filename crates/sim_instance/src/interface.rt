@@ -1,0 +1,154 @@
+//! The ports of an entity or a component, by place and by name.
+
+ghost use Rattle.std.specs.Prelude.{◌≡◌, ◌++◌, IfOk, OnOk};
+ghost use Rattle.sim_region.specs.Ports.{ports_of};
+ghost use Rattle.sim_instance.specs.Interfaces as spec;
+ghost use Rattle.sim_instance.specs.Places.{place_of};
+ghost use Rattle.std.specs.Prelude.{ℕ, List};
+
+use crate::places::Places;
+use sim_region::Port;
+use sim_region::port::ports_of;
+use sim_tree::declaration::{Declaration, Mode, PortDeclaration};
+use std::alloc::{AllocError, Global};
+use std::marker::Model;
+
+/// The ports of an entity or a component.
+#[derive(Drop)]
+pub struct Interface<'a> {
+    ports: Vec<Port<'a>>,
+    places: Places<'a>,
+}
+
+impl<'a> Model for Interface<'a> {
+    ghost use Rattle.std.specs.Prelude.{◌≡◌, ℕ, List};
+    ghost use Rattle.sim_region.specs.Ports.{Port};
+    ghost use Rattle.sim_instance.specs.Interfaces.{port_place};
+    ghost use Rattle.sim_instance.specs.Places.{place_of};
+
+    ghost Value = { List Port };
+
+    ghost view = { λ i. i.ports.items };
+
+    ghost invariant = { λ i. (n : List ℕ) → place_of i.places n ≡ port_place i.ports.items n };
+}
+
+/// The places of ports by their names, of which the first of each name counts.
+fn places_of<'a>(alloc: Global, ports: &[Port<'a>]) -> Result<Places<'a>, AllocError>
+    ensures { IfOk result (λ places. (n : List ℕ) → place_of places n ≡ spec.port_place ports.now n) }
+{
+    let mut places = Places::new(alloc);
+    for (place, port) in ports.iter().enumerate() {
+        places.put_first(port.name().text(), place)?;
+    }
+    Ok(places)
+}
+
+impl<'a> Interface<'a> {
+    ghost use Rattle.std.specs.Prelude.{◌≡◌, ◌<◌, length, IfOk, IfSome};
+    ghost use Rattle.sim_region.specs.Ports.{ports_of};
+    ghost use Rattle.sim_instance.specs.Interfaces as spec;
+
+    /// The ports of these declarations.
+    pub fn of(
+        alloc: Global,
+        declarations: &'a [PortDeclaration],
+    ) -> Result<Interface<'a>, AllocError>
+        ensures { IfOk result (λ i. i ≡ ports_of declarations.now) }
+    {
+        let ports = ports_of(alloc, declarations)?;
+        let places = places_of(alloc, ports.as_slice())?;
+        Ok(Interface { ports, places })
+    }
+
+    /// The ports, in order.
+    pub fn ports(&self) -> &[Port<'a>]
+        ensures { result.now ≡ self.now }
+    {
+        self.ports.as_slice()
+    }
+
+    /// The place of the first port of a name.
+    pub fn place(&self, name: &[u8]) -> Option<usize>
+        ensures place { result ≡ spec.port_place self.now name.now }
+        ensures within { IfSome result (λ place. place < length self.now) }
+    {
+        self.places.find(name)
+    }
+
+    /// Whether the ports of both are the same in name, mode and type mark.
+    pub fn is_like(&self, other: &Interface<'_>) -> bool
+        ensures { result ≡ spec.are_alike self.now other.now }
+    {
+        same_ports(self.ports.as_slice(), other.ports.as_slice())
+    }
+}
+
+/// Whether two modes are the same.
+fn same_mode(first: Mode, second: Mode) -> bool
+    ensures { result ≡ spec.same_mode first second }
+{
+    match first {
+        Mode::In => matches!(second, Mode::In),
+        Mode::Out => matches!(second, Mode::Out),
+        Mode::Inout => matches!(second, Mode::Inout),
+    }
+}
+
+/// Whether two ports are the same in name, mode and type mark.
+fn same_port(first: &Port<'_>, second: &Port<'_>) -> bool
+    ensures { result ≡ spec.is_like first.now second.now }
+{
+    first.name().text() == second.name().text()
+        && same_mode(first.mode(), second.mode())
+        && first.mark().text() == second.mark().text()
+}
+
+/// Whether ports are the same, one by one.
+#[tactic(auto, unfolding(crate::specs::Interfaces::are_alike))]
+fn same_ports(first: &[Port<'_>], second: &[Port<'_>]) -> bool
+    ensures { result ≡ spec.are_alike first.now second.now }
+{
+    if first.len() != second.len() {
+        return false;
+    }
+    for place in 0..first.len() {
+        if !same_port(&first[place], &second[place]) {
+            return false;
+        }
+    }
+    true
+}
+
+/// Puts the ports of a component at the end.
+#[tactic(auto, unfolding(crate::specs::Interfaces::ports_in))]
+fn push_component<'a>(
+    alloc: Global,
+    components: &mut Vec<Interface<'a>>,
+    declaration: &'a Declaration,
+) -> Result<(), AllocError>
+    ensures { OnOk result (components.new.items ≡ components.old.items ++ spec.ports_in declaration.now) }
+{
+    match declaration {
+        Declaration::Signal(_) => Ok(()),
+        Declaration::Component(component) => {
+            components.push(Interface::of(alloc, component.ports.as_slice())?)?;
+            Ok(())
+        }
+    }
+}
+
+/// The ports of each component of an architecture, by its place.
+#[tactic(auto, unfolding(crate::specs::Interfaces::components))]
+pub fn components<'a>(
+    alloc: Global,
+    declarations: &'a [Declaration],
+) -> Result<Vec<Interface<'a>>, AllocError>
+    ensures { IfOk result (λ components. components.items ≡ spec.components declarations.now) }
+{
+    let mut components = Vec::new(alloc);
+    for declaration in declarations {
+        push_component(alloc, &mut components, declaration)?;
+    }
+    Ok(components)
+}

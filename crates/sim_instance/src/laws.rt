@@ -1,0 +1,16 @@
+//! A law of the faults of instances.
+
+ghost use Rattle.std.specs.Prelude.{◌≡◌, List, []};
+ghost use Rattle.sim_tree.specs.declared.unit.Instance.{Instance};
+ghost use Rattle.sim_region.specs.Ports.{Port};
+ghost use Rattle.sim_scope.specs.Scopes.{Look};
+ghost use Rattle.sim_instance.specs.Libraries.{Library};
+ghost use Rattle.sim_instance.specs.Instances.{instance_faults};
+ghost use Rattle.sim_instance.specs.Laws.{IsBound};
+
+/// An instance without faults is of an architecture that is there; each port of mode in without a first value has an actual, and
+/// each actual fits its port.
+pub fn an_instance_without_faults_is_bound()
+    ensures { (l : Library) (look : Look) (components : List (List Port)) (i : Instance) →
+        instance_faults l look components i ≡ [] → IsBound l look i }
+{}

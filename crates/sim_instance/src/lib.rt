@@ -1,0 +1,14 @@
+//! The faults of instances: what an instance is of, and its port map.
+#![tactic(auto)]
+
+pub mod instance;
+pub mod interface;
+pub mod laws;
+pub mod library;
+mod places;
+pub mod port_map;
+
+pub use instance::check_instance;
+pub use interface::Interface;
+pub use library::Library;
+pub use port_map::PortMap;

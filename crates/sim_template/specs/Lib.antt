@@ -1,0 +1,4 @@
+pub mod FirstValues
+pub mod Below
+pub mod Reads
+pub mod Templates
