@@ -1,0 +1,9 @@
+pub mod Counted
+pub mod Endless
+pub mod Leasts
+pub mod Lists
+pub mod Noted
+pub mod Recursions
+pub mod Reversed
+pub mod Searches
+pub mod SourcePlaces

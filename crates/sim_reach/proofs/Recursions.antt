@@ -1,0 +1,175 @@
+-- Recursive instances: block by block the first of them, and where there is one, chains of instances are of any length.
+use Rattle.std.proofs.Common.{◌≡◌, ℕ, zero, suc, ◌+◌, ◌<◌, ◌≤◌, ◌↔◌, List, [], ◌∷◌, Bool, true, false, Option, None, length, get_or, ◌⊎◌, inl, inr}
+use Rattle.std.proofs.Common.{refl, ap, sym, ◌∙◌, subst, arith, if◌then◌else◌}
+use Rattle.std.specs.List.{Contains}
+use Rattle.std.proofs.lemmas.List.{get_or_past}
+use Rattle.sim_hierarchy.specs.declared.blocks.Instance.{Instance}
+use Rattle.sim_hierarchy.specs.declared.blocks.Block.{Block}
+use Rattle.sim_hierarchy.specs.Blocks.{no_block}
+use Rattle.sim_reach.specs.Graph.{Graph, blocks_of, graph_of, block_at, led, Reaches}
+use Rattle.sim_reach.specs.Least.{IsLeast, least_of}
+use Rattle.sim_reach.specs.Recursion.{IsRecursive, IsLeastBack, IsLeastOn, places_of}
+use Rattle.sim_reach.proofs.Lists.{by_cases, by_order, nothing_in, first_in, later_in, one_of}
+use Rattle.sim_reach.proofs.Leasts.{said_otherwise, with_more}
+
+-- ---- edges are instances
+pub led_is : (bs : List Block) (n : ℕ) → led (graph_of bs) n ≡ blocks_of (block_at bs n).instances
+unfolding graph_of blocks_of
+led_is [] n = refl
+led_is (b ∷ bs) zero = refl
+led_is (b ∷ bs) (suc n) = led_is bs n
+
+pub record Edge (is : List Instance) (n : ℕ) : Type 0 where
+  pub instance : Instance
+  pub among : Contains is instance
+  pub leads : instance.block ≡ n
+
+edge_later : (i : Instance) (is : List Instance) (n : ℕ) → Edge is n → Edge (i ∷ is) n
+edge_later i is n e = record { instance = e.instance; among = later_in i e.instance is e.among; leads = e.leads }
+
+pub edge_of : (is : List Instance) (n : ℕ) → Contains (blocks_of is) n → Edge is n
+unfolding blocks_of
+edge_of [] n c = nothing_in n c
+edge_of (i ∷ is) n c = by_one (one_of i.block n (blocks_of is) c) (edge_of is n)
+  where
+    by_one : (i.block ≡ n) ⊎ Contains (blocks_of is) n → (Contains (blocks_of is) n → Edge is n) → Edge (i ∷ is) n
+    by_one (inl e) more = record { instance = i; among = first_in i is; leads = e }
+    by_one (inr c) more = edge_later i is n (more c)
+
+-- ---- the places of instances of marked blocks
+record Place (marks : List Bool) (is : List Instance) (at : ℕ) : Type 0 where
+  instance : Instance
+  among : Contains is instance
+  marked : get_or marks instance.block false ≡ true
+  named : instance.at ≡ at
+
+place_later : (marks : List Bool) (i : Instance) (is : List Instance) (at : ℕ) → Place marks is at → Place marks (i ∷ is) at
+place_later marks i is at p = record { instance = p.instance; among = later_in i p.instance is p.among; marked = p.marked; named = p.named }
+
+place_of : (marks : List Bool) (is : List Instance) (at : ℕ) → Contains (places_of marks is) at → Place marks is at
+unfolding places_of
+place_of marks [] at c = nothing_in at c
+place_of marks (i ∷ is) at c = by_mark (get_or marks i.block false) refl (place_of marks is at) c
+  where
+    by_one : get_or marks i.block false ≡ true → (i.at ≡ at) ⊎ Contains (places_of marks is) at → (Contains (places_of marks is) at → Place marks is at)
+        → Place marks (i ∷ is) at
+    by_one t (inl e) more = record { instance = i; among = first_in i is; marked = t; named = e }
+    by_one t (inr c) more = place_later marks i is at (more c)
+
+    by_mark : (b : Bool) → get_or marks i.block false ≡ b → (Contains (places_of marks is) at → Place marks is at)
+        → Contains (if b then i.at ∷ places_of marks is else places_of marks is) at → Place marks (i ∷ is) at
+    by_mark true t more c = by_one t (one_of i.at at (places_of marks is) c) more
+    by_mark false t more c = place_later marks i is at (more c)
+
+place_there : (marks : List Bool) (is : List Instance) (i : Instance) → Contains is i → get_or marks i.block false ≡ true → Contains (places_of marks is) i.at
+unfolding places_of
+place_there marks [] i c t = nothing_in i c
+place_there marks (j ∷ is) i c t =
+    by_cases (get_or marks j.block false)
+    (λ y. rw y (now (one_of j i is c) (λ d. place_there marks is i d t)))
+    (λ n. rw n (place_there marks is i (not_now n (one_of j i is c)) t))
+  where
+    now : (j ≡ i) ⊎ Contains is i → (Contains is i → Contains (places_of marks is) i.at) → Contains (j.at ∷ places_of marks is) i.at
+    now (inl e) more = subst (λ (k : Instance). Contains (j.at ∷ places_of marks is) k.at) e (first_in j.at (places_of marks is))
+    now (inr d) more = later_in j.at i.at (places_of marks is) (more d)
+
+    not_now : get_or marks j.block false ≡ false → (j ≡ i) ⊎ Contains is i → Contains is i
+    not_now n (inl e) = absurd (let a : get_or marks j.block false ≡ true = ap (λ (k : Instance). get_or marks k.block false) e ∙ t in cc)
+    not_now n (inr d) = d
+
+-- ---- block by block: recursive instances in the blocks of lesser numbers
+pub record Below (blocks : List Block) (top below at : ℕ) : Type 0 where
+  pub recursive : IsRecursive blocks top at
+  pub less : recursive.block < below
+
+module _ (blocks : List Block) (top k : ℕ) (marks : List Bool) (reached : (n : ℕ) → (get_or marks n false ≡ true) ↔ Reaches (graph_of blocks) n top) where
+  before : (at : ℕ) → Below blocks top k at → Below blocks top (k + 1) at
+  before at b = record { recursive = b.recursive; less = (let l = b.less in omega arith) }
+
+  -- a block that is not reached
+  pub passed_over : (known : Option ℕ) → get_or marks k false ≡ false → IsLeast (Below blocks top k) known → IsLeast (Below blocks top (k + 1)) known
+  passed_over known off h = said_otherwise (Below blocks top k) (Below blocks top (k + 1)) known before back h
+    where
+      not_here : (r : ℕ) → Reaches (graph_of blocks) r top → k ≤ r → r < k + 1 → ⊥
+      not_here r there ge lt =
+          let e : r ≡ k = omega arith in
+          let t : get_or marks r false ≡ true = (reached r).1 there in
+          let u : get_or marks r false ≡ false = ap (λ (n : ℕ). get_or marks n false) e ∙ off in
+          cc
+
+      back : (at : ℕ) → Below blocks top (k + 1) at → Below blocks top k at
+      back at b = record {
+        recursive = b.recursive;
+        less = by_order b.recursive.block k (λ lt. lt) (λ ge. absurd (not_here b.recursive.block b.recursive.reached ge b.less));
+      }
+
+  -- a block that is reached
+  pub looked_at : (back : Graph) (known found : Option ℕ) → ((a c : ℕ) → Reaches back a c ↔ Reaches (graph_of blocks) c a) → get_or marks k false ≡ true
+      → IsLeastBack back k (block_at blocks k).instances known found → IsLeast (Below blocks top k) known → IsLeast (Below blocks top (k + 1)) found
+  looked_at back known found turned on l h =
+      subst (IsLeast (Below blocks top (k + 1))) (sym l.least)
+      (said_otherwise (λ at. Below blocks top k at ⊎ Contains (places_of l.marks is) at)
+      (Below blocks top (k + 1)) (least_of known (places_of l.marks is)) to from
+      (with_more (Below blocks top k) known (places_of l.marks is) h))
+    where
+      is : List Instance
+      is = (block_at blocks k).instances
+
+      here : (at : ℕ) → Place l.marks (block_at blocks k).instances at → Below blocks top (k + 1) at
+      here at p = record {
+        recursive = record {
+          block = k;
+          reached = (reached k).0 on;
+          instance = p.instance;
+          among = p.among;
+          back = (turned p.instance.block k).0 ((l.reached p.instance.block).0 p.marked);
+          named = p.named;
+        };
+        less = omega arith;
+      }
+
+      to : (at : ℕ) → Below blocks top k at ⊎ Contains (places_of l.marks (block_at blocks k).instances) at → Below blocks top (k + 1) at
+      to at (inl b) = before at b
+      to at (inr c) = here at (place_of l.marks (block_at blocks k).instances at c)
+
+      now : (at r : ℕ) (i : Instance) → r ≡ k → Contains (block_at blocks r).instances i → Reaches (graph_of blocks) r i.block → i.at ≡ at
+          → Contains (places_of l.marks (block_at blocks k).instances) at
+      now at r i e among leads named =
+          let c : Contains (block_at blocks k).instances i = subst (λ (n : ℕ). Contains (block_at blocks n).instances i) e among in
+          let t : Reaches (graph_of blocks) k i.block = subst (λ (n : ℕ). Reaches (graph_of blocks) n i.block) e leads in
+          subst (Contains (places_of l.marks (block_at blocks k).instances)) named
+          (place_there l.marks (block_at blocks k).instances i c ((l.reached i.block).1 ((turned i.block k).1 t)))
+
+      from : (at : ℕ) → Below blocks top (k + 1) at → Below blocks top k at ⊎ Contains (places_of l.marks (block_at blocks k).instances) at
+      from at b =
+          let r = b.recursive in
+          let less = b.less in
+          by_order r.block k (λ lt. inl (record { recursive = r; less = lt }))
+          (λ ge. inr (now at r.block r.instance (omega arith) r.among r.back r.named))
+
+pub one_more : (blocks : List Block) (top k : ℕ) (marks : List Bool) (back : Graph) (known found : Option ℕ) (marked : Bool) (b : Block)
+    → ((n : ℕ) → (get_or marks n false ≡ true) ↔ Reaches (graph_of blocks) n top)
+    → ((a c : ℕ) → Reaches back a c ↔ Reaches (graph_of blocks) c a) → marked ≡ get_or marks k false → b ≡ block_at blocks k
+    → IsLeastOn marked back k b.instances known found → IsLeast (Below blocks top k) known → IsLeast (Below blocks top (k + 1)) found
+one_more blocks top k marks back known found true b reached turned m is h known_least =
+    looked_at blocks top k marks reached back known found turned (sym m)
+    (subst (λ (x : Block). IsLeastBack back k x.instances known found) is h) known_least
+one_more blocks top k marks back known found false b reached turned m is h known_least =
+    rw h (passed_over blocks top k marks reached known (sym m) known_least)
+
+pub none_below : (blocks : List Block) (top : ℕ) → IsLeast (Below blocks top 0) None
+none_below blocks top at b = let l = b.less in absurd (omega arith)
+
+-- each recursive instance stands in a block that is there
+pub all_below : (blocks : List Block) (top n : ℕ) (o : Option ℕ) → length blocks ≤ n → IsLeast (Below blocks top n) o → IsLeast (IsRecursive blocks top) o
+all_below blocks top n o most h = said_otherwise (Below blocks top n) (IsRecursive blocks top) o (λ at b. b.recursive) (λ at r. record {
+  recursive =
+      r;
+  less = there r;
+}) h
+  where
+    nothing : (r : ℕ) (i : Instance) → length blocks ≤ r → Contains (block_at blocks r).instances i → ⊥
+    nothing r i past c = nothing_in i (subst (λ (b : Block). Contains b.instances i) (get_or_past blocks r no_block past) c)
+
+    there : {at : ℕ} (r : IsRecursive blocks top at) → r.block < n
+    there r = by_order r.block n (λ lt. lt) (λ ge. absurd (nothing r.block r.instance (omega arith) r.among))

@@ -1,0 +1,34 @@
+-- Instances that stand, in the end, in themselves (IEEE 1076-2008, 14.2).
+use Rattle.std.specs.Prelude.{ℕ, ◌≡◌, ◌↔◌, List, [], ◌∷◌, Bool, true, false, if◌then◌else◌, Option, get_or}
+use Rattle.std.specs.List.{Contains}
+use Rattle.sim_hierarchy.specs.declared.blocks.Instance.{Instance}
+use Rattle.sim_hierarchy.specs.declared.blocks.Block.{Block}
+use Rattle.sim_reach.specs.Graph.{Graph, graph_of, block_at, Reaches}
+use Rattle.sim_reach.specs.Least.{least_of}
+
+-- An instance, in a block that the top reaches, is of a block that reaches the one in which it stands. What it is of is named here.
+pub record IsRecursive (blocks : List Block) (top at : ℕ) : Type 0 where
+  pub block : ℕ
+  pub reached : Reaches (graph_of blocks) block top
+  pub instance : Instance
+  pub among : Contains (block_at blocks block).instances instance
+  pub back : Reaches (graph_of blocks) block instance.block
+  pub named : instance.at ≡ at
+
+-- ---- as it is found
+
+-- the places of instances of those blocks that are marked
+unfoldable pub places_of : List Bool → List Instance → List ℕ
+places_of marks [] = []
+places_of marks (i ∷ is) = if get_or marks i.block false then i.at ∷ places_of marks is else places_of marks is
+
+-- It is the least place of instances of those blocks that a number reaches, and of what is known.
+pub record IsLeastBack (back : Graph) (number : ℕ) (instances : List Instance) (known found : Option ℕ) : Type 0 where
+  pub marks : List Bool
+  pub reached : (n : ℕ) → (get_or marks n false ≡ true) ↔ Reaches back n number
+  pub least : found ≡ least_of known (places_of marks instances)
+
+-- The same with a block more, if it is marked.
+abbrev pub IsLeastOn : Bool → Graph → ℕ → List Instance → Option ℕ → Option ℕ → Type 0
+IsLeastOn true back number instances known found = IsLeastBack back number instances known found
+IsLeastOn false back number instances known found = found ≡ known
