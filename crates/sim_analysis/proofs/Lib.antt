@@ -1,3 +1,2 @@
-pub mod EntityNames
 pub mod KnownNames
 pub mod Turns

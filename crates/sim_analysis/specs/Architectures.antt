@@ -9,13 +9,9 @@ use Rattle.sim_scope.specs.Faults.{fault, where_}
 use Rattle.sim_region.specs.Regions.{architecture_region}
 use Rattle.sim_region.specs.DeclarationFaults as declarations
 use Rattle.sim_instance.specs.Interfaces.{components}
-use Rattle.sim_instance.specs.Libraries.{Library, at_place, first_entity}
+use Rattle.sim_instance.specs.Libraries.{Library, entity_of, first_entity}
 use Rattle.sim_analysis.specs.BodyNames.{BodyNames, is_known, with_name}
 use Rattle.sim_analysis.specs.Statements.{statements_faults}
-
--- the entity of a name: the first counts
-unfoldable pub entity_named : Library → List ℕ → Option Entity
-entity_named l n = at_place l.entities (first_entity l.entities n)
 
 -- ---- their names (3.3.1, 13.2)
 
@@ -51,7 +47,7 @@ body_of l (Some e) a = body_faults l e.ports a
 
 -- the same of an architecture of the entity that it names
 abbrev pub known_faults : Library → Architecture → List Fault
-known_faults l a = body_of l (entity_named l a.entity.text) a
+known_faults l a = body_of l (entity_of l a.entity.text) a
 
 -- those of each architecture
 unfoldable pub bodies_faults : Library → List Architecture → List Fault

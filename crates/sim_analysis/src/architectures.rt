@@ -1,7 +1,6 @@
 //! The faults of architectures (IEEE 1076-2008, 3.3).
 
 ghost use Rattle.std.specs.Prelude.{◌≡◌, [], OnOk};
-ghost use Rattle.std.specs.Option.{option_copied};
 ghost use Rattle.sim_scope.specs.Faults.{first_of};
 ghost use Rattle.sim_instance.specs.Libraries.{architectures_at};
 ghost use Rattle.sim_analysis.specs.BodyNames.{with_name};
@@ -16,18 +15,8 @@ use sim_region::region;
 use sim_scope::fault::note;
 use sim_scope::{Fault, Kind};
 use sim_tree::declaration::PortDeclaration;
-use sim_tree::unit::{Architecture, Entity};
+use sim_tree::unit::Architecture;
 use std::alloc::{AllocError, Global};
-
-/// The first entity of a name.
-fn entity_named<'a>(library: &Library<'a>, name: &[u8]) -> Option<&'a Entity>
-    ensures { option_copied result ≡ spec.entity_named library.now name.now }
-{
-    match library.entity_place(name) {
-        None => None,
-        Some(place) => library.entities().get(place).copied(),
-    }
-}
 
 /// Notes an architecture of no entity of the file, or of one that has an architecture of its name already.
 #[tactic(auto, unfolding(sim_scope::specs::Faults::first_of))]
@@ -121,7 +110,7 @@ fn check_known(
 ) -> Result<(), AllocError>
     ensures { OnOk result (first.new ≡ first_of first.old (spec.known_faults library.now architecture.now)) }
 {
-    match entity_named(library, architecture.entity.text()) {
+    match library.entity(architecture.entity.text()) {
         None => Ok(()),
         Some(entity) => {
             check_body(alloc, library, entity.ports.as_slice(), architecture, first)?;

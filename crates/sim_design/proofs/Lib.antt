@@ -1,1 +1,2 @@
+pub mod FirstNamed
 pub mod Fitting

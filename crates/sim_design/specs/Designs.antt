@@ -1,6 +1,7 @@
 -- Flat designs.
-use Rattle.std.specs.Prelude.{ℕ, ◌≡◌, ◌≢◌, ◌+◌, ◌<◌, ◌≤◌, ◌^◌, List, [], ◌∷◌, length, take, drop}
+use Rattle.std.specs.Prelude.{ℕ, ◌≡◌, ◌≢◌, ◌+◌, ◌<◌, ◌≤◌, ◌^◌, List, [], ◌∷◌, length, slice_get, take, drop}
 use Rattle.std.specs.List.{All}
+use Rattle.std.specs.Option.{IsSomeAnd}
 use Rattle.sim_design.specs.declared.design.DriverOf.{DriverOf}
 use Rattle.sim_design.specs.declared.design.Source.{Source}
 use Rattle.sim_design.specs.declared.design.Source.TheVariants as source
@@ -10,6 +11,11 @@ use Rattle.sim_design.specs.Processes.{Process}
 pub record Net : Type 0 where
   pub name : List ℕ
   pub sources : List Source
+
+-- The net of this number has this name, and none before it has.
+pub record IsFirstNamed (name : List ℕ) (number : ℕ) (nets : List Net) : Type 0 where
+  pub named : IsSomeAnd (slice_get nets number) (λ (n : Net). n.name ≡ name)
+  pub first : All (λ (n : Net). n.name ≢ name) (take number nets)
 
 -- A flat design: its nets, its processes, and the drivers of these, each by number (IEEE 1076-2008, 14).
 pub record Design : Type 0 where

@@ -1,7 +1,10 @@
 //! The bodies of processes, which all instances of an architecture share.
 
+ghost use Rattle.std.specs.Prelude.{◌≡◌};
+ghost use Rattle.std.specs.Bool.{Decides};
+
 use crate::held::Held;
-use crate::statement::Statement;
+use crate::statement::{Statement, same_statements};
 use sqlite_items::Items;
 use std::alloc::{AllocError, Global};
 use std::marker::Model;
@@ -46,6 +49,7 @@ impl Model for Body {
 
 impl Body {
     ghost use Rattle.std.specs.Prelude.{◌≡◌, true, IfOk};
+    ghost use Rattle.std.specs.Bool.{Decides};
     ghost use Rattle.sim_design.specs.Bodies.{fits};
 
     /// The body with these statements, where there is this number of ports and signals and of drivers, and variables with these
@@ -113,4 +117,21 @@ impl Body {
     {
         self.parts.statements.as_slice()
     }
+
+    /// Whether it is the same body as another.
+    pub(crate) fn same(&self, other: &Body) -> bool
+        ensures { Decides result (self.now ≡ other.now) }
+    {
+        self.objects() == other.objects()
+            && self.drivers() == other.drivers()
+            && same_values(self.variables(), other.variables())
+            && same_statements(self.statements(), other.statements())
+    }
+}
+
+/// Whether these are the same values, in the same order.
+fn same_values(values: &[Held], others: &[Held]) -> bool
+    ensures { Decides result (values.now ≡ others.now) }
+{
+    values == others
 }

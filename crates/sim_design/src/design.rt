@@ -1,5 +1,8 @@
 //! Flat designs.
 
+ghost use Rattle.std.specs.Prelude.{◌≡◌};
+ghost use Rattle.std.specs.Bool.{Decides};
+
 use crate::process::Process;
 use sim_logic::Logic;
 use sqlite_items::Items;
@@ -32,6 +35,7 @@ impl Model for Net {
 
 impl Net {
     ghost use Rattle.std.specs.Prelude.{◌≡◌, string_bytes};
+    ghost use Rattle.std.specs.Bool.{Decides};
 
     /// The net with this name and these sources.
     pub fn new(name: String, sources: Items<Source>) -> Net
@@ -53,6 +57,38 @@ impl Net {
     {
         self.sources.as_slice()
     }
+
+    /// Whether it is the same net as another.
+    fn same(&self, other: &Net) -> bool
+        ensures { Decides result (self.now ≡ other.now) }
+    {
+        self.name() == other.name() && same_sources(self.sources(), other.sources())
+    }
+}
+
+/// Whether these are the same sources, in the same order.
+fn same_sources(sources: &[Source], others: &[Source]) -> bool
+    ensures { Decides result (sources.now ≡ others.now) }
+{
+    sources == others
+}
+
+/// Whether these are the same nets, in the same order.
+fn same_nets(nets: &[Net], others: &[Net]) -> bool
+    ensures { Decides result (nets.now ≡ others.now) }
+{
+    nets.len() == others.len() && nets.iter().zip(others).all(|(net, other)| net.same(other))
+}
+
+/// Whether these are the same processes, in the same order.
+fn same_processes(processes: &[Process], others: &[Process]) -> bool
+    ensures { Decides result (processes.now ≡ others.now) }
+{
+    processes.len() == others.len()
+        && processes
+            .iter()
+            .zip(others)
+            .all(|(process, other)| process.same(other))
 }
 
 /// A driver: the process that it belongs to and its net, by number, and its first value, the default of the name that the process
@@ -62,6 +98,13 @@ pub struct DriverOf {
     pub process: usize,
     pub net: usize,
     pub first: Logic,
+}
+
+/// Whether these are the same drivers, in the same order.
+fn same_drivers(drivers: &[DriverOf], others: &[DriverOf]) -> bool
+    ensures { Decides result (drivers.now ≡ others.now) }
+{
+    drivers == others
 }
 
 #[derive(Drop)]
@@ -96,9 +139,11 @@ impl Model for Design {
 }
 
 impl Design {
-    ghost use Rattle.std.specs.Prelude.{◌≡◌, ◌<◌, ◌≤◌, ◌^◌, ℕ, IfOk, IfSome, IfNone, List, map, length};
+    ghost use Rattle.std.specs.Prelude.{◌≡◌, ◌<◌, ◌≤◌, ◌^◌, ◌≢◌, ℕ, IfOk, IfSome, IfNone, List, map, length};
+    ghost use Rattle.std.specs.Bool.{Decides};
     ghost use Rattle.std.specs.List.{All};
-    ghost use Rattle.sim_design.specs.Designs.{AreOwned, IsDesign, IsNet, IsPlaced, Net, most};
+    ghost use Rattle.std.specs.Option.{MatchOption};
+    ghost use Rattle.sim_design.specs.Designs.{AreOwned, IsDesign, IsFirstNamed, IsNet, IsPlaced, Net, most};
 
     /// The design with these nets, processes and drivers.
     pub fn new(
@@ -154,5 +199,21 @@ impl Design {
         ensures owned { AreOwned (length self.now.nets) 0 0 self.now.processes result.now }
     {
         self.parts.drivers.as_slice()
+    }
+
+    /// The number of the first net with this name, which is in lower case (15.4.2); `None` exactly where no net has it.
+    pub fn net_named(&self, name: &str) -> Option<usize>
+        ensures { MatchOption result (All (λ (net : Net). net.name ≢ name.now) self.now.nets) (λ n. IsFirstNamed name.now n self.now.nets) }
+    {
+        self.nets().iter().position(|net| net.name() == name)
+    }
+
+    /// Whether it is the same design as another. It takes no memory.
+    pub fn same(&self, other: &Design) -> bool
+        ensures { Decides result (self.now ≡ other.now) }
+    {
+        same_nets(self.nets(), other.nets())
+            && same_drivers(self.drivers(), other.drivers())
+            && same_processes(self.processes(), other.processes())
     }
 }

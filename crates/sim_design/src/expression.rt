@@ -3,6 +3,11 @@
 //! Signals and ports stand by their place in their architecture, the ports first; variables by their place in their process.
 //! Parentheses are gone. Recursion is through operands alone, and a chain of operands is a list.
 
+ghost use Rattle.std.specs.Prelude.{◌≡◌};
+ghost use Rattle.std.specs.Bool.{Decides};
+ghost use Rattle.sim_design.specs.declared.expression.LogicExpression.TheVariants as logic;
+ghost use Rattle.sim_design.specs.declared.expression.BooleanExpression.TheVariants as boolean;
+
 use sim_logic::Logic;
 use sim_tree::expression::{Logical, Relational};
 use sqlite_items::{Boxed, Items};
@@ -57,4 +62,184 @@ pub enum BooleanExpression {
         operator: Relational,
         right: Boxed<BooleanExpression>,
     },
+}
+
+impl LogicExpression {
+    /// Whether it is the same expression as another.
+    #[cycle(logic_expressions)]
+    pub(crate) fn same(&self, other: &LogicExpression) -> bool
+        ensures { Decides result (self.now ≡ other.now) }
+    {
+        match other {
+            Self::Literal(value) => matches!(self, Self::Literal(own) if own == value),
+            Self::Object(place) => matches!(self, Self::Object(own) if own == place),
+            Self::Variable(place) => matches!(self, Self::Variable(own) if own == place),
+            Self::Not(operand) => match self {
+                Self::Not(own) => own.get().same(operand.get()),
+                _ => false,
+            },
+            Self::Chain {
+                operator,
+                first,
+                rest,
+            } => self.is_chain(*operator, first.get(), rest.as_slice()),
+        }
+    }
+
+    /// Whether it is the chain of this operator and these operands.
+    #[cycle(logic_expressions)]
+    fn is_chain(&self, operator: Logical, first: &LogicExpression, rest: &[LogicExpression]) -> bool
+        ensures { Decides result (self.now ≡ logic.Chain operator first.now rest.now) }
+    {
+        match self {
+            Self::Chain {
+                operator: own,
+                first: own_first,
+                rest: own_rest,
+            } => *own == operator
+                && own_first.get().same(first)
+                && same_logic_expressions(own_rest.as_slice(), rest),
+            _ => false,
+        }
+    }
+}
+
+/// Whether these are the same expressions, in the same order.
+#[cycle(logic_expressions)]
+fn same_logic_expressions(expressions: &[LogicExpression], others: &[LogicExpression]) -> bool
+    ensures { Decides result (expressions.now ≡ others.now) }
+{
+    if expressions.len() != others.len() {
+        return false;
+    }
+    for (i, expression) in expressions.iter().enumerate() {
+        if !expression.same(&others[i]) {
+            return false;
+        }
+    }
+    true
+}
+
+impl BooleanExpression {
+    /// Whether it is the same expression as another.
+    #[cycle(boolean_expressions)]
+    pub(crate) fn same(&self, other: &BooleanExpression) -> bool
+        ensures { Decides result (self.now ≡ other.now) }
+    {
+        match other {
+            Self::Literal(value) => matches!(self, Self::Literal(own) if own == value),
+            Self::Variable(place) => matches!(self, Self::Variable(own) if own == place),
+            Self::Event(object) => matches!(self, Self::Event(own) if own == object),
+            Self::Edge { rising, object } => self.is_edge(*rising, *object),
+            Self::Not(operand) => match self {
+                Self::Not(own) => own.get().same(operand.get()),
+                _ => false,
+            },
+            Self::Chain {
+                operator,
+                first,
+                rest,
+            } => self.is_chain(*operator, first.get(), rest.as_slice()),
+            Self::LogicComparison {
+                left,
+                operator,
+                right,
+            } => self.is_logic_comparison(left.get(), *operator, right.get()),
+            Self::BooleanComparison {
+                left,
+                operator,
+                right,
+            } => self.is_boolean_comparison(left.get(), *operator, right.get()),
+        }
+    }
+
+    /// Whether it is this edge of this signal or port.
+    fn is_edge(&self, rising: bool, object: usize) -> bool
+        ensures { Decides result (self.now ≡ boolean.Edge rising object) }
+    {
+        match self {
+            Self::Edge {
+                rising: own,
+                object: own_object,
+            } => *own == rising && *own_object == object,
+            _ => false,
+        }
+    }
+
+    /// Whether it is the chain of this operator and these operands.
+    #[cycle(boolean_expressions)]
+    fn is_chain(
+        &self,
+        operator: Logical,
+        first: &BooleanExpression,
+        rest: &[BooleanExpression],
+    ) -> bool
+        ensures { Decides result (self.now ≡ boolean.Chain operator first.now rest.now) }
+    {
+        match self {
+            Self::Chain {
+                operator: own,
+                first: own_first,
+                rest: own_rest,
+            } => *own == operator
+                && own_first.get().same(first)
+                && same_boolean_expressions(own_rest.as_slice(), rest),
+            _ => false,
+        }
+    }
+
+    /// Whether it is the comparison by this operator of these values of std_ulogic.
+    fn is_logic_comparison(
+        &self,
+        left: &LogicExpression,
+        operator: Relational,
+        right: &LogicExpression,
+    ) -> bool
+        ensures { Decides result (self.now ≡ boolean.LogicComparison left.now operator right.now) }
+    {
+        match self {
+            Self::LogicComparison {
+                left: own_left,
+                operator: own,
+                right: own_right,
+            } => *own == operator && own_left.get().same(left) && own_right.get().same(right),
+            _ => false,
+        }
+    }
+
+    /// Whether it is the comparison by this operator of these boolean values.
+    #[cycle(boolean_expressions)]
+    fn is_boolean_comparison(
+        &self,
+        left: &BooleanExpression,
+        operator: Relational,
+        right: &BooleanExpression,
+    ) -> bool
+        ensures { Decides result (self.now ≡ boolean.BooleanComparison left.now operator right.now) }
+    {
+        match self {
+            Self::BooleanComparison {
+                left: own_left,
+                operator: own,
+                right: own_right,
+            } => *own == operator && own_left.get().same(left) && own_right.get().same(right),
+            _ => false,
+        }
+    }
+}
+
+/// Whether these are the same expressions, in the same order.
+#[cycle(boolean_expressions)]
+fn same_boolean_expressions(expressions: &[BooleanExpression], others: &[BooleanExpression]) -> bool
+    ensures { Decides result (expressions.now ≡ others.now) }
+{
+    if expressions.len() != others.len() {
+        return false;
+    }
+    for (i, expression) in expressions.iter().enumerate() {
+        if !expression.same(&others[i]) {
+            return false;
+        }
+    }
+    true
 }

@@ -84,6 +84,7 @@ impl Model for Process {
 
 impl Process {
     ghost use Rattle.std.specs.Prelude.{◌≡◌, ◌+◌, true, IfOk, length};
+    ghost use Rattle.std.specs.Bool.{Decides};
     ghost use Rattle.sim_design.specs.Bodies.{objects_of};
     ghost use Rattle.sim_design.specs.Processes.{IsProcess, nets_of, rising};
 
@@ -157,5 +158,16 @@ impl Process {
         ensures { result.now ≡ self.now.body }
     {
         &self.parts.body
+    }
+
+    /// Whether it is the same process as another. It takes no memory.
+    pub fn same(&self, other: &Process) -> bool
+        ensures { Decides result (self.now ≡ other.now) }
+    {
+        self.first_driver() == other.first_driver()
+            && self.sensitivity() == other.sensitivity()
+            && self.reads() == other.reads()
+            && self.nets() == other.nets()
+            && self.body().same(other.body())
     }
 }

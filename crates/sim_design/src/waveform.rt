@@ -1,5 +1,8 @@
 //! Waveforms of a process (IEEE 1076-2008, 10.5.2).
 
+ghost use Rattle.std.specs.Prelude.{◌≡◌};
+ghost use Rattle.std.specs.Bool.{Decides};
+
 use crate::expression::LogicExpression;
 use sim_logic::Time;
 use sqlite_items::Items;
@@ -16,6 +19,26 @@ pub struct Element {
 #[derive(Drop)]
 pub struct Waveform {
     elements: Items<Element>,
+}
+
+impl Element {
+    /// Whether it is the same element as another.
+    fn same(&self, other: &Element) -> bool
+        ensures { Decides result (self.now ≡ other.now) }
+    {
+        self.after == other.after && self.value.same(&other.value)
+    }
+}
+
+/// Whether these are the same elements, in the same order.
+fn same_elements(elements: &[Element], others: &[Element]) -> bool
+    ensures { Decides result (elements.now ≡ others.now) }
+{
+    elements.len() == others.len()
+        && elements
+            .iter()
+            .zip(others)
+            .all(|(element, other)| element.same(other))
 }
 
 impl Model for Waveform {
@@ -36,6 +59,7 @@ impl Model for Waveform {
 
 impl Waveform {
     ghost use Rattle.std.specs.Prelude.{◌≡◌};
+    ghost use Rattle.std.specs.Bool.{Decides};
     ghost use Rattle.sim_design.specs.Waveforms.{IsWaveform};
 
     /// The waveform of these elements.
@@ -52,5 +76,12 @@ impl Waveform {
         ensures waveform { IsWaveform result.now }
     {
         self.elements.as_slice()
+    }
+
+    /// Whether it is the same waveform as another.
+    pub(crate) fn same(&self, other: &Waveform) -> bool
+        ensures { Decides result (self.now ≡ other.now) }
+    {
+        same_elements(self.elements(), other.elements())
     }
 }

@@ -1,10 +1,10 @@
 -- Items, and references to them.
-use Rattle.std.proofs.Common.{ℕ, ◌≡◌, ◌+◌, List, [], ◌∷◌, ◌++◌, Bool, Option, Some, None, Bor, slice_get, refl, ap, sym, ◌∙◌}
-use Rattle.std.specs.Option.{option_or}
+use Rattle.std.proofs.Common.{ℕ, zero, suc, ◌≡◌, ◌+◌, List, [], ◌∷◌, ◌++◌, Bool, Option, Some, None, Bor, slice_get, refl, ap, sym, ◌∙◌}
+use Rattle.std.specs.Option.{option_or, option_copied}
 use Rattle.sim_tree.specs.declared.unit.Entity.{Entity}
 use Rattle.sim_tree.specs.declared.unit.Architecture.{Architecture}
 use Rattle.sim_region.specs.Ports.{Port}
-use Rattle.sim_instance.specs.Libraries.{Library, entities_at, architectures_at, first_entity, interfaces, at_place, interface_of}
+use Rattle.sim_instance.specs.Libraries.{Library, entities_at, architectures_at, first_entity, interfaces, at_place, interface_of, entity_of}
 use Rattle.sim_instance.specs.Places.{where_at, first_place, last_place}
 
 pub first_entity_at : (test : Entity → Bool) (at : ℕ) (es : List (Bor Entity))
@@ -39,3 +39,21 @@ unfolding interface_of
 interface_some l es n place items view some is =
     ap (λ (x : List (List Port)). slice_get x place) (is ∙ ap interfaces view)
     ∙ ap (at_place (interfaces l.entities)) (sym some ∙ ap (λ (x : List Entity). first_entity x n) view)
+
+led_to : (es : List (Bor Entity)) (i : ℕ) → option_copied (slice_get es i) ≡ slice_get (entities_at es) i
+unfolding entities_at
+led_to [] i = refl
+led_to (e ∷ es) zero = refl
+led_to (e ∷ es) (suc i) = led_to es i
+
+pub entity_none : (l : Library) (es : List Entity) (n : List ℕ) → es ≡ l.entities → first_entity es n ≡ None → None ≡ entity_of l n
+unfolding entity_of
+entity_none l es n view none = ap (at_place l.entities) (sym none ∙ ap (λ (x : List Entity). first_entity x n) view)
+
+pub entity_some : (l : Library) (es : List (Bor Entity)) (n : List ℕ) (place : ℕ) (o : Option (Bor Entity)) → entities_at es ≡ l.entities
+    → first_entity (entities_at es) n ≡ Some place → o ≡ slice_get es place → option_copied o ≡ entity_of l n
+unfolding entity_of
+entity_some l es n place o view some is =
+    ap option_copied is
+    ∙ (led_to es place
+    ∙ (ap (λ (x : List Entity). slice_get x place) view ∙ ap (at_place l.entities) (sym some ∙ ap (λ (x : List Entity). first_entity x n) view)))

@@ -83,6 +83,10 @@ abbrev pub at_place : {X : Type 0} → List X → Option ℕ → Option X
 at_place xs None = None
 at_place xs (Some place) = slice_get xs place
 
+-- the entity of a name
+unfoldable pub entity_of : Library → List ℕ → Option Entity
+entity_of l n = at_place l.entities (first_entity l.entities n)
+
 -- the ports of the entity of a name
 unfoldable pub interface_of : Library → List ℕ → Option (List Port)
 interface_of l n = at_place (interfaces l.entities) (first_entity l.entities n)

@@ -186,6 +186,16 @@ impl<'a> Library<'a> {
         self.first_entities.find(name)
     }
 
+    /// The entity of a name: the first of the file counts.
+    pub fn entity(&self, name: &[u8]) -> Option<&'a Entity>
+        ensures { option_copied result ≡ spec.entity_of self.now name.now }
+    {
+        match self.first_entities.find(name) {
+            None => None,
+            Some(place) => self.entities.get(place).copied(),
+        }
+    }
+
     /// The ports of the entity of a name.
     pub fn interface(&self, entity: &[u8]) -> Option<&Interface<'a>>
         ensures { option_copied result ≡ spec.interface_of self.now entity.now }

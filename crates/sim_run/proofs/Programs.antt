@@ -5,7 +5,9 @@ use Rattle.std.specs.Prelude.{◌⊎◌, Result, Err}
 use Rattle.sim_token.specs.Limits.{most_bytes}
 use Rattle.sim_token.specs.declared.error.TextError.{TextError}
 use Rattle.sim_token.specs.declared.error.TextError.TheVariants as fault
-use Rattle.sim_text.specs.Texts.{IsFault, IsFaulty}
+use Rattle.sim_text.specs.Texts.{IsFault}
+use Rattle.sim_flat.specs.declared.error.FlatError.{FlatError}
+use Rattle.sim_flat.specs.declared.error.FlatError.TheVariants as flat
 use Rattle.sim_options.specs.declared.options.Options.{Options}
 use Rattle.sim_options.specs.Asks.{Asks, AreRefused}
 use Rattle.sim_options.specs.Options.{are_in_range}
@@ -15,7 +17,7 @@ use Rattle.sim_run.specs.declared.program.Failure.{Failure}
 use Rattle.sim_run.specs.declared.program.Failure.TheVariants as failure
 use Rattle.sim_run.specs.Run.{ReachesLimit}
 use Rattle.sim_run.specs.Session.{ReadsSource, IsWhole, HasText, HasRun, HasOptions, IsFailure, status_of}
-use Rattle.sim_run.specs.Simulation.{HasDesign, IsRefusal, IsOther}
+use Rattle.sim_run.specs.Simulation.{HasDesign, HasNoDesign, IsRefusal, IsRefusedText}
 
 -- ---- the source
 
@@ -56,7 +58,8 @@ refusal_of source text options (refusal.Text (fault.BadLiteral at)) long longer 
 refusal_of source text options (refusal.Text (fault.Syntax at)) long longer p = absurd (too_much source long p.short)
 refusal_of source text options (refusal.Text (fault.TooDeep at)) long longer p = absurd (too_much source long p.short)
 refusal_of source text options (refusal.Text (fault.TimeRange at)) long longer p = absurd (too_much source long p.short)
-refusal_of source text options refusal.NotYet long longer p = absurd (too_much source long p.is_text.short)
+refusal_of source text options (refusal.Flat f) long longer p = absurd (too_much source long p.is_text.short)
+refusal_of source text options refusal.NotYet long longer p = absurd (too_much source long p.is_design.is_text.short)
 refusal_of source text options (refusal.CycleLimit l) long longer p = absurd (too_much source long p.1.is_design.is_text.short)
 refusal_of source text options refusal.Memory long longer p = tt
 refusal_of source text options refusal.Write long longer p = absurd p
@@ -75,6 +78,7 @@ pub run_fails : (unread left : Option (List ℕ)) (source : List ℕ) (options :
 run_fails unread left source options refusal.Write r p = tt
 run_fails unread left source options refusal.Options r p = text_refused unread left source options refusal.Options r (p (λ q. absurd cc))
 run_fails unread left source options (refusal.Text f) r p = text_refused unread left source options (refusal.Text f) r (p (λ q. absurd cc))
+run_fails unread left source options (refusal.Flat f) r p = text_refused unread left source options (refusal.Flat f) r (p (λ q. absurd cc))
 run_fails unread left source options refusal.NotYet r p = text_refused unread left source options refusal.NotYet r (p (λ q. absurd cc))
 run_fails unread left source options (refusal.CycleLimit l) r p = text_refused unread left source options (refusal.CycleLimit l) r (p (λ q. absurd cc))
 run_fails unread left source options refusal.Memory r p = text_refused unread left source options refusal.Memory r (p (λ q. absurd cc))
@@ -105,15 +109,56 @@ text_not_words (fault.Syntax at) e = absurd (omega arith)
 text_not_words (fault.TooDeep at) e = absurd (omega arith)
 text_not_words (fault.TimeRange at) e = absurd (omega arith)
 
+-- a fault of elaboration has status 1, and want of memory 4
+abbrev FlatStatus : FlatError → Type 0
+FlatStatus e = ((e ≡ flat.Memory) × (status_of (failure.Run (refusal.Flat e)) ≡ 4)) ⊎ ((e ≢ flat.Memory) × (status_of (failure.Run (refusal.Flat e)) ≡ 1))
+
+flat_status : (e : FlatError) → FlatStatus e
+flat_status flat.Memory = inl (refl, refl)
+flat_status flat.NoTop = inr ((λ q. absurd cc), refl)
+flat_status (flat.Duplicate at) = inr ((λ q. absurd cc), refl)
+flat_status (flat.Predefined at) = inr ((λ q. absurd cc), refl)
+flat_status (flat.Unknown at) = inr ((λ q. absurd cc), refl)
+flat_status (flat.WrongKind at) = inr ((λ q. absurd cc), refl)
+flat_status (flat.TypeClash at) = inr ((λ q. absurd cc), refl)
+flat_status (flat.Ambiguous at) = inr ((λ q. absurd cc), refl)
+flat_status (flat.NotBoolean at) = inr ((λ q. absurd cc), refl)
+flat_status (flat.ReadOut at) = inr ((λ q. absurd cc), refl)
+flat_status (flat.WriteIn at) = inr ((λ q. absurd cc), refl)
+flat_status (flat.PortMissing at) = inr ((λ q. absurd cc), refl)
+flat_status (flat.PortTwice at) = inr ((λ q. absurd cc), refl)
+flat_status (flat.ModeClash at) = inr ((λ q. absurd cc), refl)
+flat_status (flat.ComponentDiffers at) = inr ((λ q. absurd cc), refl)
+flat_status (flat.NoArchitecture at) = inr ((λ q. absurd cc), refl)
+flat_status (flat.Recursive at) = inr ((λ q. absurd cc), refl)
+flat_status (flat.ManySources at) = inr ((λ q. absurd cc), refl)
+flat_status (flat.NotAscending at) = inr ((λ q. absurd cc), refl)
+flat_status (flat.RejectTooLong at) = inr ((λ q. absurd cc), refl)
+flat_status (flat.TooMany at) = inr ((λ q. absurd cc), refl)
+
+flat_not_limit : (e : FlatError) → FlatStatus e → status_of (failure.Run (refusal.Flat e)) ≡ 3 → ⊥
+flat_not_limit e (inl h) is = let four = h.1 in absurd (omega arith)
+flat_not_limit e (inr h) is = let one = h.1 in absurd (omega arith)
+
+flat_not_words : (e : FlatError) → FlatStatus e → status_of (failure.Run (refusal.Flat e)) ≡ 2 → ⊥
+flat_not_words e (inl h) is = let four = h.1 in absurd (omega arith)
+flat_not_words e (inr h) is = let one = h.1 in absurd (omega arith)
+
 module _ (words : List (List ℕ)) (unread : Option (List ℕ)) (options : Options) (a : Asks words options) where
   pub has_run : (Holds : List ℕ → Options → Type 0) → HasText unread (λ text. Holds text options) → HasRun words unread Holds
   has_run Holds p = record { options = options; asked = a; read = p }
 
-  faulty : (e : TextError) → e ≢ fault.Memory → HasText unread (λ text. IsFault text e) → HasRun words unread (λ text o. IsFaulty text ⊎ IsOther text o)
-  faulty e known p = has_run (λ text o. IsFaulty text ⊎ IsOther text o)
+  faulty : (e : TextError) → e ≢ fault.Memory → HasText unread (λ text. IsFault text e) → HasRun words unread IsRefusedText
+  faulty e known p = has_run IsRefusedText
       (record { text = p.text; whole = p.whole; holds = inl (record { found = e; known = known; is = p.holds }) })
 
-  pub status_1 : (f : Failure) → status_of f ≡ 1 → IsFailure unread options f → HasRun words unread (λ text o. IsFaulty text ⊎ IsOther text o)
+  unelaborated : (e : FlatError) → FlatStatus e → status_of (failure.Run (refusal.Flat e)) ≡ 1 → HasText unread (λ text. HasNoDesign text options e)
+      → HasRun words unread IsRefusedText
+  unelaborated e (inl h) is p = let four = h.1 in absurd (omega arith)
+  unelaborated e (inr h) is p = has_run IsRefusedText
+      (record { text = p.text; whole = p.whole; holds = inr (inl (record { fault = e; known = h.0; is = p.holds })) })
+
+  pub status_1 : (f : Failure) → status_of f ≡ 1 → IsFailure unread options f → HasRun words unread IsRefusedText
   status_1 failure.Read e p = absurd (omega arith)
   status_1 failure.Memory e p = absurd (omega arith)
   status_1 (failure.Run refusal.Options) e p = absurd (omega arith)
@@ -125,8 +170,9 @@ module _ (words : List (List ℕ)) (unread : Option (List ℕ)) (options : Optio
   status_1 (failure.Run (refusal.Text (fault.Syntax at))) e p = faulty (fault.Syntax at) (λ q. absurd cc) p
   status_1 (failure.Run (refusal.Text (fault.TooDeep at))) e p = faulty (fault.TooDeep at) (λ q. absurd cc) p
   status_1 (failure.Run (refusal.Text (fault.TimeRange at))) e p = faulty (fault.TimeRange at) (λ q. absurd cc) p
-  status_1 (failure.Run refusal.NotYet) e p = has_run (λ text o. IsFaulty text ⊎ IsOther text o)
-      (record { text = p.text; whole = p.whole; holds = inr p.holds })
+  status_1 (failure.Run (refusal.Flat f)) e p = unelaborated f (flat_status f) e p
+  status_1 (failure.Run refusal.NotYet) e p = has_run IsRefusedText
+      (record { text = p.text; whole = p.whole; holds = inr (inr p.holds) })
   status_1 (failure.Run (refusal.CycleLimit l)) e p = absurd (omega arith)
   status_1 (failure.Run refusal.Write) e p = absurd (omega arith)
   status_1 (failure.Run refusal.Memory) e p = absurd (omega arith)
@@ -137,6 +183,7 @@ module _ (words : List (List ℕ)) (unread : Option (List ℕ)) (options : Optio
   status_3 failure.Memory e p = absurd (omega arith)
   status_3 (failure.Run refusal.Options) e p = absurd (omega arith)
   status_3 (failure.Run (refusal.Text f)) e p = absurd (text_not_limit f e)
+  status_3 (failure.Run (refusal.Flat f)) e p = absurd (flat_not_limit f (flat_status f) e)
   status_3 (failure.Run refusal.NotYet) e p = absurd (omega arith)
   status_3 (failure.Run (refusal.CycleLimit l)) e p = has_run (λ text o. HasDesign text o (λ design. ReachesLimit design o))
       (record { text = p.text; whole = p.whole; holds = p.holds.1 })
@@ -149,6 +196,7 @@ module _ (words : List (List ℕ)) (unread : Option (List ℕ)) (options : Optio
   out_of_range unread' failure.Memory e p = absurd (omega arith)
   out_of_range unread' (failure.Run refusal.Options) e p = p.holds
   out_of_range unread' (failure.Run (refusal.Text f)) e p = absurd (text_not_words f e)
+  out_of_range unread' (failure.Run (refusal.Flat f)) e p = absurd (flat_not_words f (flat_status f) e)
   out_of_range unread' (failure.Run refusal.NotYet) e p = absurd (omega arith)
   out_of_range unread' (failure.Run (refusal.CycleLimit l)) e p = absurd (omega arith)
   out_of_range unread' (failure.Run refusal.Write) e p = absurd (omega arith)
@@ -166,6 +214,7 @@ module _ (words : List (List ℕ)) (unread : Option (List ℕ)) (options : Optio
   stopped Holds failure.Memory quiet part = inl (quiet (λ e. absurd cc))
   stopped Holds (failure.Run refusal.Options) quiet part = inl (quiet (λ e. absurd cc))
   stopped Holds (failure.Run (refusal.Text f)) quiet part = inl (quiet (λ e. absurd cc))
+  stopped Holds (failure.Run (refusal.Flat f)) quiet part = inl (quiet (λ e. absurd cc))
   stopped Holds (failure.Run refusal.NotYet) quiet part = inl (quiet (λ e. absurd cc))
   stopped Holds (failure.Run (refusal.CycleLimit l)) quiet part = inl (quiet (λ e. absurd cc))
   stopped Holds (failure.Run refusal.Memory) quiet part = inl (quiet (λ e. absurd cc))

@@ -4,6 +4,7 @@ use Rattle.std.specs.String.{string_bytes}
 use Rattle.std.specs.Io.KnownBytes.{Appends, Keeps, Consumes, IsAtEnd}
 use Rattle.sim_token.specs.Limits.{most_bytes}
 use Rattle.sim_token.specs.declared.error.TextError.TheVariants as fault
+use Rattle.sim_flat.specs.declared.error.FlatError.TheVariants as flat
 use Rattle.sim_options.specs.declared.fault.CliFault.{CliFault}
 use Rattle.sim_options.specs.declared.fault.CliFault.TheVariants as cli
 use Rattle.sim_options.specs.declared.options.Options.{Options}
@@ -69,6 +70,8 @@ status_of failure.Memory = 4
 status_of (failure.Run refusal.Options) = 2
 status_of (failure.Run (refusal.Text fault.Memory)) = 4
 status_of (failure.Run (refusal.Text _)) = 1
+status_of (failure.Run (refusal.Flat flat.Memory)) = 4
+status_of (failure.Run (refusal.Flat _)) = 1
 status_of (failure.Run refusal.NotYet) = 1
 status_of (failure.Run (refusal.CycleLimit limit)) = 3
 status_of (failure.Run refusal.Write) = 4

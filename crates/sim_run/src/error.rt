@@ -3,6 +3,7 @@
 ghost use Rattle.std.specs.Prelude.{◌≡◌};
 ghost use Rattle.sim_run.specs.declared.error.RunError.TheVariants as refusal;
 
+use sim_flat::FlatError;
 use sim_text::TextError;
 use std::alloc::{AllocError, AllocFailed};
 use thiserror::Error;
@@ -16,7 +17,10 @@ pub enum RunError {
     /// The text is at fault, or there was no memory to read it.
     #[error("{0}")]
     Text(TextError),
-    /// The text is not of the form that is run today.
+    /// The design is at fault, or there was no memory to elaborate it.
+    #[error("{0}")]
+    Flat(FlatError),
+    /// The design is not of the form that is run today.
     #[error("NotYet")]
     NotYet,
     /// The run needs more cycles than the limit.
@@ -51,5 +55,13 @@ impl From<TextError> for RunError {
 
     fn from(e: TextError) -> RunError {
         RunError::Text(e)
+    }
+}
+
+impl From<FlatError> for RunError {
+    ghost from_gives = { λ f e. e ≡ refusal.Flat f };
+
+    fn from(e: FlatError) -> RunError {
+        RunError::Flat(e)
     }
 }

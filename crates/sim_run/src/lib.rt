@@ -2,10 +2,8 @@
 #![tactic(auto)]
 
 mod block;
-mod cycle;
 mod error;
 mod finished;
-mod form;
 mod listing;
 mod program;
 mod run;
@@ -15,6 +13,7 @@ pub use error::RunError;
 pub use finished::Finished;
 pub use listing::write_listing;
 pub use program::session;
+pub use sim_flat::FlatError;
 pub use sim_options::{CliFault, Options, read_options};
 pub use sim_store::Record;
 pub use sim_text::TextError;

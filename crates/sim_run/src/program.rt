@@ -2,7 +2,6 @@
 ghost use Rattle.std.specs.Prelude.{◌≡◌, ◌≢◌, ◌≤◌, ◌<◌, ◌⊎◌, false, codes, OnOk, IfOk, IfErr, [], ◌∷◌, map, string_bytes};
 ghost use Rattle.std.specs.Io.KnownBytes.{Appends, Keeps};
 ghost use Rattle.std.specs.Str.Parse.{starts_with_minus};
-ghost use Rattle.sim_text.specs.Texts.{IsFaulty};
 ghost use Rattle.sim_token.specs.Pieces.{Text};
 ghost use Rattle.sim_options.specs.Asks.{AreRefused};
 ghost use Rattle.sim_options.specs.Options.{are_in_range};
@@ -10,13 +9,14 @@ ghost use Rattle.sim_run.specs.declared.error.RunError.TheVariants as refusal;
 ghost use Rattle.sim_run.specs.declared.program.Failure.TheVariants as failure;
 ghost use Rattle.sim_run.specs.Run.{ReachesLimit, Lists, ListsPart};
 ghost use Rattle.sim_run.specs.Session.{ReadsSource, HasText, HasRun, HasOptions, HasHelp, IsAnswerTo, IsFailure, status_of};
-ghost use Rattle.sim_run.specs.Simulation.{HasDesign, IsOther};
+ghost use Rattle.sim_run.specs.Simulation.{HasDesign, IsRefusedText};
 ghost use Rattle.sim_run.specs.Writing.{AppendsPart};
 
 use crate::block::write_whole;
 use crate::error::RunError;
 use crate::simulation::simulate;
 use arrayvec::ArrayVec;
+use sim_flat::FlatError;
 use sim_options::{CliFault, Options, read_options};
 use sim_text::TextError;
 use std::alloc::Global;
@@ -55,8 +55,8 @@ fn status_of_failure(failure: Failure) -> u8
     ensures { result ≡ status_of failure }
 {
     match failure {
-        Failure::Run(RunError::Text(TextError::Memory)) => 4,
-        Failure::Run(RunError::Text(_) | RunError::NotYet) => 1,
+        Failure::Run(RunError::Text(TextError::Memory) | RunError::Flat(FlatError::Memory)) => 4,
+        Failure::Run(RunError::Text(_) | RunError::Flat(_) | RunError::NotYet) => 1,
         Failure::Run(RunError::Options) => 2,
         Failure::Run(RunError::CycleLimit { .. }) => 3,
         Failure::Read | Failure::Memory | Failure::Run(RunError::Write | RunError::Memory) => 4,
@@ -165,7 +165,7 @@ pub fn session<T: Threads + Wait + Sync, R: Read, W: Write, E: Write>(
     ensures success { result ≡ 0 → HasRun (map string_bytes words.items) (R.remaining input.old) (λ text options. HasDesign text options (λ design.
         Lists design options (W.contents out.old) (W.contents out.new)))
         ⊎ HasHelp (map string_bytes words.items) (λ help. Appends (W.contents out.old) (W.contents out.new) help) }
-    ensures text { result ≡ 1 → HasRun (map string_bytes words.items) (R.remaining input.old) (λ text options. IsFaulty text ⊎ IsOther text options) }
+    ensures text { result ≡ 1 → HasRun (map string_bytes words.items) (R.remaining input.old) (λ text options. IsRefusedText text options) }
     ensures words { result ≡ 2 → AreRefused (map string_bytes words.items) ⊎ HasOptions (map string_bytes words.items) (λ options.
         are_in_range options.stop options.limit options.workers ≡ false) }
     // `--top NAME` alone is not refused.

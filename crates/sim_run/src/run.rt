@@ -1,59 +1,71 @@
 //! A whole run of a design of the form that is run today, on the calling thread.
-ghost use Rattle.std.specs.Prelude.{◌≡◌, ◌≤◌, ◌⊎◌, map, string_bytes, Some, [], ◌∷◌, IfOk, IfErr, MatchOption};
+ghost use Rattle.std.specs.Prelude.{◌≡◌, ◌≤◌, ◌⊎◌, map, string_bytes, Some, length, IfOk, IfErr, MatchOption};
+ghost use Rattle.sim_design.specs.Designs.{Net, most};
+ghost use Rattle.sim_store.specs.Cycles.{behaviour_of};
+ghost use Rattle.sim_store.specs.Drivers.{next_time};
 ghost use Rattle.sim_store.specs.Outcome.{IsOver};
+ghost use Rattle.sim_store.specs.Stimuli.{IsRunnable};
 ghost use Rattle.sim_run.specs.declared.error.RunError.TheVariants as refusal;
-ghost use Rattle.sim_run.specs.Cycle.{next_time, names_of, behaviour_of, CanRun};
-ghost use Rattle.sim_run.specs.Form.{IsInTime};
 ghost use Rattle.sim_run.specs.Run.{Finishes, ReachesLimit};
 
-use crate::cycle::Net;
 use crate::error::RunError;
 use crate::finished::Finished;
-use crate::form::Source;
+use sim_design::{Design, Net};
 use sim_options::Options;
-use sim_store::Record;
-use sqlite_items::Items;
+use sim_store::State;
 use std::alloc::{AllocError, Global};
 
 /// The time of the next transaction, if it is not later than the stop time.
-fn next_within(net: &Net, stop: u64) -> Option<u64>
-    ensures { MatchOption result (IsOver (next_time net.now.drivers) stop) (λ time. (next_time net.now.drivers ≡ Some time) × (time ≤ stop)) }
+fn next_within(state: &State, stop: u64) -> Option<u64>
+    ensures { MatchOption result (IsOver (next_time state.now.drivers) stop) (λ time. (next_time state.now.drivers ≡ Some time) × (time ≤ stop)) }
 {
-    match net.next() {
+    match state.next() {
         Some(time) if time <= stop => Some(time),
         _ => None,
     }
 }
 
-/// The run of a design with a signal.
-fn run_source(
+/// The names of nets.
+fn names_of(alloc: Global, nets: &[Net]) -> Result<Vec<String>, AllocError>
+    ensures { IfOk result (λ v. map string_bytes v.items ≡ map (λ n. n.name) nets.now) }
+{
+    let mut names = Vec::new(alloc);
+    for net in nets {
+        names.push(String::from_str(alloc, net.name())?)?;
+    }
+    Ok(names)
+}
+
+/// The run of a design whose nets have these names.
+fn run_named(
     alloc: Global,
-    source: &Source,
+    design: &Design,
     names: Vec<String>,
     options: &Options,
 ) -> Result<Finished, RunError>
-    requires names { map string_bytes names.items ≡ names_of (Some source.now) }
-    requires in_time { IsInTime source.now.elements }
-    ensures finished { IfOk result (λ f. Finishes (behaviour_of (Some source.now)) options.now f) }
+    requires names { map string_bytes names.items ≡ map (λ (n : Net). n.name) design.now.nets }
+    requires runnable { IsRunnable design.now }
+    requires bound { length design.now.nets ≤ most }
+    ensures finished { IfOk result (λ f. Finishes (behaviour_of design.now) options.now f) }
     ensures refused { IfErr result (λ e. (e ≡ refusal.Memory)
-        ⊎ ((e ≡ refusal.CycleLimit options.now.limit) × ReachesLimit (behaviour_of (Some source.now)) options.now)) }
+        ⊎ ((e ≡ refusal.CycleLimit options.now.limit) × ReachesLimit (behaviour_of design.now) options.now)) }
 {
-    let mut net = Net::started(alloc, source)?;
+    let mut state = State::started(alloc, design)?;
     let mut records = Vec::new(alloc);
-    records.push(net.first_record(alloc)?)?;
+    records.push(state.first_record(alloc)?)?;
     let mut events: u64 = 0;
     for _cycle in 0..options.limit {
-        match next_within(&net, options.stop) {
+        match next_within(&state, options.stop) {
             None => return Ok(Finished::new(names, records, events)),
             Some(time) => {
-                net.update(alloc, source.initial, time)?;
-                let record = net.record(alloc)?;
+                state.update(design, time);
+                let record = state.record(alloc)?;
                 events += record.changes.len() as u64;
                 records.push(record)?;
             }
         }
     }
-    match next_within(&net, options.stop) {
+    match next_within(&state, options.stop) {
         None => Ok(Finished::new(names, records, events)),
         Some(_) => Err(RunError::CycleLimit {
             limit: options.limit,
@@ -61,44 +73,13 @@ fn run_source(
     }
 }
 
-/// The run of a design without a signal.
-fn run_empty(alloc: Global) -> Result<Finished, AllocError>
-    ensures { IfOk result (λ f. f ≡ record { names = []; records = record { time = 0; delta = 0; changes = [] } ∷ [] }) }
-{
-    let mut records = Vec::new(alloc);
-    records.push(Record {
-        time: 0,
-        delta: 0,
-        changes: Items::new(alloc),
-    })?;
-    Ok(Finished::new(Vec::new(alloc), records, 0))
-}
-
-/// The names of the nets.
-fn names(alloc: Global, design: &Option<Source>) -> Result<Vec<String>, AllocError>
-    ensures { IfOk result (λ v. map string_bytes v.items ≡ names_of design.now) }
-{
-    let mut names = Vec::new(alloc);
-    if let Some(source) = design {
-        names.push(String::from_str(alloc, source.name.as_str())?)?;
-    }
-    Ok(names)
-}
-
 /// The run of a design up to the stop time and within the limit.
-pub fn run_design(
-    alloc: Global,
-    design: &Option<Source>,
-    options: &Options,
-) -> Result<Finished, RunError>
-    requires { CanRun design.now }
+pub fn run_design(alloc: Global, design: &Design, options: &Options) -> Result<Finished, RunError>
+    requires { IsRunnable design.now }
     ensures finished { IfOk result (λ f. Finishes (behaviour_of design.now) options.now f) }
     ensures refused { IfErr result (λ e. (e ≡ refusal.Memory)
         ⊎ ((e ≡ refusal.CycleLimit options.now.limit) × ReachesLimit (behaviour_of design.now) options.now)) }
 {
-    let names = names(alloc, design)?;
-    match design {
-        Some(source) => run_source(alloc, source, names, options),
-        None => Ok(run_empty(alloc)?),
-    }
+    let names = names_of(alloc, design.nets())?;
+    run_named(alloc, design, names, options)
 }

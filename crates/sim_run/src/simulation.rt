@@ -2,30 +2,42 @@
 ghost use Rattle.std.specs.Prelude.{◌≡◌, ◌≢◌, ◌↔◌, false, Err, OnOk, IfErr, MatchResult};
 ghost use Rattle.std.specs.Io.KnownBytes.{Keeps};
 ghost use Rattle.sim_options.specs.Options.{are_in_range};
+ghost use Rattle.sim_store.specs.Stimuli.{IsRunnable};
 ghost use Rattle.sim_run.specs.Run.{Finishes, Lists, ListsPart};
 ghost use Rattle.sim_run.specs.Simulation.{IsDesignOf, HasDesign, IsRefusal};
 
 use crate::error::RunError;
 use crate::finished::Finished;
-use crate::form::{FormError, Source, read_form};
 use crate::listing::write_listing;
 use crate::run::run_design;
+use sim_design::Design;
+use sim_flat::flatten;
 use sim_options::Options;
+use sim_store::is_runnable;
 use sim_text::parse;
 use std::alloc::Global;
 use std::io::Write;
 use std::sync::Wait;
 use std::thread::Threads;
 
-/// The design of a text of the form that is run today.
-fn design_of(alloc: Global, source: &[u8], options: &Options) -> Result<Option<Source>, RunError>
+/// The design of a text.
+fn elaborated(alloc: Global, source: &[u8], options: &Options) -> Result<Design, RunError>
     ensures { MatchResult result (λ design. IsDesignOf source.now options.now design) (λ e. IsRefusal source.now options.now e) }
 {
     let file = parse(alloc, source)?;
-    match read_form(alloc, &file, options.top.as_str()) {
-        Ok(design) => Ok(design),
-        Err(FormError::NotYet) => Err(RunError::NotYet),
-        Err(FormError::Memory) => Err(RunError::Memory),
+    let design = flatten(alloc, &file, options.top.as_str())?;
+    Ok(design)
+}
+
+/// The design of a text, where it is of the form that is run today.
+fn design_of(alloc: Global, source: &[u8], options: &Options) -> Result<Design, RunError>
+    ensures { MatchResult result (λ design. IsDesignOf source.now options.now design × IsRunnable design) (λ e. IsRefusal source.now options.now e) }
+{
+    let design = elaborated(alloc, source, options)?;
+    if is_runnable(&design) {
+        Ok(design)
+    } else {
+        Err(RunError::NotYet)
     }
 }
 
@@ -39,7 +51,8 @@ fn run_text(alloc: Global, source: &[u8], options: &Options) -> Result<Finished,
 
 /// Simulates the design in a text and writes its listing. The refusals, in the order in which they are looked for: `Options`
 /// where the stop time, the limit or the workers are out of their ranges; `Text` where the text is at fault, or there was no
-/// memory to read it (`sim_text::parse` says when each fault comes); `NotYet` where it is not of the form that is run today;
+/// memory to read it (`sim_text::parse` says when each fault comes); `Flat` where the design is at fault, or there was no memory to
+/// elaborate it (`sim_flat::flatten` says when each fault comes); `NotYet` where the design is not of the form that is run today;
 /// `CycleLimit` where the run needs more cycles than the limit; `Write` where a write fails or takes nothing. With every
 /// refusal but `Write` nothing is written, and with that one a front of the listing.
 pub fn simulate<R: Threads + Wait + Sync, W: Write>(

@@ -1,0 +1,36 @@
+-- The hierarchy of blocks under a top: its flat design, or its first fault (IEEE 1076-2008, 14).
+use Rattle.std.specs.Prelude.{ℕ, ◌≡◌, List, Some, None}
+use Rattle.sim_design.specs.Designs.{Design}
+use Rattle.sim_hierarchy.specs.declared.blocks.Block.{Block}
+use Rattle.sim_hierarchy.specs.Flat.{flat}
+use Rattle.sim_hierarchy.specs.Limits.{Fits}
+use Rattle.sim_reach.specs.Least.{IsLeast}
+use Rattle.sim_reach.specs.Recursion.{IsRecursive}
+use Rattle.sim_reach.specs.Sources.{HasManySources}
+use Rattle.sim_flat.specs.declared.error.FlatError.{FlatError}
+use Rattle.sim_flat.specs.declared.error.FlatError.TheVariants as refusal
+use Rattle.sim_flat.specs.declared.top.Top.{Top}
+
+-- No instance that the top reaches stands in itself.
+abbrev pub IsFinite : List Block → ℕ → Type 0
+IsFinite blocks top = IsLeast (IsRecursive blocks top) None
+
+-- No port or signal that is not resolved has more sources than one, in what the top reaches.
+abbrev pub IsResolved : List Block → ℕ → Type 0
+IsResolved blocks top = IsLeast (HasManySources blocks top) None
+
+-- There is no fault, and this is the flat design.
+pub record IsFlat (blocks : List Block) (top : Top) (design : Design) : Type 0 where
+  pub finite : IsFinite blocks top.block
+  pub fits : Fits blocks top.block
+  pub resolved : IsResolved blocks top.block
+  pub is : design ≡ flat blocks top.block
+
+-- The first fault: an instance that stands in itself, else that there is too much, else a port or signal with many sources.
+abbrev pub IsFault : List Block → Top → FlatError → Type 0
+IsFault blocks top refusal.Memory = Unit {0}
+IsFault blocks top (refusal.Recursive at) = IsLeast (IsRecursive blocks top.block) (Some at)
+IsFault blocks top (refusal.TooMany at) = IsFinite blocks top.block × (Fits blocks top.block → ⊥) × (at ≡ top.at)
+IsFault blocks top (refusal.ManySources at) =
+    IsFinite blocks top.block × Fits blocks top.block × IsLeast (HasManySources blocks top.block) (Some at)
+IsFault blocks top _ = ⊥

@@ -1,0 +1,4 @@
+pub mod Elaboration
+pub mod Hierarchies
+pub mod Refusals
+pub mod Tops

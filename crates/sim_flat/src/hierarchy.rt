@@ -1,0 +1,34 @@
+//! The hierarchy of blocks under the top (IEEE 1076-2008, 14).
+
+ghost use Rattle.std.specs.Prelude.{◌≡◌, ◌<◌, MatchResult, length};
+ghost use Rattle.std.specs.List.{All};
+ghost use Rattle.sim_hierarchy.specs.Blocks.{IsBlock};
+ghost use Rattle.sim_flat.specs.Hierarchies as spec;
+
+use crate::error::FlatError;
+use crate::top::Top;
+use sim_design::Design;
+use sim_hierarchy::limits::fits;
+use sim_hierarchy::{Block, expand};
+use sim_reach::{first_recursive, first_with_many_sources};
+use std::alloc::Global;
+
+/// The flat design of the hierarchy under the top. The refusals, in the order in which they are looked for: `Recursive` where an
+/// instance stands in itself, `TooMany` where a limit is passed, `ManySources`.
+pub fn expand_top(alloc: Global, blocks: &[Block], top: Top) -> Result<Design, FlatError>
+    requires known { All (IsBlock blocks.now) blocks.now }
+    requires top { top.block < length blocks.now }
+    ensures { MatchResult result (λ d. spec.IsFlat blocks.now top d) (λ e. spec.IsFault blocks.now top e) }
+{
+    if let Some(at) = first_recursive(alloc, blocks, top.block)? {
+        return Err(FlatError::Recursive { at });
+    }
+    if !fits(alloc, blocks, top.block)? {
+        return Err(FlatError::TooMany { at: top.at });
+    }
+    if let Some(at) = first_with_many_sources(alloc, blocks, top.block)? {
+        return Err(FlatError::ManySources { at });
+    }
+    let design = expand(alloc, blocks, top.block)?;
+    Ok(design)
+}

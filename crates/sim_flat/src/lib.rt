@@ -1,0 +1,11 @@
+//! Elaboration: from the tree of a design file to its flat design, or its one fault (IEEE 1076-2008, 13 and 14).
+#![tactic(auto)]
+
+mod elaboration;
+mod error;
+mod hierarchy;
+mod top;
+
+pub use elaboration::flatten;
+pub use error::FlatError;
+pub use sim_design::{Design, DriverOf, Net, Process, Source};

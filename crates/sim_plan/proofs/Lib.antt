@@ -1,0 +1,4 @@
+pub mod KnownBlocks
+pub mod KnownInstances
+pub mod References
+pub mod Sizes

@@ -1,0 +1,173 @@
+-- The blocks of a design file: each architecture with its entity, its names as places (IEEE 1076-2008, 3, 6.5.7, 11.7).
+use Rattle.std.specs.Prelude.{ℕ, Bool, true, false, List, [], ◌∷◌, ◌++◌, map, length, Option, Some, None}
+use Rattle.std.specs.List.{range_with_len}
+use Rattle.sim_logic.specs.declared.logic.Logic.{Logic}
+use Rattle.sim_logic.specs.declared.logic.Logic.TheVariants.{U}
+use Rattle.sim_tree.specs.Name.{Name}
+use Rattle.sim_tree.specs.declared.declaration.Mode.{Mode}
+use Rattle.sim_tree.specs.declared.declaration.Mode.TheVariants.{In, Out, Inout}
+use Rattle.sim_tree.specs.declared.declaration.Initial.{Initial}
+use Rattle.sim_tree.specs.declared.declaration.Initial.TheVariants as initial
+use Rattle.sim_tree.specs.declared.declaration.Declaration.{Declaration}
+use Rattle.sim_tree.specs.declared.declaration.Declaration.TheVariants as declaration
+use Rattle.sim_tree.specs.declared.declaration.PortDeclaration.{PortDeclaration}
+use Rattle.sim_tree.specs.declared.unit.Actual.{Actual}
+use Rattle.sim_tree.specs.declared.unit.Actual.TheVariants as actual
+use Rattle.sim_tree.specs.declared.unit.Architecture.{Architecture}
+use Rattle.sim_tree.specs.declared.unit.Association.{Association}
+use Rattle.sim_tree.specs.declared.unit.Concurrent.{Concurrent}
+use Rattle.sim_tree.specs.declared.unit.Concurrent.TheVariants as concurrent
+use Rattle.sim_tree.specs.declared.unit.Entity.{Entity}
+use Rattle.sim_tree.specs.declared.unit.Instance as tree
+use Rattle.sim_scope.specs.declared.scope.Meaning.{Meaning}
+use Rattle.sim_scope.specs.declared.scope.Meaning.TheVariants as m
+use Rattle.sim_scope.specs.Scopes.{Look, Region, means}
+use Rattle.sim_region.specs.Ports.{Port, ports_of}
+use Rattle.sim_region.specs.Regions.{architecture_region}
+use Rattle.sim_instance.specs.Instances.{architecture_place, entity_name}
+use Rattle.sim_instance.specs.Libraries.{Library, entity_of, interface_of}
+use Rattle.sim_instance.specs.PortMaps.{associated}
+use Rattle.sim_template.specs.Below.{object_count}
+use Rattle.sim_template.specs.Templates.{assignment_template, process_template}
+use Rattle.sim_hierarchy.specs.declared.blocks.Link.{Link}
+use Rattle.sim_hierarchy.specs.declared.blocks.Link.TheVariants as link
+use Rattle.sim_hierarchy.specs.declared.blocks.Object.{Object}
+use Rattle.sim_hierarchy.specs.declared.blocks.Port as block_port
+use Rattle.sim_hierarchy.specs.declared.blocks.Template.{Template}
+use Rattle.sim_hierarchy.specs.declared.blocks.Instance.{Instance}
+use Rattle.sim_hierarchy.specs.declared.blocks.Block.{Block}
+use Rattle.sim_hierarchy.specs.Blocks.{no_block}
+
+-- ---- names
+
+-- What names mean in an architecture with this region, which stands in none. No text without faults declares the name of a type,
+-- so a mark means there what it means at its declaration.
+abbrev pub seen : Region → Look
+seen region = means [] region
+
+-- ---- ports and signals
+
+-- whether a mark names a type whose signals are resolved: std_logic (6.3)
+unfoldable pub is_resolved : Option Meaning → Bool
+is_resolved (Some (m.LogicMark resolved)) = resolved
+is_resolved _ = false
+
+-- the default of a signal or port: its first value, or else 'U', the leftmost of its type (6.4.2.3, 6.5.2)
+unfoldable pub default_of : Option Initial → Logic
+default_of (Some (initial.Literal value at)) = value
+default_of _ = U
+
+-- the signal or port of a name, with its type mark and its first value
+abbrev pub object : Look → Name → Option Initial → Name → Object
+object look mark first n = record { name = n; resolved = is_resolved (look mark.text); default = default_of first }
+
+-- whether a port of a mode is a source of what it is associated with (6.5.2)
+abbrev pub drives : Mode → Bool
+drives In = false
+drives Out = true
+drives Inout = true
+
+-- a port
+abbrev pub port : Look → Port → block_port.Port
+port look p = record { object = object look p.mark p.initial p.name; drives = drives p.mode }
+
+-- the signals of a declaration
+abbrev pub signals_declared : Look → Declaration → List Object
+signals_declared look (declaration.Signal o) = map (object look o.mark o.initial) o.names
+signals_declared look (declaration.Component c) = []
+
+-- the signals of declarations
+unfoldable pub signals_of : Look → List Declaration → List Object
+signals_of look [] = []
+signals_of look (d ∷ ds) = signals_declared look d ++ signals_of look ds
+
+-- ---- processes
+
+-- the process that a concurrent statement is, where the architecture has this number of ports and signals (11.3, 11.6)
+abbrev pub template_in : Region → ℕ → Concurrent → List Template
+template_in region objects (concurrent.Assignment a) = assignment_template region objects a ∷ []
+template_in region objects (concurrent.Process p) = process_template region objects p ∷ []
+template_in region objects (concurrent.Instance i) = []
+
+-- the processes of an architecture
+unfoldable pub templates_of : Region → ℕ → List Concurrent → List Template
+templates_of region objects [] = []
+templates_of region objects (c ∷ cs) = template_in region objects c ++ templates_of region objects cs
+
+-- ---- instances
+
+-- what a port is associated with, by what the name of its actual means: a port or signal by its place
+unfoldable pub link_to : Option Meaning → Link
+link_to (Some (m.Port object mode type)) = link.To object
+link_to (Some (m.Signal object type)) = link.To object
+link_to _ = link.Open
+
+-- what a port is associated with (6.5.7)
+unfoldable pub link_of : Look → Option Actual → Link
+link_of look (Some (actual.Named n)) = link_to (look n.text)
+link_of look (Some (actual.Literal value at)) = link.Constant value
+link_of look (Some (actual.Open at)) = link.Open
+link_of look None = link.Open
+
+-- what each of these ports is associated with, by place
+unfoldable pub links_of : Look → List Port → List Association → List Link
+links_of look ports associations = map (λ place. link_of look (associated ports associations place)) (range_with_len 0 (length ports))
+
+-- ports, where there are any
+abbrev pub ports_known : Option (List Port) → List Port
+ports_known None = []
+ports_known (Some ports) = ports
+
+-- what the ports of an instance of the architecture at a place are associated with: they are those of its entity
+unfoldable pub links_at : Library → Look → Option ℕ → tree.Instance → List Link
+links_at l look None i = []
+links_at l look (Some place) i = links_of look (ports_known (interface_of l (entity_name i.unit).text)) i.associations
+
+-- the number of a block: an instance of nothing known, in a text that has a fault, is of the last one, which is empty
+unfoldable pub block_number : Library → Option ℕ → ℕ
+block_number l None = length l.architectures
+block_number l (Some place) = place
+
+-- an instance (11.7)
+unfoldable pub instance_of : Library → Look → tree.Instance → Instance
+instance_of l look i =
+    let place = architecture_place l i.unit in
+    record { label = i.label; at = (entity_name i.unit).at; block = block_number l place; links = links_at l look place i }
+
+-- the instance that a concurrent statement is
+abbrev pub instance_in : Library → Look → Concurrent → List Instance
+instance_in l look (concurrent.Assignment a) = []
+instance_in l look (concurrent.Process p) = []
+instance_in l look (concurrent.Instance i) = instance_of l look i ∷ []
+
+-- the instances of an architecture
+unfoldable pub instances_of : Library → Look → List Concurrent → List Instance
+instances_of l look [] = []
+instances_of l look (c ∷ cs) = instance_in l look c ++ instances_of l look cs
+
+-- ---- blocks
+
+-- the ports that an entity declares; none where it is not there
+abbrev pub ports_declared : Option Entity → List PortDeclaration
+ports_declared None = []
+ports_declared (Some e) = e.ports
+
+-- the ports that the entity of a name declares
+unfoldable pub ports_named : Library → List ℕ → List PortDeclaration
+ports_named l n = ports_declared (entity_of l n)
+
+-- an architecture with its entity (3.2, 3.3)
+unfoldable pub block_of : Library → Architecture → Block
+block_of l a =
+    let declared = ports_named l a.entity.text in
+    let region = architecture_region declared a.declarations a.statements in
+    record {
+      ports = map (port (seen region)) (ports_of declared);
+      signals = signals_of (seen region) a.declarations;
+      processes = templates_of region (object_count declared a.declarations) a.statements;
+      instances = instances_of l (seen region) a.statements;
+    }
+
+-- the blocks of a library, one for each architecture by its place, and last an empty one
+unfoldable pub blocks_of : Library → List Block
+blocks_of l = map (block_of l) l.architectures ++ no_block ∷ []

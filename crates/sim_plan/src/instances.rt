@@ -1,0 +1,163 @@
+//! The instances of an architecture (IEEE 1076-2008, 6.5.7, 11.7).
+
+ghost use Rattle.std.specs.Prelude.{◌≡◌, ◌++◌, IfOk, OnOk, map};
+ghost use Rattle.std.specs.List.{range_with_len};
+ghost use Rattle.std.specs.Option.{option_copied};
+ghost use Rattle.sim_instance.specs.PortMaps.{associated};
+ghost use Rattle.sim_plan.specs.Plans as spec;
+
+use crate::names::meaning;
+use sim_hierarchy::{Instance as BlockInstance, Link};
+use sim_instance::instance::{architecture_place, entity_name};
+use sim_instance::{Interface, Library, PortMap};
+use sim_scope::{Meaning, Scope};
+use sim_tree::unit::{Actual, Association, Concurrent, Instance};
+use sqlite_items::Items;
+use std::alloc::{AllocError, Global};
+
+/// What a port is associated with, by what the name of its actual means.
+#[tactic(auto, unfolding(crate::specs::Plans::link_to))]
+fn link_to(meaning: Option<Meaning>) -> Link
+    ensures { result ≡ spec.link_to meaning }
+{
+    match meaning {
+        Some(Meaning::Port { object, .. }) => Link::To(object),
+        Some(Meaning::Signal { object, .. }) => Link::To(object),
+        _ => Link::Open,
+    }
+}
+
+/// What a port with this actual is associated with.
+#[tactic(auto, unfolding(crate::specs::Plans::link_of))]
+fn link(region: &Scope<'_>, actual: Option<&Actual>) -> Link
+    ensures { result ≡ spec.link_of (spec.seen region.now) (option_copied actual.entry) }
+{
+    match actual {
+        Some(Actual::Named(name)) => link_to(meaning(region, name.text())),
+        Some(Actual::Literal { value, .. }) => Link::Constant(*value),
+        Some(Actual::Open { .. }) | None => Link::Open,
+    }
+}
+
+/// What each of this many ports is associated with, by place.
+fn each_link(
+    alloc: Global,
+    region: &Scope<'_>,
+    port_map: &PortMap<'_, '_>,
+    count: usize,
+) -> Result<Items<Link>, AllocError>
+    ensures { IfOk result (λ r. r
+        ≡ map (λ place. spec.link_of (spec.seen region.now) (associated port_map.now.ports port_map.now.associations place)) (range_with_len 0 count)) }
+{
+    let mut found = Vec::with_capacity(alloc, count)?;
+    for place in 0..count {
+        found.push(link(region, port_map.associated(place)))?;
+    }
+    Ok(Items::from_vec(found))
+}
+
+/// What each of these ports is associated with, by place.
+#[tactic(auto, unfolding(crate::specs::Plans::links_of))]
+fn links(
+    alloc: Global,
+    region: &Scope<'_>,
+    ports: &Interface<'_>,
+    associations: &[Association],
+) -> Result<Items<Link>, AllocError>
+    ensures { IfOk result (λ r. r ≡ spec.links_of (spec.seen region.now) ports.now associations.now) }
+{
+    let map = PortMap::new(alloc, ports, associations)?;
+    let found = each_link(alloc, region, &map, ports.ports().len())?;
+    Ok(found)
+}
+
+/// What the ports of an instance of the architecture at a place are associated with.
+#[tactic(auto, unfolding(crate::specs::Plans::links_at, crate::specs::Plans::links_of))]
+fn links_at(
+    alloc: Global,
+    library: &Library<'_>,
+    region: &Scope<'_>,
+    place: Option<usize>,
+    instance: &Instance,
+) -> Result<Items<Link>, AllocError>
+    ensures { IfOk result (λ r. r ≡ spec.links_at library.now (spec.seen region.now) place instance.now) }
+{
+    if place.is_none() {
+        return Ok(Items::new(alloc));
+    }
+    match library.interface(entity_name(&instance.unit).text()) {
+        None => Ok(Items::new(alloc)),
+        Some(ports) => {
+            let links = links(alloc, region, ports, instance.associations.as_slice())?;
+            Ok(links)
+        }
+    }
+}
+
+/// The number of a block: an instance of nothing known is of the last one.
+#[tactic(auto, unfolding(crate::specs::Plans::block_number))]
+fn block_number(library: &Library<'_>, place: Option<usize>) -> usize
+    ensures { result ≡ spec.block_number library.now place }
+{
+    match place {
+        None => library.architectures().len(),
+        Some(place) => place,
+    }
+}
+
+/// An instance.
+#[tactic(auto, unfolding(crate::specs::Plans::instance_of))]
+fn instance(
+    alloc: Global,
+    library: &Library<'_>,
+    region: &Scope<'_>,
+    instance: &Instance,
+) -> Result<BlockInstance, AllocError>
+    ensures { IfOk result (λ i. i ≡ spec.instance_of library.now (spec.seen region.now) instance.now) }
+{
+    let place = architecture_place(library, &instance.unit);
+    let label = instance.label.try_copy(alloc)?;
+    let links = links_at(alloc, library, region, place, instance)?;
+    Ok(BlockInstance {
+        label,
+        at: entity_name(&instance.unit).at(),
+        block: block_number(library, place),
+        links,
+    })
+}
+
+/// Adds the instance that a concurrent statement is.
+fn add_instance(
+    alloc: Global,
+    library: &Library<'_>,
+    region: &Scope<'_>,
+    statement: &Concurrent,
+    found: &mut Vec<BlockInstance>,
+) -> Result<(), AllocError>
+    ensures { OnOk result (found.new.items ≡ found.old.items ++ spec.instance_in library.now (spec.seen region.now) statement.now) }
+{
+    match statement {
+        Concurrent::Assignment(_) | Concurrent::Process(_) => Ok(()),
+        Concurrent::Instance(each) => {
+            found.push(instance(alloc, library, region, each)?)?;
+            Ok(())
+        }
+    }
+}
+
+/// The instances of an architecture, in the order of its text.
+#[tactic(auto, unfolding(crate::specs::Plans::instances_of))]
+pub fn instances(
+    alloc: Global,
+    library: &Library<'_>,
+    region: &Scope<'_>,
+    statements: &[Concurrent],
+) -> Result<Items<BlockInstance>, AllocError>
+    ensures { IfOk result (λ r. r ≡ spec.instances_of library.now (spec.seen region.now) statements.now) }
+{
+    let mut found = Vec::new(alloc);
+    for each in statements {
+        add_instance(alloc, library, region, each, &mut found)?;
+    }
+    Ok(Items::from_vec(found))
+}

@@ -1,0 +1,7 @@
+pub mod Assignments
+pub mod Lists
+pub mod Literals
+pub mod Runs
+pub mod Sizes
+pub mod Starting
+pub mod Times
