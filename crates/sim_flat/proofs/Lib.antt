@@ -1,1 +1,3 @@
+pub mod NestedNets
+pub mod SourceTrees
 pub mod TopBlocks

@@ -1,4 +1,5 @@
 pub mod Elaboration
 pub mod Hierarchies
+pub mod Laws
 pub mod Refusals
 pub mod Tops

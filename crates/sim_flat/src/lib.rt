@@ -4,6 +4,7 @@
 mod elaboration;
 mod error;
 mod hierarchy;
+pub mod laws;
 mod top;
 
 pub use elaboration::flatten;

@@ -1,0 +1,24 @@
+//! Laws of flat designs.
+
+ghost use Rattle.std.specs.Prelude.{List};
+ghost use Rattle.std.specs.List.{All, AllZip};
+ghost use Rattle.sim_logic.specs.Sources.{IsResolvable};
+ghost use Rattle.sim_design.specs.Designs.{Design};
+ghost use Rattle.sim_hierarchy.specs.declared.blocks.Block.{Block};
+ghost use Rattle.sim_flat.specs.declared.top.Top.{Top};
+ghost use Rattle.sim_flat.specs.Hierarchies.{IsFlat};
+ghost use Rattle.sim_flat.specs.Laws.{HasValueOf, trees};
+
+/// In the source tree of each net of a design without fault, no port or signal of type std_ulogic has more than one source, in whatever
+/// instance it stands (IEEE 1076-2008, 6.4.2.3).
+pub fn unresolved_names_have_at_most_one_source()
+    ensures { (blocks : List Block) (top : Top) (design : Design) →
+        IsFlat blocks top design → All IsResolvable (trees blocks top.block) }
+{}
+
+/// In a design without fault, the leaves of each net, resolved as one list, have the value that its source tree has where each
+/// associated port is resolved by itself, for all values of the drivers (IEEE 1076-2008, 14.7.3).
+pub fn nets_resolve_as_the_nested_names()
+    ensures { (blocks : List Block) (top : Top) (design : Design) →
+        IsFlat blocks top design → AllZip HasValueOf (trees blocks top.block) design.nets }
+{}
