@@ -8,6 +8,8 @@ pub mod Collected
 pub mod Numbers
 pub mod Settled
 pub mod Law
+pub mod Later
 pub mod Totals
+pub mod Steady
 pub mod Chains
 pub mod Within

@@ -86,6 +86,25 @@ unfoldable pub instances_counted : Kind → List ℕ → List Instance → ℕ �
 instances_counted kind table [] n = n
 instances_counted kind table (i ∷ is) n = instances_counted kind table is (sum (sum n (step_counted kind i)) (slice_index_or table i.block 0))
 
+-- the same in two parts: what the instances add to their block, and what their blocks have
+unfoldable pub steps_counted : Kind → List Instance → ℕ → ℕ
+steps_counted kind [] n = n
+steps_counted kind (i ∷ is) n = steps_counted kind is (sum n (step_counted kind i))
+
+unfoldable pub blocks_counted : List ℕ → List Instance → ℕ → ℕ
+blocks_counted table [] n = n
+blocks_counted table (i ∷ is) n = blocks_counted table is (sum n (slice_index_or table i.block 0))
+
+-- what each block has, the blocks of its instances aside
+unfoldable pub alone : Kind → List Block → List ℕ
+alone kind [] = []
+alone kind (b ∷ bs) = steps_counted kind b.instances (own_counted kind b) ∷ alone kind bs
+
+-- with the blocks of its instances, from the one at this place on
+unfoldable pub level_counted : List ℕ → List ℕ → ℕ → List Block → List ℕ
+level_counted table alone n [] = []
+level_counted table alone n (b ∷ bs) = blocks_counted table b.instances (slice_index_or alone n 0) ∷ level_counted table alone (n + 1) bs
+
 unfoldable pub first_table : Kind → List Block → List ℕ
 first_table kind [] = []
 first_table kind (b ∷ bs) = own_counted kind b ∷ first_table kind bs

@@ -80,6 +80,12 @@ signals_settled prefix own n [] nets = nets
 signals_settled prefix own n (o ∷ os) nets =
     signals_settled prefix own (n + 1) os (nets ++ record { name = prefix ++ o.name.text; sources = finished o.default (slice_index_or own n []) } ∷ [])
 
+-- those of a block: its ports, and then its signals
+abbrev pub objects_settled : List ℕ → List Link → Leaves → Block → Leaves → List Net × Leaves
+objects_settled prefix links own b outer =
+    let x = ports_settled prefix links own 0 b.ports [] outer in
+    (signals_settled prefix own (length b.ports) b.signals x.0, x.1)
+
 -- ---- the walk: the parameter lays one instance's block
 abbrev pub Walk : Type 0
 Walk = List ℕ → List Link → List ℕ → Block → Leaves → Sketch → List Net × Leaves × Sketch
@@ -99,8 +105,8 @@ module _ (one : Walk) (blocks : List Block) where
   inside_laid prefix links homes b around f =
       let p = processes_laid homes b b.processes (replicate (size b) []) f in
       let x = instances_laid homes prefix b.instances [] p.0 p.1 in
-      let s = ports_settled prefix links x.1 0 b.ports [] around in
-      (signals_settled prefix x.1 (length b.ports) b.signals s.0 ++ x.0, s.1, x.2)
+      let s = objects_settled prefix links x.1 b around in
+      (s.0 ++ x.0, s.1, x.2)
 
 -- a block and what stands below it, this many levels
 unfoldable pub laid : List Block → ℕ → Walk

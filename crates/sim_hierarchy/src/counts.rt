@@ -94,17 +94,26 @@ fn step(kind: Kind, instance: &Instance) -> usize
     }
 }
 
-/// A block's number, from those that its instances' blocks have a level below.
-#[tactic(auto, unfolding(crate::specs::Counts::instances_counted))]
-fn row(kind: Kind, table: &[usize], instances: &[Instance], own: usize) -> usize
-    ensures { result ≡ spec.instances_counted kind table.now instances.now own }
+/// A number with what each of these instances adds to its block.
+#[tactic(auto, unfolding(crate::specs::Counts::steps_counted))]
+fn steps(kind: Kind, instances: &[Instance], own: usize) -> usize
+    ensures { result ≡ spec.steps_counted kind instances.now own }
 {
     let mut number = own;
     for instance in instances {
-        number = sum(
-            sum(number, step(kind, instance)),
-            net_at(table, instance.block),
-        );
+        number = sum(number, step(kind, instance));
+    }
+    number
+}
+
+/// A number with those that the blocks of these instances have a level below.
+#[tactic(auto, unfolding(crate::specs::Counts::blocks_counted))]
+fn row(table: &[usize], instances: &[Instance], alone: usize) -> usize
+    ensures { result ≡ spec.blocks_counted table.now instances.now alone }
+{
+    let mut number = alone;
+    for instance in instances {
+        number = sum(number, net_at(table, instance.block));
     }
     number
 }
@@ -120,24 +129,36 @@ fn first(alloc: Global, kind: Kind, blocks: &[Block]) -> Result<Items<usize>, Al
     Ok(table)
 }
 
-#[tactic(auto, unfolding(crate::specs::Counts::next_table))]
+/// What each block has, the blocks of its instances aside.
+#[tactic(auto, unfolding(crate::specs::Counts::alone))]
+fn alone(alloc: Global, kind: Kind, blocks: &[Block]) -> Result<Items<usize>, AllocError>
+    ensures { IfOk result (λ r. r ≡ spec.alone kind blocks.now) }
+{
+    let mut numbers = Items::new(alloc);
+    for block in blocks {
+        numbers.push(steps(kind, block.instances.as_slice(), own(kind, block)))?;
+    }
+    Ok(numbers)
+}
+
+/// The numbers of the blocks a level up.
+#[tactic(auto, unfolding(crate::specs::Counts::level_counted))]
 fn next(
     alloc: Global,
-    kind: Kind,
     table: &[usize],
+    alone: &[usize],
     blocks: &[Block],
 ) -> Result<Items<usize>, AllocError>
-    ensures { IfOk result (λ r. r ≡ spec.next_table kind table.now blocks.now) }
+    ensures { IfOk result (λ r. r ≡ spec.level_counted table.now alone.now 0 blocks.now) }
 {
     let mut rows = Items::new(alloc);
-    for block in blocks {
-        rows.push(row(kind, table, block.instances.as_slice(), own(kind, block)))?;
+    for (at, block) in blocks.iter().enumerate() {
+        rows.push(row(table, block.instances.as_slice(), net_at(alone, at)))?;
     }
     Ok(rows)
 }
 
-/// The numbers of the blocks with so many levels below them.
-#[tactic(auto, unfolding(crate::specs::Counts::table_at))]
+/// The numbers of the blocks with so many levels below them. Where one level more changes none, no further one does.
 fn tables(
     alloc: Global,
     kind: Kind,
@@ -146,9 +167,14 @@ fn tables(
 ) -> Result<Items<usize>, AllocError>
     ensures { IfOk result (λ r. r ≡ spec.table_at kind blocks.now levels) }
 {
+    let alone = alone(alloc, kind, blocks)?;
     let mut table = first(alloc, kind, blocks)?;
     for _turn in 0..levels {
-        table = next(alloc, kind, table.as_slice(), blocks)?;
+        let rows = next(alloc, table.as_slice(), alone.as_slice(), blocks)?;
+        if rows.as_slice() == table.as_slice() {
+            return Ok(table);
+        }
+        table = rows;
     }
     Ok(table)
 }

@@ -56,14 +56,17 @@ fn next(alloc: Global, table: &[bool], blocks: &[Block]) -> Result<Items<bool>, 
     Ok(rows)
 }
 
-/// Which blocks have a chain of so many instances below them.
-#[tactic(auto, unfolding(crate::specs::Depth::table_at))]
+/// Which blocks have a chain of so many instances below them. Where one level more changes no answer, no further one does.
 fn tables(alloc: Global, blocks: &[Block], levels: usize) -> Result<Items<bool>, AllocError>
     ensures { IfOk result (λ r. r ≡ spec.table_at blocks.now levels) }
 {
     let mut table = first(alloc, blocks)?;
     for _turn in 0..levels {
-        table = next(alloc, table.as_slice(), blocks)?;
+        let rows = next(alloc, table.as_slice(), blocks)?;
+        if rows.as_slice() == table.as_slice() {
+            return Ok(table);
+        }
+        table = rows;
     }
     Ok(table)
 }

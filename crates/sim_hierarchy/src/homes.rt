@@ -64,7 +64,7 @@ fn homes(
     ensures placed { IfOk result (λ r. length r.0 ≡ size at.now) }
 {
     let count = at.ports.as_slice().len() + at.signals.as_slice().len();
-    let mut homes = Items::new(alloc);
+    let mut homes = Items::from_vec(Vec::with_capacity(alloc, count)?);
     let mut total = nets;
     for _turn in 0..count {
         let (number, after) = home(outer, linked(links, homes.len()), total)?;

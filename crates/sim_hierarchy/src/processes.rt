@@ -42,7 +42,6 @@ fn default(block: &Block, at: usize) -> Logic
 /// The drivers of a process, and each as a leaf of what it drives.
 #[tactic(auto, unfolding(crate::specs::Laid::targets_laid))]
 fn targets(
-    alloc: Global,
     homes: &[usize],
     block: &Block,
     process: usize,
@@ -60,11 +59,7 @@ fn targets(
             first: default(block, *target),
         };
         drivers.push(driver)?;
-        add(
-            leaves,
-            *target,
-            Items::from_slice(alloc, &[Source::Driver(number)])?,
-        )?;
+        add(leaves, *target, Source::Driver(number))?;
     }
     Ok(())
 }
@@ -110,7 +105,6 @@ pub fn processes(
         let number = flat.processes.len();
         let first = flat.drivers.len();
         targets(
-            alloc,
             homes.as_slice(),
             block,
             number,

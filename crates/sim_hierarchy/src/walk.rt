@@ -8,7 +8,7 @@ ghost use Rattle.sim_hierarchy.specs.Laid as spec;
 
 use crate::blocks::{Block, Instance, Link};
 use crate::homes::housed;
-use crate::leaves::{none, ports, signals};
+use crate::leaves::{none, settled};
 use crate::names::below;
 use crate::processes::{Sketch, processes};
 use sim_design::process::Homes;
@@ -95,22 +95,7 @@ fn inside(
         own.as_mut_slice(),
         flat,
     )?;
-    let mut nets = ports(
-        alloc,
-        prefix,
-        links,
-        own.as_slice(),
-        at.ports.as_slice(),
-        around,
-    )?;
-    signals(
-        alloc,
-        prefix,
-        own.as_slice(),
-        at.ports.as_slice().len(),
-        at.signals.as_slice(),
-        &mut nets,
-    )?;
+    let mut nets = settled(alloc, prefix, links, own.as_mut_slice(), at, around)?;
     nets.append(more)?;
     Ok(nets)
 }

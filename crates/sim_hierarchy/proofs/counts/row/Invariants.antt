@@ -4,4 +4,4 @@ use Rattle.sim_hierarchy.proofs.counts.row.Given as goal
 
 abbrev pub invariant-loop-instance : goal.invariant-loop-instance
 invariant-loop-instance l =
-    spec.instances_counted l.kind l.table (drop l.instance-index l.instances) l.number ≡ spec.instances_counted l.kind l.table l.instances l.own
+    spec.blocks_counted l.table (drop l.instance-index l.instances) l.number ≡ spec.blocks_counted l.table l.instances l.alone

@@ -1,8 +1,10 @@
-use Rattle.std.proofs.Common.{◌≡◌, drop}
+use Rattle.std.proofs.Common.{◌≡◌, ◌≤◌, ℕ, drop, [], slice_index_or}
 use Rattle.sim_hierarchy.specs.Laid as spec
 use Rattle.sim_hierarchy.proofs.leaves.signals.Given as goal
 
 abbrev pub invariant-loop-signal : goal.invariant-loop-signal
-invariant-loop-signal l =
-    spec.signals_settled l.prefix l.own l.at (drop l.signal-index l.signals) l.nets
-    ≡ spec.signals_settled l.prefix l.own l.first l.signals l.fn.nets
+invariant-loop-signal l = record {
+  settled : spec.signals_settled l.prefix l.fn.own l.at (drop l.signal-index l.signals) l.nets
+      ≡ spec.signals_settled l.prefix l.fn.own l.first l.signals l.fn.nets;
+  later : (n : ℕ) → l.at ≤ n → slice_index_or l.own n [] ≡ slice_index_or l.fn.own n [];
+}
