@@ -1,3 +1,4 @@
+pub mod Certified
 pub mod Counted
 pub mod Endless
 pub mod Leasts
@@ -6,4 +7,5 @@ pub mod Noted
 pub mod Recursions
 pub mod Reversed
 pub mod Searches
+pub mod Settling
 pub mod SourcePlaces

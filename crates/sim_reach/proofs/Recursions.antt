@@ -7,8 +7,9 @@ use Rattle.sim_hierarchy.specs.declared.blocks.Instance.{Instance}
 use Rattle.sim_hierarchy.specs.declared.blocks.Block.{Block}
 use Rattle.sim_hierarchy.specs.Blocks.{no_block}
 use Rattle.sim_reach.specs.Graph.{Graph, blocks_of, graph_of, block_at, led, Reaches}
+use Rattle.sim_reach.specs.Homes.{Homes, shares}
 use Rattle.sim_reach.specs.Least.{IsLeast, least_of}
-use Rattle.sim_reach.specs.Recursion.{IsRecursive, IsLeastBack, IsLeastOn, places_of}
+use Rattle.sim_reach.specs.Recursion.{IsRecursive, IsLeastBack, IsLeastOn, IsLeastShared, TellsRecursive, places_of, marked}
 use Rattle.sim_reach.proofs.Lists.{by_cases, by_order, nothing_in, first_in, later_in, one_of}
 use Rattle.sim_reach.proofs.Leasts.{said_otherwise, with_more}
 
@@ -36,45 +37,58 @@ edge_of (i ∷ is) n c = by_one (one_of i.block n (blocks_of is) c) (edge_of is 
     by_one (inl e) more = record { instance = i; among = first_in i is; leads = e }
     by_one (inr c) more = edge_later i is n (more c)
 
--- ---- the places of instances of marked blocks
-record Place (marks : List Bool) (is : List Instance) (at : ℕ) : Type 0 where
+-- an instance is an edge
+block_there : (is : List Instance) (i : Instance) → Contains is i → Contains (blocks_of is) i.block
+unfolding blocks_of
+block_there [] i c = nothing_in i c
+block_there (j ∷ is) i c = by_one (one_of j i is c) (block_there is i)
+  where
+    by_one : (j ≡ i) ⊎ Contains is i → (Contains is i → Contains (blocks_of is) i.block) → Contains (j.block ∷ blocks_of is) i.block
+    by_one (inl e) more = subst (λ (k : Instance). Contains (j.block ∷ blocks_of is) k.block) e (first_in j.block (blocks_of is))
+    by_one (inr d) more = later_in j.block i.block (blocks_of is) (more d)
+
+pub led_there : (bs : List Block) (n : ℕ) (i : Instance) → Contains (block_at bs n).instances i → Contains (led (graph_of bs) n) i.block
+led_there bs n i c = subst (λ (ns : List ℕ). Contains ns i.block) (sym (led_is bs n)) (block_there (block_at bs n).instances i c)
+
+-- ---- the places of instances of blocks that pass a test
+record Place (test : ℕ → Bool) (is : List Instance) (at : ℕ) : Type 0 where
   instance : Instance
   among : Contains is instance
-  marked : get_or marks instance.block false ≡ true
+  passes : test instance.block ≡ true
   named : instance.at ≡ at
 
-place_later : (marks : List Bool) (i : Instance) (is : List Instance) (at : ℕ) → Place marks is at → Place marks (i ∷ is) at
-place_later marks i is at p = record { instance = p.instance; among = later_in i p.instance is p.among; marked = p.marked; named = p.named }
+place_later : (test : ℕ → Bool) (i : Instance) (is : List Instance) (at : ℕ) → Place test is at → Place test (i ∷ is) at
+place_later test i is at p = record { instance = p.instance; among = later_in i p.instance is p.among; passes = p.passes; named = p.named }
 
-place_of : (marks : List Bool) (is : List Instance) (at : ℕ) → Contains (places_of marks is) at → Place marks is at
+place_of : (test : ℕ → Bool) (is : List Instance) (at : ℕ) → Contains (places_of test is) at → Place test is at
 unfolding places_of
-place_of marks [] at c = nothing_in at c
-place_of marks (i ∷ is) at c = by_mark (get_or marks i.block false) refl (place_of marks is at) c
+place_of test [] at c = nothing_in at c
+place_of test (i ∷ is) at c = by_test (test i.block) refl (place_of test is at) c
   where
-    by_one : get_or marks i.block false ≡ true → (i.at ≡ at) ⊎ Contains (places_of marks is) at → (Contains (places_of marks is) at → Place marks is at)
-        → Place marks (i ∷ is) at
-    by_one t (inl e) more = record { instance = i; among = first_in i is; marked = t; named = e }
-    by_one t (inr c) more = place_later marks i is at (more c)
+    by_one : test i.block ≡ true → (i.at ≡ at) ⊎ Contains (places_of test is) at → (Contains (places_of test is) at → Place test is at)
+        → Place test (i ∷ is) at
+    by_one t (inl e) more = record { instance = i; among = first_in i is; passes = t; named = e }
+    by_one t (inr c) more = place_later test i is at (more c)
 
-    by_mark : (b : Bool) → get_or marks i.block false ≡ b → (Contains (places_of marks is) at → Place marks is at)
-        → Contains (if b then i.at ∷ places_of marks is else places_of marks is) at → Place marks (i ∷ is) at
-    by_mark true t more c = by_one t (one_of i.at at (places_of marks is) c) more
-    by_mark false t more c = place_later marks i is at (more c)
+    by_test : (b : Bool) → test i.block ≡ b → (Contains (places_of test is) at → Place test is at)
+        → Contains (if b then i.at ∷ places_of test is else places_of test is) at → Place test (i ∷ is) at
+    by_test true t more c = by_one t (one_of i.at at (places_of test is) c) more
+    by_test false t more c = place_later test i is at (more c)
 
-place_there : (marks : List Bool) (is : List Instance) (i : Instance) → Contains is i → get_or marks i.block false ≡ true → Contains (places_of marks is) i.at
+place_there : (test : ℕ → Bool) (is : List Instance) (i : Instance) → Contains is i → test i.block ≡ true → Contains (places_of test is) i.at
 unfolding places_of
-place_there marks [] i c t = nothing_in i c
-place_there marks (j ∷ is) i c t =
-    by_cases (get_or marks j.block false)
-    (λ y. rw y (now (one_of j i is c) (λ d. place_there marks is i d t)))
-    (λ n. rw n (place_there marks is i (not_now n (one_of j i is c)) t))
+place_there test [] i c t = nothing_in i c
+place_there test (j ∷ is) i c t =
+    by_cases (test j.block)
+    (λ y. rw y (now (one_of j i is c) (λ d. place_there test is i d t)))
+    (λ n. rw n (place_there test is i (not_now n (one_of j i is c)) t))
   where
-    now : (j ≡ i) ⊎ Contains is i → (Contains is i → Contains (places_of marks is) i.at) → Contains (j.at ∷ places_of marks is) i.at
-    now (inl e) more = subst (λ (k : Instance). Contains (j.at ∷ places_of marks is) k.at) e (first_in j.at (places_of marks is))
-    now (inr d) more = later_in j.at i.at (places_of marks is) (more d)
+    now : (j ≡ i) ⊎ Contains is i → (Contains is i → Contains (places_of test is) i.at) → Contains (j.at ∷ places_of test is) i.at
+    now (inl e) more = subst (λ (k : Instance). Contains (j.at ∷ places_of test is) k.at) e (first_in j.at (places_of test is))
+    now (inr d) more = later_in j.at i.at (places_of test is) (more d)
 
-    not_now : get_or marks j.block false ≡ false → (j ≡ i) ⊎ Contains is i → Contains is i
-    not_now n (inl e) = absurd (let a : get_or marks j.block false ≡ true = ap (λ (k : Instance). get_or marks k.block false) e ∙ t in cc)
+    not_now : test j.block ≡ false → (j ≡ i) ⊎ Contains is i → Contains is i
+    not_now n (inl e) = absurd (let a : test j.block ≡ true = ap (λ (k : Instance). test k.block) e ∙ t in cc)
     not_now n (inr d) = d
 
 -- ---- block by block: recursive instances in the blocks of lesser numbers
@@ -103,59 +117,77 @@ module _ (blocks : List Block) (top k : ℕ) (marks : List Bool) (reached : (n :
         less = by_order b.recursive.block k (λ lt. lt) (λ ge. absurd (not_here b.recursive.block b.recursive.reached ge b.less));
       }
 
-  -- a block that is reached
-  pub looked_at : (back : Graph) (known found : Option ℕ) → ((a c : ℕ) → Reaches back a c ↔ Reaches (graph_of blocks) c a) → get_or marks k false ≡ true
-      → IsLeastBack back k (block_at blocks k).instances known found → IsLeast (Below blocks top k) known → IsLeast (Below blocks top (k + 1)) found
-  looked_at back known found turned on l h =
-      subst (IsLeast (Below blocks top (k + 1))) (sym l.least)
-      (said_otherwise (λ at. Below blocks top k at ⊎ Contains (places_of l.marks is) at)
-      (Below blocks top (k + 1)) (least_of known (places_of l.marks is)) to from
-      (with_more (Below blocks top k) known (places_of l.marks is) h))
+  -- a block that is reached, with a test that tells which of its instances are of blocks that lead back
+  pub looked_at : (test : ℕ → Bool) (known found : Option ℕ)
+      → ((i : Instance) → Contains (block_at blocks k).instances i → (test i.block ≡ true) ↔ Reaches (graph_of blocks) k i.block)
+      → get_or marks k false ≡ true → found ≡ least_of known (places_of test (block_at blocks k).instances)
+      → IsLeast (Below blocks top k) known → IsLeast (Below blocks top (k + 1)) found
+  looked_at test known found tells on least h =
+      subst (IsLeast (Below blocks top (k + 1))) (sym least)
+      (said_otherwise (λ at. Below blocks top k at ⊎ Contains (places_of test is) at)
+      (Below blocks top (k + 1)) (least_of known (places_of test is)) to from
+      (with_more (Below blocks top k) known (places_of test is) h))
     where
       is : List Instance
       is = (block_at blocks k).instances
 
-      here : (at : ℕ) → Place l.marks (block_at blocks k).instances at → Below blocks top (k + 1) at
+      here : (at : ℕ) → Place test (block_at blocks k).instances at → Below blocks top (k + 1) at
       here at p = record {
         recursive = record {
           block = k;
           reached = (reached k).0 on;
           instance = p.instance;
           among = p.among;
-          back = (turned p.instance.block k).0 ((l.reached p.instance.block).0 p.marked);
+          back = (tells p.instance p.among).0 p.passes;
           named = p.named;
         };
         less = omega arith;
       }
 
-      to : (at : ℕ) → Below blocks top k at ⊎ Contains (places_of l.marks (block_at blocks k).instances) at → Below blocks top (k + 1) at
+      to : (at : ℕ) → Below blocks top k at ⊎ Contains (places_of test (block_at blocks k).instances) at → Below blocks top (k + 1) at
       to at (inl b) = before at b
-      to at (inr c) = here at (place_of l.marks (block_at blocks k).instances at c)
+      to at (inr c) = here at (place_of test (block_at blocks k).instances at c)
 
       now : (at r : ℕ) (i : Instance) → r ≡ k → Contains (block_at blocks r).instances i → Reaches (graph_of blocks) r i.block → i.at ≡ at
-          → Contains (places_of l.marks (block_at blocks k).instances) at
+          → Contains (places_of test (block_at blocks k).instances) at
       now at r i e among leads named =
           let c : Contains (block_at blocks k).instances i = subst (λ (n : ℕ). Contains (block_at blocks n).instances i) e among in
           let t : Reaches (graph_of blocks) k i.block = subst (λ (n : ℕ). Reaches (graph_of blocks) n i.block) e leads in
-          subst (Contains (places_of l.marks (block_at blocks k).instances)) named
-          (place_there l.marks (block_at blocks k).instances i c ((l.reached i.block).1 ((turned i.block k).1 t)))
+          subst (Contains (places_of test (block_at blocks k).instances)) named
+          (place_there test (block_at blocks k).instances i c ((tells i c).1 t))
 
-      from : (at : ℕ) → Below blocks top (k + 1) at → Below blocks top k at ⊎ Contains (places_of l.marks (block_at blocks k).instances) at
+      from : (at : ℕ) → Below blocks top (k + 1) at → Below blocks top k at ⊎ Contains (places_of test (block_at blocks k).instances) at
       from at b =
           let r = b.recursive in
           let less = b.less in
           by_order r.block k (λ lt. inl (record { recursive = r; less = lt }))
           (λ ge. inr (now at r.block r.instance (omega arith) r.among r.back r.named))
 
-pub one_more : (blocks : List Block) (top k : ℕ) (marks : List Bool) (back : Graph) (known found : Option ℕ) (marked : Bool) (b : Block)
+-- by a search from each block
+pub one_more : (blocks : List Block) (top k : ℕ) (marks : List Bool) (back : Graph) (known found : Option ℕ) (on : Bool) (b : Block)
     → ((n : ℕ) → (get_or marks n false ≡ true) ↔ Reaches (graph_of blocks) n top)
-    → ((a c : ℕ) → Reaches back a c ↔ Reaches (graph_of blocks) c a) → marked ≡ get_or marks k false → b ≡ block_at blocks k
-    → IsLeastOn marked back k b.instances known found → IsLeast (Below blocks top k) known → IsLeast (Below blocks top (k + 1)) found
+    → ((a c : ℕ) → Reaches back a c ↔ Reaches (graph_of blocks) c a) → on ≡ get_or marks k false → b ≡ block_at blocks k
+    → IsLeastOn on back k b.instances known found → IsLeast (Below blocks top k) known → IsLeast (Below blocks top (k + 1)) found
 one_more blocks top k marks back known found true b reached turned m is h known_least =
-    looked_at blocks top k marks reached back known found turned (sym m)
-    (subst (λ (x : Block). IsLeastBack back k x.instances known found) is h) known_least
+    by_search (subst (λ (x : Block). IsLeastBack back k x.instances known found) is h)
+  where
+    by_search : IsLeastBack back k (block_at blocks k).instances known found → IsLeast (Below blocks top (k + 1)) found
+    by_search l =
+        looked_at blocks top k marks reached (marked l.marks) known found
+        (λ i among. (λ t. (turned i.block k).0 ((l.reached i.block).0 t), λ r. (l.reached i.block).1 ((turned i.block k).1 r)))
+        (sym m) l.least known_least
 one_more blocks top k marks back known found false b reached turned m is h known_least =
     rw h (passed_over blocks top k marks reached known (sym m) known_least)
+
+-- by homes
+pub one_shared : (blocks : List Block) (top k : ℕ) (marks : List Bool) (homes : Homes) (known found : Option ℕ) (on : Bool) (b : Block)
+    → TellsRecursive blocks top marks homes → on ≡ get_or marks k false → b ≡ block_at blocks k
+    → IsLeastShared on homes k b.instances known found → IsLeast (Below blocks top k) known → IsLeast (Below blocks top (k + 1)) found
+one_shared blocks top k marks homes known found true b tells m is h known_least =
+    looked_at blocks top k marks tells.reached (shares homes k) known found (λ i among. tells.back k i.block (sym m) (led_there blocks k i among))
+    (sym m) (h ∙ ap (λ (x : Block). least_of known (places_of (shares homes k) x.instances)) is) known_least
+one_shared blocks top k marks homes known found false b tells m is h known_least =
+    rw h (passed_over blocks top k marks tells.reached known (sym m) known_least)
 
 pub none_below : (blocks : List Block) (top : ℕ) → IsLeast (Below blocks top 0) None
 none_below blocks top at b = let l = b.less in absurd (omega arith)

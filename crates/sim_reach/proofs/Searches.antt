@@ -202,7 +202,7 @@ pub one_step : (g : Graph) (n m a : ℕ) → Reaches g n a → Contains (led g n
 one_step g n m a Here among = Along a m among Here
 one_step g n m a (Along x next first rest) among = Along a next first (one_step g n m next rest among)
 
-reached_all : (g : Graph) (from n : ℕ) → Reaches g n from → All (λ m. Reaches g m from) (led g n)
+pub reached_all : (g : Graph) (from n : ℕ) → Reaches g n from → All (λ m. Reaches g m from) (led g n)
 reached_all g from n reached k d less = one_step g n (get_or (led g n) k d) from reached (Contains-get_or (led g n) k d less)
 
 within : (g : Graph) (from : ℕ) (f : Found) → IsFound g from f → length f.order ≤ length g

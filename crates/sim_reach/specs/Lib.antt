@@ -1,4 +1,5 @@
 pub mod Graph
+pub mod Homes
 pub mod Least
 pub mod Recursion
 pub mod Search

@@ -4,6 +4,7 @@ use Rattle.std.specs.List.{Contains}
 use Rattle.sim_hierarchy.specs.declared.blocks.Instance.{Instance}
 use Rattle.sim_hierarchy.specs.declared.blocks.Block.{Block}
 use Rattle.sim_reach.specs.Graph.{Graph, graph_of, block_at, Reaches}
+use Rattle.sim_reach.specs.Homes.{Homes, shares, TellsBack}
 use Rattle.sim_reach.specs.Least.{least_of}
 
 -- An instance, in a block that the top reaches, is of a block that reaches the one in which it stands. What it is of is named here.
@@ -17,18 +18,32 @@ pub record IsRecursive (blocks : List Block) (top at : ℕ) : Type 0 where
 
 -- ---- as it is found
 
--- the places of instances of those blocks that are marked
-unfoldable pub places_of : List Bool → List Instance → List ℕ
-places_of marks [] = []
-places_of marks (i ∷ is) = if get_or marks i.block false then i.at ∷ places_of marks is else places_of marks is
+-- the places of instances of those blocks that pass a test
+unfoldable pub places_of : (ℕ → Bool) → List Instance → List ℕ
+places_of test [] = []
+places_of test (i ∷ is) = if test i.block then i.at ∷ places_of test is else places_of test is
+
+-- whether a block is marked
+abbrev pub marked : List Bool → ℕ → Bool
+marked marks n = get_or marks n false
 
 -- It is the least place of instances of those blocks that a number reaches, and of what is known.
 pub record IsLeastBack (back : Graph) (number : ℕ) (instances : List Instance) (known found : Option ℕ) : Type 0 where
   pub marks : List Bool
   pub reached : (n : ℕ) → (get_or marks n false ≡ true) ↔ Reaches back n number
-  pub least : found ≡ least_of known (places_of marks instances)
+  pub least : found ≡ least_of known (places_of (marked marks) instances)
 
 -- The same with a block more, if it is marked.
 abbrev pub IsLeastOn : Bool → Graph → ℕ → List Instance → Option ℕ → Option ℕ → Type 0
 IsLeastOn true back number instances known found = IsLeastBack back number instances known found
 IsLeastOn false back number instances known found = found ≡ known
+
+-- With a block more, if it is marked, it is the least place of instances of blocks of the same home, and of what is known.
+abbrev pub IsLeastShared : Bool → Homes → ℕ → List Instance → Option ℕ → Option ℕ → Type 0
+IsLeastShared true homes number instances known found = found ≡ least_of known (places_of (shares homes number) instances)
+IsLeastShared false homes number instances known found = found ≡ known
+
+-- Marks and homes tell which instances are recursive.
+pub record TellsRecursive (blocks : List Block) (top : ℕ) (marks : List Bool) (homes : Homes) : Type 0 where
+  pub reached : (n : ℕ) → (get_or marks n false ≡ true) ↔ Reaches (graph_of blocks) n top
+  pub back : TellsBack (graph_of blocks) marks homes

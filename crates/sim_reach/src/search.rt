@@ -33,6 +33,16 @@ fn no_marks(alloc: Global, count: usize) -> Result<Vec<bool>, AllocError>
     Ok(marks)
 }
 
+/// Whether a number is marked.
+pub fn is_marked(marks: &[bool], n: usize) -> bool
+    ensures { result ≡ get_or marks.now n false }
+{
+    match marks.get(n) {
+        None => false,
+        Some(mark) => *mark,
+    }
+}
+
 /// Notes a number, unless it is found already.
 #[tactic(auto, unfolding(crate::specs::Search::noted))]
 fn note(search: &mut Search, n: usize) -> Result<(), AllocError>
@@ -75,7 +85,7 @@ fn begun(alloc: Global, graph: &[Items<usize>], from: usize) -> Result<Search, A
 }
 
 /// Those to which a number leads.
-fn led<'a>(graph: &'a [Items<usize>], n: usize) -> &'a [usize]
+pub fn led<'a>(graph: &'a [Items<usize>], n: usize) -> &'a [usize]
     requires { IsWhole graph.now }
     ensures value { result.now ≡ led graph.now n }
     ensures within { All (λ m. m < length graph.now) result.now }

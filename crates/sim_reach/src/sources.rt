@@ -9,8 +9,7 @@ ghost use Rattle.sim_reach.specs.Sources as spec;
 
 use crate::graph::graph_of;
 use crate::least::lesser;
-use crate::recursion::is_marked;
-use crate::search::reached;
+use crate::search::{is_marked, reached};
 use sim_hierarchy::blocks::{Block, Instance, Link, Object, Port, Template};
 use std::alloc::{AllocError, Global};
 

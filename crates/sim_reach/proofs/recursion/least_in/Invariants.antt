@@ -5,4 +5,5 @@ use Rattle.sim_reach.proofs.recursion.least_in.Given as goal
 
 abbrev pub invariant-loop-instance : goal.invariant-loop-instance
 invariant-loop-instance l =
-    least_of l.least (spec.places_of l.marks (drop l.instance-index l.instances)) ≡ least_of l.fn.known (spec.places_of l.marks l.instances)
+    least_of l.least (spec.places_of (spec.marked l.marks) (drop l.instance-index l.instances))
+    ≡ least_of l.fn.known (spec.places_of (spec.marked l.marks) l.instances)

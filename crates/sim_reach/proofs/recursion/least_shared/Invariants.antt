@@ -1,0 +1,10 @@
+use Rattle.std.proofs.Common.{◌≡◌, drop}
+use Rattle.sim_reach.specs.Homes.{shares}
+use Rattle.sim_reach.specs.Least.{least_of}
+use Rattle.sim_reach.specs.Recursion as spec
+use Rattle.sim_reach.proofs.recursion.least_shared.Given as goal
+
+abbrev pub invariant-loop-instance : goal.invariant-loop-instance
+invariant-loop-instance l =
+    least_of l.least (spec.places_of (shares l.homes l.number) (drop l.instance-index l.instances))
+    ≡ least_of l.fn.known (spec.places_of (shares l.homes l.number) l.instances)
