@@ -1,0 +1,24 @@
+-- The elements of a waveform with their values rise as the waveform does.
+use Rattle.std.proofs.Common.{◌≡◌, ◌≤◌, ℕ, suc, List, [], ◌∷◌, take, length, arith}
+use Rattle.std.proofs.lemmas.List.{take_all}
+use Rattle.sim_design.specs.declared.held.Held.{Held}
+use Rattle.sim_design.specs.declared.waveform.Element.{Element}
+use Rattle.sim_design.specs.Waveforms.{IsWaveform}
+use Rattle.sim_design.specs.Waveforms as design
+use Rattle.sim_wave.specs.Driver.{RisesFrom, Transaction}
+use Rattle.sim_exec.specs.declared.view.NetView.{NetView}
+use Rattle.sim_exec.specs.Values.{element_values}
+
+module _ (look : ℕ → NetView) (variables : List Held) where
+  later : (time : ℕ) (w : List Element) → design.RisesFrom time w → RisesFrom (suc time) (element_values look variables w)
+  later time [] h = tt
+  later time (x ∷ xs) h = (omega (arith, h.0), later x.after xs h.1)
+
+  pub element_values_rise : (w : List Element) → IsWaveform w → RisesFrom 0 (element_values look variables w)
+  element_values_rise [] h = tt
+  element_values_rise (x ∷ xs) h = (omega arith, later x.after xs h)
+
+  -- and so do as many of them as there are
+  pub all_values_rise : (w : List Element) (n : ℕ) (found : List Transaction) → length w ≤ n → IsWaveform w
+      → found ≡ element_values look variables (take n w) → RisesFrom 0 found
+  all_values_rise w n found all h is = rw (is, take_all n w all) (element_values_rise w h)

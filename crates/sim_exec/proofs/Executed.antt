@@ -1,0 +1,65 @@
+-- A job that is executed leaves what its process leaves of the part that the job holds.
+use Rattle.std.proofs.Common.{◌≡◌, ℕ, suc, List, [], ◌∷◌, ◌++◌, map, take, length, Some, None, refl, sym, ◌∙◌, subst, arith}
+use Rattle.std.proofs.lemmas.List.{take_at}
+use Rattle.std.proofs.lemmas.List.Elements.{All-weaker}
+use Rattle.sim_wave.specs.Driver.{Waveform, RisesFrom}
+use Rattle.sim_exec.specs.declared.view.NetView.{NetView}
+use Rattle.sim_exec.specs.State.{Owned, net_at}
+use Rattle.sim_design.specs.Processes.{Process}
+use Rattle.sim_design.specs.declared.held.Held.{Held}
+use Rattle.sim_design.specs.declared.statement.Statement.{Statement}
+use Rattle.sim_exec.specs.Statements.{own_steps, statement_done, in_turn, executed}
+use Rattle.sim_exec.specs.Processes.{home, place_in}
+use Rattle.sim_exec.specs.Jobs.{Job, IsJob, IsReady, IsDone, result_of}
+use Rattle.sim_exec.proofs.Owning.{outcome_is}
+
+-- how a job sees the ports and signals of its body
+abbrev pub sight : Job → ℕ → NetView
+sight job object = net_at job.views (place_in job.process.reads (home job.process object))
+
+pub result_is : (job : Job) → result_of job ≡ executed (sight job) job.time job.process.body.statements job.owned
+result_is job = outcome_is job.process _ (omega arith)
+
+-- what is later than a time is not before it
+sooner : (time : ℕ) (d : Waveform) → RisesFrom (suc time) d.pending → RisesFrom time d.pending
+sooner time d h = go d.pending h
+  where
+    go : (xs : List (ℕ × _)) → RisesFrom (suc time) xs → RisesFrom time xs
+    go [] h = tt
+    go (x ∷ xs) h = (omega (arith, h.0), h.1)
+
+pub ready_now : (job : Job) → IsJob job.time job.process job.views job.owned → IsReady job.process.body job.time job.owned
+ready_now job is = record {
+  drivers = is.ready.drivers;
+  variables = is.ready.variables;
+  pending = All-weaker (λ (d : Waveform). RisesFrom (suc job.time) d.pending) (λ (d : Waveform). RisesFrom job.time d.pending) (sooner job.time)
+      job.owned.drivers is.ready.pending;
+}
+
+-- nothing was assigned
+pub done_unchanged : (job : Job) → IsJob job.time job.process job.views job.owned
+    → executed (sight job) job.time job.process.body.statements job.owned ≡ job.owned → IsDone job None
+done_unchanged job is same =
+    let e = result_is job ∙ same in
+    record { results = e; ready = subst (IsReady job.process.body job.time) (sym e) (ready_now job is) }
+
+-- something was
+pub done_changed : (job : Job) (own : Owned) → IsReady job.process.body job.time own
+    → own ≡ executed (sight job) job.time job.process.body.statements job.owned → IsDone job (Some own)
+done_changed job own ready is =
+    let e = is ∙ sym (result_is job) in
+    record { results = e; ready = subst (IsReady job.process.body job.time) e ready }
+
+-- the statements of a job, on what it shows
+pub shown : (job : Job) (process : Process) (views : List NetView) (statements : List Statement)
+    → process ≡ job.process → views ≡ job.views → statements ≡ job.process.body.statements
+    → in_turn (map (statement_done (own_steps (λ object. net_at views (place_in process.reads (home process object))) job.time)) statements) job.owned
+    ≡ executed (sight job) job.time job.process.body.statements job.owned
+unfolding executed
+shown job process views statements p v s = rw (s, v, p) refl
+
+-- what was written over whole lists are those lists
+pub done_written : (job : Job) (n m : ℕ) (drivers old : List Waveform) (variables olds : List Held)
+    → n ≡ length drivers → m ≡ length variables → IsDone job (Some (record { drivers = drivers; variables = variables }))
+    → IsDone job (Some (record { drivers = take n (drivers ++ old); variables = take m (variables ++ olds) }))
+done_written job n m drivers old variables olds e f h = rw (take_at drivers old n (sym e), take_at variables olds m (sym f)) h

@@ -1,0 +1,51 @@
+-- What is handed out to be executed.
+use Rattle.std.specs.Prelude.{ℕ, suc, ◌≡◌, ◌≤◌, List, [], ◌∷◌, Bool, true, false, Option, MatchOption, map, length}
+use Rattle.std.specs.List.{All}
+use Rattle.sim_logic.specs.Time.{largest_time}
+use Rattle.sim_design.specs.declared.held.Held.{Held}
+use Rattle.sim_design.specs.declared.held.Held.TheVariants as held
+use Rattle.sim_design.specs.Bodies.{Body}
+use Rattle.sim_design.specs.Processes.{Process}
+use Rattle.sim_wave.specs.Driver.{Waveform, RisesFrom}
+use Rattle.sim_exec.specs.declared.view.NetView.{NetView}
+use Rattle.sim_exec.specs.State.{State, Owned}
+use Rattle.sim_exec.specs.Processes.{outcome}
+
+-- A process to be executed: in which cycle, its number, the time, how it sees the nets that it reads, and what it owns.
+pub record Job : Type 0 where
+  pub cycle : ℕ
+  pub number : ℕ
+  pub time : ℕ
+  pub process : Process
+  pub views : List NetView
+  pub owned : Owned
+
+-- whether a variable is of type std_ulogic
+abbrev pub holds_bit : Held → Bool
+holds_bit (held.Bit value) = true
+holds_bit (held.Truth value) = false
+
+-- What a process owns fits its body: its drivers, and its variables, each of its type. Nothing is pending before a time.
+pub record IsReady (body : Body) (from : ℕ) (own : Owned) : Type 0 where
+  pub drivers : length own.drivers ≡ body.drivers
+  pub variables : map holds_bit own.variables ≡ map holds_bit body.variables
+  pub pending : All (λ (d : Waveform). RisesFrom from d.pending) own.drivers
+
+-- There is a view of each net that the process reads, and what it owns fits it. What is pending is later than the time.
+pub record IsJob (time : ℕ) (process : Process) (views : List NetView) (own : Owned) : Type 0 where
+  pub seen : length views ≡ length process.reads
+  pub early : time ≤ largest_time
+  pub ready : IsReady process.body (suc time) own
+
+-- the part of a state that it holds
+abbrev pub scene : Job → State
+scene job = record { time = job.time; delta = 0; nets = job.views; owned = job.owned ∷ [] }
+
+-- what its process owns once it is executed
+abbrev pub result_of : Job → Owned
+result_of job = outcome job.process (scene job)
+
+-- What an executed job keeps beside the job: what its process owns then, where that is other than before. It fits the body in each case.
+pub record IsDone (job : Job) (kept : Option Owned) : Type 0 where
+  pub results : MatchOption kept (result_of job ≡ job.owned) (λ r. r ≡ result_of job)
+  pub ready : IsReady job.process.body job.time (result_of job)

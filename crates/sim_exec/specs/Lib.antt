@@ -1,0 +1,5 @@
+pub mod State
+pub mod Values
+pub mod Statements
+pub mod Processes
+pub mod Jobs

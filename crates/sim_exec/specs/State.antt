@@ -1,0 +1,44 @@
+-- The state of a design between two simulation cycles (IEEE 1076-2008, 14.7).
+use Rattle.std.specs.Prelude.{ℕ, List, [], false, slice_index_or, slice_set}
+use Rattle.sim_logic.specs.declared.logic.Logic.TheVariants.{U}
+use Rattle.sim_design.specs.declared.held.Held.{Held}
+use Rattle.sim_wave.specs.Driver.{Waveform}
+use Rattle.sim_exec.specs.declared.view.NetView.{NetView}
+
+-- What a process owns: its drivers (14.7.2) and its variables, each by place.
+pub record Owned : Type 0 where
+  pub drivers : List Waveform
+  pub variables : List Held
+
+-- A state: the time and the delta number of the last cycle, each net as that cycle left it, by number, and what each process owns, by its number.
+pub record State : Type 0 where
+  pub time : ℕ
+  pub delta : ℕ
+  pub nets : List NetView
+  pub owned : List Owned
+
+-- ---- what stands beyond the lists: nothing asks for it in the state of a design
+
+abbrev pub no_driver : Waveform
+no_driver = record { value = U; pending = [] }
+
+abbrev pub no_net : NetView
+no_net = record { value = U; event = false; last = U }
+
+abbrev pub nothing_owned : Owned
+nothing_owned = record { drivers = []; variables = [] }
+
+-- ---- its parts
+
+abbrev pub driver_at : List Waveform → ℕ → Waveform
+driver_at drivers n = slice_index_or drivers n no_driver
+
+abbrev pub net_at : List NetView → ℕ → NetView
+net_at nets n = slice_index_or nets n no_net
+
+abbrev pub owned_at : List Owned → ℕ → Owned
+owned_at owned n = slice_index_or owned n nothing_owned
+
+-- the state in which one process owns this
+abbrev pub with_owned : ℕ → Owned → State → State
+with_owned process own s = record s { owned = slice_set s.owned process own }

@@ -1,0 +1,65 @@
+//! Executions that assign nothing.
+
+ghost use Rattle.std.specs.Prelude.{ℕ, ◌≡◌, IsTrue, map, true};
+ghost use Rattle.sim_exec.specs.State.{Owned};
+ghost use Rattle.sim_exec.specs.Statements.{own_steps, statement_done, branch_done, first_taken, in_turn, executed};
+
+use crate::values::boolean_value;
+use crate::view::Nets;
+use sim_design::Held;
+use sim_design::statement::{Branch, Statement};
+
+/// Whether the execution of these statements is known to assign nothing: they are looked at up to the first assignment.
+#[cycle(idle)]
+#[tactic(auto, unfolding(crate::specs::Statements::in_turn))]
+pub(crate) fn assign_nothing<N: Nets>(
+    nets: &N,
+    variables: &[Held],
+    statements: &[Statement],
+) -> bool
+    ensures { IsTrue result → (now : ℕ) (own : Owned) → own.variables ≡ variables.now
+        → in_turn (map (statement_done (own_steps (N.look nets.now) now)) statements.now) own ≡ own }
+{
+    for statement in statements {
+        if !assigns_nothing(nets, variables, statement) {
+            return false;
+        }
+    }
+    true
+}
+
+/// Whether the execution of a statement is known to assign nothing.
+#[cycle(idle)]
+#[tactic(auto, using(crate::proofs::StatementRules::statements_are))]
+fn assigns_nothing<N: Nets>(nets: &N, variables: &[Held], statement: &Statement) -> bool
+    ensures { IsTrue result → (now : ℕ) (own : Owned) → own.variables ≡ variables.now
+        → statement_done (own_steps (N.look nets.now) now) statement.now own ≡ own }
+{
+    match statement {
+        Statement::Signal(_)
+        | Statement::LogicVariable { .. }
+        | Statement::BooleanVariable { .. } => false,
+        Statement::If {
+            branches,
+            otherwise,
+        } => {
+            none_is_taken(nets, variables, branches.as_slice())
+                && assign_nothing(nets, variables, otherwise.as_slice())
+        }
+        Statement::Null => true,
+    }
+}
+
+/// Whether no condition of these branches holds.
+#[tactic(auto, using(crate::proofs::StatementRules::branch_is), unfolding(crate::specs::Statements::first_taken))]
+fn none_is_taken<N: Nets>(nets: &N, variables: &[Held], branches: &[Branch]) -> bool
+    ensures { IsTrue result → (now : ℕ) (otherwise : Owned → Owned) (own : Owned) → own.variables ≡ variables.now
+        → first_taken (map (branch_done (own_steps (N.look nets.now) now)) branches.now) otherwise own ≡ otherwise own }
+{
+    for branch in branches {
+        if boolean_value(nets, variables, &branch.condition) {
+            return false;
+        }
+    }
+    true
+}

@@ -1,0 +1,178 @@
+//! The values of expressions (IEEE 1076-2008, 9).
+
+ghost use Rattle.std.specs.Prelude.{◌≡◌, fold, map, slice_get, option_copied};
+ghost use Rattle.sim_exec.specs.Values as spec;
+
+use crate::view::{NetView, Nets};
+use sim_design::Held;
+use sim_design::expression::{BooleanExpression, LogicExpression};
+use sim_logic::Logic;
+use sim_tree::expression::{Logical, Relational};
+
+/// A logical operator on two values of std_ulogic (9.2.2).
+fn logic_operation(operator: Logical, left: Logic, right: Logic) -> Logic
+    ensures { result ≡ spec.logic_operation operator left right }
+{
+    match operator {
+        Logical::And => left.and(right),
+        Logical::Or => left.or(right),
+        Logical::Xor => left.xor(right),
+        Logical::Xnor => left.xnor(right),
+        Logical::Nand => left.nand(right),
+        Logical::Nor => left.nor(right),
+    }
+}
+
+/// A logical operator on two boolean values (9.2.2).
+fn boolean_operation(operator: Logical, left: bool, right: bool) -> bool
+    ensures { result ≡ spec.boolean_operation operator left right }
+{
+    match operator {
+        Logical::And => left && right,
+        Logical::Or => left || right,
+        Logical::Xor => left != right,
+        Logical::Xnor => left == right,
+        Logical::Nand => !(left && right),
+        Logical::Nor => !(left || right),
+    }
+}
+
+/// What `=` or `/=` gives, where its operands are the same or not (9.2.3).
+fn relation(operator: Relational, same: bool) -> bool
+    ensures { result ≡ spec.relation operator same }
+{
+    match operator {
+        Relational::Equal => same,
+        Relational::Unequal => !same,
+    }
+}
+
+/// What the variable of type std_ulogic at a place holds.
+fn bit(variables: &[Held], place: usize) -> Logic
+    ensures { result ≡ spec.bit_of (slice_get variables.now place) }
+{
+    match variables.get(place) {
+        Some(Held::Bit(value)) => *value,
+        _ => Logic::U,
+    }
+}
+
+/// What the variable of type boolean at a place holds.
+fn truth(variables: &[Held], place: usize) -> bool
+    ensures { result ≡ spec.truth_of (slice_get variables.now place) }
+{
+    match variables.get(place) {
+        Some(Held::Truth(value)) => *value,
+        _ => false,
+    }
+}
+
+/// Whether a net has a rising edge, or else a falling one (IEEE 1164).
+fn has_edge(rising: bool, net: NetView) -> bool
+    ensures { result ≡ spec.has_edge rising net }
+{
+    if rising {
+        net.event && Logic::rises(net.last, net.value)
+    } else {
+        net.event && Logic::falls(net.last, net.value)
+    }
+}
+
+/// The value of an expression of type std_ulogic.
+#[cycle(logic_values)]
+#[tactic(auto, using(crate::proofs::ValueRules::logics_are))]
+pub fn logic_value<N: Nets>(nets: &N, variables: &[Held], expression: &LogicExpression) -> Logic
+    ensures { result ≡ spec.logic_value (N.look nets.now) variables.now expression.now }
+{
+    match expression {
+        LogicExpression::Literal(value) => *value,
+        LogicExpression::Object(place) => nets.view(*place).value,
+        LogicExpression::Variable(place) => bit(variables, *place),
+        LogicExpression::Not(operand) => logic_value(nets, variables, operand.get()).not(),
+        LogicExpression::Chain {
+            operator,
+            first,
+            rest,
+        } => {
+            let value = logic_value(nets, variables, first.get());
+            logic_chain(nets, variables, *operator, value, rest.as_slice())
+        }
+    }
+}
+
+/// A value and those of these expressions, with the operator between each two.
+#[cycle(logic_values)]
+fn logic_chain<N: Nets>(
+    nets: &N,
+    variables: &[Held],
+    operator: Logical,
+    first: Logic,
+    rest: &[LogicExpression],
+) -> Logic
+    ensures { result ≡ fold (spec.logic_operation operator) first (map (spec.logic_value (N.look nets.now) variables.now) rest.now) }
+{
+    let mut value = first;
+    for operand in rest {
+        value = logic_operation(operator, value, logic_value(nets, variables, operand));
+    }
+    value
+}
+
+/// The value of an expression of type boolean.
+#[cycle(boolean_values)]
+#[tactic(auto, using(crate::proofs::ValueRules::booleans_are))]
+pub fn boolean_value<N: Nets>(nets: &N, variables: &[Held], expression: &BooleanExpression) -> bool
+    ensures { result ≡ spec.boolean_value (N.look nets.now) variables.now expression.now }
+{
+    match expression {
+        BooleanExpression::Literal(value) => *value,
+        BooleanExpression::Variable(place) => truth(variables, *place),
+        BooleanExpression::Event(object) => nets.view(*object).event,
+        BooleanExpression::Edge { rising, object } => has_edge(*rising, nets.view(*object)),
+        BooleanExpression::Not(operand) => !boolean_value(nets, variables, operand.get()),
+        BooleanExpression::Chain {
+            operator,
+            first,
+            rest,
+        } => {
+            let value = boolean_value(nets, variables, first.get());
+            boolean_chain(nets, variables, *operator, value, rest.as_slice())
+        }
+        BooleanExpression::LogicComparison {
+            left,
+            operator,
+            right,
+        } => {
+            let left = logic_value(nets, variables, left.get());
+            let right = logic_value(nets, variables, right.get());
+            relation(*operator, left == right)
+        }
+        BooleanExpression::BooleanComparison {
+            left,
+            operator,
+            right,
+        } => {
+            let left = boolean_value(nets, variables, left.get());
+            let right = boolean_value(nets, variables, right.get());
+            relation(*operator, left == right)
+        }
+    }
+}
+
+/// A value and those of these expressions, with the operator between each two.
+#[cycle(boolean_values)]
+fn boolean_chain<N: Nets>(
+    nets: &N,
+    variables: &[Held],
+    operator: Logical,
+    first: bool,
+    rest: &[BooleanExpression],
+) -> bool
+    ensures { result ≡ fold (spec.boolean_operation operator) first (map (spec.boolean_value (N.look nets.now) variables.now) rest.now) }
+{
+    let mut value = first;
+    for operand in rest {
+        value = boolean_operation(operator, value, boolean_value(nets, variables, operand));
+    }
+    value
+}
