@@ -4,4 +4,5 @@ pub mod Literals
 pub mod Runs
 pub mod Sizes
 pub mod Starting
+pub mod Together
 pub mod Times

@@ -6,3 +6,4 @@ pub mod Nets
 pub mod Stimuli
 pub mod State
 pub mod Cycles
+pub mod Order

@@ -3,6 +3,7 @@
 #![tactic(auto)]
 
 mod drivers;
+pub mod laws;
 mod net;
 mod record;
 mod state;
