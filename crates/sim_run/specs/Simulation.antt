@@ -61,3 +61,9 @@ IsRefusal text options refusal.NotYet = IsOther text options
 IsRefusal text options (refusal.CycleLimit limit) = (limit ≡ options.limit) × HasDesign text options (λ design. ReachesLimit design options)
 IsRefusal text options refusal.Memory = Unit {0}
 IsRefusal text options refusal.Write = ⊥
+
+-- The refusal is of the text or of its design.
+abbrev pub IsOfText : RunError → Type 0
+IsOfText (refusal.Text fault) = Unit {0}
+IsOfText (refusal.Flat fault) = Unit {0}
+IsOfText _ = ⊥

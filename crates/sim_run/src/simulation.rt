@@ -4,7 +4,7 @@ ghost use Rattle.std.specs.Io.KnownBytes.{Keeps};
 ghost use Rattle.sim_options.specs.Options.{are_in_range};
 ghost use Rattle.sim_store.specs.Stimuli.{IsRunnable};
 ghost use Rattle.sim_run.specs.Run.{Finishes, Lists, ListsPart};
-ghost use Rattle.sim_run.specs.Simulation.{IsDesignOf, HasDesign, IsRefusal};
+ghost use Rattle.sim_run.specs.Simulation.{IsDesignOf, HasDesign, IsOfText, IsRefusal};
 
 use crate::error::RunError;
 use crate::finished::Finished;
@@ -20,9 +20,10 @@ use std::io::Write;
 use std::sync::Wait;
 use std::thread::Threads;
 
-/// The design of a text.
-fn elaborated(alloc: Global, source: &[u8], options: &Options) -> Result<Design, RunError>
-    ensures { MatchResult result (λ design. IsDesignOf source.now options.now design) (λ e. IsRefusal source.now options.now e) }
+/// Reads a text and elaborates its design under the top of the options. Of the refusals of `simulate` `Text` and `Flat` come, in this order.
+pub fn elaborate(alloc: Global, source: &[u8], options: &Options) -> Result<Design, RunError>
+    ensures only { IfErr result IsOfText }
+    ensures value { MatchResult result (λ design. IsDesignOf source.now options.now design) (λ e. IsRefusal source.now options.now e) }
 {
     let file = parse(alloc, source)?;
     let design = flatten(alloc, &file, options.top.as_str())?;
@@ -33,7 +34,7 @@ fn elaborated(alloc: Global, source: &[u8], options: &Options) -> Result<Design,
 fn design_of(alloc: Global, source: &[u8], options: &Options) -> Result<Design, RunError>
     ensures { MatchResult result (λ design. IsDesignOf source.now options.now design × IsRunnable design) (λ e. IsRefusal source.now options.now e) }
 {
-    let design = elaborated(alloc, source, options)?;
+    let design = elaborate(alloc, source, options)?;
     if is_runnable(&design) {
         Ok(design)
     } else {
