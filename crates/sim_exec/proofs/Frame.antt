@@ -6,6 +6,7 @@ use Rattle.std.proofs.lemmas.List.{get_or-map}
 use Rattle.sim_design.specs.Bodies.{objects_of}
 use Rattle.sim_design.specs.Processes.{Process, IsProcess, rising, with_number, nets_of}
 use Rattle.sim_exec.specs.State.{State, Owned, net_at, owned_at, with_owned, no_net}
+use Rattle.sim_exec.specs.Statements.{executed}
 use Rattle.sim_exec.specs.Processes.{seen, home, names_of, meaning, part, place_in, part_names, outcome}
 use Rattle.sim_exec.proofs.Alongside.{Each}
 use Rattle.sim_exec.proofs.Owning.{only_owned, outcome_is}
@@ -98,12 +99,15 @@ module _ (p : Process) (number : ℕ) (s : State) where
   seen_alike (k ∷ ks) h =
       (sym (get_or-map (net_at s.nets) p.reads (place_in p.reads (home p k)) 0 no_net h.0.0 ∙ ap (net_at s.nets) h.0.1), seen_alike ks h.1)
 
-  pub the_frame : IsProcess p → number < length s.owned → meaning p number s ≡ with_owned number (outcome p (part p number s)) s
-  unfolding meaning
-  the_frame is h =
+  -- so it leaves the same
+  pub same_outcome : IsProcess p → executed (seen (names_of p number) s) s.time p.body.statements (owned_at s.owned number) ≡ outcome p (part p number s)
+  same_outcome is =
       let objects = objects_of p.body.statements in
       let places = subst (λ (xs : List ℕ). Each (IsPlaced xs) (nets_of p.nets objects)) (sym is.reads) (all_placed (nets_of p.nets objects)) in
-      let same = executed_same (seen (names_of p number) s) (seen (part_names p) (part p number s)) s.time p.body.statements (owned_at s.owned number)
-      (seen_alike objects places) in
-      only_owned (names_of p number) s h p.body.statements
-      ∙ ap (λ (o : Owned). with_owned number o s) (same ∙ sym (outcome_is p (part p number s) (omega arith)))
+      executed_same (seen (names_of p number) s) (seen (part_names p) (part p number s)) s.time p.body.statements (owned_at s.owned number)
+        (seen_alike objects places)
+      ∙ sym (outcome_is p (part p number s) (omega arith))
+
+  pub the_frame : IsProcess p → number < length s.owned → meaning p number s ≡ with_owned number (outcome p (part p number s)) s
+  unfolding meaning
+  the_frame is h = only_owned (names_of p number) s h p.body.statements ∙ ap (λ (o : Owned). with_owned number o s) (same_outcome is)

@@ -2,7 +2,9 @@ pub mod Assignments
 pub mod Lists
 pub mod Literals
 pub mod Runs
+pub mod Selecting
 pub mod Sizes
 pub mod Starting
 pub mod Together
+pub mod Weaves
 pub mod Times

@@ -24,7 +24,7 @@ pub merged-same : (f g : ℕ → Bool) (r : ℕ → Owned) (i : ℕ) (os : List 
 unfolding merged
 merged-same f g r i [] same = refl
 merged-same f g r i (o ∷ os) same = rw (same i (omega arith))
-  (ap (λ w. (if g i then r i else o) ∷ w) (merged-same f g r (suc i) os (λ k h. same k (omega arith))))
+    (ap (λ w. (if g i then r i else o) ∷ w) (merged-same f g r (suc i) os (λ k h. same k (omega arith))))
 
 pub merged-none : (f : ℕ → Bool) (r : ℕ → Owned) (i : ℕ) (os : List Owned) → ((k : ℕ) → f k ≡ false) → merged f r i os ≡ os
 unfolding merged
@@ -136,7 +136,7 @@ pub in_any_order : (ps : List Process) (order : List ℕ) (s : State) → All Is
     → AllBelow (length s.owned) order → one_by_one ps order s ≡ together ps (is_among order) s
 in_any_order ps order s is len once below =
     let none : s ≡ together ps (λ q. false) s =
-        ap (λ (os : List Owned). record s { owned = os }) (sym (merged-none (λ q. false) (results ps s) 0 s.owned (λ k. refl))) in
+    ap (λ (os : List Owned). record s { owned = os }) (sym (merged-none (λ q. false) (results ps s) 0 s.owned (λ k. refl))) in
     let all : (p : ℕ) → p < length s.owned → IsProcess (process_at ps p) = λ p h. All-get_or IsProcess ps p no_process (omega (arith, h, len)) is in
     ap (one_by_one ps order) none
     ∙ (from_set ps s all order (λ q. false) once below (none_out order)

@@ -7,3 +7,4 @@ pub mod Stimuli
 pub mod State
 pub mod Cycles
 pub mod Order
+pub mod Weaving

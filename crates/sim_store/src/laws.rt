@@ -1,14 +1,22 @@
 //! Laws of the simulation cycle: each is what an empty function ensures.
 
-ghost use Rattle.std.specs.Prelude.{ℕ, List, ◌≡◌, length};
+ghost use Rattle.std.specs.Prelude.{ℕ, Bool, List, ◌≡◌, ◌↔◌, length};
 ghost use Rattle.std.specs.List.{All};
 ghost use Rattle.sim_design.specs.Processes.{Process, IsProcess};
 ghost use Rattle.sim_exec.specs.State.{State};
 ghost use Rattle.sim_store.specs.Order.{one_by_one, together, is_among, NoRepeats, AllBelow};
+ghost use Rattle.sim_store.specs.Weaving.{Woven, bodies};
 
 /// Processes that are executed one after another, in any order, each once, leave the state that they leave together, each on its own part of
 /// the state before.
 pub fn any_order_is_together()
     ensures { (processes : List Process) (order : List ℕ) (s : State) → All IsProcess processes → length s.owned ≡ length processes
         → NoRepeats order → AllBelow (length s.owned) order → one_by_one processes order s ≡ together processes (is_among order) s }
+{}
+
+/// Some interleaving of the statements of a set of processes leads from one state to another exactly where that is the state which the processes
+/// leave together, each on its own part: no interleaving matters.
+pub fn any_interleaving_is_together()
+    ensures { (processes : List Process) (set : ℕ → Bool) (s t : State) → All IsProcess processes → length s.owned ≡ length processes
+        → Woven processes s (bodies set 0 processes) t ↔ (t ≡ together processes set s) }
 {}
