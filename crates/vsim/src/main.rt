@@ -3,15 +3,30 @@
 #![tactic(auto)]
 
 use sim_run::session;
+use std::alloc::Global;
+use std::io::Write;
 use std::process::ExitCode;
 use std::{env, io};
 
+/// The words after the program's name.
+fn words(rt: &HostRuntime, alloc: Global) -> io::Result<Vec<String>> {
+    let words = env::args(rt)?.skip(1).collect(alloc)?;
+    Ok(words)
+}
+
 fn main(rt: HostRuntime) -> io::Result<ExitCode> {
     let alloc = rt.alloc();
-    let words: Vec<String> = env::args(&rt)?.skip(1).collect(alloc)?;
+    let mut err = rt.stderr();
+    let words = match words(&rt, alloc) {
+        Ok(words) => words,
+        Err(fault) if fault.kind() == io::ErrorKind::OutOfMemory => {
+            let _told = err.write_all(b"vsim: Memory\n");
+            return Ok(ExitCode::from(4));
+        }
+        Err(fault) => return Err(fault),
+    };
     let mut input = rt.reader();
     let mut out = rt.stdout();
-    let mut err = rt.stderr();
     let status = session(&rt, alloc, words, &mut input, &mut out, &mut err);
     Ok(ExitCode::from(status))
 }
