@@ -117,6 +117,7 @@ fn assign<N: Nets>(
 }
 
 /// Assigns a waveform of any number of elements to a driver.
+#[inline(never)]
 fn assign_several<N: Nets>(
     alloc: Global,
     nets: &N,

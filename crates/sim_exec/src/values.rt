@@ -102,6 +102,7 @@ pub fn logic_value<N: Nets>(nets: &N, variables: &[Held], expression: &LogicExpr
 
 /// A value and those of these expressions, with the operator between each two.
 #[cycle(logic_values)]
+#[inline(never)]
 fn logic_chain<N: Nets>(
     nets: &N,
     variables: &[Held],
@@ -161,6 +162,7 @@ pub fn boolean_value<N: Nets>(nets: &N, variables: &[Held], expression: &Boolean
 
 /// A value and those of these expressions, with the operator between each two.
 #[cycle(boolean_values)]
+#[inline(never)]
 fn boolean_chain<N: Nets>(
     nets: &N,
     variables: &[Held],
