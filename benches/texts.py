@@ -1,16 +1,55 @@
 #!/usr/bin/env python3
 """Writes the benchmark texts, each of 1,048,576 bytes at most, into a folder: `texts.py FOLDER`.
 
-flip_flops      8,000 processes, each a flip-flop with a reset, behind one another (top flip_flops)
-assignments     16,000 concurrent assignments behind one another (top assignments)
-instances       31 levels of one instance, below which one architecture has 13,000 instances (top level1)
+Long texts, for the lexer and the parser, of which the first three are designs too:
+
+flip_flops      8,000 processes, each a flip-flop with a reset, after one another
+assignments     16,000 concurrent assignments after one another
+instances       31 levels of one instance, below which one architecture has 13,000 instances
 one_character   1,048,576 tokens of one byte: lexical input alone, no design file
+
+Designs that are hard to elaborate, and texts with a fault that is to be found soon:
+
+copies          16,384 instances of one entity after one another
+processes       12,000 signals and as many processes
+tree            a binary tree of instances that reaches each limit but that of depth
+variables       a process of 60,000 variables
+one_signal      an instance of 4,000 ports, all on one signal
+doubling        31 levels of two instances each: TooMany
+ring            9,000 entities, each with an instance of the next and the last with one of the first: Recursive
+equal_names     a declaration of 500,000 signals of one name: Duplicate
+
+Short texts whose elaboration is a product of two of their numbers:
+
+chain           12,000 entities, each with an instance of the next: TooMany
+architectures   1,000 architectures of one entity of 2,000 ports
+open_ports      4,000 instances of one entity of 4,000 ports, all of them open: TooMany
+linked_ports    a binary tree of instances with 8,192 leaves of 1,000 ports, all on one signal
 """
 import sys
 from pathlib import Path
 
 LIMIT = 1_048_576
 USES = "library ieee;\nuse ieee.std_logic_1164.all;\n"
+
+# the top of each design
+TOPS = {
+    "flip_flops": "flip_flops",
+    "assignments": "assignments",
+    "instances": "level1",
+    "copies": "copies",
+    "processes": "processes",
+    "tree": "level0",
+    "variables": "variables",
+    "one_signal": "one_signal",
+    "doubling": "e0",
+    "ring": "e0",
+    "equal_names": "equal_names",
+    "chain": "e0",
+    "architectures": "architectures",
+    "open_ports": "open_ports",
+    "linked_ports": "level0",
+}
 
 
 def architecture(entity, ports, declarations, body):
@@ -20,11 +59,15 @@ def architecture(entity, ports, declarations, body):
     )
 
 
+def lines_of(prefix, count):
+    """The names prefix0 to prefix(count - 1), ten to a line, with commas."""
+    names = [f"{prefix}{i}" for i in range(count)]
+    return [", ".join(names[i : i + 10]) for i in range(0, count, 10)]
+
+
 def signals(prefix, count):
     """Declarations of prefix0 to prefix(count - 1), ten to a line."""
-    names = [f"{prefix}{i}" for i in range(count)]
-    lines = (names[i : i + 10] for i in range(0, count, 10))
-    return "".join(f"  signal {', '.join(line)} : std_logic;\n" for line in lines)
+    return "".join(f"  signal {line} : std_logic;\n" for line in lines_of(prefix, count))
 
 
 def flip_flops(count=8_000):
@@ -61,6 +104,110 @@ def instances(count=13_000, levels=31):
     return text
 
 
+def copies(count=16_384):
+    """As many instances, nets, processes and drivers. The last output is the first input."""
+    ports = "  port (a : in std_logic; y : out std_logic);\n"
+    cell = architecture("cell", ports, "", "  y <= not a;\n")
+    body = "".join(
+        f"u{i} : entity work.cell port map (s{i}, s{(i + 1) % count});\n" for i in range(count)
+    )
+    return cell + architecture("copies", "", signals("s", count), body)
+
+
+def processes(count=12_000):
+    body = "".join(
+        f"process (q{i}) begin q{(i + 1) % count} <= q{i} xor not q{i // 2}; end process;\n"
+        for i in range(count)
+    )
+    return architecture("processes", "", signals("q", count), body)
+
+
+def tree(levels=13):
+    """Each level but the last has two signals and two instances of the next, whose outputs it joins.
+
+    Two ports and 16,382 signals are 16,384 nets; 16,382 instances, and two more at the top, which have nothing
+    in them; 8,192 processes at the leaves, 8,191 above them, and one more at the top."""
+    ports = "  port (a : in std_logic; y : out std_logic);\n"
+    text = architecture("empty", "", "", "") + architecture(f"level{levels}", ports, "", "  y <= not a;\n")
+    for level in range(levels):
+        body = "".join(f"  {u} : entity work.level{level + 1} port map (a, {u}_y);\n" for u in "uv")
+        body += "  y <= u_y xor v_y;\n"
+        if level == 0:
+            body += "  y <= 'Z';\n  w : entity work.empty;\n  x : entity work.empty;\n"
+        text += architecture(f"level{level}", ports, "  signal u_y, v_y : std_logic;\n", body)
+    return text
+
+
+def variables(count=60_000, assigned=28_000):
+    declared = "".join(f"  variable {line} : std_logic;\n" for line in lines_of("v", count))
+    body = "".join(f"v{i}:=v{count - 1 - i};\n" for i in range(assigned))
+    process = f"process (s)\n{declared}begin\n{body}s <= v{assigned};\nend process;\n"
+    return architecture("variables", "", "  signal s : std_logic;\n", process)
+
+
+def one_signal(count=4_000):
+    """All ports are sources of the one signal. They are named from the last to the first."""
+    names = ",\n".join(lines_of("p", count))
+    cell = architecture("cell", f"  port ({names} : inout std_logic);\n", "", "")
+    named = ",\n".join(f"p{i} => s" for i in reversed(range(count)))
+    body = f"u : entity work.cell port map (\n{named});\n"
+    return cell + architecture("one_signal", "", "  signal s : std_logic;\n", body)
+
+
+def doubling(levels=31):
+    """2^32 - 2 instances, 2^31 of them on the last level, in less than 3,000 bytes."""
+    text = f"entity e{levels} is end;\narchitecture a of e{levels} is begin end;\n"
+    for level in range(levels):
+        below = f"entity work.e{level + 1};"
+        text += f"entity e{level} is end;\narchitecture a of e{level} is begin u:{below}v:{below}end;\n"
+    return text
+
+
+def ring(count=9_000):
+    return "".join(
+        f"entity e{i} is end;\narchitecture a of e{i} is\nbegin\n  u : entity work.e{(i + 1) % count};\nend;\n"
+        for i in range(count)
+    )
+
+
+def equal_names(count=500_000):
+    names = ",".join(["s"] * count)
+    return architecture("equal_names", "", f"  signal {names} : std_logic;\n", "")
+
+
+def chain(count=12_000):
+    text = f"entity e{count} is end;\narchitecture a of e{count} is begin end;\n"
+    for i in range(count):
+        text += f"entity e{i} is end;\narchitecture a of e{i} is begin u:entity work.e{i + 1};end;\n"
+    return text
+
+
+def architectures(count=1_000, ports=2_000):
+    names = ",\n".join(lines_of("p", ports))
+    text = architecture("cell", f"  port ({names} : in std_logic);\n", "", "")
+    text += "".join(f"architecture a{i} of cell is begin end;\n" for i in range(count))
+    return text + architecture("architectures", "", "", "")
+
+
+def open_ports(count=4_000, ports=4_000):
+    names = ",\n".join(lines_of("p", ports))
+    cell = architecture("cell", f"  port ({names} : out std_logic);\n", "", "")
+    body = "".join(f"u{i} : entity work.cell;\n" for i in range(count))
+    return cell + architecture("open_ports", "", "", body)
+
+
+def linked_ports(levels=13, ports=1_000):
+    """Only the last level has ports, and only the one above it a signal: 4,096 nets, and 8,192 for the leaves' own."""
+    names = ",\n".join(lines_of("p", ports))
+    text = architecture(f"level{levels}", f"  port ({names} : in std_logic);\n", "  signal s : std_logic;\n", "s <= p0;\n")
+    for level in range(levels):
+        last = level == levels - 1
+        map_ = f" port map ({', '.join(['s'] * ports)})" if last else ""
+        body = "".join(f"{u} : entity work.level{level + 1}{map_};\n" for u in "uv")
+        text += architecture(f"level{level}", "", "  signal s : std_logic;\n" if last else "", body)
+    return text
+
+
 def filled(text):
     """The text, with a comment at its end that makes it 1,048,576 bytes long."""
     missing = LIMIT - len(text)
@@ -68,16 +215,22 @@ def filled(text):
     return text + ("--" + "." * (missing - 2) if missing >= 2 else " " * missing)
 
 
+def texts():
+    """Each text, by its name."""
+    long = [flip_flops, assignments, instances, processes]
+    short = [copies, tree, variables, one_signal, doubling, ring, equal_names]
+    short += [chain, architectures, open_ports, linked_ports]
+    found = {make.__name__: filled(make()) for make in long}
+    found |= {make.__name__: make() for make in short}
+    found["one_character"] = ";" * LIMIT
+    return found
+
+
 def main():
     folder = Path(sys.argv[1])
     folder.mkdir(parents=True, exist_ok=True)
-    texts = {
-        "flip_flops": filled(flip_flops()),
-        "assignments": filled(assignments()),
-        "instances": filled(instances()),
-        "one_character": ";" * LIMIT,
-    }
-    for name, text in texts.items():
+    for name, text in texts().items():
+        assert len(text) <= LIMIT, f"{name}: {len(text) - LIMIT} bytes too long"
         (folder / f"{name}.vhdl").write_text(text)
 
 

@@ -1,1 +1,2 @@
 pub mod Histories
+pub mod Readiness

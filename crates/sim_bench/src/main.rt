@@ -1,8 +1,10 @@
-//! Times parts of the simulator: `sim_bench SUBJECT COUNT`. The times go to standard error, and
-//! what was computed to standard output.
+//! Times parts of the simulator: `sim_bench SUBJECT COUNT`, and of `elaboration` also the top. The times go to standard error,
+//! and what was computed to standard output.
 #![tactic(auto)]
 
 mod drivers;
+mod elaboration;
+mod execution;
 mod listing;
 mod reading;
 
@@ -16,6 +18,11 @@ fn main(rt: HostRuntime) -> Result<()> {
     let count = count.parse::<u64>().context("the count is no number")?;
     match subject.as_str() {
         "drivers" => drivers::run(&rt, count),
+        "elaboration" => {
+            let top = words.next().context("no top")?;
+            elaboration::run(&rt, count, top.as_str())
+        }
+        "execution" => execution::run(&rt, count),
         "listing" => listing::run(&rt, count),
         "tokens" => reading::run_tokens(&rt, count),
         "parse" => reading::run_parse(&rt, count),

@@ -9,7 +9,7 @@ use std::rt::Clock;
 use std::time::Instant;
 
 /// What stands on standard input.
-fn source<R: Input + AllocGlobal>(rt: &R) -> Result<Vec<u8>> {
+pub fn source<R: Input + AllocGlobal>(rt: &R) -> Result<Vec<u8>> {
     let mut text = Vec::new(rt.alloc());
     rt.reader().read_to_end(&mut text)?;
     Ok(text)

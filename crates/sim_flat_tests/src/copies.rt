@@ -1,0 +1,117 @@
+//! Designs and processes that are the same, and that differ in one thing.
+
+use crate::texts::flat;
+use sim_design::{Design, Process};
+use std::alloc::{AllocError, Global};
+use std::test::Fail;
+
+const TEXT: &str =
+    "entity t is port(d:in std_logic:='0');end;architecture a of t is signal clk,q,n:std_logic:='0';begin \
+p:process(clk) variable v:boolean:=true;begin if rising_edge(clk) and v then \
+q<=reject 1 ns inertial not d after 2 ns;null;end if;v:=d='1';end process;\
+u:entity work.l port map(i=>'1',o=>clk);end;entity l is port(i:in std_logic;o:out std_logic);end;\
+architecture a of l is begin o<=i;end;";
+
+/// What a piece of the text becomes, and whether its first process stays the same.
+const CHANGES: [(&str, &str, bool); 22] = [
+    ("", "", true),
+    ("clk,q,n:", "clk,q,m:", true),
+    ("u:entity", "w:entity", true),
+    ("clk,q,n:std_logic:='0'", "clk,q,n:std_logic:='1'", true),
+    ("std_logic:='0');", "std_logic:='1');", true),
+    ("i=>'1'", "i=>'H'", true),
+    ("o=>clk", "o=>q", true),
+    ("o<=i", "o<='1'", true),
+    ("process(clk)", "process(clk,d)", false),
+    ("boolean:=true", "boolean", false),
+    ("rising", "falling", false),
+    ("and v", "or v", false),
+    ("and v", "and true", false),
+    ("reject 1 ns", "reject 2 ns", false),
+    ("reject 1 ns inertial", "transport", false),
+    ("reject 1 ns inertial", "", false),
+    ("not d", "d", false),
+    ("after 2 ns", "after 3 ns", false),
+    ("after 2 ns", "after 2 ns,'1' after 3 ns", false),
+    ("null;", "", false),
+    ("null;", "else null;", false),
+    ("d='1'", "d/='1'", false),
+];
+
+/// The text with one piece in the place of another.
+fn changed(alloc: Global, old: &str, new: &str) -> Result<String, AllocError> {
+    let (front, back) = TEXT.split_once(old).unwrap_or((TEXT, ""));
+    format!(in alloc; "{front}{new}{back}")
+}
+
+/// Whether the designs of two texts are there, and the same.
+fn are_same(alloc: Global, text: &str, other: &str) -> Option<bool> {
+    let design = flat(alloc, text)?;
+    let other = flat(alloc, other)?;
+    Some(design.same(&other))
+}
+
+/// Whether the first processes of two texts are there, and the same.
+fn first_processes_are_same(alloc: Global, text: &str, other: &str) -> Option<bool> {
+    let design = flat(alloc, text)?;
+    let other = flat(alloc, other)?;
+    Some(design.processes().first()?.same(other.processes().first()?))
+}
+
+#[test]
+fn designs_that_differ_in_one_thing_are_not_the_same(rt: HostRuntime) -> Result<(), Fail> {
+    let alloc = rt.alloc();
+    for (i, (old, new, _)) in CHANGES.iter().enumerate() {
+        let text = changed(alloc, old, new)?;
+        for (k, (old, new, _)) in CHANGES.iter().enumerate() {
+            let other = changed(alloc, old, new)?;
+            let answer = are_same(alloc, text.as_str(), other.as_str());
+            assert_eq!(rt; answer, Some(i == k), "{i} {k}");
+        }
+    }
+    Ok(())
+}
+
+#[test]
+fn processes_are_the_same_whatever_stands_around(rt: HostRuntime) -> Result<(), Fail> {
+    let alloc = rt.alloc();
+    for (old, new, stays) in CHANGES {
+        let text = changed(alloc, old, new)?;
+        let answer = first_processes_are_same(alloc, TEXT, text.as_str());
+        assert_eq!(rt; answer, Some(stays), "{old} {new}");
+    }
+    Ok(())
+}
+
+/// Whether a copy of a design is the same.
+fn design_is_copied(design: &Design) -> Option<bool> {
+    Some(design.try_copy().ok()?.same(design))
+}
+
+/// Whether a copy of a process is the same as this one.
+fn copy_is_same(process: &Process, other: &Process) -> Option<bool> {
+    Some(process.try_copy().ok()?.same(other))
+}
+
+/// Whether the copies of two processes are there, and each is the same as its own and not as the other.
+fn processes_are_copied(processes: &[Process]) -> bool {
+    match processes {
+        [one, other] => {
+            copy_is_same(one, one) == Some(true)
+                && copy_is_same(other, other) == Some(true)
+                && copy_is_same(one, other) == Some(false)
+        }
+        _ => false,
+    }
+}
+
+/// Whether the copies of a text's design and its processes are the same.
+fn are_copied(alloc: Global, text: &str) -> Option<bool> {
+    let design = flat(alloc, text)?;
+    Some(design_is_copied(&design)? && processes_are_copied(design.processes()))
+}
+
+#[test]
+fn copies_are_the_same(rt: HostRuntime) {
+    assert_eq!(rt; are_copied(rt.alloc(), TEXT), Some(true));
+}
