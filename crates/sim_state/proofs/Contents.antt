@@ -1,0 +1,144 @@
+-- Flat lists hold what processes own, and nets.
+use Rattle.std.proofs.Common.{ℕ, zero, suc, ◌≡◌, ◌++◌, List, [], ◌∷◌, length, get_or, set, map, refl, ap, sym, ◌∙◌, arith}
+use Rattle.std.proofs.lemmas.List.{length-map, length-set}
+use Rattle.sim_logic.specs.declared.logic.Logic.{Logic}
+use Rattle.sim_logic.specs.Resolution.{resolved}
+use Rattle.sim_design.specs.declared.held.Held.{Held}
+use Rattle.sim_design.specs.declared.design.Source.{Source}
+use Rattle.sim_design.specs.Designs.{Design, Net}
+use Rattle.sim_wave.specs.Driver.{Waveform, taken}
+use Rattle.sim_rows.specs.Rows.{joined}
+use Rattle.sim_exec.specs.declared.view.NetView.{NetView}
+use Rattle.sim_exec.specs.State.{State, Owned, nothing_owned, net_at}
+use Rattle.sim_state.specs.Nets.{changed_to, source_value, net_value, nets_updated}
+use Rattle.sim_state.specs.Drivers.{waves, own_taken}
+use Rattle.sim_state.specs.Cycles.{updated}
+use Rattle.sim_state.specs.Contents.{Contents, contents_of, views_of, owned_lists, AreLists, sources_of}
+use Rattle.sim_state.proofs.Views.{length-views_of}
+
+abbrev pub as_owned : List Waveform → List Held → Owned
+as_owned ds vs = record { drivers = ds; variables = vs }
+
+pub length-owned : (dss : List (List Waveform)) (vss : List (List Held)) → length dss ≡ length vss → length (owned_lists dss vss) ≡ length dss
+length-owned [] vss e = refl
+length-owned (ds ∷ dss) [] e = absurd (omega arith)
+length-owned (ds ∷ dss) (vs ∷ vss) e = ap suc (length-owned dss vss (omega arith))
+
+-- what a process owns is its two lists
+pub owned-at : (dss : List (List Waveform)) (vss : List (List Held)) (p : ℕ) → length dss ≡ length vss
+    → get_or (owned_lists dss vss) p nothing_owned ≡ record { drivers = get_or dss p []; variables = get_or vss p [] }
+owned-at [] [] p e = refl
+owned-at [] (vs ∷ vss) p e = absurd (omega arith)
+owned-at (ds ∷ dss) [] p e = absurd (omega arith)
+owned-at (ds ∷ dss) (vs ∷ vss) zero e = refl
+owned-at (ds ∷ dss) (vs ∷ vss) (suc p) e = owned-at dss vss p (omega arith)
+
+-- one process owns other lists
+pub owned-set : (dss : List (List Waveform)) (vss : List (List Held)) (p : ℕ) (ds : List Waveform) (vs : List Held) → length dss ≡ length vss
+    → owned_lists (set dss p ds) (set vss p vs) ≡ set (owned_lists dss vss) p (record { drivers = ds; variables = vs })
+owned-set [] [] p d v e = refl
+owned-set [] (vs ∷ vss) p d v e = absurd (omega arith)
+owned-set (ds ∷ dss) [] p d v e = absurd (omega arith)
+owned-set (ds ∷ dss) (vs ∷ vss) zero d v e = refl
+owned-set (ds ∷ dss) (vs ∷ vss) (suc p) d v e = ap (λ w. record { drivers = ds; variables = vs } ∷ w) (owned-set dss vss p d v (omega arith))
+
+pub owned-taken : (t : ℕ) (dss : List (List Waveform)) (vss : List (List Held)) → owned_lists (map (map (taken t)) dss) vss ≡ map (own_taken t)
+    (owned_lists dss vss)
+owned-taken t [] vss = refl
+owned-taken t (ds ∷ dss) [] = refl
+owned-taken t (ds ∷ dss) (vs ∷ vss) = ap (λ w. record { drivers = map (taken t) ds; variables = vs } ∷ w) (owned-taken t dss vss)
+
+-- drivers by number
+pub owned-waves : (dss : List (List Waveform)) (vss : List (List Held)) → length dss ≡ length vss → waves (owned_lists dss vss) ≡ joined dss
+owned-waves [] vss e = refl
+owned-waves (ds ∷ dss) [] e = absurd (omega arith)
+owned-waves (ds ∷ dss) (vs ∷ vss) e = ap (λ w. ds ++ w) (owned-waves dss vss (omega arith))
+
+pub same_owned : {ds es : List Waveform} {vs ws : List Held} → ds ≡ es → vs ≡ ws → as_owned ds vs ≡ as_owned es ws
+same_owned {es = es} {vs = vs} d v = ap (λ w. as_owned w vs) d ∙ ap (as_owned es) v
+
+-- what flat lists hold
+abbrev pub held : List Logic → List Logic → List (List Waveform) → List (List Held) → Contents
+held values lasts dss vss = record { nets = views_of values lasts; owned = owned_lists dss vss }
+
+pub owned-by : {h : Contents} {values lasts : List Logic} {dss : List (List Waveform)} {vss : List (List Held)} → held values lasts dss vss ≡ h
+    → AreLists values lasts dss vss → (p : ℕ) → get_or h.owned p nothing_owned ≡ record { drivers = get_or dss p []; variables = get_or vss p [] }
+owned-by {dss = dss} {vss = vss} e i p = ap (λ (g : Contents). get_or g.owned p nothing_owned) (sym e) ∙ owned-at dss vss p i.owned
+
+pub owned-count : {h : Contents} {values lasts : List Logic} {dss : List (List Waveform)} {vss : List (List Held)} → held values lasts dss vss ≡ h
+    → AreLists values lasts dss vss → length h.owned ≡ length dss
+owned-count {dss = dss} {vss = vss} e i = ap (λ (g : Contents). length g.owned) (sym e) ∙ length-owned dss vss i.owned
+
+pub net-count : {h : Contents} {values lasts : List Logic} {dss : List (List Waveform)} {vss : List (List Held)} → held values lasts dss vss ≡ h
+    → AreLists values lasts dss vss → length h.nets ≡ length values
+net-count {values = values} {lasts = lasts} e i = ap (λ (g : Contents). length g.nets) (sym e) ∙ length-views_of values lasts i.nets
+
+pub drivers-by : {h : Contents} {values lasts : List Logic} {dss : List (List Waveform)} {vss : List (List Held)} → held values lasts dss vss ≡ h
+    → AreLists values lasts dss vss → waves h.owned ≡ joined dss
+drivers-by {dss = dss} {vss = vss} e i = ap (λ (g : Contents). waves g.owned) (sym e) ∙ owned-waves dss vss i.owned
+
+-- ---- one process owns something else
+
+pub held-set : {h : Contents} {values lasts : List Logic} {dss : List (List Waveform)} {vss : List (List Held)} → held values lasts dss vss ≡ h
+    → AreLists values lasts dss vss → (p : ℕ) (ds : List Waveform) (vs : List Held) (dss' : List (List Waveform)) (vss' : List (List Held))
+    → dss' ≡ set dss p ds → vss' ≡ set vss p vs → held values lasts dss' vss' ≡ record h { owned = set h.owned p (record { drivers = ds; variables = vs }) }
+held-set {h} {values} {lasts} {dss} {vss} e i p ds vs dss' vss' ed ev =
+    let o : owned_lists dss' vss' ≡ set (owned_lists dss vss) p (record { drivers = ds; variables = vs }) = rw (ed, ev) (owned-set dss vss p ds vs i.owned) in
+    ap (λ w. record { nets = views_of values lasts; owned = w }) o
+    ∙ ap (λ (g : Contents). record { nets = g.nets; owned = set g.owned p (record { drivers = ds; variables = vs }) }) e
+
+-- what it owns then is what the new lists have there
+pub owned-now : {values lasts : List Logic} {dss : List (List Waveform)} {vss : List (List Held)} → AreLists values lasts dss vss → (p : ℕ)
+    (ds : List Waveform) (vs : List Held) (dss' : List (List Waveform)) (vss' : List (List Held)) → dss' ≡ set dss p ds → vss' ≡ set vss p vs
+    → get_or (owned_lists dss' vss') p nothing_owned ≡ record { drivers = get_or dss' p []; variables = get_or vss' p [] }
+owned-now {dss = dss} {vss = vss} i p ds vs dss' vss' ed ev =
+    owned-at dss' vss' p (omega (arith, ap length ed, ap length ev, length-set dss p ds, length-set vss p vs, i.owned))
+
+-- ---- how a process sees the nets
+
+abbrev pub seen : List NetView → List ℕ → ℕ → NetView
+seen nets homes object = net_at nets (get_or homes object 0)
+
+pub sees : (nets : List NetView) (values lasts values' lasts' : List Logic) (homes homes' : List ℕ) → views_of values lasts ≡ nets → values' ≡ values
+    → lasts' ≡ lasts → homes' ≡ homes → seen (views_of values' lasts') homes' ≡ seen nets homes
+sees nets values lasts values' lasts' homes homes' e ev el eh =
+    ap (λ w. seen (views_of w lasts') homes') ev ∙ (ap (λ w. seen (views_of values w) homes') el
+    ∙ (ap (seen (views_of values lasts)) eh ∙ ap (λ w. seen w homes) e))
+
+-- ---- a cycle
+
+abbrev value_with : List Waveform → List Source → Logic
+value_with ws row = resolved (map (source_value ws) row)
+
+-- new values, with the old ones as last values
+pub views-updated : (ws : List Waveform) (nets : List Net) (values lasts : List Logic) → length values ≡ length lasts → length nets ≡ length values
+    → views_of (map (value_with ws) (sources_of nets)) values ≡ nets_updated ws nets (views_of values lasts)
+unfolding nets_updated
+views-updated ws [] values lasts e f = refl
+views-updated ws (n ∷ nets) [] lasts e f = absurd (omega arith)
+views-updated ws (n ∷ nets) (v ∷ values) [] e f = absurd (omega arith)
+views-updated ws (n ∷ nets) (v ∷ values) (l ∷ lasts) e f = ap (λ w. changed_to (net_value ws n) v ∷ w)
+    (views-updated ws nets values lasts (omega arith) (omega arith))
+
+-- an update of the flat lists is an update of what they hold
+pub held-updated : {h : Contents} {values lasts : List Logic} {dss : List (List Waveform)} {vss : List (List Held)} → held values lasts dss vss ≡ h
+    → AreLists values lasts dss vss → (t : ℕ) (sources : List (List Source)) (values' lasts' : List Logic) (dss' : List (List Waveform)) (ws : List Waveform)
+    → length sources ≡ length h.nets → dss' ≡ map (map (taken t)) dss → ws ≡ joined dss' → values' ≡ map (value_with ws) sources → lasts' ≡ values
+    → (design : Design) (s : State) → sources ≡ sources_of design.nets → h ≡ contents_of s → held values' lasts' dss' vss ≡ contents_of (updated design s t)
+held-updated {h} {values} {lasts} {dss} {vss} e i t sources values' lasts' dss' ws long ed ew ev el design s es eh =
+    let k : held values lasts dss vss ≡ contents_of s = e ∙ eh in
+    let o : owned_lists dss' vss ≡ map (own_taken t) (owned_lists dss vss) = ap (λ w. owned_lists w vss) ed ∙ owned-taken t dss vss in
+    let same : length dss' ≡ length vss = omega (arith, ap length ed, length-map dss (map (taken t)), i.owned) in
+    let w : ws ≡ waves (map (own_taken t) (owned_lists dss vss)) = ew ∙ (sym (owned-waves dss' vss same) ∙ ap waves o) in
+    let n : length design.nets ≡ length values = omega (arith, long, net-count e i, ap length es, length-map design.nets (λ (n : Net). n.sources)) in
+    let v : views_of values' lasts' ≡ nets_updated ws design.nets (views_of values lasts) =
+    ap (λ z. views_of z lasts') (ev ∙ ap (map (value_with ws)) es) ∙ (ap (views_of (map (value_with ws) (sources_of design.nets))) el
+    ∙ views-updated ws design.nets values lasts i.nets n) in
+    let whole : held values' lasts' dss' vss ≡ record {
+      nets = nets_updated (waves (map (own_taken t) (owned_lists dss vss))) design.nets
+          (views_of values lasts);
+      owned = map (own_taken t) (owned_lists dss vss);
+    } =
+    ap (λ a. record { nets = a; owned = owned_lists dss' vss }) (v ∙ ap (λ z. nets_updated z design.nets (views_of values lasts)) w)
+    ∙ ap (λ a. record { nets = nets_updated (waves (map (own_taken t) (owned_lists dss vss))) design.nets (views_of values lasts); owned = a }) o in
+    whole ∙ ap (λ (g : Contents). record { nets = nets_updated (waves (map (own_taken t) g.owned)) design.nets g.nets; owned = map (own_taken t) g.owned }) k

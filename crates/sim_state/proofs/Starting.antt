@@ -1,0 +1,111 @@
+-- The first state of a design.
+use Rattle.std.proofs.Common.{ℕ, ◌+◌, ◌-◌, ◌≤◌, ◌≡◌, ◌++◌, true, not, List, [], ◌∷◌, length, take, drop, map, refl, ap, sym, ◌∙◌, arith}
+use Rattle.std.specs.Prelude.{slice_range}
+use Rattle.std.specs.List.{All, AllByRecursion}
+use Rattle.std.proofs.lemmas.List.{length-drop, map-append, drop-drop, take-append-drop}
+use Rattle.std.proofs.lemmas.List.Elements.{All-from_recursion}
+use Rattle.sim_logic.specs.declared.logic.Logic.{Logic}
+use Rattle.sim_logic.specs.declared.logic.Logic.TheVariants.{U, X, Zero, One, Z, W, L, H, Dash}
+use Rattle.sim_logic.specs.Logic.{is_same}
+use Rattle.sim_design.specs.declared.design.DriverOf.{DriverOf}
+use Rattle.sim_design.specs.declared.held.Held.{Held}
+use Rattle.sim_design.specs.Processes.{Process}
+use Rattle.sim_design.specs.Designs.{AreOwned, Design, Net}
+use Rattle.sim_wave.specs.Driver.{Waveform}
+use Rattle.sim_rows.specs.Rows.{joined}
+use Rattle.sim_state.specs.Nets.{net_started, net_value}
+use Rattle.sim_state.specs.Drivers.{waves, idle, first_owned, all_first_owned}
+use Rattle.sim_state.specs.Cycles.{first_state}
+use Rattle.sim_state.specs.Contents.{contents_of, views_of, owned_lists}
+use Rattle.sim_state.proofs.Contents.{held}
+
+-- ---- the drivers of processes stand side by side
+
+-- those of each process are among those of the design
+pub owned_within : (nets n first count : ℕ) (ps : List Process) (ds : List DriverOf) → first + length ds ≡ count → AreOwned nets n first ps ds
+    → AllByRecursion (λ (p : Process). p.first_driver + p.body.drivers ≤ count) ps
+owned_within nets n first count [] ds e o = tt
+owned_within nets n first count (p ∷ ps) ds e o = (
+  omega (arith, o.0, o.1),
+  owned_within nets (n + 1) (first + p.body.drivers) count ps (drop p.body.drivers ds)
+      (omega (arith, o.1, length-drop p.body.drivers ds)) o.3,
+)
+
+pub all_within : (nets : ℕ) (ps : List Process) (ds : List DriverOf) → AreOwned nets 0 0 ps ds → All
+    (λ (p : Process). p.first_driver + p.body.drivers ≤ length ds) ps
+all_within nets ps ds o = All-from_recursion (λ (p : Process). p.first_driver + p.body.drivers ≤ length ds) ps
+    (owned_within nets 0 0 (length ds) ps ds (omega arith) o)
+
+pub range_is : {X : Type 0} (xs : List X) (first count : ℕ) → slice_range xs first (first + count) ≡ take count (drop first xs)
+range_is xs first count = let n : first + count - first ≡ count = omega arith in ap (λ k. take k (drop first xs)) n
+
+abbrev idle_of : DriverOf → Waveform
+idle_of d = idle d.first
+
+-- from the first driver of a process on, its drivers and those of the processes after it are all
+drivers-from : (nets n first : ℕ) (all ds : List DriverOf) (ps : List Process) → ds ≡ drop first all → AreOwned nets n first ps ds
+    → waves (map (first_owned all) ps) ≡ map idle_of ds
+drivers-from nets n first all ds [] e o = sym (ap (map idle_of) o)
+drivers-from nets n first all ds (p ∷ ps) e o =
+    let k = p.body.drivers in
+    let here : take k (drop p.first_driver all) ≡ take k ds = ap (λ i. take k (drop i all)) o.0 ∙ ap (take k) (sym e) in
+    let rest : drop k ds ≡ drop (first + k) all = ap (drop k) e ∙ drop-drop k first all in
+    ap (λ w. map idle_of w ++ waves (map (first_owned all) ps)) here
+    ∙ (ap (λ w. map idle_of (take k ds) ++ w) (drivers-from nets (n + 1) (first + k) all (drop k ds) ps rest o.3)
+    ∙ (sym (map-append idle_of (take k ds) (drop k ds)) ∙ ap (map idle_of) (take-append-drop k ds)))
+
+pub first_waves : (design : Design) → AreOwned (length design.nets) 0 0 design.processes design.drivers
+    → waves (all_first_owned design) ≡ map (λ (d : DriverOf). idle d.first) design.drivers
+first_waves design o = drivers-from (length design.nets) 0 0 design.drivers design.drivers design.processes refl o
+
+-- ---- the lists of the first state
+
+abbrev drivers_of : List DriverOf → Process → List Waveform
+drivers_of ds p = (first_owned ds p).drivers
+
+abbrev variables_of : Process → List Held
+variables_of p = p.body.variables
+
+owned-first : (ds : List DriverOf) (ps : List Process) → owned_lists (map (drivers_of ds) ps) (map variables_of ps) ≡ map (first_owned ds) ps
+owned-first ds [] = refl
+owned-first ds (p ∷ ps) = ap (λ w. first_owned ds p ∷ w) (owned-first ds ps)
+
+waves-first : (ds : List DriverOf) (ps : List Process) → joined (map (drivers_of ds) ps) ≡ waves (map (first_owned ds) ps)
+waves-first ds [] = refl
+waves-first ds (p ∷ ps) = ap (λ w. (first_owned ds p).drivers ++ w) (waves-first ds ps)
+
+same_as_itself : (v : Logic) → is_same v v ≡ true
+same_as_itself U = refl
+same_as_itself X = refl
+same_as_itself Zero = refl
+same_as_itself One = refl
+same_as_itself Z = refl
+same_as_itself W = refl
+same_as_itself L = refl
+same_as_itself H = refl
+same_as_itself Dash = refl
+
+views-first : (ws : List Waveform) (nets : List Net) → views_of (map (net_value ws) nets) (map (net_value ws) nets) ≡ map (net_started ws) nets
+views-first ws [] = refl
+views-first ws (n ∷ nets) =
+    let v = net_value ws n in
+    ap (λ b. record { value = v; event = not b; last = v } ∷ views_of (map (net_value ws) nets) (map (net_value ws) nets)) (same_as_itself v)
+    ∙ ap (λ w. net_started ws n ∷ w) (views-first ws nets)
+
+pub first-held : (design : Design) (nets : List Net) (processes processes' : List Process) (ds : List DriverOf) (dss : List (List Waveform))
+    (vss : List (List Held)) (ws : List Waveform) (values lasts : List Logic)
+    → nets ≡ design.nets → processes ≡ design.processes → processes' ≡ design.processes → ds ≡ design.drivers
+    → dss ≡ map (drivers_of ds) processes → vss ≡ map variables_of processes' → ws ≡ joined dss → values ≡ map (net_value ws) nets → lasts ≡ values
+    → held values lasts dss vss ≡ contents_of (first_state design)
+first-held design nets processes processes' ds dss vss ws values lasts en ep ep' ed es ev ew eu el =
+    let owned = all_first_owned design in
+    let dd : dss ≡ map (drivers_of design.drivers) design.processes = es ∙ (ap (λ w. map (drivers_of w) processes) ed ∙ ap
+    (map (drivers_of design.drivers)) ep) in
+    let vv : vss ≡ map variables_of design.processes = ev ∙ ap (map variables_of) ep' in
+    let o : owned_lists dss vss ≡ owned = ap (λ w. owned_lists w vss) dd ∙ (ap (owned_lists (map (drivers_of design.drivers) design.processes)) vv
+    ∙ owned-first design.drivers design.processes) in
+    let w : ws ≡ waves owned = ew ∙ (ap joined dd ∙ waves-first design.drivers design.processes) in
+    let u : values ≡ map (net_value (waves owned)) design.nets = eu ∙ (ap (λ z. map (net_value z) nets) w ∙ ap (map (net_value (waves owned))) en) in
+    ap (λ z. held values z dss vss) el ∙ (ap (λ z. held z z dss vss) u
+    ∙ (ap (λ z. record { nets = z; owned = owned_lists dss vss }) (views-first (waves owned) design.nets)
+    ∙ ap (λ z. record { nets = map (net_started (waves owned)) design.nets; owned = z }) o))

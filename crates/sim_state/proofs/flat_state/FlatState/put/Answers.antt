@@ -1,0 +1,24 @@
+use Rattle.std.proofs.Common.{ap, ◌∙◌, length, arith}
+use Rattle.sim_exec.specs.State.{Owned}
+use Rattle.sim_state.proofs.Contents.{owned-by, owned-count, held-set}
+use Rattle.sim_state.proofs.flat_state.FlatState.put.Goals as goal
+
+pub put-requires : goal.put-requires
+put-requires c = record {
+  at = omega (arith, c.requires.at, owned-count c.self.view_is c.self.invariant);
+  long = ap length c.as_mut_slice.ensures.value ∙ (c.requires.drivers ∙ ap (λ (o : Owned). length o.drivers)
+      (owned-by c.self.view_is c.self.invariant c.args.number));
+}
+
+pub put-requires-2 : goal.put-requires-2
+put-requires-2 c = record {
+  at = omega (arith, c.requires.at, owned-count c.self.view_is c.self.invariant, c.self.invariant.owned);
+  long = ap length c.as_mut_slice-2.ensures.value ∙ (c.requires.variables ∙ ap (λ (o : Owned). length o.variables)
+      (owned-by c.self.view_is c.self.invariant c.args.number));
+}
+
+pub returns : goal.returns
+returns c =
+    let s = c.self.inside in
+    held-set c.self.view_is c.self.invariant c.args.number c.args.drivers.items c.args.variables.items c.put.new.self c.put-2.new.self
+    (rw c.as_mut_slice.ensures.value at c.put.ensures.new) (rw c.as_mut_slice-2.ensures.value at c.put-2.ensures.new)

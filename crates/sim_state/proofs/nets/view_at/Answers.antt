@@ -1,0 +1,13 @@
+use Rattle.std.proofs.Common.{◌∙◌}
+use Rattle.sim_state.proofs.Views.{past_values, past_lasts, view_here}
+use Rattle.sim_state.proofs.nets.view_at.Goals as goal
+use Rattle.sim_state.proofs.nets.view_at.Goals.{then-number-values-via-then-number-values, then-number-values-via-else-number-values+then-number-lasts}
+
+pub returns-then-number-values : goal.returns-then-number-values
+returns-then-number-values c = elim c.then-number-values.branch [
+  | then-number-values-via-then-number-values w ↦ past_values c.args.values.now c.args.lasts.now c.args.number w.if-number-values.true
+  | then-number-values-via-else-number-values+then-number-lasts w ↦ past_lasts c.args.values.now c.args.lasts.now c.args.number w.if-number-lasts.true
+]
+
+pub returns : goal.returns
+returns c = c.changed_to.ensures ∙ view_here c.args.values.now c.args.lasts.now c.args.number _ _ c.if-number-values.false c.if-number-lasts.false

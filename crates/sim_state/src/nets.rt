@@ -1,0 +1,134 @@
+//! Nets: their values (IEEE 1076-2008, 14.7.3), and how processes see them.
+
+ghost use Rattle.std.specs.Prelude.{◌≡◌, length, map, fold, slice_index_or, IfOk};
+ghost use Rattle.sim_logic.specs.declared.logic.Logic as logic;
+ghost use Rattle.sim_logic.specs.Tables.{resolution_table};
+ghost use Rattle.sim_logic.specs.Resolution.{resolved};
+ghost use Rattle.sim_exec.specs.State.{driver_at, net_at};
+ghost use Rattle.sim_state.specs.Nets as spec;
+ghost use Rattle.sim_state.specs.Contents.{views_of};
+
+use sim_design::Source;
+use sim_exec::{NetView, Nets};
+use sim_logic::{Logic, resolve_two};
+use sim_rows::Rows;
+use sim_wave::Driver;
+use std::alloc::{AllocError, Global};
+
+/// The value of the driver with a number.
+fn driver_value(drivers: &[Driver], number: usize) -> Logic
+    ensures { result ≡ (driver_at drivers.now number).value }
+{
+    match drivers.get(number) {
+        Some(driver) => driver.value(),
+        None => Logic::U,
+    }
+}
+
+/// The value of a source.
+fn source_value(source: Source, drivers: &[Driver]) -> Logic
+    ensures { result ≡ spec.source_value drivers.now source }
+{
+    match source {
+        Source::Driver(number) => driver_value(drivers, number),
+        Source::Constant(value) => value,
+    }
+}
+
+/// The values of the sources, resolved from the left.
+fn merged(sources: &[Source], drivers: &[Driver]) -> Logic
+    ensures { result ≡ fold resolution_table logic.Logic.Z (map (spec.source_value drivers.now) sources.now) }
+{
+    let mut value = Logic::Z;
+    for source in sources {
+        value = resolve_two(value, source_value(*source, drivers));
+    }
+    value
+}
+
+/// The value of a net with these sources.
+pub fn net_value(sources: &[Source], drivers: &[Driver]) -> Logic
+    ensures { result ≡ resolved (map (spec.source_value drivers.now) sources.now) }
+{
+    match sources {
+        [only] => source_value(*only, drivers),
+        sources => merged(sources, drivers),
+    }
+}
+
+/// Each net gets the value of its sources.
+pub fn resolve_each(values: &mut [Logic], sources: &Rows<Source>, drivers: &[Driver])
+    requires { length values.old ≡ length sources.now }
+    ensures { values.new ≡ map (λ row. resolved (map (spec.source_value drivers.now) row)) sources.now }
+{
+    for n in 0..values.len() {
+        values[n] = net_value(sources.row(n), drivers);
+    }
+}
+
+/// A net with this value, whose last value was this.
+fn changed_to(value: Logic, last: Logic) -> NetView
+    ensures { result ≡ spec.changed_to value last }
+{
+    NetView {
+        value,
+        event: last != value,
+        last,
+    }
+}
+
+/// The net with a number.
+fn view_at(values: &[Logic], lasts: &[Logic], number: usize) -> NetView
+    ensures { result ≡ net_at (views_of values.now lasts.now) number }
+{
+    if number >= values.len() || number >= lasts.len() {
+        return NetView {
+            value: Logic::U,
+            event: false,
+            last: Logic::U,
+        };
+    }
+    changed_to(values[number], lasts[number])
+}
+
+/// The nets with these numbers.
+pub fn views_at(
+    alloc: Global,
+    values: &[Logic],
+    lasts: &[Logic],
+    numbers: &[usize],
+) -> Result<Vec<NetView>, AllocError>
+    ensures { IfOk result (λ v. v.items ≡ map (net_at (views_of values.now lasts.now)) numbers.now) }
+{
+    let mut views = Vec::with_capacity(alloc, numbers.len())?;
+    for number in numbers {
+        views.push(view_at(values, lasts, *number))?;
+    }
+    Ok(views)
+}
+
+/// How a process sees all nets, where these are the nets of its ports and signals.
+#[derive(Clone, Copy)]
+pub struct Seen<'a> {
+    pub homes: &'a [usize],
+    pub values: &'a [Logic],
+    pub lasts: &'a [Logic],
+}
+
+/// The number of the net of a port or signal.
+fn home(homes: &[usize], object: usize) -> usize
+    ensures { result ≡ slice_index_or homes.now object 0 }
+{
+    match homes.get(object) {
+        Some(number) => *number,
+        None => 0,
+    }
+}
+
+impl<'a> Nets for Seen<'a> {
+    ghost look = { λ s object. net_at (views_of s.values.now s.lasts.now) (slice_index_or s.homes.now object 0) };
+
+    fn view(&self, object: usize) -> NetView {
+        view_at(self.values, self.lasts, home(self.homes, object))
+    }
+}

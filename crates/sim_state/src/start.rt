@@ -1,0 +1,95 @@
+//! The state of a design before any process is executed (IEEE 1076-2008, 14.7.5.2), and what is made once for its cycles.
+
+ghost use Rattle.std.specs.Prelude.{◌≡◌, ◌+◌, ◌≤◌, map, length, take, drop, IfOk};
+ghost use Rattle.std.specs.List.{All};
+ghost use Rattle.sim_wave.specs.Driver.{Waveform};
+ghost use Rattle.sim_state.specs.Drivers as spec;
+ghost use Rattle.sim_state.specs.Nets.{net_value};
+ghost use Rattle.sim_state.specs.Contents.{sources_of};
+
+use crate::nets::net_value;
+use sim_design::{Design, DriverOf, Held, Net, Process, Source};
+use sim_logic::Logic;
+use sim_rows::Rows;
+use sim_wave::Driver;
+use std::alloc::{AllocError, Global};
+
+/// Drivers with their first values and nothing pending.
+fn idle_drivers(alloc: Global, drivers: &[DriverOf]) -> Result<Vec<Driver>, AllocError>
+    ensures { IfOk result (λ v. v.items ≡ map (λ d. spec.idle d.first) drivers.now) }
+{
+    drivers
+        .iter()
+        .map(|driver| Driver::new(alloc, driver.first))
+        .collect(alloc)
+}
+
+/// The drivers of a process.
+fn drivers_of<'a>(drivers: &'a [DriverOf], process: &Process) -> &'a [DriverOf]
+    requires { process.now.first_driver + process.now.body.drivers ≤ length drivers.now }
+    ensures { result.now ≡ take process.now.body.drivers (drop process.now.first_driver drivers.now) }
+{
+    let first = process.first_driver();
+    &drivers[first..first + process.body().drivers()]
+}
+
+/// The drivers of a process at first.
+fn own_drivers(
+    alloc: Global,
+    drivers: &[DriverOf],
+    process: &Process,
+) -> Result<Vec<Driver>, AllocError>
+    requires { process.now.first_driver + process.now.body.drivers ≤ length drivers.now }
+    ensures { IfOk result (λ v. v.items ≡ (spec.first_owned drivers.now process.now).drivers) }
+{
+    idle_drivers(alloc, drivers_of(drivers, process))
+}
+
+/// The drivers of each process at first.
+pub fn first_drivers(
+    alloc: Global,
+    drivers: &[DriverOf],
+    processes: &[Process],
+) -> Result<Rows<Driver>, AllocError>
+    requires { All (λ p. p.first_driver + p.body.drivers ≤ length drivers.now) processes.now }
+    ensures { IfOk result (λ r. r ≡ map (λ p. (spec.first_owned drivers.now p).drivers) processes.now) }
+{
+    let mut rows = Rows::new(alloc)?;
+    for process in processes {
+        rows.append(own_drivers(alloc, drivers, process)?)?;
+    }
+    Ok(rows)
+}
+
+/// The variables of each process at first.
+pub fn first_variables(alloc: Global, processes: &[Process]) -> Result<Rows<Held>, AllocError>
+    ensures { IfOk result (λ r. r ≡ map (λ p. p.body.variables) processes.now) }
+{
+    let mut rows = Rows::new(alloc)?;
+    for process in processes {
+        rows.push_row(process.body().variables())?;
+    }
+    Ok(rows)
+}
+
+/// The value of each net.
+pub fn values(alloc: Global, nets: &[Net], drivers: &[Driver]) -> Result<Vec<Logic>, AllocError>
+    ensures { IfOk result (λ v. v.items ≡ map (net_value drivers.now) nets.now) }
+{
+    let mut values = Vec::with_capacity(alloc, nets.len())?;
+    for net in nets {
+        values.push(net_value(net.sources(), drivers))?;
+    }
+    Ok(values)
+}
+
+/// The sources of each net of a design, side by side.
+pub fn sources(alloc: Global, design: &Design) -> Result<Rows<Source>, AllocError>
+    ensures { IfOk result (λ r. r ≡ sources_of design.now.nets) }
+{
+    let mut rows = Rows::new(alloc)?;
+    for net in design.nets() {
+        rows.push_row(net.sources())?;
+    }
+    Ok(rows)
+}
