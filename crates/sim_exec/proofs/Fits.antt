@@ -81,7 +81,7 @@ module _ (b : Body) where
   unfolding statement_fits branch_fits
   signal_fits a h =
       sym (folds.fold-roll-Statement Bool Bool (statement_fits_rule b.objects b.drivers b.variables)
-        (branch_fits_rule b.objects b.drivers b.variables) (so.Signal a))
+      (branch_fits_rule b.objects b.drivers b.variables) (so.Signal a))
       ∙ (ap (statement_fits b.objects b.drivers b.variables) (s.rolls-Signal a) ∙ h)
 
   pub logic_variable_fits : (place : ℕ) (value : LogicExpression) → statement_fits b.objects b.drivers b.variables (s.LogicVariable place value) ≡ true
@@ -90,7 +90,7 @@ module _ (b : Body) where
   logic_variable_fits place value h =
       left _ (logic_fits b.objects b.variables value)
       (sym (folds.fold-roll-Statement Bool Bool (statement_fits_rule b.objects b.drivers b.variables)
-        (branch_fits_rule b.objects b.drivers b.variables) (so.LogicVariable place value))
+      (branch_fits_rule b.objects b.drivers b.variables) (so.LogicVariable place value))
       ∙ (ap (statement_fits b.objects b.drivers b.variables) (s.rolls-LogicVariable place value) ∙ h))
 
   pub boolean_variable_fits : (place : ℕ) (value : BooleanExpression) → statement_fits b.objects b.drivers b.variables (s.BooleanVariable place value) ≡ true
@@ -99,7 +99,7 @@ module _ (b : Body) where
   boolean_variable_fits place value h =
       left _ (boolean_fits b.objects b.variables value)
       (sym (folds.fold-roll-Statement Bool Bool (statement_fits_rule b.objects b.drivers b.variables)
-        (branch_fits_rule b.objects b.drivers b.variables) (so.BooleanVariable place value))
+      (branch_fits_rule b.objects b.drivers b.variables) (so.BooleanVariable place value))
       ∙ (ap (statement_fits b.objects b.drivers b.variables) (s.rolls-BooleanVariable place value) ∙ h))
 
   pub if_fits : (branches : List Branch) (otherwise : List Statement) → statement_fits b.objects b.drivers b.variables (s.If branches otherwise) ≡ true
@@ -107,7 +107,7 @@ module _ (b : Body) where
   unfolding statement_fits branch_fits
   if_fits branches otherwise h =
       let e = sym (folds.fold-roll-Statement Bool Bool (statement_fits_rule b.objects b.drivers b.variables)
-          (branch_fits_rule b.objects b.drivers b.variables) (so.If branches otherwise))
+      (branch_fits_rule b.objects b.drivers b.variables) (so.If branches otherwise))
       ∙ (ap (statement_fits b.objects b.drivers b.variables) (s.rolls-If branches otherwise) ∙ h) in (
         each_is (branch_fits b.objects b.drivers b.variables) branches (left _ _ e),
         each_is (statement_fits b.objects b.drivers b.variables) otherwise (right (all (map (branch_fits b.objects b.drivers b.variables) branches)) _ e),

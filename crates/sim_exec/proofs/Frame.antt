@@ -105,7 +105,7 @@ module _ (p : Process) (number : ℕ) (s : State) where
       let objects = objects_of p.body.statements in
       let places = subst (λ (xs : List ℕ). Each (IsPlaced xs) (nets_of p.nets objects)) (sym is.reads) (all_placed (nets_of p.nets objects)) in
       executed_same (seen (names_of p number) s) (seen (part_names p) (part p number s)) s.time p.body.statements (owned_at s.owned number)
-        (seen_alike objects places)
+      (seen_alike objects places)
       ∙ sym (outcome_is p (part p number s) (omega arith))
 
   pub the_frame : IsProcess p → number < length s.owned → meaning p number s ≡ with_owned number (outcome p (part p number s)) s

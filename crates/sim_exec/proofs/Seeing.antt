@@ -71,7 +71,7 @@ module _ (f g : ℕ → NetView) where
         let rest : List LogicExpression = map (λ (p : LogicPart). p.0) qs in
         logic_step (lo.Chain op q.0 rest) (λ e.
         logic_parts_same (logic_operation op) qs (each_right Alike (logic_objects q.0) (concat (map logic_objects rest)) e) (logic_value f vs q.0)
-          (logic_value g vs q.0)
+        (logic_value g vs q.0)
         (q.1 (each_left Alike (logic_objects q.0) (concat (map logic_objects rest)) e)))
 
     pub logic_same : (x : LogicExpression) → LogicSame x
@@ -163,7 +163,7 @@ module _ (f g : ℕ → NetView) where
     where
       go : (a b : Bool) → a ≡ b → waveform_assigned f now place d (Some c.waveform) own ≡ waveform_assigned g now place d (Some c.waveform) own
           → waveform_assigned f now place d (taken_waveform f own.variables cs o) own
-            ≡ waveform_assigned g now place d (taken_waveform g own.variables cs o) own
+          ≡ waveform_assigned g now place d (taken_waveform g own.variables cs o) own
           → waveform_assigned f now place d (if a then Some c.waveform else taken_waveform f own.variables cs o) own
           ≡ waveform_assigned g now place d (if b then Some c.waveform else taken_waveform g own.variables cs o) own
       go true true e p q = p
@@ -177,15 +177,15 @@ module _ (f g : ℕ → NetView) where
     holds = λ c e a b is. boolean_same a.variables c e ∙ ap (λ (o : Owned). boolean_value g o.variables c) is;
     signal = λ x e a b is.
         signal_same now x.driver x.delay x.conditional x.otherwise a
-          (each_left Alike (concat (map conditional_objects x.conditional)) (last_objects x.otherwise) e)
+        (each_left Alike (concat (map conditional_objects x.conditional)) (last_objects x.otherwise) e)
         (each_right Alike (concat (map conditional_objects x.conditional)) (last_objects x.otherwise) e)
         ∙ ap ((own_steps g now).signal x) is;
     logic_variable = λ n x e a b is.
         ap (λ (v : Logic). record a { variables = slice_set a.variables n (held.Bit v) }) (logic_same a.variables x e)
-          ∙ ap ((own_steps g now).logic_variable n x) is;
+        ∙ ap ((own_steps g now).logic_variable n x) is;
     boolean_variable = λ n x e a b is.
         ap (λ (v : Bool). record a { variables = slice_set a.variables n (held.Truth v) }) (boolean_same a.variables x e)
-          ∙ ap ((own_steps g now).boolean_variable n x) is;
+        ∙ ap ((own_steps g now).boolean_variable n x) is;
   }
 
   -- where all that is named is seen alike, statements leave the same

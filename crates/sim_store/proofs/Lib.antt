@@ -2,6 +2,7 @@ pub mod Assignments
 pub mod Lists
 pub mod Literals
 pub mod Runs
+pub mod Parallel
 pub mod Selecting
 pub mod Sizes
 pub mod Starting

@@ -49,7 +49,7 @@ module _ {S : Type 0} (steps : Steps S) (x : S) (look : ℕ → NetView) (variab
   taken_leaves (b ∷ bs) os =
       let inside : List Statement = (views.out-Branch b).statements in
       rw (branch_is steps b, sees.holds (views.out-Branch b).condition)
-        (go (boolean_value look variables (views.out-Branch b).condition) inside (taken_leaves bs os))
+      (go (boolean_value look variables (views.out-Branch b).condition) inside (taken_leaves bs os))
     where
       go : (c : Bool) (inside : List Statement)
           → first_taken (map (branch_done steps) bs) (in_turn (map (statement_done steps) os)) x ≡ carried_out steps (taken_statements look variables bs os) x

@@ -8,7 +8,9 @@ use Rattle.sim_design.specs.Processes.{Process, IsProcess}
 use Rattle.sim_exec.specs.State.{State, Owned, owned_at, with_owned, net_at}
 use Rattle.sim_exec.specs.Processes.{meaning, part, outcome}
 use Rattle.sim_exec.proofs.Frame.{the_frame}
-use Rattle.sim_store.specs.Order.{no_process, process_at, one_by_one, merged, together, is_among, NoRepeats, AllBelow}
+use Rattle.sim_state.specs.Cycles.{no_process, process_at}
+use Rattle.sim_state.specs.Wakes.{is_among}
+use Rattle.sim_store.specs.Order.{one_by_one, merged, together, NoRepeats, AllBelow}
 
 -- a process as well
 abbrev pub also : ℕ → (ℕ → Bool) → ℕ → Bool
@@ -105,7 +107,6 @@ right true b e = absurd cc
 right false b e = e
 
 out-also : (f : ℕ → Bool) (p : ℕ) (order : List ℕ) → is_among order p ≡ false → AllOut f order → AllOut (also p f) order
-unfolding is_among
 out-also f p [] absent out = tt
 out-also f p (q ∷ order) absent out =
     let other : eqb q p ≡ false = left (eqb q p) (is_among order p) absent in
@@ -116,7 +117,7 @@ out-also f p (q ∷ order) absent out =
 module _ (ps : List Process) (s : State) (all : (p : ℕ) → p < length s.owned → IsProcess (process_at ps p)) where
   from_set : (order : List ℕ) (f : ℕ → Bool) → NoRepeats order → AllBelow (length s.owned) order → AllOut f order
       → one_by_one ps order (together ps f s) ≡ together ps (with_list order f) s
-  unfolding one_by_one is_among
+  unfolding one_by_one
   from_set [] f once below out = refl
   from_set (p ∷ order) f once below out =
       ap (one_by_one ps order) (meaning-together ps s f p (all p below.0) out.0 below.0)

@@ -20,7 +20,8 @@ use Rattle.sim_exec.specs.Statements.{Steps, Guarded, in_turn, statement_rule, b
 use Rattle.sim_exec.specs.Processes.{Names, names_of, seen, owned_of, state_steps, part, outcome}
 use Rattle.sim_exec.proofs.Owning.{with-itself}
 use Rattle.sim_exec.proofs.Frame.{same_outcome}
-use Rattle.sim_store.specs.Order.{no_process, process_at, merged, together}
+use Rattle.sim_state.specs.Cycles.{no_process, process_at}
+use Rattle.sim_store.specs.Order.{merged, together}
 use Rattle.sim_exec.specs.Values.{boolean_value}
 use Rattle.sim_design.specs.declared.held.Held.{Held}
 use Rattle.sim_store.specs.Weaving.{taken_statements, unconditional, selected_assignment, selected_rule, selected_in, to_do, Woven, Over}
@@ -62,7 +63,7 @@ finishing-step looks now b c i p n [] own q same step = refl
 finishing-step looks now b c i zero n (x ∷ os) own q same step =
     let at : n ≡ i = omega arith in
     let first : executed (looks i) now (c i) own ≡ executed (looks i) now (b i) x =
-        subst (λ m. executed (looks m) now (c m) own ≡ executed (looks m) now (b m) x) at step in
+    subst (λ m. executed (looks m) now (c m) own ≡ executed (looks m) now (b m) x) at step in
     let rest = finishing-same looks now b c (suc i) os (λ k h. same k (omega arith)) in
     ap (λ w. w ∷ finishing looks now c (suc i) os) first ∙ ap (λ w. executed (looks i) now (b i) x ∷ w) rest
 finishing-step looks now b c i (suc p) n (x ∷ os) own q same step =
@@ -122,7 +123,7 @@ module _ (n : Names) (s : State) where
   at_once x e =
       let whole = folds.fold_out-Statement (State → State) (Guarded State) (statement_rule (state_steps n)) (branch_rule (state_steps n)) x in
       let own = folds.fold_out-Statement (Owned → Owned) (Guarded Owned) (statement_rule (own_steps (seen n s) s.time))
-          (branch_rule (own_steps (seen n s) s.time)) x in
+      (branch_rule (own_steps (seen n s) s.time)) x in
       ap (λ (f : State → State). f s) whole
       ∙ (at_once_rule (views.out-Statement x) e
       ∙ ap (λ (f : Owned → Owned). with_owned n.process (f (owned_of n s)) s) (sym own))
@@ -146,7 +147,7 @@ woven-finished ps s t todo (Selects s' t' todo' p x rest chosen is at w) =
     let own : Owned = owned_of n s' in
     let steps = own_steps (seen n s') s'.time in
     let left : statement_done steps x own ≡ carried_out steps chosen own =
-        selected_leaves steps own (seen n s') own.variables (own_sees (seen n s') s'.time own) x chosen at in
+    selected_leaves steps own (seen n s') own.variables (own_sees (seen n s') s'.time own) x chosen at in
     let step : executed (looks_of ps s' p) s'.time (chosen ++ rest) own ≡ executed (looks_of ps s' p) s'.time (to_do todo' p) own =
     carried-append steps chosen rest own
     ∙ (ap (carried_out steps rest) (sym left)
@@ -272,15 +273,15 @@ module _ (ps : List Process) (p : ℕ) (t : State) where
       let b : SignalAssignment = unconditional (seen names s) (owned_of names s).variables a in
       selects (views.roll-Statement (so.Signal a)) (views.roll-Statement (so.Signal b) ∷ []) rest s todo lt
       (rolled (so.Signal a) s
-        ∙ (ap (selected_assignment (seen names s) (owned_of names s).variables a) some
-          ∙ ap (λ (y : Statement). Some (y ∷ [])) (sym (statement.rolls-Signal b))))
+      ∙ (ap (selected_assignment (seen names s) (owned_of names s).variables a) some
+      ∙ ap (λ (y : Statement). Some (y ∷ [])) (sym (statement.rolls-Signal b))))
       (λ rest' s' todo' lt' w'. carries (views.roll-Statement (so.Signal b)) rest' s' todo' lt' (rolled (so.Signal b) s') w') w
 
   parts : (y : so.Statement-F Part BranchPart) → GoesFirst (views.roll-Statement (folds.map-Statement _ _ _ _ (λ (q : Part). q.0) (λ (q : BranchPart). q.0) y))
   parts (so.Signal a) = signal_goes a a.conditional refl
   parts (so.LogicVariable n x) = λ rest s todo lt w. carries (views.roll-Statement (so.LogicVariable n x)) rest s todo lt (rolled (so.LogicVariable n x) s) w
   parts (so.BooleanVariable n x) = λ rest s todo lt w. carries (views.roll-Statement (so.BooleanVariable n x)) rest s todo lt
-    (rolled (so.BooleanVariable n x) s) w
+      (rolled (so.BooleanVariable n x) s) w
   parts (so.If bs xs) = λ rest s todo lt w.
       let branches : List Branch = map (λ (q : BranchPart). q.0) bs in
       let last : List Statement = map (λ (q : Part). q.0) xs in

@@ -8,3 +8,4 @@ pub mod State
 pub mod Cycles
 pub mod Order
 pub mod Weaving
+pub mod Standard

@@ -1,16 +1,10 @@
 -- Several processes of one cycle: one after another, and together (IEEE 1076-2008, 14.7.5.3).
-use Rattle.std.specs.Prelude.{ℕ, suc, ◌≡◌, ◌==◌, ◌||◌, ◌<◌, List, [], ◌∷◌, Bool, false, if◌then◌else◌, slice_index_or}
+use Rattle.std.specs.Prelude.{ℕ, suc, ◌≡◌, ◌<◌, List, [], ◌∷◌, Bool, false, if◌then◌else◌}
 use Rattle.sim_design.specs.Processes.{Process}
 use Rattle.sim_exec.specs.State.{State, Owned}
 use Rattle.sim_exec.specs.Processes.{meaning, part, outcome}
-
--- the process with a number; after the last there is none that does anything
-abbrev pub no_process : Process
-no_process =
-    record { sensitivity = []; reads = []; nets = []; first_driver = 0; body = record { objects = 0; drivers = 0; variables = []; statements = [] } }
-
-abbrev pub process_at : List Process → ℕ → Process
-process_at processes n = slice_index_or processes n no_process
+use Rattle.sim_state.specs.Cycles.{process_at}
+use Rattle.sim_state.specs.Wakes.{is_among}
 
 -- one after another, in this order, each on the whole state that the one before it left
 unfoldable pub one_by_one : List Process → List ℕ → State → State
@@ -25,11 +19,6 @@ merged set results n (own ∷ owned) = (if set n then results n else own) ∷ me
 -- each process of a set on its own part of one state
 abbrev pub together : List Process → (ℕ → Bool) → State → State
 together processes set s = record s { owned = merged set (λ p. outcome (process_at processes p) (part (process_at processes p) p s)) 0 s.owned }
-
--- whether a number is in a list
-unfoldable pub is_among : List ℕ → ℕ → Bool
-is_among [] n = false
-is_among (m ∷ ms) n = (m == n) || is_among ms n
 
 -- None is in the list twice.
 abbrev pub NoRepeats : List ℕ → Type 0

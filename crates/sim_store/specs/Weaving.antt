@@ -14,7 +14,7 @@ use Rattle.sim_exec.specs.State.{State}
 use Rattle.sim_exec.specs.Statements.{statement_done}
 use Rattle.sim_exec.specs.Values.{boolean_value, taken_waveform}
 use Rattle.sim_exec.specs.Processes.{Names, names_of, seen, owned_of, state_steps}
-use Rattle.sim_store.specs.Order.{process_at}
+use Rattle.sim_state.specs.Cycles.{process_at}
 
 -- ---- what a statement is replaced by, where a process sees its ports and signals so and its variables hold this
 

@@ -4,7 +4,10 @@ ghost use Rattle.std.specs.Prelude.{ℕ, Bool, List, ◌≡◌, ◌↔◌, lengt
 ghost use Rattle.std.specs.List.{All};
 ghost use Rattle.sim_design.specs.Processes.{Process, IsProcess};
 ghost use Rattle.sim_exec.specs.State.{State};
-ghost use Rattle.sim_store.specs.Order.{one_by_one, together, is_among, NoRepeats, AllBelow};
+ghost use Rattle.sim_state.specs.Wakes.{is_among};
+ghost use Rattle.sim_store.specs.Order.{one_by_one, together, NoRepeats, AllBelow};
+ghost use Rattle.sim_design.specs.Designs.{Design};
+ghost use Rattle.sim_store.specs.Standard.{parallel, standard};
 ghost use Rattle.sim_store.specs.Weaving.{Woven, bodies};
 
 /// Processes that are executed one after another, in any order, each once, leave the state that they leave together, each on its own part of
@@ -19,4 +22,10 @@ pub fn any_order_is_together()
 pub fn any_interleaving_is_together()
     ensures { (processes : List Process) (set : ℕ → Bool) (s t : State) → All IsProcess processes → length s.owned ≡ length processes
         → Woven processes s (bodies set 0 processes) t ↔ (t ≡ together processes set s) }
+{}
+
+/// The states in which all processes that a cycle resumes are executed together, each on its own part, are those of the standard's cycle, in which they
+/// are executed one after another on the whole state.
+pub fn the_states_are_the_standards()
+    ensures { (design : Design) (cycles : ℕ) → All IsProcess design.processes → parallel design cycles ≡ standard design cycles }
 {}

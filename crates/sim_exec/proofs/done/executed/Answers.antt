@@ -12,7 +12,7 @@ returns-then-assign_nothing c =
     let job = c.args.job.now in
     let same = c.assign_nothing.ensures c.if-assign_nothing.true job.time job.owned (sym c.variables.ensures) in
     let statements = c.statements.ensures.value
-        ∙ (ap (λ (b : Body). b.statements) c.body-body.ensures ∙ ap (λ (p : Process). p.body.statements) c.process-2.ensures) in
+    ∙ (ap (λ (b : Body). b.statements) c.body-body.ensures ∙ ap (λ (p : Process). p.body.statements) c.process-2.ensures) in
     done_unchanged job c.views.ensures.fits
     (sym (shown job c.process.result.now c.views.result.now c.statements.result.now c.process.ensures c.views.ensures.value statements) ∙ same)
 

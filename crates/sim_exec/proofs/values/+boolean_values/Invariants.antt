@@ -7,4 +7,4 @@ abbrev pub invariant-boolean_chain-loop-operand : goal.invariant-boolean_chain-l
 invariant-boolean_chain-loop-operand g l =
     let values = map (spec.boolean_value (g.N.Nets.look l.nets) l.variables) in
     fold (spec.boolean_operation l.operator) l.value (values (drop l.operand-index l.rest))
-      ≡ fold (spec.boolean_operation l.operator) l.fn.first (values l.fn.rest)
+    ≡ fold (spec.boolean_operation l.operator) l.fn.first (values l.fn.rest)
