@@ -3,7 +3,7 @@ use Rattle.std.proofs.Common.{◌≡◌, ℕ, ◌+◌, ◌*◌, ◌<◌, List, [
 use Rattle.std.specs.List.{All}
 use Rattle.std.proofs.lemmas.List.Elements.{All-append, All-from_recursion}
 use Rattle.std.proofs.lemmas.List.Sums.{sum_by-append}
-use Rattle.sim_store.specs.declared.record.Record.{Record}
+use Rattle.sim_state.specs.declared.record.Record.{Record}
 use Rattle.sim_store.specs.History.{IsNamed, event_count}
 
 -- the records are of one net, and after the first there are n of them with this many changes

@@ -9,8 +9,6 @@ pub struct Case {
     pub name: String,
     pub words: Vec<String>,
     pub text: Vec<u8>,
-    /// Whether the design is one that the program does not run yet: then its answer is `NotYet`.
-    pub is_not_yet: bool,
     pub output: Vec<u8>,
     pub compares_output: bool,
     pub error: Vec<u8>,
@@ -72,7 +70,6 @@ impl Case {
             name,
             words: words_of(alloc, b"--top t")?,
             text: Vec::new(alloc),
-            is_not_yet: false,
             output: Vec::new(alloc),
             compares_output: true,
             error: Vec::new(alloc),
@@ -111,7 +108,6 @@ impl Case {
             },
             b'~' if line == b">".as_slice() => self.compares_output = false,
             b'~' if line == b"!".as_slice() => self.compares_error = false,
-            b'-' => self.is_not_yet = true,
             _ => return Ok(false),
         }
         Ok(true)

@@ -15,7 +15,6 @@
 //! | `!` | a line that is to be written to standard error |
 //! | `?` | the status; where there is no such line, 0 |
 //! | `~` | `>` or `!`: what is written there is not compared |
-//! | `-` | why the design does not run yet: the answer is to be `NotYet`, and what the case says holds once it runs |
 #![tactic(auto)]
 
 mod case;
@@ -35,18 +34,16 @@ use std::{env, fs};
 #[derive(Clone, Copy)]
 struct Counts {
     same: u64,
-    not_yet: u64,
     differ: u64,
 }
 
 /// Tells in which way a case differs.
 fn tell<R: Print>(rt: &R, name: &str, outcome: Outcome) -> Result<()> {
     match outcome {
-        Outcome::Same | Outcome::NotYet => {}
+        Outcome::Same => {}
         Outcome::OtherStatus(status) => println!(rt; "differs in status, {status}: {name}")?,
         Outcome::OtherOutput => println!(rt; "differs in standard output: {name}")?,
         Outcome::OtherError => println!(rt; "differs in standard error: {name}")?,
-        Outcome::RunsNow => println!(rt; "differs, not NotYet: {name}")?,
     }
     Ok(())
 }
@@ -69,10 +66,6 @@ fn counted(counts: Counts, outcome: Outcome) -> Counts {
             same: counts.same.saturating_add(1),
             ..counts
         },
-        Outcome::NotYet => Counts {
-            not_yet: counts.not_yet.saturating_add(1),
-            ..counts
-        },
         _ => Counts {
             differ: counts.differ.saturating_add(1),
             ..counts
@@ -86,22 +79,14 @@ fn run_file<R: Threads + Wait + Sync + AllocGlobal + Files + Print>(
     name: &str,
 ) -> Result<()> {
     let file = fs::read(rt, name).context("a file of cases cannot be read")?;
-    let mut counts = Counts {
-        same: 0,
-        not_yet: 0,
-        differ: 0,
-    };
+    let mut counts = Counts { same: 0, differ: 0 };
     for case in cases(rt.alloc(), file.as_slice())? {
         let (name, outcome) = run_case(rt, case)?;
         tell(rt, name.as_str(), outcome)?;
         counts = counted(counts, outcome);
     }
-    let Counts {
-        same,
-        not_yet,
-        differ,
-    } = counts;
-    println!(rt; "{name}: {same} as they are to be, {not_yet} not run yet, {differ} differ")?;
+    let Counts { same, differ } = counts;
+    println!(rt; "{name}: {same} as they are to be, {differ} differ")?;
     Ok(())
 }
 

@@ -10,13 +10,9 @@ use std::thread::Threads;
 #[derive(Clone, Copy, PartialEq, Eq)]
 pub enum Outcome {
     Same,
-    /// The answer is `NotYet`, as it is to be.
-    NotYet,
     OtherStatus(u32),
     OtherOutput,
     OtherError,
-    /// The case is marked as one that does not run yet, and it does.
-    RunsNow,
 }
 
 /// What the program answers and writes.
@@ -45,23 +41,9 @@ pub fn answered<R: Threads + Wait + Sync>(
     }
 }
 
-/// Compares the answer to a case of a design that does not run yet.
-fn compare_not_yet(answer: &Answer) -> Outcome {
-    if answer.status == 1
-        && answer.output.is_empty()
-        && answer.error.as_slice() == b"vsim: NotYet\n".as_slice()
-    {
-        Outcome::NotYet
-    } else {
-        Outcome::RunsNow
-    }
-}
-
 /// Compares the answer to a case with that of the case.
 pub fn compare(case: &Case, answer: &Answer) -> Outcome {
-    if case.is_not_yet {
-        compare_not_yet(answer)
-    } else if answer.status != case.status {
+    if answer.status != case.status {
         Outcome::OtherStatus(answer.status)
     } else if case.compares_output && answer.output.as_slice() != case.output.as_slice() {
         Outcome::OtherOutput

@@ -59,7 +59,6 @@ refusal_of source text options (refusal.Text (fault.Syntax at)) long longer p = 
 refusal_of source text options (refusal.Text (fault.TooDeep at)) long longer p = absurd (too_much source long p.short)
 refusal_of source text options (refusal.Text (fault.TimeRange at)) long longer p = absurd (too_much source long p.short)
 refusal_of source text options (refusal.Flat f) long longer p = absurd (too_much source long p.is_text.short)
-refusal_of source text options refusal.NotYet long longer p = absurd (too_much source long p.is_design.is_text.short)
 refusal_of source text options (refusal.CycleLimit l) long longer p = absurd (too_much source long p.1.is_design.is_text.short)
 refusal_of source text options refusal.Memory long longer p = tt
 refusal_of source text options refusal.Write long longer p = absurd p
@@ -79,7 +78,6 @@ run_fails unread left source options refusal.Write r p = tt
 run_fails unread left source options refusal.Options r p = text_refused unread left source options refusal.Options r (p (λ q. absurd cc))
 run_fails unread left source options (refusal.Text f) r p = text_refused unread left source options (refusal.Text f) r (p (λ q. absurd cc))
 run_fails unread left source options (refusal.Flat f) r p = text_refused unread left source options (refusal.Flat f) r (p (λ q. absurd cc))
-run_fails unread left source options refusal.NotYet r p = text_refused unread left source options refusal.NotYet r (p (λ q. absurd cc))
 run_fails unread left source options (refusal.CycleLimit l) r p = text_refused unread left source options (refusal.CycleLimit l) r (p (λ q. absurd cc))
 run_fails unread left source options refusal.Memory r p = text_refused unread left source options refusal.Memory r (p (λ q. absurd cc))
 
@@ -156,7 +154,7 @@ module _ (words : List (List ℕ)) (unread : Option (List ℕ)) (options : Optio
       → HasRun words unread IsRefusedText
   unelaborated e (inl h) is p = let four = h.1 in absurd (omega arith)
   unelaborated e (inr h) is p = has_run IsRefusedText
-      (record { text = p.text; whole = p.whole; holds = inr (inl (record { fault = e; known = h.0; is = p.holds })) })
+      (record { text = p.text; whole = p.whole; holds = inr (record { fault = e; known = h.0; is = p.holds }) })
 
   pub status_1 : (f : Failure) → status_of f ≡ 1 → IsFailure unread options f → HasRun words unread IsRefusedText
   status_1 failure.Read e p = absurd (omega arith)
@@ -171,8 +169,6 @@ module _ (words : List (List ℕ)) (unread : Option (List ℕ)) (options : Optio
   status_1 (failure.Run (refusal.Text (fault.TooDeep at))) e p = faulty (fault.TooDeep at) (λ q. absurd cc) p
   status_1 (failure.Run (refusal.Text (fault.TimeRange at))) e p = faulty (fault.TimeRange at) (λ q. absurd cc) p
   status_1 (failure.Run (refusal.Flat f)) e p = unelaborated f (flat_status f) e p
-  status_1 (failure.Run refusal.NotYet) e p = has_run IsRefusedText
-      (record { text = p.text; whole = p.whole; holds = inr (inr p.holds) })
   status_1 (failure.Run (refusal.CycleLimit l)) e p = absurd (omega arith)
   status_1 (failure.Run refusal.Write) e p = absurd (omega arith)
   status_1 (failure.Run refusal.Memory) e p = absurd (omega arith)
@@ -184,7 +180,6 @@ module _ (words : List (List ℕ)) (unread : Option (List ℕ)) (options : Optio
   status_3 (failure.Run refusal.Options) e p = absurd (omega arith)
   status_3 (failure.Run (refusal.Text f)) e p = absurd (text_not_limit f e)
   status_3 (failure.Run (refusal.Flat f)) e p = absurd (flat_not_limit f (flat_status f) e)
-  status_3 (failure.Run refusal.NotYet) e p = absurd (omega arith)
   status_3 (failure.Run (refusal.CycleLimit l)) e p = has_run (λ text o. HasDesign text o (λ design. ReachesLimit design o))
       (record { text = p.text; whole = p.whole; holds = p.holds.1 })
   status_3 (failure.Run refusal.Write) e p = absurd (omega arith)
@@ -197,7 +192,6 @@ module _ (words : List (List ℕ)) (unread : Option (List ℕ)) (options : Optio
   out_of_range unread' (failure.Run refusal.Options) e p = p.holds
   out_of_range unread' (failure.Run (refusal.Text f)) e p = absurd (text_not_words f e)
   out_of_range unread' (failure.Run (refusal.Flat f)) e p = absurd (flat_not_words f (flat_status f) e)
-  out_of_range unread' (failure.Run refusal.NotYet) e p = absurd (omega arith)
   out_of_range unread' (failure.Run (refusal.CycleLimit l)) e p = absurd (omega arith)
   out_of_range unread' (failure.Run refusal.Write) e p = absurd (omega arith)
   out_of_range unread' (failure.Run refusal.Memory) e p = absurd (omega arith)
@@ -215,7 +209,6 @@ module _ (words : List (List ℕ)) (unread : Option (List ℕ)) (options : Optio
   stopped Holds (failure.Run refusal.Options) quiet part = inl (quiet (λ e. absurd cc))
   stopped Holds (failure.Run (refusal.Text f)) quiet part = inl (quiet (λ e. absurd cc))
   stopped Holds (failure.Run (refusal.Flat f)) quiet part = inl (quiet (λ e. absurd cc))
-  stopped Holds (failure.Run refusal.NotYet) quiet part = inl (quiet (λ e. absurd cc))
   stopped Holds (failure.Run (refusal.CycleLimit l)) quiet part = inl (quiet (λ e. absurd cc))
   stopped Holds (failure.Run refusal.Memory) quiet part = inl (quiet (λ e. absurd cc))
   stopped Holds (failure.Run refusal.Write) quiet part = inr (inl (has_run Holds (part refl)))

@@ -2,7 +2,7 @@
 use Rattle.std.specs.Prelude.{ℕ, ◌-◌, List, [], ◌∷◌, ◌++◌, length, decimal, codes, slice_index_or, flat_map}
 use Rattle.sim_logic.specs.declared.logic.Logic.{Logic}
 use Rattle.sim_logic.specs.Logic.{byte_of}
-use Rattle.sim_store.specs.declared.record.Record.{Record}
+use Rattle.sim_state.specs.declared.record.Record.{Record}
 use Rattle.sim_store.specs.History.{event_count}
 
 -- some pieces of text, one after another

@@ -1,5 +1,8 @@
 -- A run, whatever the design, by how the design behaves.
-use Rattle.std.specs.Prelude.{◌≡◌, ℕ, List, Option}
+use Rattle.std.specs.Prelude.{◌≡◌, ◌-◌, ℕ, suc, List, Option, Some, None}
+use Rattle.sim_design.specs.Designs.{Design}
+use Rattle.sim_store.specs.Store.{Store}
+use Rattle.sim_store.specs.declared.store.Step.{Step}
 use Rattle.std.specs.Io.KnownBytes.{Appends}
 use Rattle.sim_store.specs.Behaviour.{Behaviour}
 use Rattle.sim_store.specs.History.{History}
@@ -30,3 +33,23 @@ pub record ListsPart (design : Behaviour) (options : Options) (old new : Option 
   pub history : History
   pub finishes : Finishes design options history
   pub written : AppendsPart old new (listing history.names history.records)
+
+-- This is the store of the run of a design with these options.
+pub record IsRunOf (design : Design) (options : Options) (run : Store) : Type 0 where
+  pub of : run.progress.design ≡ design
+  pub stop : run.stop ≡ options.stop
+  pub limit : run.limit ≡ options.limit
+
+-- These are of the run of one design with the same options.
+pub record IsSameRun (run other : Store) : Type 0 where
+  pub design : other.progress.design ≡ run.progress.design
+  pub stop : other.stop ≡ run.stop
+  pub limit : other.limit ≡ run.limit
+
+-- how many steps there may still be: a cycle each, and the last, which ends the run
+abbrev pub steps_left : Store → ℕ
+steps_left run = left run.ended
+  where
+    left : Option Step → ℕ
+    left None = suc (run.limit - run.progress.cycles)
+    left (Some s) = 0

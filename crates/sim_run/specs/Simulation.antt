@@ -1,5 +1,5 @@
 -- What is simulated of a text, and why a text is not.
-use Rattle.std.specs.Prelude.{◌≡◌, ◌≢◌, ◌⊎◌, ℕ, List, Option, false}
+use Rattle.std.specs.Prelude.{◌≡◌, ◌≢◌, ◌⊎◌, ℕ, List, false}
 use Rattle.std.specs.String.{string_bytes}
 use Rattle.sim_tree.specs.DesignFile.{DesignFile}
 use Rattle.sim_text.specs.Texts.{IsText, IsFault, IsFaulty}
@@ -8,9 +8,7 @@ use Rattle.sim_instance.specs.Libraries.{library_of}
 use Rattle.sim_flat.specs.declared.error.FlatError.{FlatError}
 use Rattle.sim_flat.specs.declared.error.FlatError.TheVariants as flat
 use Rattle.sim_flat.specs.Elaboration as elaboration
-use Rattle.sim_store.specs.Behaviour.{Behaviour}
-use Rattle.sim_store.specs.Cycles.{behaviour_of}
-use Rattle.sim_store.specs.Stimuli.{IsRunnable}
+use Rattle.sim_store.specs.Behaviour.{Behaviour, behaviour_of}
 use Rattle.sim_run.specs.declared.error.RunError.{RunError}
 use Rattle.sim_run.specs.declared.error.RunError.TheVariants as refusal
 use Rattle.sim_options.specs.declared.options.Options.{Options}
@@ -23,18 +21,11 @@ pub record IsDesignOf (text : List ℕ) (options : Options) (design : Design) : 
   pub is_text : IsText text file
   pub elaborated : elaboration.IsDesign (library_of file.units) (string_bytes options.top) design
 
--- The text has a design of the form that is run, and of how it behaves this is true.
+-- The text has a design, and of how it behaves this is true.
 pub record HasDesign (text : List ℕ) (options : Options) (Holds : Behaviour → Type 0) : Type 0 where
   pub design : Design
   pub is_design : IsDesignOf text options design
-  pub runnable : IsRunnable design
   pub holds : Holds (behaviour_of design)
-
--- The text has a design that is not of the form that is run.
-pub record IsOther (text : List ℕ) (options : Options) : Type 0 where
-  pub design : Design
-  pub is_design : IsDesignOf text options design
-  pub other : IsRunnable design → ⊥
 
 -- The text is a file, and this is why it has no design under the top.
 pub record HasNoDesign (text : List ℕ) (options : Options) (e : FlatError) : Type 0 where
@@ -48,16 +39,15 @@ pub record IsUnelaborated (text : List ℕ) (options : Options) : Type 0 where
   pub known : fault ≢ flat.Memory
   pub is : HasNoDesign text options fault
 
--- The text is at fault, or its design is, or it is not of the form that is run.
+-- The text is at fault, or its design is.
 abbrev pub IsRefusedText : List ℕ → Options → Type 0
-IsRefusedText text options = IsFaulty text ⊎ (IsUnelaborated text options ⊎ IsOther text options)
+IsRefusedText text options = IsFaulty text ⊎ IsUnelaborated text options
 
 -- Why a run was refused.
 abbrev pub IsRefusal : List ℕ → Options → RunError → Type 0
 IsRefusal text options refusal.Options = are_in_range options.stop options.limit options.workers ≡ false
 IsRefusal text options (refusal.Text fault) = IsFault text fault
 IsRefusal text options (refusal.Flat fault) = HasNoDesign text options fault
-IsRefusal text options refusal.NotYet = IsOther text options
 IsRefusal text options (refusal.CycleLimit limit) = (limit ≡ options.limit) × HasDesign text options (λ design. ReachesLimit design options)
 IsRefusal text options refusal.Memory = Unit {0}
 IsRefusal text options refusal.Write = ⊥

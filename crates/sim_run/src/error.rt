@@ -20,9 +20,6 @@ pub enum RunError {
     /// The design is at fault, or there was no memory to elaborate it.
     #[error("{0}")]
     Flat(FlatError),
-    /// The design is not of the form that is run today.
-    #[error("NotYet")]
-    NotYet,
     /// The run needs more cycles than the limit.
     #[error("CycleLimit {limit}")]
     CycleLimit { limit: u32 },

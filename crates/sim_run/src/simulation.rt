@@ -1,8 +1,7 @@
 //! From the text of a design to its listing.
-ghost use Rattle.std.specs.Prelude.{◌≡◌, ◌≢◌, ◌↔◌, false, Err, OnOk, IfErr, MatchResult};
+ghost use Rattle.std.specs.Prelude.{◌≡◌, ◌≢◌, ◌↔◌, true, false, Err, OnOk, IfErr, MatchResult};
 ghost use Rattle.std.specs.Io.KnownBytes.{Keeps};
 ghost use Rattle.sim_options.specs.Options.{are_in_range};
-ghost use Rattle.sim_store.specs.Stimuli.{IsRunnable};
 ghost use Rattle.sim_run.specs.Run.{Finishes, Lists, ListsPart};
 ghost use Rattle.sim_run.specs.Simulation.{IsDesignOf, HasDesign, IsOfText, IsRefusal};
 
@@ -13,7 +12,6 @@ use crate::run::run_design;
 use sim_design::Design;
 use sim_flat::flatten;
 use sim_options::Options;
-use sim_store::is_runnable;
 use sim_text::parse;
 use std::alloc::Global;
 use std::io::Write;
@@ -30,30 +28,19 @@ pub fn elaborate(alloc: Global, source: &[u8], options: &Options) -> Result<Desi
     Ok(design)
 }
 
-/// The design of a text, where it is of the form that is run today.
-fn design_of(alloc: Global, source: &[u8], options: &Options) -> Result<Design, RunError>
-    ensures { MatchResult result (λ design. IsDesignOf source.now options.now design × IsRunnable design) (λ e. IsRefusal source.now options.now e) }
-{
-    let design = elaborate(alloc, source, options)?;
-    if is_runnable(&design) {
-        Ok(design)
-    } else {
-        Err(RunError::NotYet)
-    }
-}
-
 /// The finished run of a text.
 fn run_text(alloc: Global, source: &[u8], options: &Options) -> Result<Finished, RunError>
+    requires { are_in_range options.now.stop options.now.limit options.now.workers ≡ true }
     ensures { MatchResult result (λ f. HasDesign source.now options.now (λ design. Finishes design options.now f)) (λ e. IsRefusal source.now options.now e) }
 {
-    let design = design_of(alloc, source, options)?;
-    run_design(alloc, &design, options)
+    let design = elaborate(alloc, source, options)?;
+    run_design(alloc, design, options)
 }
 
 /// Simulates the design in a text and writes its listing. The refusals, in the order in which they are looked for: `Options`
 /// where the stop time, the limit or the workers are out of their ranges; `Text` where the text is at fault, or there was no
 /// memory to read it (`sim_text::parse` says when each fault comes); `Flat` where the design is at fault, or there was no memory to
-/// elaborate it (`sim_flat::flatten` says when each fault comes); `NotYet` where the design is not of the form that is run today;
+/// elaborate it (`sim_flat::flatten` says when each fault comes);
 /// `CycleLimit` where the run needs more cycles than the limit; `Write` where a write fails or takes nothing. With every
 /// refusal but `Write` nothing is written, and with that one a front of the listing.
 pub fn simulate<R: Threads + Wait + Sync, W: Write>(

@@ -5,3 +5,4 @@ pub mod Contents
 pub mod Starting
 pub mod Waking
 pub mod Logged
+pub mod Parts

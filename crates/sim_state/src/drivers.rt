@@ -1,6 +1,7 @@
 //! Drivers, one after another (IEEE 1076-2008, 14.7.2).
 
 ghost use Rattle.std.specs.Prelude.{◌≡◌, [], ◌∷◌, map, IfOk};
+ghost use Rattle.std.specs.Bool.{Decides};
 ghost use Rattle.sim_wave.specs.Driver.{taken};
 ghost use Rattle.sim_state.specs.Times as times;
 ghost use Rattle.sim_state.specs.Drivers as spec;
@@ -65,4 +66,22 @@ pub fn copied(alloc: Global, drivers: &[Driver]) -> Result<Vec<Driver>, AllocErr
         copy.push(driver.try_copy()?)?;
     }
     Ok(copy)
+}
+
+/// Whether two drivers have the same value, and the same transactions pending.
+fn is_same(driver: &Driver, other: &Driver) -> bool
+    ensures { Decides result (driver.now ≡ other.now) }
+{
+    driver.same(other)
+}
+
+/// Whether these are the same drivers, in the same order.
+pub fn are_same(drivers: &[Driver], others: &[Driver]) -> bool
+    ensures { Decides result (drivers.now ≡ others.now) }
+{
+    drivers.len() == others.len()
+        && drivers
+            .iter()
+            .zip(others)
+            .all(|(driver, other)| is_same(driver, other))
 }

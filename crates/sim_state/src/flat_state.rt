@@ -1,6 +1,7 @@
 //! What is held of the state of a design.
 
-ghost use Rattle.std.specs.Prelude.{ℕ, ◌≡◌, false, ◌<◌, ◌≤◌, ◌^◌, ◌++◌, ◌∷◌, [], List, length, map, slice_index_or, slice_set, IfOk, OnOk};
+ghost use Rattle.std.specs.Prelude.{ℕ, ◌≡◌, ◌↔◌, IsTrue, false, ◌<◌, ◌≤◌, ◌^◌, ◌++◌, ◌∷◌, [], List, length, map, slice_index_or, slice_set, MatchOption, IfOk, OnOk};
+ghost use Rattle.std.specs.Bool.{Decides};
 ghost use Rattle.sim_logic.specs.Time.{largest_time};
 ghost use Rattle.sim_design.specs.Designs.{Design as design_value};
 ghost use Rattle.sim_exec.specs.Jobs.{IsReady};
@@ -14,10 +15,10 @@ ghost use Rattle.sim_state.specs.Records.{changes_from, values_of};
 ghost use Rattle.sim_state.specs.Wakes.{AreWakes};
 ghost use Rattle.sim_design.specs.Processes.{Process as process_value};
 
-use crate::drivers::{copied, next_time, take_all};
+use crate::drivers::{are_same, copied, next_time, take_all};
 use crate::execution::execute_at;
 use crate::log::Log;
-use crate::nets::{Seen, resolve_each, views_at};
+use crate::nets::{Seen, are_views, resolve_each, views_at};
 use crate::resumption::find_resumed;
 use crate::start::{first_drivers, first_variables, values};
 use sim_design::{Design, Held, Process, Source};
@@ -55,6 +56,13 @@ pub struct Part {
     pub variables: Vec<Held>,
 }
 
+/// Whether these variables hold the same.
+fn are_equal(variables: &[Held], others: &[Held]) -> bool
+    ensures { Decides result (variables.now ≡ others.now) }
+{
+    variables == others
+}
+
 impl FlatState {
     /// The state of a design before any process is executed: each driver has its first value, each net the value of its sources (14.7.5.2).
     pub fn first(alloc: Global, design: &Design) -> Result<FlatState, AllocError>
@@ -72,6 +80,17 @@ impl FlatState {
         })
     }
 
+    /// The value of the net with a number; none beyond the last.
+    pub fn value(&self, net: usize) -> Option<Logic>
+        ensures { MatchOption result (length self.now.nets ≤ net) (λ v. (net < length self.now.nets) × (v ≡ (net_at self.now.nets net).value)) }
+    {
+        if net < self.values.len() {
+            Some(self.values[net])
+        } else {
+            None
+        }
+    }
+
     /// Copies the part of the process with a number, which reads these nets. For an empty list it takes no memory.
     pub fn part(&self, alloc: Global, number: usize, reads: &[usize]) -> Result<Part, AllocError>
         requires { number < length self.now.owned }
@@ -86,6 +105,28 @@ impl FlatState {
             drivers,
             variables,
         })
+    }
+
+    /// Whether this is the part of the process with a number, which reads these nets. It takes no memory.
+    pub fn is_part(
+        &self,
+        number: usize,
+        reads: &[usize],
+        views: &[NetView],
+        variables: &[Held],
+        drivers: &[Driver],
+    ) -> bool
+        requires { number < length self.now.owned }
+        ensures { IsTrue result ↔ ((views.now ≡ map (net_at self.now.nets) reads.now)
+            × (record { drivers = drivers.now; variables = variables.now } ≡ owned_at self.now.owned number)) }
+    {
+        if !are_views(self.values.as_slice(), self.lasts.as_slice(), reads, views) {
+            return false;
+        }
+        if !are_same(drivers, self.drivers.row(number)) {
+            return false;
+        }
+        are_equal(variables, self.variables.row(number))
     }
 
     /// Puts what the process with a number owns in the place of what it owned. It takes no memory.

@@ -3,7 +3,7 @@
 ghost use Rattle.std.specs.Prelude.{◌≡◌, ◌≢◌, ◌≤◌, ◌<◌, ◌+◌, ◌^◌, ◌++◌, ◌∷◌, [], length, slice_index_or, slice_range, vec_len, vec_capacity, OnOk};
 ghost use Rattle.std.specs.List.{enumerate_from};
 ghost use Rattle.sim_state.specs.Contents.{views_of};
-ghost use Rattle.sim_state.specs.Log.{end_mark, record_at};
+ghost use Rattle.sim_state.specs.Log.{all_changes, end_mark, record_at};
 ghost use Rattle.sim_state.specs.Records.{changes_from};
 
 use sim_logic::Logic;
@@ -115,6 +115,13 @@ impl Log {
         ensures { result ≡ length self.now.records }
     {
         self.marks.len()
+    }
+
+    /// How many changes they have in all.
+    pub fn count(&self) -> usize
+        ensures { result ≡ length (all_changes self.now.records) }
+    {
+        self.changes.len()
     }
 
     /// When the record with a number is: its time and its delta number.

@@ -1,6 +1,6 @@
 //! Nets: their values (IEEE 1076-2008, 14.7.3), and how processes see them.
 
-ghost use Rattle.std.specs.Prelude.{◌≡◌, length, map, fold, slice_index_or, IfOk};
+ghost use Rattle.std.specs.Prelude.{◌≡◌, length, map, fold, slice_index_or, ◌↔◌, IsTrue, IfOk};
 ghost use Rattle.sim_logic.specs.declared.logic.Logic as logic;
 ghost use Rattle.sim_logic.specs.Tables.{resolution_table};
 ghost use Rattle.sim_logic.specs.Resolution.{resolved};
@@ -131,4 +131,33 @@ impl<'a> Nets for Seen<'a> {
     fn view(&self, object: usize) -> NetView {
         view_at(self.values, self.lasts, home(self.homes, object))
     }
+}
+
+/// Whether two views are one.
+fn are_one(view: NetView, other: NetView) -> bool
+    ensures { IsTrue result ↔ (view ≡ other) }
+{
+    view.value == other.value && view.event == other.event && view.last == other.last
+}
+
+/// Whether the net with a number is seen so.
+fn is_seen(values: &[Logic], lasts: &[Logic], number: usize, view: NetView) -> bool
+    ensures { IsTrue result ↔ (view ≡ net_at (views_of values.now lasts.now) number) }
+{
+    are_one(view, view_at(values, lasts, number))
+}
+
+/// Whether the nets with these numbers are seen so.
+pub fn are_views(values: &[Logic], lasts: &[Logic], numbers: &[usize], views: &[NetView]) -> bool
+    ensures { IsTrue result ↔ (views.now ≡ map (net_at (views_of values.now lasts.now)) numbers.now) }
+{
+    if views.len() != numbers.len() {
+        return false;
+    }
+    for i in 0..views.len() {
+        if !is_seen(values, lasts, numbers[i], views[i]) {
+            return false;
+        }
+    }
+    true
 }

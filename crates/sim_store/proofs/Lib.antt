@@ -1,11 +1,9 @@
-pub mod Assignments
-pub mod Lists
-pub mod Literals
-pub mod Runs
+pub mod Going
+pub mod Listing
 pub mod Parallel
+pub mod Readiness
+pub mod Records
 pub mod Selecting
-pub mod Sizes
-pub mod Starting
+pub mod Stores
 pub mod Together
 pub mod Weaves
-pub mod Times

@@ -1,15 +1,18 @@
 -- The states of processes that are executed together are those of processes that are executed one after another.
 use Rattle.std.proofs.Common.{ℕ, zero, suc, ◌+◌, ◌<◌, ◌≤◌, ◌≡◌, ◌≢◌, eqb, Bool, true, false, if◌then◌else◌, List, [], ◌∷◌, Option, None, Some}
-use Rattle.std.proofs.Common.{length, refl, ap, sym, ◌∙◌, arith}
+use Rattle.std.proofs.Common.{length, map, refl, ap, sym, ◌∙◌, subst, arith}
 use Rattle.std.specs.List.{All}
 use Rattle.std.proofs.lemmas.Bool.Decides.{nat_tests}
 use Rattle.std.proofs.lemmas.List.{length-map}
-use Rattle.sim_design.specs.Designs.{Design}
+use Rattle.sim_design.specs.Designs.{Design, Net}
 use Rattle.sim_design.specs.Processes.{IsProcess}
 use Rattle.sim_exec.specs.State.{State, Owned}
 use Rattle.sim_exec.specs.Processes.{part, outcome}
-use Rattle.sim_state.specs.Drivers.{own_taken, first_owned}
-use Rattle.sim_state.specs.Cycles.{process_at, is_resumed}
+use Rattle.sim_wave.specs.Driver.{Waveform}
+use Rattle.sim_exec.specs.declared.view.NetView.{NetView}
+use Rattle.sim_state.specs.Drivers.{waves, own_taken, first_owned, all_first_owned}
+use Rattle.sim_state.specs.Nets.{net_started, nets_updated}
+use Rattle.sim_state.specs.Cycles.{process_at, is_resumed, next_delta}
 use Rattle.sim_state.specs.Wakes.{is_among}
 use Rattle.sim_store.specs.Order.{merged, NoRepeats, AllBelow}
 use Rattle.sim_store.specs.Standard.{those, next_of, onward, executed_in_turn, executed_together, cycle_in_turn, cycle_together, standard, parallel}
@@ -63,9 +66,20 @@ merged-below f g r i (o ∷ os) same =
     rw (same i (omega arith) (omega arith))
     (ap (λ w. (if g i then r i else o) ∷ w) (merged-below f g r (suc i) os (λ k h l. same k (omega arith) (omega arith))))
 
+pub length-nets_updated : (ds : List Waveform) (nets : List Net) (olds : List NetView) → length olds ≡ length nets → length (nets_updated ds nets olds) ≡ length nets
+unfolding nets_updated
+length-nets_updated ds [] olds e = refl
+length-nets_updated ds (n ∷ ns) [] e = absurd (omega (arith, e))
+length-nets_updated ds (n ∷ ns) (o ∷ os) e = ap suc (length-nets_updated ds ns os (omega (arith, e)))
+
+-- A state has the design's nets, and its delta number is at most that of the cycles before it.
+abbrev pub FitsCycles : Design → ℕ → Option State → Type 0
+FitsCycles d k None = Unit {0}
+FitsCycles d k (Some s) = (length s.nets ≡ length d.nets) × (s.delta ≤ k)
+
 module _ (d : Design) (is : All IsProcess d.processes) where
   -- the processes of a cycle, one after another, leave what they leave together
-  in_turn_is_together : (k : ℕ) (s : State) → length s.owned ≡ length d.processes → executed_in_turn d k s ≡ executed_together d k s
+  pub in_turn_is_together : (k : ℕ) (s : State) → length s.owned ≡ length d.processes → executed_in_turn d k s ≡ executed_together d k s
   in_turn_is_together k s len =
       let f = is_resumed d k s in
       let n = length d.processes in
@@ -102,3 +116,26 @@ module _ (d : Design) (is : All IsProcess d.processes) where
   unfolding parallel standard
   parallel_standard zero = refl
   parallel_standard (suc k) = sym (same_cycle k (parallel d k) (parallel_all k)) ∙ ap (cycle_in_turn d k) (parallel_standard k)
+
+  pub standard_all : (k : ℕ) → HasAll (standard d k)
+  standard_all k = subst HasAll (parallel_standard k) (parallel_all k)
+
+  onward_fits : (k : ℕ) (x : State) (t : Option ℕ) → length x.nets ≡ length d.nets → x.delta ≤ k → FitsCycles d (suc k) (onward d x t)
+  onward_fits k x None n slow = tt
+  onward_fits k x (Some t) n slow = (length-nets_updated (waves (map (own_taken t) x.owned)) d.nets x.nets n, step (eqb t x.time) refl)
+    where
+      step : (b : Bool) → eqb t x.time ≡ b → next_delta t x.time x.delta ≤ suc k
+      step true e = rw e (omega (arith, slow))
+      step false e = rw e (omega arith)
+
+  cycle_fits : (k : ℕ) (o : Option State) → FitsCycles d k o → FitsCycles d (suc k) (cycle_together d k o)
+  cycle_fits k None f = tt
+  cycle_fits k (Some s) f = let x = executed_together d k s in onward_fits k x (next_of x) f.0 f.1
+
+  parallel_fits : (k : ℕ) → FitsCycles d k (parallel d k)
+  unfolding parallel
+  parallel_fits zero = (length-map d.nets (net_started (waves (all_first_owned d))), omega arith)
+  parallel_fits (suc k) = cycle_fits k (parallel d k) (parallel_fits k)
+
+  pub standard_fits : (k : ℕ) → FitsCycles d k (standard d k)
+  standard_fits k = subst (FitsCycles d k) (parallel_standard k) (parallel_fits k)

@@ -2,7 +2,7 @@
 use Rattle.std.specs.Prelude.{ℕ, ◌<◌, List, length, sum_by, drop}
 use Rattle.std.specs.List.{All}
 use Rattle.sim_logic.specs.declared.logic.Logic.{Logic}
-use Rattle.sim_store.specs.declared.record.Record.{Record}
+use Rattle.sim_state.specs.declared.record.Record.{Record}
 
 -- the nets' names by number, and what each cycle changed, from the initialization on
 pub record History : Type 0 where

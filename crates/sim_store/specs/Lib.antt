@@ -1,11 +1,8 @@
 pub mod Behaviour
 pub mod History
-pub mod Outcome
-pub mod Drivers
-pub mod Nets
-pub mod Stimuli
-pub mod State
-pub mod Cycles
 pub mod Order
-pub mod Weaving
+pub mod Outcome
+pub mod Progress
 pub mod Standard
+pub mod Store
+pub mod Weaving

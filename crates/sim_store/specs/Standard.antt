@@ -53,13 +53,13 @@ unfoldable pub parallel : Design → ℕ → Option State
 parallel design zero = Some (first_state design)
 parallel design (suc cycles) = cycle_together design cycles (parallel design cycles)
 
--- the state after so many cycles; where there are fewer, the first
+-- the state after so many cycles of the standard; where there are fewer, the first
 abbrev pub or_first : Design → Option State → State
 or_first design None = first_state design
 or_first design (Some s) = s
 
 abbrev pub state_of : Design → ℕ → State
-state_of design cycles = or_first design (parallel design cycles)
+state_of design cycles = or_first design (standard design cycles)
 
 -- ---- records (14.7.3.4)
 

@@ -1,14 +1,13 @@
-//! What is recorded of a run: the words that the run of a design, its listing and those who read them share; the state of a design, and
-//! the simulation cycle.
+//! The state and the history of a run, and the simulation cycle, which carries them on (IEEE 1076-2008, 14.7).
 #![tactic(auto)]
 
-mod drivers;
+mod due;
+mod error;
+mod history;
 pub mod laws;
-mod net;
-mod record;
-mod state;
-mod stimulus;
+mod simulation;
+mod store;
 
-pub use record::Record;
-pub use state::State;
-pub use stimulus::is_runnable;
+pub use error::StoreError;
+pub use sim_state::Record;
+pub use store::{Look, Step, WaveStore};

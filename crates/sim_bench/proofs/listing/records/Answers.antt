@@ -1,5 +1,5 @@
 use Rattle.std.proofs.Common.{List, [], ◌∷◌, ◌++◌, ◌∙◌, ap}
-use Rattle.sim_store.specs.declared.record.Record.{Record}
+use Rattle.sim_state.specs.declared.record.Record.{Record}
 use Rattle.sim_bench.proofs.Histories.{first, one_more}
 use Rattle.sim_bench.proofs.listing.records.Goals as goal
 

@@ -1,10 +1,7 @@
 use Rattle.sim_run.proofs.Simulations.{text_run}
 use Rattle.sim_run.proofs.simulation.run_text.Goals as goal
 
-pub run_design-requires : goal.run_design-requires
-run_design-requires c = c.in_ok-design.ensures.1
-
 pub returns : goal.returns
 returns c =
-    text_run c.args.source.now c.args.options.now c.in_ok-design.design c.run_design.result c.in_ok-design.ensures.0 c.in_ok-design.ensures.1
-    c.run_design.ensures.finished c.run_design.ensures.refused
+    text_run c.args.source.now c.args.options.now c.in_ok-design.design c.run_design.result c.in_ok-design.ensures.value c.run_design.ensures.finished
+    c.run_design.ensures.refused

@@ -1,0 +1,405 @@
+-- A simulation goes on: each step leaves what it holds that of the simulation after it.
+use Rattle.std.proofs.Common.{ℕ, zero, suc, ◌+◌, ◌<◌, ◌≤◌, ◌≡◌, ◌≢◌, ◌||◌, eqb, Bool, true, false, if◌then◌else◌, List, [], ◌∷◌, ◌++◌}
+use Rattle.std.proofs.Common.{length, get_or, set, map, take, drop, replicate, refl, ap, sym, ◌∙◌, subst, arith, Option, None, Some, MatchOption}
+use Rattle.std.specs.List.{All}
+use Rattle.std.proofs.lemmas.Bool.Decides.{nat_tests}
+use Rattle.std.proofs.lemmas.List.{get_or-set_same, get_or-set_other, length-set, length-map, length-append, get_or-map, get_or-replicate, length-replicate}
+use Rattle.std.proofs.lemmas.List.Elements.{All-map}
+use Rattle.std.proofs.lemmas.List.{drop-drop, length-take-le}
+use Rattle.sim_wave.specs.Driver.{RisesFrom, Waveform}
+use Rattle.sim_design.specs.declared.design.DriverOf.{DriverOf}
+use Rattle.sim_design.specs.Designs.{AreOwned, Design, most}
+use Rattle.sim_design.specs.Processes.{Process, IsProcess}
+use Rattle.sim_exec.specs.declared.view.NetView.{NetView}
+use Rattle.std.proofs.lemmas.List.Elements.{All-get_or}
+use Rattle.sim_exec.specs.State.{State, Owned, net_at, owned_at, nothing_owned}
+use Rattle.sim_exec.specs.Statements.{executed}
+use Rattle.sim_exec.specs.Processes.{home, part, outcome}
+use Rattle.sim_exec.proofs.Frame.{same_outcome}
+use Rattle.sim_logic.specs.Time.{largest_time}
+use Rattle.sim_exec.specs.Jobs.{IsJob, IsReady, Job, holds_bit, result_of, scene}
+use Rattle.sim_state.specs.declared.record.Record.{Record}
+use Rattle.sim_state.specs.Drivers.{waves, own_taken, first_owned, idle, next_time}
+use Rattle.sim_state.specs.Contents.{Contents, contents_of}
+use Rattle.sim_state.specs.Cycles.{no_process, process_at, is_resumed, first_state, updated, next_delta, has_event_in}
+use Rattle.sim_state.specs.Records.{first_record, changes_from}
+use Rattle.sim_store.specs.Order.{merged}
+use Rattle.sim_store.specs.Standard.{standard, state_of, or_first, onward, cycle_in_turn, executed_in_turn, executed_together, next_of, recorded, records_to}
+use Rattle.sim_store.specs.Progress.{Progress, IsProgress, IsComplete, IsResult, those_in, reached, IsDue, IsMissing, IsOwn, is_due, kept_or, pending_from, cleared, after, next_after, with_one}
+use Rattle.sim_store.proofs.Together.{also, length-merged, merged-same, merged-none, merged-out, merged-also}
+use Rattle.sim_store.proofs.Parallel.{FitsCycles, length-nets_updated, merged-below, in_turn_is_together, standard_all, standard_fits}
+use Rattle.sim_store.proofs.Readiness.{ready_after}
+
+abbrev results : Progress → ℕ → Owned
+results h q = outcome (process_at h.design.processes q) (part (process_at h.design.processes q) q (reached h))
+
+pub length-records_to : (d : Design) (k : ℕ) → length (records_to d k) ≡ suc k
+unfolding records_to
+length-records_to d zero = refl
+length-records_to d (suc k) = omega (arith, length-append (records_to d k) (recorded (suc k) (state_of d (suc k)) ∷ []), length-records_to d k)
+
+one-more : (marks : List Bool) (n k : ℕ) → n < length marks → (eqb n k || get_or marks k false) ≡ get_or (set marks n true) k false
+one-more marks n k lt = go (eqb n k) refl
+  where
+    go : (b : Bool) → eqb n k ≡ b → (b || get_or marks k false) ≡ get_or (set marks n true) k false
+    go true e =
+        let at : n ≡ k = grind (arith, nat_tests) in
+        sym (subst (λ (m : ℕ). get_or (set marks n true) m false ≡ true) at (get_or-set_same marks n true false lt))
+    go false e =
+        let apart : k ≢ n = grind (arith, nat_tests) in
+        sym (get_or-set_other marks n k true false apart)
+
+module _ {h : Progress} {time delta : ℕ} {held : Contents} {records : List Record} {due : List Bool} (i : IsProgress h time delta held records due) where
+  -- each process owns something
+  pub reached-all : length (reached h).owned ≡ length h.design.processes
+  reached-all = subst (λ (o : Option State). all o) i.there (standard_all h.design i.processes h.cycles)
+    where
+      all : Option State → Type 0
+      all None = Unit {0}
+      all (Some s) = length s.owned ≡ length h.design.processes
+
+  reached-fits : FitsCycles h.design h.cycles (Some (reached h))
+  reached-fits = subst (FitsCycles h.design h.cycles) i.there (standard_fits h.design i.processes h.cycles)
+
+  pub net-count : length held.nets ≡ length h.design.nets
+  net-count = ap length i.nets_are ∙ reached-fits.0
+
+  -- there are no more delta cycles than cycles
+  pub slow : delta ≤ h.cycles
+  slow = subst (λ (n : ℕ). n ≤ h.cycles) (sym i.delta_is) reached-fits.1
+
+  pub cycle-count : length records ≡ suc h.cycles
+  cycle-count = ap length i.records_are ∙ length-records_to h.design h.cycles
+
+  pub held-count : length held.owned ≡ length h.design.processes
+  held-count = ap length i.owned_are ∙ (length-merged (those_in h.deposited) (results h) 0 (reached h).owned ∙ reached-all)
+
+  -- a process that has not been executed owns what it did after the cycle
+  pub still-owned : (p : ℕ) → those_in h.deposited p ≡ false → owned_at held.owned p ≡ owned_at (reached h).owned p
+  still-owned p out =
+      ap (λ (os : List Owned). owned_at os p) i.owned_are ∙ merged-out (those_in h.deposited) (results h) 0 p p (reached h).owned (omega arith) out
+
+  -- one process more has been executed
+  pub deposited-keeps : (p : ℕ) (own : Owned) (held' : Contents) → IsResult h p own → IsReady (process_at h.design.processes p).body time own
+      → held' ≡ record { nets = held.nets; owned = set held.owned p own }
+      → IsProgress (record h { deposited = set h.deposited p true }) time delta held' records due
+  deposited-keeps p own held' r is_ready e =
+      let f = those_in h.deposited in
+      let lt : p < length h.deposited = omega (arith, i.sized, r.number) in
+      let a : set held.owned p own ≡ set (merged f (results h) 0 (reached h).owned) p (results h p) =
+      ap (λ w. set w p own) i.owned_are ∙ ap (set (merged f (results h) 0 (reached h).owned) p) r.result in
+      let b : set (merged f (results h) 0 (reached h).owned) p (results h p) ≡ merged (also p f) (results h) 0 (reached h).owned =
+      merged-also f (results h) 0 p p (reached h).owned (omega arith) in
+      let m : merged (also p f) (results h) 0 (reached h).owned ≡ merged (those_in (set h.deposited p true)) (results h) 0 (reached h).owned =
+      merged-same (also p f) (those_in (set h.deposited p true)) (results h) 0 (reached h).owned (λ k l. one-more h.deposited p k lt) in
+      record {
+        there = i.there;
+        time_is = i.time_is;
+        delta_is = i.delta_is;
+        early = i.early;
+        nets_are = ap (λ (w : Contents). w.nets) e ∙ i.nets_are;
+        owned_are = ap (λ (w : Contents). w.owned) e ∙ (a ∙ (b ∙ m));
+        records_are = i.records_are;
+        sized = length-set h.deposited p true ∙ i.sized;
+        due_sized = i.due_sized;
+        few = i.few;
+        processes = i.processes;
+        due_are = i.due_are;
+        ran = λ q w. still q (eqb p q) refl (one-more h.deposited p q lt ∙ w);
+        ready = λ q l. now q l (eqb p q) refl;
+      }
+    where
+      still : (q : ℕ) (b : Bool) → eqb p q ≡ b → (eqb p q || those_in h.deposited q) ≡ true → is_due h q ≡ true
+      still q true t w = let at : p ≡ q = grind (arith, nat_tests) in subst (λ (m : ℕ). is_due h m ≡ true) at r.resumed
+      still q false t w = i.ran q (rw t at w)
+
+      now : (q : ℕ) → q < length h.design.processes → (b : Bool) → eqb p q ≡ b
+          → IsReady (process_at h.design.processes q).body (if those_in (set h.deposited p true) q then time else suc time) (owned_at held'.owned q)
+      now q l true t =
+          let at : p ≡ q = grind (arith, nat_tests) in
+          let lt : p < length h.deposited = omega (arith, i.sized, r.number) in
+          let there : p < length held.owned = omega (arith, held-count, r.number) in
+          let mark : those_in (set h.deposited p true) p ≡ true = get_or-set_same h.deposited p true false lt in
+          let mine : owned_at held'.owned p ≡ own = ap (λ (w : Contents). owned_at w.owned p) e ∙ get_or-set_same held.owned p own nothing_owned there in
+          subst (λ (m : ℕ). IsReady (process_at h.design.processes m).body (if those_in (set h.deposited p true) m then time else suc time) (owned_at held'.owned m)) at
+          (rw (mark, mine) is_ready)
+      now q l false t =
+          let apart : q ≢ p = grind (arith, nat_tests) in
+          let mark : those_in (set h.deposited p true) q ≡ those_in h.deposited q = get_or-set_other h.deposited p q true false apart in
+          let mine : owned_at held'.owned q ≡ owned_at held.owned q =
+          ap (λ (w : Contents). owned_at w.owned q) e ∙ get_or-set_other held.owned p q own nothing_owned apart in
+          rw (mark, mine) (i.ready q l)
+
+both : (b c : Bool) → (b ≡ true → c ≡ true) → (c ≡ true → b ≡ true) → b ≡ c
+both true true f g = refl
+both true false f g = sym (f refl)
+both false true f g = g refl
+both false false f g = refl
+
+none-in : (marks : List Bool) (p : ℕ) → those_in (cleared marks) p ≡ false
+none-in [] p = refl
+none-in (b ∷ bs) zero = refl
+none-in (b ∷ bs) (suc p) = none-in bs p
+
+later-resumed : (d : Design) (k p : ℕ) (s : State) → is_resumed d (suc k) s p ≡ has_event_in s.nets (process_at d.processes p).sensitivity
+later-resumed d k p s = let t : eqb (suc k) 0 ≡ false = grind (arith, nat_tests) in rw t refl
+
+module _ {h : Progress} {time delta : ℕ} {held : Contents} {records : List Record} {due : List Bool} (i : IsProgress h time delta held records due) (all : IsComplete h) where
+  -- once all that are due have been executed, the state is that of all together
+  present-complete : held.owned ≡ (executed_together h.design h.cycles (reached h)).owned
+  present-complete =
+      i.owned_are ∙ merged-below (those_in h.deposited) (is_due h) (results h) 0 (reached h).owned
+      (λ k a b. both (those_in h.deposited k) (is_due h k) (i.ran k) (all k (omega (arith, b, reached-all i))))
+
+  in-turn : executed_in_turn h.design h.cycles (reached h) ≡ executed_together h.design h.cycles (reached h)
+  in-turn = in_turn_is_together h.design i.processes h.cycles (reached h) (reached-all i)
+
+  standard-next : standard h.design (suc h.cycles) ≡ onward h.design (executed_together h.design h.cycles (reached h)) (next_time (waves held.owned))
+  unfolding standard
+  standard-next =
+      let x = executed_together h.design h.cycles (reached h) in
+      ap (cycle_in_turn h.design h.cycles) i.there ∙ (ap (λ (y : State). onward h.design y (next_of y)) in-turn
+      ∙ ap (λ (os : List Owned). onward h.design x (next_time (waves os))) (sym present-complete))
+
+  pub next-is : next_time (waves held.owned) ≡ next_after h
+  next-is = ap (λ (os : List Owned). next_time (waves os)) present-complete ∙ ap next_of (sym in-turn)
+
+  -- the next cycle is at this time
+  pub advanced-time : (t : ℕ) → next_time (waves held.owned) ≡ Some t → (state_of h.design (suc h.cycles)).time ≡ t
+  advanced-time t some =
+      let d = h.design in
+      ap (λ (s : State). s.time) (ap (or_first d) (standard-next ∙ ap (onward d (executed_together d h.cycles (reached h))) some))
+
+  pub held-is : held ≡ contents_of (executed_together h.design h.cycles (reached h))
+  held-is = ap (λ (ns : List NetView). record { nets = ns; owned = held.owned }) i.nets_are
+      ∙ ap (λ (os : List Owned). record { nets = (reached h).nets; owned = os }) present-complete
+
+  -- the nets after the cycle are as many
+  pub advanced-count : (t : ℕ) (held' : Contents)
+      → ((design : Design) (s : State) → design ≡ h.design → held ≡ contents_of s → held' ≡ contents_of (updated design s t))
+      → length held'.nets ≡ length h.design.nets
+  advanced-count t held' el =
+      let x = executed_together h.design h.cycles (reached h) in
+      ap (λ (w : Contents). length w.nets) (el h.design x refl held-is)
+      ∙ length-nets_updated (waves (map (own_taken t) x.owned)) h.design.nets (reached h).nets (ap length (sym i.nets_are) ∙ net-count i)
+
+  pub advanced-keeps : (t : ℕ) → next_time (waves held.owned) ≡ Some t → t ≤ largest_time → (δ k : ℕ) (held' : Contents) (records' : List Record) (due' deposited' : List Bool)
+      → δ ≡ next_delta t time delta
+      → ((design : Design) (s : State) → design ≡ h.design → held ≡ contents_of s → held' ≡ contents_of (updated design s t))
+      → records' ≡ records ++ record { time = t; delta = δ; changes = changes_from 0 held'.nets } ∷ []
+      → length due' ≡ length due
+      → ((p : ℕ) → p < length due → those_in due' p ≡ has_event_in held'.nets (process_at h.design.processes p).sensitivity)
+      → deposited' ≡ cleared h.deposited → k ≡ suc h.cycles
+      → IsProgress (record { design = h.design; cycles = k; deposited = deposited' }) t δ held' records' due'
+  unfolding records_to
+  advanced-keeps t some early δ k held' records' due' deposited' ed el er es eu ep ek =
+      let d = h.design in
+      let x = executed_together d h.cycles (reached h) in
+      let u = updated d x t in
+      let p : standard d (suc h.cycles) ≡ Some u = standard-next ∙ ap (onward d x) some in
+      let q : state_of d (suc h.cycles) ≡ u = ap (or_first d) p in
+      let c : held ≡ contents_of x = held-is in
+      let l : held' ≡ contents_of u = el d x refl c in
+      let dl : δ ≡ u.delta = ed ∙ (ap (λ (m : ℕ). next_delta t m delta) i.time_is ∙ ap (λ (m : ℕ). next_delta t (reached h).time m) i.delta_is) in
+      let n : held'.nets ≡ (state_of d (suc h.cycles)).nets = ap (λ (w : Contents). w.nets) l ∙ ap (λ (w : State). w.nets) (sym q) in
+      let o : held'.owned ≡ map (own_taken t) held.owned = ap (λ (w : Contents). w.owned) l ∙ ap (map (own_taken t)) (sym present-complete) in
+      let r : record { time = t; delta = δ; changes = changes_from 0 held'.nets } ≡ recorded (suc h.cycles) (state_of d (suc h.cycles)) =
+      rw (dl, n) (ap (λ (w : State). record { time = w.time; delta = w.delta; changes = changes_from 0 (state_of d (suc h.cycles)).nets }) (sym q)) in
+      rw (ek, ep) (record {
+        there = p ∙ ap Some (sym q);
+        time_is = ap (λ (w : State). w.time) (sym q);
+        delta_is = dl ∙ ap (λ (w : State). w.delta) (sym q);
+        early = early;
+        nets_are = n;
+        owned_are = ap (λ (w : Contents). w.owned) l ∙ (ap (λ (w : State). w.owned) (sym q)
+            ∙ sym (merged-none (those_in (cleared h.deposited)) (results (after h)) 0 (state_of d (suc h.cycles)).owned (none-in h.deposited)));
+        records_are = er ∙ (ap (λ w. w ++ record { time = t; delta = δ; changes = changes_from 0 held'.nets } ∷ []) i.records_are
+            ∙ ap (λ w. records_to d h.cycles ++ w ∷ []) r);
+        sized = length-map h.deposited (λ (b : Bool). false) ∙ i.sized;
+        due_sized = es ∙ i.due_sized;
+        few = i.few;
+        processes = i.processes;
+        due_are = λ m lt. eu m (omega (arith, i.due_sized, lt)) ∙ (ap (λ w. has_event_in w (process_at d.processes m).sensitivity) n
+            ∙ sym (later-resumed d h.cycles m (state_of d (suc h.cycles))));
+        ran = λ m e. absurd (cc (e, none-in h.deposited m));
+        ready = λ m lt. rw (none-in h.deposited m) (ready m lt o);
+      })
+    where
+      ready : (m : ℕ) → m < length h.design.processes → held'.owned ≡ map (own_taken t) held.owned
+          → IsReady (process_at h.design.processes m).body (suc t) (owned_at held'.owned m)
+      ready m lt o =
+          let there : m < length held.owned = omega (arith, lt, held-count i) in
+          let at : owned_at held'.owned m ≡ own_taken t (owned_at held.owned m) =
+          ap (λ (os : List Owned). owned_at os m) o ∙ get_or-map (own_taken t) held.owned m nothing_owned nothing_owned there in
+          rw at (ready_after (process_at h.design.processes m).body (pending_from h time m) t held.owned m there some (i.ready m lt))
+
+-- ---- handing out
+
+module _ {h : Progress} {time delta : ℕ} {held : Contents} {records : List Record} {due : List Bool} (i : IsProgress h time delta held records due) where
+  -- the part of a process that has not been executed
+  pub part-is : (p : ℕ) → those_in h.deposited p ≡ false → (views : List NetView) (own : Owned)
+      → views ≡ map (net_at held.nets) (process_at h.design.processes p).reads → own ≡ owned_at held.owned p
+      → part (process_at h.design.processes p) p (reached h) ≡ record { time = time; delta = 0; nets = views; owned = own ∷ [] }
+  part-is p out views own ev eo =
+      let v : views ≡ map (net_at (reached h).nets) (process_at h.design.processes p).reads =
+      ev ∙ ap (λ (w : List NetView). map (net_at w) (process_at h.design.processes p).reads) i.nets_are in
+      let o : own ≡ owned_at (reached h).owned p = eo ∙ still-owned i p out in
+      rw (v, o, i.time_is) refl
+
+  -- what its execution in place leaves is its result
+  pub executed-result : (p : ℕ) → p < length h.design.processes → is_due h p ≡ true → those_in h.deposited p ≡ false
+      → IsResult h p (executed (λ object. net_at held.nets (home (process_at h.design.processes p) object)) time
+      (process_at h.design.processes p).body.statements (owned_at held.owned p))
+  executed-result p lt resumed out =
+      let q = process_at h.design.processes p in
+      let is : IsProcess q = All-get_or IsProcess h.design.processes p no_process lt i.processes in
+      record {
+        number = lt;
+        resumed = resumed;
+        result = rw (i.nets_are, still-owned i p out, i.time_is) (same_outcome q p (reached h) is);
+      }
+
+-- ---- jobs
+
+module _ {h : Progress} {time delta : ℕ} {held : Contents} {records : List Record} {due : List Bool} (i : IsProgress h time delta held records due) where
+  -- the part of a process that has not been executed makes a job
+  pub job-fits : (p : ℕ) → p < length h.design.processes → those_in h.deposited p ≡ false → (views : List NetView) (own : Owned)
+      → views ≡ map (net_at held.nets) (process_at h.design.processes p).reads → own ≡ owned_at held.owned p
+      → IsJob time (process_at h.design.processes p) views own
+  job-fits p lt out views own ev eo =
+      let q = process_at h.design.processes p in
+      let from : pending_from h time p ≡ suc time = rw out refl in
+      record {
+        seen = ap length ev ∙ length-map q.reads (net_at held.nets);
+        early = i.early;
+        ready = rw eo (subst (λ (n : ℕ). IsReady q.body n (owned_at held.owned p)) from (i.ready p lt));
+      }
+
+-- ---- results
+
+module _ {h : Progress} {time delta : ℕ} {held : Contents} {records : List Record} {due : List Bool} (i : IsProgress h time delta held records due)
+    (job : Job) (o : IsOwn h job) where
+  pub own-time : job.time ≡ time
+  own-time = ap (λ (s : State). s.time) o.shows ∙ sym i.time_is
+
+  pub own-views : job.views ≡ map (net_at held.nets) (process_at h.design.processes job.number).reads
+  own-views = ap (λ (s : State). s.nets) o.shows ∙ ap (λ (ns : List NetView). map (net_at ns) (process_at h.design.processes job.number).reads) (sym i.nets_are)
+
+  pub own-owned : those_in h.deposited job.number ≡ false → job.owned ≡ owned_at held.owned job.number
+  own-owned out = ap (λ (s : State). owned_at s.owned 0) o.shows ∙ sym (still-owned i job.number out)
+
+  pub own-result : IsDue h job.number → IsResult h job.number (result_of job)
+  own-result d = record {
+    number = d.number;
+    resumed = d.resumed;
+    result = ap (λ (q : Process). outcome q (scene job)) o.process ∙ ap (outcome (process_at h.design.processes job.number)) o.shows;
+  }
+
+  pub own-ready : IsReady job.process.body job.time (result_of job) → IsReady (process_at h.design.processes job.number).body time (result_of job)
+  own-ready f = subst (λ (n : ℕ). IsReady (process_at h.design.processes job.number).body n (result_of job)) own-time
+      (subst (λ (q : Process). IsReady q.body job.time (result_of job)) o.process f)
+
+  -- what stands in the place of what the process owned is its result
+  pub kept-result : those_in h.deposited job.number ≡ false → (kept : Option Owned)
+      → MatchOption kept (result_of job ≡ job.owned) (λ r. r ≡ result_of job) → kept_or (owned_at held.owned job.number) kept ≡ result_of job
+  kept-result out None e = sym (own-owned out) ∙ sym e
+  kept-result out (Some r) e = e
+
+  pub kept-drivers : IsDue h job.number → IsReady job.process.body job.time (result_of job) → (kept : Option Owned)
+      → MatchOption kept (result_of job ≡ job.owned) (λ r. r ≡ result_of job)
+      → MatchOption kept (Unit {0}) (λ r. length r.drivers ≡ length (owned_at held.owned job.number).drivers)
+  kept-drivers d f None e = tt
+  kept-drivers d f (Some r) e =
+      ap (λ (w : Owned). length w.drivers) e ∙ ((own-ready f).drivers ∙ sym (i.ready job.number d.number).drivers)
+
+  pub kept-variables : IsDue h job.number → IsReady job.process.body job.time (result_of job) → (kept : Option Owned)
+      → MatchOption kept (result_of job ≡ job.owned) (λ r. r ≡ result_of job)
+      → MatchOption kept (Unit {0}) (λ r. length r.variables ≡ length (owned_at held.owned job.number).variables)
+  kept-variables d f None e = tt
+  kept-variables d f (Some r) e =
+      let x = (result_of job).variables in
+      let y = (owned_at held.owned job.number).variables in
+      let same : map holds_bit x ≡ map holds_bit y = (own-ready f).variables ∙ sym (i.ready job.number d.number).variables in
+      ap (λ (w : Owned). length w.variables) e ∙ (sym (length-map x holds_bit) ∙ (ap length same ∙ length-map y holds_bit))
+
+module _ {h : Progress} {time delta : ℕ} {held : Contents} {records : List Record} {due : List Bool} (i : IsProgress h time delta held records due)
+    (job : Job) where
+  -- a job of these is the process's own
+  pub fits-own : those_in h.deposited job.number ≡ false → job.time ≡ time → job.process ≡ process_at h.design.processes job.number
+      → job.views ≡ map (net_at held.nets) (process_at h.design.processes job.number).reads → job.owned ≡ owned_at held.owned job.number → IsOwn h job
+  fits-own out et ep ev eo = record {
+    process = ep;
+    shows = ap (λ (n : ℕ). record { time = n; delta = 0; nets = job.views; owned = job.owned ∷ [] }) et
+        ∙ sym (part-is i job.number out job.views job.owned ev eo);
+  }
+
+-- ---- the start
+
+those_in-replicate : (n p : ℕ) (b : Bool) → p < n → those_in (replicate n b) p ≡ b
+those_in-replicate n p b lt = get_or-replicate n p b false lt
+
+none-in-replicate : (n p : ℕ) → those_in (replicate n false) p ≡ false
+none-in-replicate zero p = refl
+none-in-replicate (suc n) zero = refl
+none-in-replicate (suc n) (suc p) = none-in-replicate n p
+
+-- as many drivers stand side by side as a process has
+drivers-there : (nets number first : ℕ) (all ds : List DriverOf) (ps : List Process) → drop first all ≡ ds → AreOwned nets number first ps ds → (m : ℕ) → m < length ps
+    → length (take (process_at ps m).body.drivers (drop (process_at ps m).first_driver all)) ≡ (process_at ps m).body.drivers
+drivers-there nets number first all ds [] e o m lt = absurd (omega (arith, lt))
+drivers-there nets number first all ds (p ∷ ps) e o zero lt =
+    let at : drop p.first_driver all ≡ ds = ap (λ (n : ℕ). drop n all) o.0 ∙ e in
+    rw at (length-take-le p.body.drivers ds o.1)
+drivers-there nets number first all ds (p ∷ ps) e o (suc m) lt =
+    drivers-there nets (number + 1) (first + p.body.drivers) all (drop p.body.drivers ds) ps
+    (sym (drop-drop p.body.drivers first all) ∙ ap (drop p.body.drivers) e) o.3 m (omega (arith, lt))
+
+-- what is held at first is that of the simulation at its start
+pub begins : (d : Design) (k : ℕ) (held : Contents) (records : List Record) (due deposited : List Bool) → length d.nets ≤ most → AreOwned (length d.nets) 0 0 d.processes d.drivers
+    → All IsProcess d.processes → k ≡ 0
+    → held ≡ contents_of (first_state d) → records ≡ first_record (first_state d) ∷ [] → due ≡ replicate (length d.processes) true
+    → deposited ≡ replicate (length d.processes) false → IsProgress (record { design = d; cycles = k; deposited = deposited }) 0 0 held records due
+unfolding standard records_to
+begins d k held records due deposited few are all e₀ e er eu ep =
+    rw (e₀, e, er, eu, ep) (record {
+      there = refl;
+      time_is = refl;
+      delta_is = refl;
+      early = omega arith;
+      nets_are = refl;
+      owned_are = sym (merged-none (those_in (replicate (length d.processes) false))
+          (results (record { design = d; cycles = 0; deposited = replicate (length d.processes) false })) 0 (first_state d).owned (none-in-replicate (length d.processes)));
+      records_are = refl;
+      sized = length-replicate (length d.processes) false;
+      due_sized = length-replicate (length d.processes) true;
+      few = few;
+      processes = all;
+      due_are = λ p lt. those_in-replicate (length d.processes) p true lt;
+      ran = λ p w. absurd (cc (w, none-in-replicate (length d.processes) p));
+      ready = λ p lt. rw (none-in-replicate (length d.processes) p) (ready p lt);
+    })
+  where
+    ready : (p : ℕ) → p < length d.processes → IsReady (process_at d.processes p).body 1 (owned_at (first_state d).owned p)
+    ready p lt =
+        let at : owned_at (first_state d).owned p ≡ first_owned d.drivers (process_at d.processes p) =
+        get_or-map (first_owned d.drivers) d.processes p no_process nothing_owned lt in
+        rw at (record {
+          drivers = length-map _ _ ∙ drivers-there (length d.nets) 0 0 d.drivers d.drivers d.processes refl are p lt;
+          variables = refl;
+          pending = All-map (λ (w : Waveform). RisesFrom 1 w.pending) (λ (x : DriverOf). idle x.first) _ (λ j x l. tt);
+        })
+
+-- ---- who is missing
+
+-- Where none is missing, all that are due have been executed.
+pub complete-where-none : (h : Progress) → ((p : ℕ) → p < length h.design.processes → IsMissing h p → ⊥) → IsComplete h
+complete-where-none h none p lt resumed = go (those_in h.deposited p) refl
+  where
+    go : (b : Bool) → those_in h.deposited p ≡ b → those_in h.deposited p ≡ true
+    go true e = e
+    go false e = absurd (none p lt (record { due = record { number = lt; resumed = resumed }; fresh = e }))
+
+-- A process that has been executed is missing no more.
+pub deposited-gone : {h : Progress} {time delta : ℕ} {held : Contents} {records : List Record} {due : List Bool} → IsProgress h time delta held records due
+    → (p : ℕ) → IsMissing (with_one h p) p → ⊥
+deposited-gone {h = h} i p m = cc (m.fresh, get_or-set_same h.deposited p true false (omega (arith, i.sized, m.due.number)))

@@ -1,0 +1,17 @@
+use Rattle.std.proofs.Common.{rules, List, length, ap, subst, arith}
+use Rattle.std.specs.List.{All}
+use Rattle.sim_design.specs.Designs.{AreOwned}
+use Rattle.sim_design.specs.Processes.{Process, IsProcess}
+use Rattle.sim_store.proofs.Going.{begins}
+use Rattle.sim_store.proofs.simulation.Simulation.begin.Goals as goal
+
+pub invariant_of-result : goal.invariant_of-result
+invariant_of-result c =
+    let m = c.in-Ok.ensures in
+    let owned : AreOwned (length c.args.design.nets) 0 0 c.args.design.processes c.args.design.drivers = search rules in
+    let all : All IsProcess c.args.design.processes = subst (λ (ps : List Process). All IsProcess ps) c.processes.ensures.value c.are_processes.ensures in
+    record {
+      made = m.lists;
+      progress = begins c.args.design _ c.in-Ok.made.state c.in-Ok.made.log.records c.in-Ok.made.due c.in-Ok.made.deposited.items
+          (search rules) owned all (omega (arith, ap length m.records_is)) m.held_is m.records_is m.due_is m.deposited_is;
+    }

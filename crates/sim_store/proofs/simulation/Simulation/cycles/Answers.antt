@@ -1,0 +1,6 @@
+use Rattle.std.proofs.Common.{arith}
+use Rattle.sim_store.proofs.Going.{cycle-count}
+use Rattle.sim_store.proofs.simulation.Simulation.cycles.Goals as goal
+
+pub overflow_sub-result : goal.overflow_sub-result
+overflow_sub-result c = omega (arith, c.len.ensures, cycle-count c.self.invariant.progress)

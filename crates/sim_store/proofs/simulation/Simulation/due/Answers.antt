@@ -1,0 +1,15 @@
+use Rattle.std.proofs.Common.{length, ap, ◌∙◌, arith}
+use Rattle.sim_store.specs.Progress.{Progress, is_due, reached, those_in}
+use Rattle.sim_store.specs.Standard.{resumed, those}
+use Rattle.sim_store.specs.contracts.simulation.Simulation.{the_view}
+use Rattle.sim_store.proofs.Listing.{those-same}
+use Rattle.sim_store.proofs.simulation.Simulation.due.Goals as goal
+
+pub returns : goal.returns
+returns c =
+    let s = c.self.inside in
+    let h = the_view s in
+    let i = c.self.invariant.progress in
+    c.numbers.ensures ∙ (ap (those (those_in s.made.due) 0) i.due_sized
+    ∙ (those-same (those_in s.made.due) (is_due h) 0 (length h.design.processes) (λ k ge lt. i.due_are k (omega (arith, lt)))
+    ∙ ap (λ (g : Progress). resumed g.design g.cycles (reached g)) c.self.view_is))

@@ -1,0 +1,35 @@
+use Rattle.std.proofs.Common.{◌≡◌, ◌-◌, length, List, ap, ◌∙◌, arith}
+use Rattle.sim_state.specs.declared.record.Record.{Record}
+use Rattle.sim_state.specs.Log.{all_changes}
+use Rattle.sim_store.specs.History.{event_count}
+use Rattle.sim_store.specs.Progress.{Progress}
+use Rattle.sim_store.specs.Standard.{records_to}
+use Rattle.sim_store.specs.contracts.simulation.Simulation.{the_view}
+use Rattle.sim_store.proofs.Records.{change_count}
+use Rattle.sim_store.proofs.simulation.Simulation.events.Goals as goal
+
+pub overflow_sub-result : goal.overflow_sub-result
+overflow_sub-result c =
+    let h = the_view c.self.inside in
+    let i = c.self.invariant.progress in
+    omega (
+      arith,
+      c.count.ensures,
+      ap (λ (rs : List Record). length (all_changes rs)) i.records_are,
+      change_count h.design i.processes h.cycles,
+      ap length c.nets.ensures.value,
+    )
+
+pub returns : goal.returns
+returns c =
+    let h = the_view c.self.inside in
+    let i = c.self.invariant.progress in
+    let here : c.count.result - length c.nets.result.now ≡ event_count (records_to h.design h.cycles) =
+    omega (
+      arith,
+      c.count.ensures,
+      ap (λ (rs : List Record). length (all_changes rs)) i.records_are,
+      change_count h.design i.processes h.cycles,
+      ap length c.nets.ensures.value,
+    ) in
+    here ∙ ap (λ (g : Progress). event_count (records_to g.design g.cycles)) c.self.view_is

@@ -1,0 +1,89 @@
+use Rattle.std.proofs.Common.{ℕ, suc, ◌-◌, ◌<◌, ◌≡◌, ◌++◌, [], ◌∷◌, Bool, false, List, Some, length, take, drop, ap, sym, ◌∙◌, subst, arith}
+use Rattle.std.proofs.lemmas.List.{length-append, length-map}
+use Rattle.sim_rows.proofs.Flat.{written_back}
+use Rattle.sim_design.specs.Designs.{Design}
+use Rattle.sim_state.specs.declared.record.Record.{Record}
+use Rattle.sim_state.specs.Contents.{sources_of}
+use Rattle.sim_state.specs.Records.{changes_from}
+use Rattle.sim_store.specs.Standard.{state_of}
+use Rattle.sim_store.specs.Progress.{Progress, IsComplete, after, cleared, next_after}
+use Rattle.sim_store.specs.contracts.simulation.Simulation.{the_view}
+use Rattle.sim_store.proofs.Going.{advanced-count, advanced-keeps, advanced-time, cycle-count, net-count, next-is, slow}
+use Rattle.sim_store.proofs.simulation.Simulation.go_on.Goals as goal
+
+pub next_delta-self-inside-requires : goal.next_delta-self-inside-requires
+next_delta-self-inside-requires c =
+    let few : (the_view c.self.inside).cycles < 4294967296 = subst (λ (g : Progress). g.cycles < 4294967296) (sym c.self.view_is) c.requires.bound in
+    omega (arith, few, slow c.self.invariant.progress)
+
+pub update-requires : goal.update-requires
+update-requires c =
+    ap length c.self.invariant.made.sources_are ∙ (length-map c.self.inside.design.nets _ ∙ sym (net-count c.self.invariant.progress))
+
+pub record-requires-clause-few : goal.record-requires-clause-few
+record-requires-clause-few c =
+    let s = c.self.inside in
+    let all = subst IsComplete (sym c.self.view_is) c.requires.complete in
+    let count = advanced-count c.self.invariant.progress all c.args.time c.update.new.self
+    (λ d x e. c.update.ensures d x (c.self.invariant.made.sources_are ∙ ap (λ (g : Design). sources_of g.nets) (sym e))) in
+    omega (arith, count, c.self.invariant.progress.few)
+
+pub record-requires-clause-changes : goal.record-requires-clause-changes
+record-requires-clause-changes c =
+    let all = subst IsComplete (sym c.self.view_is) c.requires.complete in
+    let count = advanced-count c.self.invariant.progress all c.args.time c.update.new.self
+    (λ d x e. c.update.ensures d x (c.self.invariant.made.sources_are ∙ ap (λ (g : Design). sources_of g.nets) (sym e))) in
+    omega (arith, count, ap length c.nets-nets.ensures.value, c.in_ok-reserve.ensures.changes)
+
+pub find-requires : goal.find-requires
+find-requires c =
+    let all = subst IsComplete (sym c.self.view_is) c.requires.complete in
+    let count = advanced-count c.self.invariant.progress all c.args.time c.update.new.self
+    (λ d x e. c.update.ensures d x (c.self.invariant.made.sources_are ∙ ap (λ (g : Design). sources_of g.nets) (sym e))) in
+    c.self.invariant.made.wakes_sized ∙ sym count
+
+pub invariant_of-self-2 : goal.invariant_of-self-2
+invariant_of-self-2 c =
+    let s = c.self.inside in
+    let h = the_view s in
+    let i = c.self.invariant.progress in
+    let all = subst IsComplete (sym c.self.view_is) c.requires.complete in
+    let next = next-is i all ∙ subst (λ (g : Progress). next_after g ≡ Some c.args.time) (sym c.self.view_is) c.requires.next in
+    let one : Record = record { time = c.args.time; delta = c.next_delta-self-inside.result; changes = changes_from 0 c.update.new.self.nets } in
+    let records : c.record.new.log.records ≡ s.made.log.records ++ one ∷ [] = c.record.ensures ∙ ap (λ rs. rs ++ one ∷ []) c.in_ok-reserve.ensures.same in
+    let marks = written_back c.clear.new.marks s.made.deposited.items s.made.deposited.len (ap length c.clear.ensures
+    ∙ (length-map c.as_mut_slice.result.now (λ (b : Bool). false) ∙ c.as_mut_slice.ensures.len)) ∙ (c.clear.ensures ∙ ap cleared c.as_mut_slice.ensures.value) in
+    record {
+      made = c.self.invariant.made;
+      progress = advanced-keeps i all c.args.time next c.requires.early c.next_delta-self-inside.result (length c.record.new.log.records - 1)
+          c.update.new.self c.record.new.log.records c.find.new.self _ c.next_delta-self-inside.ensures
+          (λ d x e. c.update.ensures d x (c.self.invariant.made.sources_are ∙ ap (λ (g : Design). sources_of g.nets) (sym e)))
+          records c.find.ensures.sized (λ p lt. c.find.ensures.found h.design.processes p c.self.invariant.made.wakes_are lt) marks
+          (omega (arith, ap length records, length-append s.made.log.records (one ∷ []), cycle-count i));
+    }
+
+pub returns-clause-ok : goal.returns-clause-ok
+returns-clause-ok c =
+    let s = c.self.inside in
+    let one : Record = record { time = c.args.time; delta = c.next_delta-self-inside.result; changes = changes_from 0 c.update.new.self.nets } in
+    let records : c.record.new.log.records ≡ s.made.log.records ++ one ∷ [] = c.record.ensures ∙ ap (λ rs. rs ++ one ∷ []) c.in_ok-reserve.ensures.same in
+    let marks = written_back c.clear.new.marks s.made.deposited.items s.made.deposited.len (ap length c.clear.ensures
+    ∙ (length-map c.as_mut_slice.result.now (λ (b : Bool). false) ∙ c.as_mut_slice.ensures.len)) ∙ (c.clear.ensures ∙ ap cleared c.as_mut_slice.ensures.value) in
+    let cycles : length c.record.new.log.records - 1 ≡ suc (length s.made.log.records - 1) =
+    omega (arith, ap length records, length-append s.made.log.records (one ∷ []), cycle-count c.self.invariant.progress) in
+    ap (λ (k : ℕ). record { design = s.design; cycles = k; deposited = take s.made.deposited.len (c.clear.new.marks ++ drop (length c.clear.new.marks) s.made.deposited.items) }) cycles
+    ∙ (ap (λ (w : List Bool). record { design = s.design; cycles = suc (length s.made.log.records - 1); deposited = w }) marks
+    ∙ ap after c.self.view_is)
+
+pub returns-clause-at : goal.returns-clause-at
+returns-clause-at c =
+    let s = c.self.inside in
+    let h = the_view s in
+    let i = c.self.invariant.progress in
+    let all = subst IsComplete (sym c.self.view_is) c.requires.complete in
+    let next = next-is i all ∙ subst (λ (g : Progress). next_after g ≡ Some c.args.time) (sym c.self.view_is) c.requires.next in
+    let one : Record = record { time = c.args.time; delta = c.next_delta-self-inside.result; changes = changes_from 0 c.update.new.self.nets } in
+    let records : c.record.new.log.records ≡ s.made.log.records ++ one ∷ [] = c.record.ensures ∙ ap (λ rs. rs ++ one ∷ []) c.in_ok-reserve.ensures.same in
+    let cycles : length c.record.new.log.records - 1 ≡ suc h.cycles =
+    omega (arith, ap length records, length-append s.made.log.records (one ∷ []), cycle-count i) in
+    subst (λ (k : ℕ). (state_of s.design k).time ≡ c.args.time) (sym cycles) (advanced-time i all c.args.time next)

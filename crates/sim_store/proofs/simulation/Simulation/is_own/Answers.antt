@@ -1,0 +1,45 @@
+use Rattle.std.proofs.Common.{rules, tests, IsTrue, ◌≡◌, ◌<◌, false, List, length, map, ap, sym, ◌∙◌, subst, arith}
+use Rattle.std.proofs.lemmas.List.{get_or_default}
+use Rattle.sim_design.specs.Processes.{Process}
+use Rattle.sim_state.specs.Cycles.{no_process, process_at}
+use Rattle.sim_exec.specs.State.{net_at, owned_at}
+use Rattle.sim_store.specs.Progress.{Progress, IsOwn, those_in}
+use Rattle.sim_store.specs.contracts.simulation.Simulation.{the_view}
+use Rattle.sim_store.proofs.Going.{fits-own, held-count, own-owned, own-views}
+use Rattle.sim_store.proofs.simulation.Simulation.is_own.Goals as goal
+
+pub is_part-requires : goal.is_part-requires
+is_part-requires c =
+    let lt : c.args.job.now.number < length c.self.inside.design.processes =
+    subst (λ (g : Progress). c.args.job.now.number < length g.design.processes) (sym c.self.view_is) c.requires.at in
+    omega (arith, lt, c.number-2.ensures, held-count c.self.invariant.progress)
+
+pub returns : goal.returns
+returns c =
+    let s = c.self.inside in
+    let h = the_view s in
+    let i = c.self.invariant.progress in
+    let job = c.args.job.now in
+    let lt : job.number < length s.design.processes = subst (λ (g : Progress). job.number < length g.design.processes) (sym c.self.view_is) c.requires.at in
+    let out = subst (λ (g : Progress). those_in g.deposited job.number ≡ false) (sym c.self.view_is) c.requires.fresh in
+    let q = process_at s.design.processes job.number in
+    let is : c.index-processes-number.result ≡ q =
+    c.index-processes-number.is ∙ (get_or_default c.processes.result.now c.number.result _ no_process (omega (arith, lt, c.number.ensures, ap length c.processes.ensures.value))
+    ∙ (ap (process_at c.processes.result.now) c.number.ensures ∙ ap (λ (ps : List Process). process_at ps job.number) c.processes.ensures.value)) in
+    let time : job.time ≡ s.time = search (rules, tests) in
+    let process : job.process ≡ q = sym c.process.ensures ∙ (sym (c.same.ensures.0 (search (rules, tests))) ∙ is) in
+    let reads = c.reads.ensures.value ∙ ap (λ (r : Process). r.reads) is in
+    let given : record { drivers = c.drivers.result.now; variables = c.variables.result.now } ≡ job.owned =
+    ap (λ ds. record { drivers = ds; variables = c.variables.result.now }) c.drivers.ensures
+    ∙ ap (λ vs. record { drivers = job.owned.drivers; variables = vs }) c.variables.ensures in
+    let held = ap (owned_at s.made.state.owned) c.number-2.ensures in
+    subst (λ (g : Progress). (IsTrue c.is_part.result → IsOwn g job) × (IsOwn g job → IsTrue c.is_part.result)) c.self.view_is (
+      (λ yes. let both = c.is_part.ensures.0 yes in
+          fits-own i job out time process
+          (sym c.views.ensures.value ∙ (both.0 ∙ ap (map (net_at s.made.state.nets)) reads))
+          (sym given ∙ (both.1 ∙ held))),
+      (λ own. c.is_part.ensures.1 (
+        c.views.ensures.value ∙ (own-views i job own ∙ ap (map (net_at s.made.state.nets)) (sym reads)),
+        given ∙ (own-owned i job own out ∙ sym held),
+      )),
+    )

@@ -1,0 +1,16 @@
+use Rattle.std.proofs.Common.{ℕ, ◌≡◌, ◌<◌, ◌≤◌, List, length, MatchOption, subst}
+use Rattle.sim_exec.specs.declared.view.NetView.{NetView}
+use Rattle.sim_exec.specs.State.{net_at}
+use Rattle.sim_store.specs.Progress.{Progress, reached}
+use Rattle.sim_store.proofs.Going.{net-count}
+use Rattle.sim_store.proofs.simulation.Simulation.value.Goals as goal
+
+pub returns : goal.returns
+returns c =
+    let i = c.self.invariant.progress in
+    let counted = subst (λ (n : ℕ). MatchOption c.value.result (n ≤ c.args.net) (λ v. (c.args.net < n) × (v ≡ (net_at c.self.inside.made.state.nets c.args.net).value)))
+    (net-count i) c.value.ensures in
+    let seen = subst (λ (ns : List NetView). MatchOption c.value.result (length c.self.inside.design.nets ≤ c.args.net)
+    (λ v. (c.args.net < length c.self.inside.design.nets) × (v ≡ (net_at ns c.args.net).value))) i.nets_are counted in
+    subst (λ (g : Progress). MatchOption c.value.result (length g.design.nets ≤ c.args.net)
+    (λ v. (c.args.net < length g.design.nets) × (v ≡ (net_at (reached g).nets c.args.net).value))) c.self.view_is seen

@@ -1,0 +1,151 @@
+-- How far a simulation has come (IEEE 1076-2008, 14.7.5).
+use Rattle.std.specs.Prelude.{ℕ, suc, ◌≡◌, ◌<◌, ◌≤◌, List, [], ◌∷◌, Bool, true, false, if◌then◌else◌, Option, None, Some, map, length, replicate, slice_index_or, slice_set}
+use Rattle.std.specs.List.{All}
+use Rattle.sim_design.specs.Designs.{Design, most}
+use Rattle.sim_design.specs.Processes.{IsProcess}
+use Rattle.sim_exec.specs.State.{State, Owned, owned_at}
+use Rattle.sim_exec.specs.Processes.{part, outcome}
+use Rattle.sim_logic.specs.Time.{largest_time}
+use Rattle.sim_exec.specs.Jobs.{IsReady, Job, scene}
+use Rattle.sim_state.specs.declared.record.Record.{Record}
+use Rattle.sim_design.specs.declared.design.Source.{Source}
+use Rattle.sim_state.specs.Contents.{Contents, contents_of, sources_of}
+use Rattle.sim_state.specs.Records.{first_record}
+use Rattle.sim_state.specs.Wakes.{AreWakes}
+use Rattle.sim_state.specs.Cycles.{process_at, is_resumed, first_state}
+use Rattle.sim_store.specs.Order.{together}
+use Rattle.sim_store.specs.Standard.{standard, state_of, records_to, next_of, executed_in_turn, those}
+
+-- A simulation of a design, after so many cycles, in which these processes have been executed since. All else follows.
+pub record Progress : Type 0 where
+  pub design : Design
+  pub cycles : ℕ
+  pub deposited : List Bool
+
+-- whether a process is marked
+abbrev pub those_in : List Bool → ℕ → Bool
+those_in marks p = slice_index_or marks p false
+
+-- the state that the last cycle left
+abbrev pub reached : Progress → State
+reached h = state_of h.design h.cycles
+
+-- the numbers of those that are marked, rising
+abbrev pub listed : List Bool → List ℕ
+listed marks = those (those_in marks) 0 (length marks)
+
+-- whether the last cycle resumed a process
+abbrev pub is_due : Progress → ℕ → Bool
+is_due h p = is_resumed h.design h.cycles (reached h) p
+
+-- the state now: the processes that have been executed own their results
+abbrev pub present : Progress → State
+present h = together h.design.processes (those_in h.deposited) (reached h)
+
+-- from when on transactions of a process are pending: one that has been executed may have some at the time itself
+abbrev pub pending_from : Progress → ℕ → ℕ → ℕ
+pending_from h time p = if those_in h.deposited p then time else suc time
+
+-- What is held is that of the simulation.
+pub record IsProgress (h : Progress) (time delta : ℕ) (held : Contents) (records : List Record) (due : List Bool) : Type 0 where
+  pub there : standard h.design h.cycles ≡ Some (reached h)
+  pub time_is : time ≡ (reached h).time
+  pub delta_is : delta ≡ (reached h).delta
+  pub early : time ≤ largest_time
+  pub nets_are : held.nets ≡ (reached h).nets
+  pub owned_are : held.owned ≡ (present h).owned
+  pub records_are : records ≡ records_to h.design h.cycles
+  pub sized : length h.deposited ≡ length h.design.processes
+  pub due_sized : length due ≡ length h.design.processes
+  pub few : length h.design.nets ≤ most
+  pub processes : All IsProcess h.design.processes
+  pub due_are : (p : ℕ) → p < length h.design.processes → those_in due p ≡ is_due h p
+  pub ran : (p : ℕ) → those_in h.deposited p ≡ true → is_due h p ≡ true
+  pub ready : (p : ℕ) → p < length h.design.processes
+      → IsReady (process_at h.design.processes p).body (pending_from h time p) (owned_at held.owned p)
+
+-- no process is marked
+abbrev pub cleared : List Bool → List Bool
+cleared marks = map (λ (b : Bool). false) marks
+
+-- Each process that the last cycle resumed has been executed.
+abbrev pub IsComplete : Progress → Type 0
+IsComplete h = (p : ℕ) → p < length h.design.processes → is_due h p ≡ true → those_in h.deposited p ≡ true
+
+-- after one cycle more
+abbrev pub after : Progress → Progress
+after h = record { design = h.design; cycles = suc h.cycles; deposited = cleared h.deposited }
+
+-- This is the result of a process that is due and has not been executed, from its part of the state.
+pub record IsResult (h : Progress) (p : ℕ) (own : Owned) : Type 0 where
+  pub number : p < length h.design.processes
+  pub resumed : is_due h p ≡ true
+  pub result : own ≡ outcome (process_at h.design.processes p) (part (process_at h.design.processes p) p (reached h))
+
+-- The flat lists that are made once are those of the design: the sources of each net, and the processes that it wakes.
+pub record AreMade (design : Design) (sources : List (List Source)) (wakes : List (List ℕ)) : Type 0 where
+  pub sources_are : sources ≡ sources_of design.nets
+  pub wakes_sized : length wakes ≡ length design.nets
+  pub wakes_are : AreWakes design.processes wakes
+
+-- What is made of a design at first: those lists, its first state with its record, and that each process is due and none has been executed.
+pub record IsMade (design : Design) (sources : List (List Source)) (wakes : List (List ℕ)) (held : Contents) (records : List Record) (due deposited : List Bool)
+    : Type 0 where
+  pub lists : AreMade design sources wakes
+  pub held_is : held ≡ contents_of (first_state design)
+  pub records_is : records ≡ first_record (first_state design) ∷ []
+  pub due_is : due ≡ replicate (length design.processes) true
+  pub deposited_is : deposited ≡ replicate (length design.processes) false
+
+-- What a simulation holds: the lists that were made once, and the state, records and marks of its progress.
+pub record IsSimulation (h : Progress) (sources : List (List Source)) (wakes : List (List ℕ)) (time delta : ℕ) (held : Contents) (records : List Record)
+    (due : List Bool) : Type 0 where
+  pub made : AreMade h.design sources wakes
+  pub progress : IsProgress h time delta held records due
+
+-- The job has the process with its number, and the part of the state that this process sees.
+pub record IsOwn (h : Progress) (job : Job) : Type 0 where
+  pub process : job.process ≡ process_at h.design.processes job.number
+  pub shows : scene job ≡ part (process_at h.design.processes job.number) job.number (reached h)
+
+-- The job is the one of this process since the last cycle.
+pub record IsJobOf (h : Progress) (p : ℕ) (job : Job) : Type 0 where
+  pub cycle : job.cycle ≡ h.cycles
+  pub number : job.number ≡ p
+  pub own : IsOwn h job
+
+-- the time of the next cycle, once all that are due have been executed
+abbrev pub next_after : Progress → Option ℕ
+next_after h = next_of (executed_in_turn h.design h.cycles (reached h))
+
+-- the time of the next cycle after so many cycles of a design
+abbrev pub next_in : Design → ℕ → Option ℕ
+next_in design cycles = next_of (executed_in_turn design cycles (state_of design cycles))
+
+-- The last cycle resumed this process.
+pub record IsDue (h : Progress) (p : ℕ) : Type 0 where
+  pub number : p < length h.design.processes
+  pub resumed : is_due h p ≡ true
+
+-- The last cycle resumed this process, and it has not been executed.
+pub record IsMissing (h : Progress) (p : ℕ) : Type 0 where
+  pub due : IsDue h p
+  pub fresh : those_in h.deposited p ≡ false
+
+-- It is the least of those.
+pub record IsLeastMissing (h : Progress) (p : ℕ) : Type 0 where
+  pub missing : IsMissing h p
+  pub least : (q : ℕ) → q < p → IsMissing h q → ⊥
+
+-- what a process owns now: what was kept, or else what it owned
+abbrev pub kept_or : Owned → Option Owned → Owned
+kept_or own None = own
+kept_or own (Some results) = results
+
+-- a simulation in which these processes have been executed since the last cycle
+abbrev pub with_marks : Progress → List Bool → Progress
+with_marks h marks = record { design = h.design; cycles = h.cycles; deposited = marks }
+
+-- a simulation in which one process more has been
+abbrev pub with_one : Progress → ℕ → Progress
+with_one h p = with_marks h (slice_set h.deposited p true)

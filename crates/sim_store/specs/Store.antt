@@ -1,0 +1,128 @@
+-- The store of a run: a simulation, how far it may go, and how it ended (IEEE 1076-2008, 14.7.5.1).
+use Rattle.std.specs.Prelude.{ℕ, suc, [], ◌≡◌, ◌≢◌, ◌<◌, ◌≤◌, List, Bool, true, false, Option, None, Some, MatchOption, length, replicate, slice_set}
+use Rattle.sim_design.specs.Designs.{Design}
+use Rattle.sim_logic.specs.Time.{largest_time}
+use Rattle.sim_exec.specs.Jobs.{Job}
+use Rattle.sim_store.specs.declared.error.StoreError.{StoreError}
+use Rattle.sim_store.specs.declared.error.StoreError.TheVariants as error
+use Rattle.sim_store.specs.declared.store.Step.{Step}
+use Rattle.sim_store.specs.declared.store.Step.TheVariants as step
+use Rattle.sim_store.specs.declared.store.Look.{Look}
+use Rattle.sim_store.specs.History.{event_count}
+use Rattle.sim_store.specs.Standard.{records_to, resumed}
+use Rattle.sim_store.specs.Outcome.{FinishedAfter, LimitReached, HasOutcome, IsOver}
+use Rattle.sim_store.specs.Progress.{Progress, IsComplete, IsDue, IsMissing, IsLeastMissing, IsOwn, after, next_after, next_in, reached, those_in, with_marks}
+
+-- A store: its simulation, the stop time, the limit of cycles, and how the run ended.
+pub record Store : Type 0 where
+  pub progress : Progress
+  pub stop : ℕ
+  pub limit : ℕ
+  pub ended : Option Step
+
+-- The run ended so.
+abbrev pub HasEnd : Store → Step → Type 0
+HasEnd w step.Next = ⊥
+HasEnd w step.Finished = HasOutcome (next_in w.progress.design) w.stop w.limit (FinishedAfter w.progress.cycles)
+HasEnd w step.LimitReached = HasOutcome (next_in w.progress.design) w.stop w.limit LimitReached
+
+-- The run is within its bounds, was not over before, and where it ended all that are due have been executed and this is its outcome.
+pub record IsStore (w : Store) : Type 0 where
+  pub early : w.stop ≤ largest_time
+  pub within : w.progress.cycles ≤ w.limit
+  pub until : (reached w.progress).time ≤ w.stop
+  pub going : (m : ℕ) → m < w.progress.cycles → IsOver (next_in w.progress.design m) w.stop → ⊥
+  pub end : MatchOption w.ended (Unit {0}) (λ s. IsComplete w.progress × HasEnd w s)
+
+-- The run has not ended.
+abbrev pub IsOpen : Store → Type 0
+IsOpen w = w.ended ≡ None
+
+-- Why a process can't be executed.
+abbrev pub IsNotMissing : Progress → ℕ → StoreError → Type 0
+IsNotMissing h p error.NotDue = IsDue h p → ⊥
+IsNotMissing h p error.Twice = IsDue h p × (those_in h.deposited p ≡ true)
+IsNotMissing h p _ = ⊥
+
+-- Why there is no job for a process, in the order in which the reasons are looked for.
+abbrev pub IsJobRefusal : Store → ℕ → StoreError → Type 0
+IsJobRefusal w p error.Ended = IsOpen w → ⊥
+IsJobRefusal w p error.Memory = IsOpen w × IsMissing w.progress p
+IsJobRefusal w p e = IsOpen w × IsNotMissing w.progress p e
+
+-- Why a result is not taken, in the order in which the reasons are looked for.
+abbrev pub IsDepositRefusal : Store → Job → StoreError → Type 0
+IsDepositRefusal w job error.Ended = IsOpen w → ⊥
+IsDepositRefusal w job error.Stale = IsOpen w × (job.cycle ≢ w.progress.cycles)
+IsDepositRefusal w job error.Foreign = IsOpen w × (job.cycle ≡ w.progress.cycles) × IsMissing w.progress job.number × (IsOwn w.progress job → ⊥)
+IsDepositRefusal w job e = IsOpen w × (job.cycle ≡ w.progress.cycles) × IsNotMissing w.progress job.number e
+
+-- The result is taken.
+pub record IsTaken (w : Store) (job : Job) : Type 0 where
+  pub going : IsOpen w
+  pub cycle : job.cycle ≡ w.progress.cycles
+  pub missing : IsMissing w.progress job.number
+  pub own : IsOwn w.progress job
+
+-- Why a store does not go on, in the order in which the reasons are looked for.
+abbrev pub IsAdvanceRefusal : Store → StoreError → Type 0
+IsAdvanceRefusal w error.Ended = IsOpen w → ⊥
+IsAdvanceRefusal w (error.Missing process) = IsOpen w × IsLeastMissing w.progress process
+IsAdvanceRefusal w error.Memory = IsOpen w × IsComplete w.progress
+IsAdvanceRefusal w _ = ⊥
+
+-- Why there is no store of a design.
+abbrev pub IsNewRefusal : ℕ → StoreError → Type 0
+IsNewRefusal stop error.StopTooLate = largest_time < stop
+IsNewRefusal stop error.Memory = stop ≤ largest_time
+IsNewRefusal stop _ = ⊥
+
+-- the store of a design that was initialized
+abbrev pub begun : Design → ℕ → ℕ → Store
+begun design stop limit = record {
+  progress = record { design = design; cycles = 0; deposited = replicate (length design.processes) false };
+  stop = stop;
+  limit = limit;
+  ended = None;
+}
+
+-- a store in which these processes have been executed since the last cycle
+abbrev pub with_deposited : Store → List Bool → Store
+with_deposited w marks = record w { progress = with_marks w.progress marks }
+
+-- a store in which one process more has been
+abbrev pub deposited : Store → ℕ → Store
+deposited w p = with_deposited w (slice_set w.progress.deposited p true)
+
+-- a store whose run ended so
+abbrev pub ended_as : Store → Step → Store
+ended_as w s = record w { ended = Some s }
+
+-- A store went on: there is one cycle more, at a time up to the stop time; or the run has ended, and all else is as it was.
+abbrev pub IsAdvanced : Store → Store → Step → Type 0
+IsAdvanced old new step.Next =
+    (time : ℕ) × (next_after old.progress ≡ Some time) × (time ≤ old.stop) × (old.progress.cycles < old.limit) × (new ≡ record old { progress = after old.progress })
+IsAdvanced old new s = IsComplete old.progress × HasEnd old s × (new ≡ ended_as old s)
+
+-- the processes that the last cycle resumed; none where the run has ended
+abbrev pub due_of : Store → List ℕ
+due_of w = go w.ended
+  where
+    go : Option Step → List ℕ
+    go None = resumed w.progress.design w.progress.cycles (reached w.progress)
+    go (Some s) = []
+
+-- how far it has come
+abbrev pub look_of : Store → Look
+look_of w = record {
+  records = suc w.progress.cycles;
+  time = (reached w.progress).time;
+  delta = (reached w.progress).delta;
+  events = event_count (records_to w.progress.design w.progress.cycles);
+}
+
+-- Why there are no records from this number on.
+abbrev pub IsRecordsRefusal : Store → ℕ → StoreError → Type 0
+IsRecordsRefusal w n (error.Behind records) = (records ≡ suc w.progress.cycles) × (records < n)
+IsRecordsRefusal w n error.Memory = n ≤ suc w.progress.cycles
+IsRecordsRefusal w n _ = ⊥

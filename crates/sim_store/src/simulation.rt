@@ -1,0 +1,379 @@
+//! A simulation of a design, as far as it has come (IEEE 1076-2008, 14.7.5).
+
+ghost use Rattle.std.specs.Prelude.{ℕ, suc, ◌≡◌, ◌<◌, ◌≤◌, ◌^◌, ◌+◌, [], ◌∷◌, List, Some, None, Option, true, false, length, map, replicate, drop, slice_set, slice_index_or, MatchOption, MatchResult, IfOk, IfErr, OnOk, OnErr};
+ghost use Rattle.std.specs.List.{All};
+ghost use Rattle.sim_design.specs.Processes.{IsProcess};
+ghost use Rattle.sim_state.specs.Cycles as cycles;
+ghost use Rattle.sim_exec.specs.Jobs.{IsReady, Job as job_value, result_of};
+ghost use Rattle.sim_exec.specs.State.{Owned, net_at, owned_at};
+ghost use Rattle.sim_logic.specs.Time.{largest_time};
+ghost use Rattle.sim_store.specs.History.{IsNamed, event_count};
+ghost use Rattle.sim_store.specs.Progress as spec;
+ghost use Rattle.sim_store.specs.Standard.{records_to, resumed};
+ghost use Rattle.sim_store.specs.Store as store;
+
+use crate::due::{Due, marked};
+use crate::error::StoreError;
+use crate::history::records_from;
+use sim_design::{Design, Process, Source};
+use sim_exec::{Done, Job, Results};
+use sim_logic::Logic;
+use sim_rows::Rows;
+use sim_state::{FlatState, Log, Record, sources, wakes};
+use std::alloc::{AllocError, Global};
+use std::marker::Model;
+
+/// The delta number of a cycle at `time`, after one at `last`.
+fn next_delta(time: u64, last: u64, delta: u64) -> u64
+    requires { delta + 1 < 2 ^ 64 }
+    ensures { result ≡ cycles.next_delta time last delta }
+{
+    if time == last { delta + 1 } else { 0 }
+}
+
+/// What a process is by its type.
+fn is_process(process: &Process)
+    ensures { IsProcess process.now }
+{
+    let _sensitivity = process.sensitivity();
+    let _reads = process.reads();
+    let _nets = process.nets();
+}
+
+/// What processes are by their types.
+fn are_processes(processes: &[Process])
+    ensures { All IsProcess processes.now }
+{
+    for process in processes {
+        is_process(process);
+    }
+}
+
+/// No process is marked any more.
+fn clear(marks: &mut [bool])
+    ensures { marks.new ≡ spec.cleared marks.old }
+{
+    for mark in marks.iter_mut() {
+        *mark = false;
+    }
+}
+
+/// Puts what an executed process owns in the place of what it owned, where that is other than before. It takes no memory.
+fn put_results(state: &mut FlatState, number: usize, results: Option<Results>)
+    requires at { number < length state.old.owned }
+    requires drivers { MatchOption results Unit (λ r. length r.drivers ≡ length (owned_at state.old.owned number).drivers) }
+    requires variables { MatchOption results Unit (λ r. length r.variables ≡ length (owned_at state.old.owned number).variables) }
+    ensures { state.new ≡ record state.old {
+      owned = slice_set state.old.owned number (spec.kept_or (owned_at state.old.owned number) results);
+    } }
+{
+    if let Some(results) = results {
+        state.put(number, results.drivers, results.variables);
+    }
+}
+
+/// What is made of a design before its simulation starts.
+#[derive(Drop)]
+struct Made {
+    sources: Rows<Source>,
+    wakes: Rows<usize>,
+    state: FlatState,
+    log: Log,
+    due: Due,
+    deposited: Vec<bool>,
+}
+
+/// What is made of a design: the flat lists of its nets, its first state with its record, and that each process is to be executed.
+fn prepared(alloc: Global, design: &Design) -> Result<Made, AllocError>
+    ensures { IfOk result (λ m. spec.IsMade design.now m.sources m.wakes m.state m.log.records m.due m.deposited.items) }
+{
+    let nets = design.nets().len();
+    let processes = design.processes().len();
+    let state = FlatState::first(alloc, design)?;
+    let mut log = Log::new(alloc);
+    log.reserve(nets)?;
+    state.record_all(&mut log, 0, 0);
+    Ok(Made {
+        sources: sources(alloc, design)?,
+        wakes: wakes(alloc, design)?,
+        state,
+        log,
+        due: Due::all(alloc, processes)?,
+        deposited: marked(alloc, processes, false)?,
+    })
+}
+
+/// A simulation of a design, as far as it has come. By its type, what it holds is what the cycle gives.
+#[derive(Drop)]
+pub struct Simulation {
+    design: Design,
+    time: u64,
+    delta: u64,
+    made: Made,
+}
+
+impl Model for Simulation {
+    ghost use Rattle.std.specs.Prelude.{◌-◌, length};
+    ghost use Rattle.std.specs.Coded.{codes};
+    ghost use Rattle.sim_design.specs.contracts.expression.LogicExpression as logic;
+    ghost use Rattle.sim_design.specs.contracts.expression.BooleanExpression as boolean;
+    ghost use Rattle.sim_design.specs.contracts.statement.Statement as statement;
+    ghost use Rattle.sim_store.specs.Progress.{Progress, IsSimulation};
+
+    ghost Value = { Progress };
+
+    ghost coded = { Prim.hlevel (codes, logic.the_row.coded, boolean.the_row.coded, statement.the_row.coded) };
+
+    ghost view = { λ s. record { design = s.design; cycles = length s.made.log.records - 1; deposited = s.made.deposited.items } };
+
+    ghost invariant = { λ s. IsSimulation (record { design = s.design; cycles = length s.made.log.records - 1; deposited = s.made.deposited.items })
+        s.made.sources s.made.wakes s.time s.delta s.made.state s.made.log.records s.made.due };
+}
+
+impl Simulation {
+    ghost use Rattle.std.specs.Prelude.{ℕ, ◌≡◌, ◌↔◌, IsTrue, IfErr, IfOk, OnOk, OnErr, MatchOption, MatchResult, Some, true, false, length, replicate, slice_set};
+
+    /// The simulation of a design at its start: the initialization is recorded, and each process is due. Where memory is refused, the design comes back.
+    pub fn begin(alloc: Global, design: Design) -> Result<Simulation, (AllocError, Design)>
+        ensures ok { IfOk result (λ s. s ≡ record { design = design; cycles = 0; deposited = replicate (length design.processes) false }) }
+        ensures err { IfErr result (λ e. e.1 ≡ design) }
+    {
+        let _nets = design.nets();
+        let _drivers = design.drivers();
+        are_processes(design.processes());
+        match prepared(alloc, &design) {
+            Err(error) => Err((error, design)),
+            Ok(made) => Ok(Simulation {
+                design,
+                time: 0,
+                delta: 0,
+                made,
+            }),
+        }
+    }
+
+    /// The job of a process that has not been executed since the last cycle: a copy of its part of the state.
+    pub fn job(&self, alloc: Global, number: usize) -> Result<Job, AllocError>
+        requires at { number < length self.now.design.processes }
+        requires fresh { spec.those_in self.now.deposited number ≡ false }
+        ensures { IfOk result (λ job. spec.IsJobOf self.now number job) }
+    {
+        let process = &self.design.processes()[number];
+        let part = self.made.state.part(alloc, number, process.reads())?;
+        let process = process.try_copy()?;
+        Ok(Job::new(
+            self.made.log.len() - 1,
+            number,
+            self.time,
+            process,
+            part.views,
+            part.variables,
+            part.drivers,
+        ))
+    }
+
+    /// The time of the next cycle (14.7.5.1).
+    pub fn next(&self) -> Option<u64>
+        ensures { spec.IsComplete self.now → result ≡ spec.next_after self.now }
+    {
+        self.made.state.next()
+    }
+
+    /// How many cycles there were.
+    pub fn cycles(&self) -> usize
+        ensures { result ≡ self.now.cycles }
+    {
+        self.made.log.len() - 1
+    }
+
+    /// How many records there are: that of the initialization, and one for each cycle.
+    pub fn records(&self) -> usize
+        ensures { result ≡ suc self.now.cycles }
+    {
+        self.made.log.len()
+    }
+
+    /// Whether the last cycle resumed the process with a number.
+    pub fn is_due(&self, number: usize) -> bool
+        ensures { IsTrue result ↔ spec.IsDue self.now number }
+    {
+        self.made.due.has(number)
+    }
+
+    /// Whether the process with a number has been executed since the last cycle.
+    pub fn is_deposited(&self, number: usize) -> bool
+        ensures { result ≡ spec.those_in self.now.deposited number }
+    {
+        match self.made.deposited.get(number) {
+            Some(mark) => *mark,
+            None => false,
+        }
+    }
+
+    /// Whether a job is what its process would be handed out now, but for its cycle. It takes no memory.
+    pub fn is_own(&self, job: &Job) -> bool
+        requires at { job.now.number < length self.now.design.processes }
+        requires fresh { spec.those_in self.now.deposited job.now.number ≡ false }
+        ensures { IsTrue result ↔ spec.IsOwn self.now job.now }
+    {
+        let process = &self.design.processes()[job.number()];
+        if job.time() != self.time {
+            return false;
+        }
+        if !process.same(job.process()) {
+            return false;
+        }
+        self.made.state.is_part(
+            job.number(),
+            process.reads(),
+            job.views(),
+            job.variables(),
+            job.drivers(),
+        )
+    }
+
+    /// Takes the result of a process that is due and has not been executed: what it owns is what its execution gave. Nothing else changes.
+    pub fn deposit(&mut self, done: Done)
+        requires own { spec.IsOwn self.old done }
+        requires missing { spec.IsMissing self.old done.number }
+        ensures one { self.new ≡ spec.with_one self.old done.number }
+        ensures gone { spec.IsMissing self.new done.number → ⊥ }
+    {
+        let (job, results) = done.into_parts();
+        let number = job.number();
+        put_results(&mut self.made.state, number, results);
+        self.made.deposited[number] = true;
+    }
+
+    /// Carries out the cycle at the time of the next, once all that are due have been executed (14.7.5.3). Where memory is refused nothing changes.
+    pub fn go_on(&mut self, time: u64) -> Result<(), AllocError>
+        requires complete { spec.IsComplete self.old }
+        requires next { spec.next_after self.old ≡ Some time }
+        requires early { time ≤ largest_time }
+        requires bound { self.old.cycles < 2 ^ 32 }
+        ensures ok { OnOk result (self.new ≡ spec.after self.old) }
+        ensures at { OnOk result ((spec.reached self.new).time ≡ time) }
+        ensures err { OnErr result (self.new ≡ self.old) }
+    {
+        let nets = self.design.nets().len();
+        self.made.log.reserve(nets)?;
+        self.delta = next_delta(time, self.time, self.delta);
+        self.time = time;
+        self.made.state.update(&self.made.sources, time);
+        self.made.state.record(&mut self.made.log, time, self.delta);
+        self.made.due.find(&self.made.state, &self.made.wakes);
+        clear(self.made.deposited.as_mut_slice());
+        Ok(())
+    }
+
+    /// The design.
+    pub fn design(&self) -> &Design
+        ensures { result.now ≡ self.now.design }
+    {
+        &self.design
+    }
+
+    /// Whether the process with a number is due and has not been executed since the last cycle.
+    pub fn check(&self, number: usize) -> Result<(), StoreError>
+        ensures { MatchResult result (λ _. spec.IsMissing self.now number) (store.IsNotMissing self.now number) }
+    {
+        if !self.is_due(number) {
+            return Err(StoreError::NotDue);
+        }
+        if self.is_deposited(number) {
+            return Err(StoreError::Twice);
+        }
+        Ok(())
+    }
+
+    /// The least of those that are due and have not been executed since the last cycle.
+    pub fn missing(&self) -> Option<usize>
+        ensures { MatchOption result (spec.IsComplete self.now) (spec.IsLeastMissing self.now) }
+    {
+        for number in 0..self.design.processes().len() {
+            if self.check(number).is_ok() {
+                return Some(number);
+            }
+        }
+        None
+    }
+
+    /// Executes a process that is due and has not been executed since the last cycle.
+    fn execute(&mut self, alloc: Global, number: usize) -> Result<(), AllocError>
+        requires { spec.IsMissing self.old number }
+        ensures ok { OnOk result (self.new ≡ spec.with_one self.old number) }
+        ensures gone { OnOk result (spec.IsMissing self.new number → ⊥) }
+        ensures err { OnErr result (self.new ≡ self.old) }
+    {
+        let job = self.job(alloc, number)?;
+        match Done::run(alloc, job) {
+            Err((error, _job)) => Err(error),
+            Ok(done) => {
+                self.deposit(done);
+                Ok(())
+            }
+        }
+    }
+
+    /// Executes the process with a number, if it is due and has not been executed since the last cycle.
+    fn execute_missing(&mut self, alloc: Global, number: usize) -> Result<(), AllocError>
+        ensures same { self.new ≡ spec.with_marks self.old self.new.deposited }
+        ensures ok { OnOk result (spec.IsMissing self.new number → ⊥) }
+        ensures others { (p : ℕ) → spec.IsMissing self.new p → spec.IsMissing self.old p }
+    {
+        if self.check(number).is_ok() {
+            self.execute(alloc, number)?;
+        }
+        Ok(())
+    }
+
+    /// Executes all that are due and have not been executed since the last cycle, in rising order. Where memory is refused, those before are executed.
+    pub fn execute_due(&mut self, alloc: Global) -> Result<(), AllocError>
+        ensures same { self.new ≡ spec.with_marks self.old self.new.deposited }
+        ensures ok { OnOk result (spec.IsComplete self.new) }
+    {
+        for number in 0..self.design.processes().len() {
+            self.execute_missing(alloc, number)?;
+        }
+        Ok(())
+    }
+
+    /// The numbers of the processes that the last cycle resumed, rising.
+    pub fn due(&self) -> &[usize]
+        ensures { result.now ≡ resumed self.now.design self.now.cycles (spec.reached self.now) }
+    {
+        self.made.due.numbers()
+    }
+
+    /// The time and the delta number of the last cycle.
+    pub fn time(&self) -> (u64, u64)
+        ensures { result ≡ ((spec.reached self.now).time, (spec.reached self.now).delta) }
+    {
+        (self.time, self.delta)
+    }
+
+    /// The value of the net with a number; none beyond the last.
+    pub fn value(&self, net: usize) -> Option<Logic>
+        ensures { MatchOption result (length self.now.design.nets ≤ net)
+            (λ v. (net < length self.now.design.nets) × (v ≡ (net_at (spec.reached self.now).nets net).value)) }
+    {
+        self.made.state.value(net)
+    }
+
+    /// How many events the cycles after the initialization had.
+    pub fn events(&self) -> u64
+        ensures { result ≡ event_count (records_to self.now.design self.now.cycles) }
+    {
+        (self.made.log.count() - self.design.nets().len()) as u64
+    }
+
+    /// The records from a number on.
+    pub fn records_from(&self, alloc: Global, number: usize) -> Result<Vec<Record>, AllocError>
+        requires { number ≤ suc self.now.cycles }
+        ensures records { IfOk result (λ v. v.items ≡ drop number (records_to self.now.design self.now.cycles)) }
+        ensures named { IfOk result (λ v. All (IsNamed (length self.now.design.nets)) v.items) }
+    {
+        let found = records_from(alloc, &self.made.log, number)?;
+        Ok(found)
+    }
+}

@@ -1,0 +1,295 @@
+//! The store of a run (IEEE 1076-2008, 14.7.5).
+
+ghost use Rattle.std.specs.Prelude.{ℕ, ◌≡◌, ◌≢◌, ◌↔◌, ◌<◌, ◌≤◌, IsTrue, List, Ok, Err, Some, None, true, false, suc, drop, length, replicate, slice_set, if◌then◌else◌};
+ghost use Rattle.std.specs.Prelude.{MatchOption, MatchResult, IfOk, IfErr, OnOk, OnErr};
+ghost use Rattle.sim_logic.specs.Time.{largest_time};
+ghost use Rattle.std.specs.List.{All};
+ghost use Rattle.sim_exec.specs.State.{net_at};
+ghost use Rattle.sim_store.specs.History.{IsNamed};
+ghost use Rattle.sim_store.specs.Standard.{records_to};
+ghost use Rattle.sim_store.specs.Outcome.{IsOver};
+ghost use Rattle.sim_store.specs.Progress as progress;
+ghost use Rattle.sim_store.specs.Store as spec;
+ghost use Rattle.sim_store.specs.declared.error.StoreError.TheVariants as refusal;
+ghost use Rattle.sim_store.specs.declared.store.Step.TheVariants as step;
+
+use crate::error::StoreError;
+use crate::simulation::Simulation;
+use sim_design::Design;
+use sim_exec::{Done, Job};
+use sim_logic::{LATEST, Logic};
+use sim_state::Record;
+use std::alloc::{AllocError, Global};
+use std::marker::Model;
+
+/// How a store went on.
+#[derive(Clone, Copy, Debug, PartialEq, Eq)]
+pub enum Step {
+    /// There is one more cycle, and one more record.
+    Next,
+    /// Nothing is pending up to the stop time: the run has ended.
+    Finished,
+    /// The run needs more cycles than the limit: it has ended.
+    LimitReached,
+}
+
+/// How far a run has come.
+#[derive(Clone, Copy, Debug, PartialEq, Eq)]
+pub struct Look {
+    /// How many records there are.
+    pub records: usize,
+    /// When the last cycle was, in femtoseconds.
+    pub time: u64,
+    /// How many cycles at this time came before it.
+    pub delta: u64,
+    /// How many events the cycles after the initialization had.
+    pub events: u64,
+}
+
+/// The time of the next cycle, if it is not later than the stop time.
+fn next_within(simulation: &Simulation, stop: u64) -> Option<u64>
+    requires { progress.IsComplete simulation.now }
+    ensures { MatchOption result (IsOver (progress.next_after simulation.now) stop)
+        (λ time. (progress.next_after simulation.now ≡ Some time) × (time ≤ stop)) }
+{
+    match simulation.next() {
+        Some(time) if time <= stop => Some(time),
+        _ => None,
+    }
+}
+
+/// The state of a run, and its history: by its type, what is recorded is what the simulation cycle of its design gives, one process at a time, and
+/// how the run ended is its outcome.
+#[derive(Drop)]
+pub struct WaveStore {
+    simulation: Simulation,
+    stop: u64,
+    limit: u32,
+    ended: Option<Step>,
+}
+
+impl Model for WaveStore {
+    ghost use Rattle.std.specs.Coded.{codes};
+    ghost use Rattle.sim_design.specs.contracts.expression.LogicExpression as logic;
+    ghost use Rattle.sim_design.specs.contracts.expression.BooleanExpression as boolean;
+    ghost use Rattle.sim_design.specs.contracts.statement.Statement as statement;
+    ghost use Rattle.sim_store.specs.Store.{Store, IsStore};
+
+    ghost Value = { Store };
+
+    ghost coded = { Prim.hlevel (codes, logic.the_row.coded, boolean.the_row.coded, statement.the_row.coded) };
+
+    ghost view = { λ s. record { progress = s.simulation; stop = s.stop; limit = s.limit; ended = s.ended } };
+
+    ghost invariant = { λ s. IsStore (record { progress = s.simulation; stop = s.stop; limit = s.limit; ended = s.ended }) };
+}
+
+impl WaveStore {
+    /// The store of a design that was initialized (14.7.5.2): record 0 has every net, and all processes are due. The stop time is in femtoseconds; the
+    /// run may go on for as many cycles as the limit says. The design comes back with `StopTooLate`, where the stop time is above 2^62 - 1, and
+    /// with `Memory`.
+    pub fn new(
+        alloc: Global,
+        design: Design,
+        stop: u64,
+        limit: u32,
+    ) -> Result<WaveStore, (StoreError, Design)>
+        ensures ok { IfOk result (λ s. (stop ≤ largest_time) × (s ≡ spec.begun design stop limit)) }
+        ensures err { IfErr result (λ e. spec.IsNewRefusal stop e.0 × (e.1 ≡ design)) }
+    {
+        if stop > LATEST {
+            return Err((StoreError::StopTooLate, design));
+        }
+        match Simulation::begin(alloc, design) {
+            Err((_error, design)) => Err((StoreError::Memory, design)),
+            Ok(simulation) => Ok(WaveStore {
+                simulation,
+                stop,
+                limit,
+                ended: None,
+            }),
+        }
+    }
+
+    /// The job of a process that is due and has not been executed since the last cycle. Refusals: `Ended`, `NotDue`, `Twice`, `Memory`, in this order.
+    pub fn job(&self, alloc: Global, process: usize) -> Result<Job, StoreError>
+        ensures ok { IfOk result (λ job. spec.IsOpen self.now × progress.IsMissing self.now.progress process
+            × progress.IsJobOf self.now.progress process job) }
+        ensures err { IfErr result (spec.IsJobRefusal self.now process) }
+    {
+        if self.ended.is_some() {
+            return Err(StoreError::Ended);
+        }
+        self.simulation.check(process)?;
+        let job = self.simulation.job(alloc, process)?;
+        Ok(job)
+    }
+
+    /// Takes the result of a process: it owns what its execution gave, and nothing else changes. It takes no memory. Refusals: `Ended`, `Stale`, `NotDue`,
+    /// `Twice`, `Foreign`, in this order; the result then comes back.
+    pub fn deposit(&mut self, done: Done) -> Result<(), (StoreError, Done)>
+        ensures ok { OnOk result (spec.IsTaken self.old done × (self.new ≡ spec.deposited self.old done.number)) }
+        ensures err { IfErr result (λ e. spec.IsDepositRefusal self.old done e.0 × (e.1 ≡ done)) }
+        ensures kept { OnErr result (self.new ≡ self.old) }
+    {
+        match self.accept(done.job()) {
+            Err(error) => Err((error, done)),
+            Ok(()) => {
+                self.simulation.deposit(done);
+                Ok(())
+            }
+        }
+    }
+
+    /// Whether the result of a job would be taken.
+    fn accept(&self, job: &Job) -> Result<(), StoreError>
+        ensures { MatchResult result (λ _. spec.IsTaken self.now job.now) (λ e. spec.IsDepositRefusal self.now job.now e) }
+    {
+        if self.ended.is_some() {
+            return Err(StoreError::Ended);
+        }
+        if job.cycle() != self.simulation.cycles() {
+            return Err(StoreError::Stale);
+        }
+        self.simulation.check(job.number())?;
+        if !self.simulation.is_own(job) {
+            return Err(StoreError::Foreign);
+        }
+        Ok(())
+    }
+
+    /// Executes all that are due and have not been executed since the last cycle, in rising order of their numbers, on this thread. Where memory is refused,
+    /// those before are executed.
+    pub fn execute_due(&mut self, alloc: Global) -> Result<(), AllocError>
+        ensures same { self.new ≡ spec.with_deposited self.old self.new.progress.deposited }
+        ensures ok { OnOk result (progress.IsComplete self.new.progress) }
+    {
+        if self.ended.is_some() {
+            return Ok(());
+        }
+        self.simulation.execute_due(alloc)
+    }
+
+    /// Goes on to the next cycle (14.7.5.3) once all that are due have been executed. It answers `Finished` where nothing is pending up to the stop time, and
+    /// `LimitReached` where the limit would be passed: then the run has ended and its records stay. Refusals: `Ended`, `Missing` with
+    /// the least process that has not been executed, `Memory`, in this order.
+    pub fn advance(&mut self) -> Result<Step, StoreError>
+        ensures ok { IfOk result (λ s. spec.IsAdvanced self.old self.new s) }
+        ensures err { IfErr result (spec.IsAdvanceRefusal self.old) }
+        ensures kept { OnErr result (self.new ≡ self.old) }
+    {
+        if self.ended.is_some() {
+            return Err(StoreError::Ended);
+        }
+        if let Some(process) = self.simulation.missing() {
+            return Err(StoreError::Missing { process });
+        }
+        self.go_on()
+    }
+
+    /// Goes on where all that are due have been executed.
+    fn go_on(&mut self) -> Result<Step, StoreError>
+        requires open { spec.IsOpen self.old }
+        requires complete { progress.IsComplete self.old.progress }
+        ensures ok { IfOk result (λ s. spec.IsAdvanced self.old self.new s) }
+        ensures err { IfErr result (λ e. e ≡ refusal.Memory) }
+        ensures kept { OnErr result (self.new ≡ self.old) }
+    {
+        match next_within(&self.simulation, self.stop) {
+            None => Ok(self.end(Step::Finished)),
+            Some(_) if self.simulation.cycles() == self.limit as usize => {
+                Ok(self.end(Step::LimitReached))
+            }
+            Some(time) => {
+                self.simulation.go_on(time)?;
+                Ok(Step::Next)
+            }
+        }
+    }
+
+    /// The run has ended so.
+    fn end(&mut self, step: Step) -> Step
+        requires complete { progress.IsComplete self.old.progress }
+        requires end { spec.HasEnd self.old step }
+        ensures step { result ≡ step }
+        ensures ended { self.new ≡ spec.ended_as self.old step }
+    {
+        self.ended = Some(step);
+        step
+    }
+
+    /// How the run ended; none where it has not.
+    pub fn ended(&self) -> Option<Step>
+        ensures value { result ≡ self.now.ended }
+        ensures end { MatchOption result Unit (λ s. progress.IsComplete self.now.progress × spec.HasEnd self.now s) }
+    {
+        self.ended
+    }
+
+    /// The design.
+    pub fn design(&self) -> &Design
+        ensures { result.now ≡ self.now.progress.design }
+    {
+        self.simulation.design()
+    }
+
+    /// The stop time, in femtoseconds.
+    pub fn stop(&self) -> u64
+        ensures { result ≡ self.now.stop }
+    {
+        self.stop
+    }
+
+    /// How many cycles there may be.
+    pub fn limit(&self) -> u32
+        ensures { result ≡ self.now.limit }
+    {
+        self.limit
+    }
+
+    /// The numbers of the processes that the last cycle resumed, rising, whether or not they have been executed since; none where the run has ended.
+    pub fn due(&self) -> &[usize]
+        ensures { result.now ≡ spec.due_of self.now }
+    {
+        if self.ended.is_some() {
+            return &[];
+        }
+        self.simulation.due()
+    }
+
+    /// How far the run has come.
+    pub fn look(&self) -> Look
+        ensures { result ≡ spec.look_of self.now }
+    {
+        let (time, delta) = self.simulation.time();
+        Look {
+            records: self.simulation.records(),
+            time,
+            delta,
+            events: self.simulation.events(),
+        }
+    }
+
+    /// The value of the net with a number; none beyond the last.
+    pub fn value(&self, net: usize) -> Option<Logic>
+        ensures { MatchOption result (length self.now.progress.design.nets ≤ net)
+            (λ v. (net < length self.now.progress.design.nets) × (v ≡ (net_at (progress.reached self.now.progress).nets net).value)) }
+    {
+        self.simulation.value(net)
+    }
+
+    /// The records from a number on, none where that is how many there are. Refusals: `Behind` where there are fewer, `Memory`, in this order.
+    pub fn records_since(&self, alloc: Global, number: usize) -> Result<Vec<Record>, StoreError>
+        ensures ok { IfOk result (λ v. (number ≤ suc self.now.progress.cycles)
+            × (v.items ≡ drop number (records_to self.now.progress.design self.now.progress.cycles))) }
+        ensures named { IfOk result (λ v. All (IsNamed (length self.now.progress.design.nets)) v.items) }
+        ensures err { IfErr result (spec.IsRecordsRefusal self.now number) }
+    {
+        let records = self.simulation.records();
+        if number > records {
+            return Err(StoreError::Behind { records });
+        }
+        let found = self.simulation.records_from(alloc, number)?;
+        Ok(found)
+    }
+}
