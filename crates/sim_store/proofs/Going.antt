@@ -25,7 +25,8 @@ use Rattle.sim_state.specs.Cycles.{no_process, process_at, is_resumed, first_sta
 use Rattle.sim_state.specs.Records.{first_record, changes_from}
 use Rattle.sim_store.specs.Order.{merged}
 use Rattle.sim_store.specs.Standard.{standard, state_of, or_first, onward, cycle_in_turn, executed_in_turn, executed_together, next_of, recorded, records_to}
-use Rattle.sim_store.specs.Progress.{Progress, IsProgress, IsComplete, IsResult, those_in, reached, IsDue, IsMissing, IsOwn, is_due, kept_or, pending_from, cleared, after, next_after, with_one}
+use Rattle.sim_store.specs.Progress.{Progress, IsProgress, IsComplete, IsResult, those_in, reached, IsDue, IsMissing, IsOwn, is_due, kept_or, pending_from}
+use Rattle.sim_store.specs.Progress.{cleared, after, next_after, with_one}
 use Rattle.sim_store.proofs.Together.{also, length-merged, merged-same, merged-none, merged-out, merged-also}
 use Rattle.sim_store.proofs.Parallel.{FitsCycles, length-nets_updated, merged-below, in_turn_is_together, standard_all, standard_fits}
 use Rattle.sim_store.proofs.Readiness.{ready_after}
@@ -121,7 +122,8 @@ module _ {h : Progress} {time delta : ℕ} {held : Contents} {records : List Rec
           let there : p < length held.owned = omega (arith, held-count, r.number) in
           let mark : those_in (set h.deposited p true) p ≡ true = get_or-set_same h.deposited p true false lt in
           let mine : owned_at held'.owned p ≡ own = ap (λ (w : Contents). owned_at w.owned p) e ∙ get_or-set_same held.owned p own nothing_owned there in
-          subst (λ (m : ℕ). IsReady (process_at h.design.processes m).body (if those_in (set h.deposited p true) m then time else suc time) (owned_at held'.owned m)) at
+          subst (λ (m : ℕ). IsReady (process_at h.design.processes m).body (if those_in (set h.deposited p true) m then time else suc time)
+          (owned_at held'.owned m)) at
           (rw (mark, mine) is_ready)
       now q l false t =
           let apart : q ≢ p = grind (arith, nat_tests) in
@@ -144,7 +146,8 @@ none-in (b ∷ bs) (suc p) = none-in bs p
 later-resumed : (d : Design) (k p : ℕ) (s : State) → is_resumed d (suc k) s p ≡ has_event_in s.nets (process_at d.processes p).sensitivity
 later-resumed d k p s = let t : eqb (suc k) 0 ≡ false = grind (arith, nat_tests) in rw t refl
 
-module _ {h : Progress} {time delta : ℕ} {held : Contents} {records : List Record} {due : List Bool} (i : IsProgress h time delta held records due) (all : IsComplete h) where
+module _ {h : Progress} {time delta : ℕ} {held : Contents} {records : List Record} {due : List Bool} (i : IsProgress h time delta held records due)
+    (all : IsComplete h) where
   -- once all that are due have been executed, the state is that of all together
   present-complete : held.owned ≡ (executed_together h.design h.cycles (reached h)).owned
   present-complete =
@@ -183,7 +186,8 @@ module _ {h : Progress} {time delta : ℕ} {held : Contents} {records : List Rec
       ap (λ (w : Contents). length w.nets) (el h.design x refl held-is)
       ∙ length-nets_updated (waves (map (own_taken t) x.owned)) h.design.nets (reached h).nets (ap length (sym i.nets_are) ∙ net-count i)
 
-  pub advanced-keeps : (t : ℕ) → next_time (waves held.owned) ≡ Some t → t ≤ largest_time → (δ k : ℕ) (held' : Contents) (records' : List Record) (due' deposited' : List Bool)
+  pub advanced-keeps : (t : ℕ) → next_time (waves held.owned) ≡ Some t → t ≤ largest_time
+      → (δ k : ℕ) (held' : Contents) (records' : List Record) (due' deposited' : List Bool)
       → δ ≡ next_delta t time delta
       → ((design : Design) (s : State) → design ≡ h.design → held ≡ contents_of s → held' ≡ contents_of (updated design s t))
       → records' ≡ records ++ record { time = t; delta = δ; changes = changes_from 0 held'.nets } ∷ []
@@ -344,7 +348,8 @@ none-in-replicate (suc n) zero = refl
 none-in-replicate (suc n) (suc p) = none-in-replicate n p
 
 -- as many drivers stand side by side as a process has
-drivers-there : (nets number first : ℕ) (all ds : List DriverOf) (ps : List Process) → drop first all ≡ ds → AreOwned nets number first ps ds → (m : ℕ) → m < length ps
+drivers-there : (nets number first : ℕ) (all ds : List DriverOf) (ps : List Process) → drop first all ≡ ds → AreOwned nets number first ps ds
+    → (m : ℕ) → m < length ps
     → length (take (process_at ps m).body.drivers (drop (process_at ps m).first_driver all)) ≡ (process_at ps m).body.drivers
 drivers-there nets number first all ds [] e o m lt = absurd (omega (arith, lt))
 drivers-there nets number first all ds (p ∷ ps) e o zero lt =
@@ -355,7 +360,8 @@ drivers-there nets number first all ds (p ∷ ps) e o (suc m) lt =
     (sym (drop-drop p.body.drivers first all) ∙ ap (drop p.body.drivers) e) o.3 m (omega (arith, lt))
 
 -- what is held at first is that of the simulation at its start
-pub begins : (d : Design) (k : ℕ) (held : Contents) (records : List Record) (due deposited : List Bool) → length d.nets ≤ most → AreOwned (length d.nets) 0 0 d.processes d.drivers
+pub begins : (d : Design) (k : ℕ) (held : Contents) (records : List Record) (due deposited : List Bool) → length d.nets ≤ most
+    → AreOwned (length d.nets) 0 0 d.processes d.drivers
     → All IsProcess d.processes → k ≡ 0
     → held ≡ contents_of (first_state d) → records ≡ first_record (first_state d) ∷ [] → due ≡ replicate (length d.processes) true
     → deposited ≡ replicate (length d.processes) false → IsProgress (record { design = d; cycles = k; deposited = deposited }) 0 0 held records due
@@ -368,7 +374,8 @@ begins d k held records due deposited few are all e₀ e er eu ep =
       early = omega arith;
       nets_are = refl;
       owned_are = sym (merged-none (those_in (replicate (length d.processes) false))
-          (results (record { design = d; cycles = 0; deposited = replicate (length d.processes) false })) 0 (first_state d).owned (none-in-replicate (length d.processes)));
+          (results (record { design = d; cycles = 0; deposited = replicate (length d.processes) false })) 0 (first_state d).owned
+          (none-in-replicate (length d.processes)));
       records_are = refl;
       sized = length-replicate (length d.processes) false;
       due_sized = length-replicate (length d.processes) true;

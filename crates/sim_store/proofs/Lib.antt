@@ -1,3 +1,5 @@
+pub mod Agreement
+pub mod Counting
 pub mod Going
 pub mod Listing
 pub mod Parallel

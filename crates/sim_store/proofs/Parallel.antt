@@ -66,7 +66,8 @@ merged-below f g r i (o ∷ os) same =
     rw (same i (omega arith) (omega arith))
     (ap (λ w. (if g i then r i else o) ∷ w) (merged-below f g r (suc i) os (λ k h l. same k (omega arith) (omega arith))))
 
-pub length-nets_updated : (ds : List Waveform) (nets : List Net) (olds : List NetView) → length olds ≡ length nets → length (nets_updated ds nets olds) ≡ length nets
+pub length-nets_updated : (ds : List Waveform) (nets : List Net) (olds : List NetView) → length olds ≡ length nets
+    → length (nets_updated ds nets olds) ≡ length nets
 unfolding nets_updated
 length-nets_updated ds [] olds e = refl
 length-nets_updated ds (n ∷ ns) [] e = absurd (omega (arith, e))

@@ -62,7 +62,8 @@ drivers_later low t (d ∷ ds) r f =
     (drivers_later low t ds (All-tail (λ (w : Waveform). RisesFrom low w.pending) d ds r) (rest t own (pending_times ds) f))
 
 -- what a process owns fits it after the cycle, and all that is pending is later
-pub taken_ready : (body : Body) (low t : ℕ) (own : Owned) → IsReady body low own → AllFrom t (pending_times own.drivers) → IsReady body (suc t) (own_taken t own)
+pub taken_ready : (body : Body) (low t : ℕ) (own : Owned) → IsReady body low own → AllFrom t (pending_times own.drivers)
+    → IsReady body (suc t) (own_taken t own)
 taken_ready body low t own is f = record {
   drivers = length-map own.drivers (taken t) ∙ is.drivers;
   variables = is.variables;
@@ -72,7 +73,8 @@ taken_ready body low t own is f = record {
 -- the times of drivers, and of others after them
 times_append : (ds es : List Waveform) → pending_times (ds ++ es) ≡ pending_times ds ++ pending_times es
 times_append [] es = refl
-times_append (d ∷ ds) es = ap (λ (xs : List ℕ). map (λ (x : Transaction). x.0) d.pending ++ xs) (times_append ds es) ∙ sym (append_assoc (map (λ (x : Transaction). x.0) d.pending) (pending_times ds) (pending_times es))
+times_append (d ∷ ds) es = ap (λ (xs : List ℕ). map (λ (x : Transaction). x.0) d.pending ++ xs) (times_append ds es)
+    ∙ sym (append_assoc (map (λ (x : Transaction). x.0) d.pending) (pending_times ds) (pending_times es))
 
 -- the times of each process are among those of all
 pub each_process : (t : ℕ) (os : List Owned) (p : ℕ) → p < length os → AllFrom t (pending_times (waves os)) → AllFrom t (pending_times (owned_at os p).drivers)
@@ -80,7 +82,8 @@ each_process t [] p lt f = absurd (omega (arith, lt))
 each_process t (o ∷ os) zero lt f =
     front t (pending_times o.drivers) (pending_times (waves os)) (subst (AllFrom t) (times_append o.drivers (waves os)) f)
 each_process t (o ∷ os) (suc p) lt f =
-    each_process t os p (omega (arith, lt)) (rest t (pending_times o.drivers) (pending_times (waves os)) (subst (AllFrom t) (times_append o.drivers (waves os)) f))
+    each_process t os p (omega (arith, lt)) (rest t (pending_times o.drivers) (pending_times (waves os)) (subst (AllFrom t)
+    (times_append o.drivers (waves os)) f))
 
 -- each process is ready after the cycle at the least pending time
 pub ready_after : (body : Body) (low t : ℕ) (os : List Owned) (p : ℕ) → p < length os → next_time (waves os) ≡ Some t → IsReady body low (owned_at os p)

@@ -61,7 +61,7 @@ all_named d is (suc k) =
 
 -- ---- how many changes there are
 
-first-recorded : (d : Design) (k : ℕ) → records_to d k ≡ recorded 0 (state_of d 0) ∷ drop 1 (records_to d k)
+pub first-recorded : (d : Design) (k : ℕ) → records_to d k ≡ recorded 0 (state_of d 0) ∷ drop 1 (records_to d k)
 unfolding records_to
 first-recorded d zero = refl
 first-recorded d (suc k) =

@@ -30,7 +30,8 @@ store-goes-on w g time is running e next before apart at = record {
   until = omega (arith, at, before);
   going = λ m lt over. still m (omega (arith, lt, ap (λ (h : Progress). h.cycles) e)) (eqb m w.progress.cycles) refl
       (subst (λ d. IsOver (next_in d m) w.stop) (ap (λ (h : Progress). h.design) e) over);
-  end = subst (λ (o : Option Step). MatchOption o (Unit {0}) (λ s. IsComplete g × HasEnd (record { progress = g; stop = w.stop; limit = w.limit; ended = w.ended }) s))
+  end = subst (λ (o : Option Step). MatchOption o (Unit {0})
+      (λ s. IsComplete g × HasEnd (record { progress = g; stop = w.stop; limit = w.limit; ended = w.ended }) s))
       (sym running) tt;
 }
   where

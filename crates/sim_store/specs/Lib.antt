@@ -1,3 +1,4 @@
+pub mod Agreement
 pub mod Behaviour
 pub mod History
 pub mod Order

@@ -1,5 +1,6 @@
 -- How far a simulation has come (IEEE 1076-2008, 14.7.5).
-use Rattle.std.specs.Prelude.{ℕ, suc, ◌≡◌, ◌<◌, ◌≤◌, List, [], ◌∷◌, Bool, true, false, if◌then◌else◌, Option, None, Some, map, length, replicate, slice_index_or, slice_set}
+use Rattle.std.specs.Prelude.{ℕ, suc, ◌≡◌, ◌<◌, ◌≤◌, List, [], ◌∷◌, Bool, true, false, if◌then◌else◌, Option, None, Some, map, length, replicate}
+use Rattle.std.specs.Prelude.{slice_index_or, slice_set}
 use Rattle.std.specs.List.{All}
 use Rattle.sim_design.specs.Designs.{Design, most}
 use Rattle.sim_design.specs.Processes.{IsProcess}
@@ -13,6 +14,7 @@ use Rattle.sim_state.specs.Contents.{Contents, contents_of, sources_of}
 use Rattle.sim_state.specs.Records.{first_record}
 use Rattle.sim_state.specs.Wakes.{AreWakes}
 use Rattle.sim_state.specs.Cycles.{process_at, is_resumed, first_state}
+use Rattle.sim_store.specs.Agreement.{total_of}
 use Rattle.sim_store.specs.Order.{together}
 use Rattle.sim_store.specs.Standard.{standard, state_of, records_to, next_of, executed_in_turn, those}
 
@@ -88,20 +90,28 @@ pub record AreMade (design : Design) (sources : List (List Source)) (wakes : Lis
   pub wakes_sized : length wakes ≡ length design.nets
   pub wakes_are : AreWakes design.processes wakes
 
--- What is made of a design at first: those lists, its first state with its record, and that each process is due and none has been executed.
+-- The totals are one for each net: how many changes it has in the records after the first.
+pub record AreTotals (nets : ℕ) (records : List Record) (totals : List ℕ) : Type 0 where
+  pub sized : length totals ≡ nets
+  pub counted : (n : ℕ) → n < nets → slice_index_or totals n 0 ≡ total_of records n
+
+-- What is made of a design at first: those lists, its first state with its record, that each process is due and none has been executed, and that no net
+-- had an event.
 pub record IsMade (design : Design) (sources : List (List Source)) (wakes : List (List ℕ)) (held : Contents) (records : List Record) (due deposited : List Bool)
-    : Type 0 where
+    (totals : List ℕ) : Type 0 where
   pub lists : AreMade design sources wakes
   pub held_is : held ≡ contents_of (first_state design)
   pub records_is : records ≡ first_record (first_state design) ∷ []
   pub due_is : due ≡ replicate (length design.processes) true
   pub deposited_is : deposited ≡ replicate (length design.processes) false
+  pub totals_is : totals ≡ replicate (length design.nets) 0
 
--- What a simulation holds: the lists that were made once, and the state, records and marks of its progress.
+-- What a simulation holds: the lists that were made once, the state, records and marks of its progress, and the totals of its nets.
 pub record IsSimulation (h : Progress) (sources : List (List Source)) (wakes : List (List ℕ)) (time delta : ℕ) (held : Contents) (records : List Record)
-    (due : List Bool) : Type 0 where
+    (due : List Bool) (totals : List ℕ) : Type 0 where
   pub made : AreMade h.design sources wakes
   pub progress : IsProgress h time delta held records due
+  pub counts : AreTotals (length h.design.nets) records totals
 
 -- The job has the process with its number, and the part of the state that this process sees.
 pub record IsOwn (h : Progress) (job : Job) : Type 0 where

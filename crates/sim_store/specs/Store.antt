@@ -101,7 +101,8 @@ ended_as w s = record w { ended = Some s }
 -- A store went on: there is one cycle more, at a time up to the stop time; or the run has ended, and all else is as it was.
 abbrev pub IsAdvanced : Store → Store → Step → Type 0
 IsAdvanced old new step.Next =
-    (time : ℕ) × (next_after old.progress ≡ Some time) × (time ≤ old.stop) × (old.progress.cycles < old.limit) × (new ≡ record old { progress = after old.progress })
+    (time : ℕ) × (next_after old.progress ≡ Some time) × (time ≤ old.stop) × (old.progress.cycles < old.limit)
+    × (new ≡ record old { progress = after old.progress })
 IsAdvanced old new s = IsComplete old.progress × HasEnd old s × (new ≡ ended_as old s)
 
 -- the processes that the last cycle resumed; none where the run has ended

@@ -1,13 +1,14 @@
 //! Laws of the simulation cycle: each is what an empty function ensures.
 
-ghost use Rattle.std.specs.Prelude.{ℕ, Bool, List, ◌≡◌, ◌↔◌, length};
+ghost use Rattle.std.specs.Prelude.{ℕ, suc, Bool, List, Some, ◌≡◌, ◌<◌, ◌↔◌, if◌then◌else◌, length};
 ghost use Rattle.std.specs.List.{All};
 ghost use Rattle.sim_design.specs.Processes.{Process, IsProcess};
-ghost use Rattle.sim_exec.specs.State.{State};
+ghost use Rattle.sim_exec.specs.State.{State, net_at};
 ghost use Rattle.sim_state.specs.Wakes.{is_among};
 ghost use Rattle.sim_store.specs.Order.{one_by_one, together, NoRepeats, AllBelow};
 ghost use Rattle.sim_design.specs.Designs.{Design};
-ghost use Rattle.sim_store.specs.Standard.{parallel, standard};
+ghost use Rattle.sim_store.specs.Agreement.{total_of, value_by};
+ghost use Rattle.sim_store.specs.Standard.{parallel, records_to, standard};
 ghost use Rattle.sim_store.specs.Weaving.{Woven, bodies};
 
 /// Processes that are executed one after another, in any order, each once, leave the state that they leave together, each on its own part of
@@ -28,4 +29,19 @@ pub fn any_interleaving_is_together()
 /// are executed one after another on the whole state.
 pub fn the_states_are_the_standards()
     ensures { (design : Design) (cycles : ℕ) → All IsProcess design.processes → parallel design cycles ≡ standard design cycles }
+{}
+
+/// After each cycle, the value of each net is that of its last change in the records up to that cycle.
+pub fn the_records_give_the_values()
+    ensures { (design : Design) (cycles net : ℕ) (s : State) → All IsProcess design.processes → standard design cycles ≡ Some s → net < length design.nets
+        → value_by (records_to design cycles) net ≡ Some (net_at s.nets net).value }
+{}
+
+/// How often a net changed in the records after the first is how many events it had: at first there is none, and each further cycle adds one exactly where
+/// the net has an event in it.
+pub fn the_totals_count_the_events()
+    ensures first { (design : Design) (net : ℕ) → total_of (records_to design 0) net ≡ 0 }
+    ensures more { (design : Design) (cycles net : ℕ) (s : State) → All IsProcess design.processes → standard design (suc cycles) ≡ Some s
+        → net < length design.nets → total_of (records_to design (suc cycles)) net
+        ≡ (if (net_at s.nets net).event then suc (total_of (records_to design cycles) net) else total_of (records_to design cycles) net) }
 {}

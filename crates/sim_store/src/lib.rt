@@ -7,6 +7,7 @@ mod history;
 pub mod laws;
 mod simulation;
 mod store;
+mod totals;
 
 pub use error::StoreError;
 pub use sim_state::Record;

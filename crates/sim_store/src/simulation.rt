@@ -1,12 +1,14 @@
 //! A simulation of a design, as far as it has come (IEEE 1076-2008, 14.7.5).
 
-ghost use Rattle.std.specs.Prelude.{ℕ, suc, ◌≡◌, ◌<◌, ◌≤◌, ◌^◌, ◌+◌, [], ◌∷◌, List, Some, None, Option, true, false, length, map, replicate, drop, slice_set, slice_index_or, MatchOption, MatchResult, IfOk, IfErr, OnOk, OnErr};
+ghost use Rattle.std.specs.Prelude.{ℕ, suc, ◌≡◌, ◌<◌, ◌≤◌, ◌^◌, ◌+◌, [], ◌∷◌, List, Some, None, Option, true, false, length, map, replicate, drop};
+ghost use Rattle.std.specs.Prelude.{slice_set, slice_index_or, MatchOption, MatchResult, IfSome, IfOk, IfErr, OnOk, OnErr};
 ghost use Rattle.std.specs.List.{All};
 ghost use Rattle.sim_design.specs.Processes.{IsProcess};
 ghost use Rattle.sim_state.specs.Cycles as cycles;
 ghost use Rattle.sim_exec.specs.Jobs.{IsReady, Job as job_value, result_of};
 ghost use Rattle.sim_exec.specs.State.{Owned, net_at, owned_at};
 ghost use Rattle.sim_logic.specs.Time.{largest_time};
+ghost use Rattle.sim_store.specs.Agreement.{total_of, value_by};
 ghost use Rattle.sim_store.specs.History.{IsNamed, event_count};
 ghost use Rattle.sim_store.specs.Progress as spec;
 ghost use Rattle.sim_store.specs.Standard.{records_to, resumed};
@@ -15,6 +17,7 @@ ghost use Rattle.sim_store.specs.Store as store;
 use crate::due::{Due, marked};
 use crate::error::StoreError;
 use crate::history::records_from;
+use crate::totals::{count_last, none};
 use sim_design::{Design, Process, Source};
 use sim_exec::{Done, Job, Results};
 use sim_logic::Logic;
@@ -81,11 +84,12 @@ struct Made {
     log: Log,
     due: Due,
     deposited: Vec<bool>,
+    totals: Vec<u64>,
 }
 
-/// What is made of a design: the flat lists of its nets, its first state with its record, and that each process is to be executed.
+/// What is made of a design: the flat lists of its nets, its first state with its record, that each process is to be executed, and that no net had an event.
 fn prepared(alloc: Global, design: &Design) -> Result<Made, AllocError>
-    ensures { IfOk result (λ m. spec.IsMade design.now m.sources m.wakes m.state m.log.records m.due m.deposited.items) }
+    ensures { IfOk result (λ m. spec.IsMade design.now m.sources m.wakes m.state m.log.records m.due m.deposited.items m.totals.items) }
 {
     let nets = design.nets().len();
     let processes = design.processes().len();
@@ -100,6 +104,7 @@ fn prepared(alloc: Global, design: &Design) -> Result<Made, AllocError>
         log,
         due: Due::all(alloc, processes)?,
         deposited: marked(alloc, processes, false)?,
+        totals: none(alloc, nets)?,
     })
 }
 
@@ -127,11 +132,12 @@ impl Model for Simulation {
     ghost view = { λ s. record { design = s.design; cycles = length s.made.log.records - 1; deposited = s.made.deposited.items } };
 
     ghost invariant = { λ s. IsSimulation (record { design = s.design; cycles = length s.made.log.records - 1; deposited = s.made.deposited.items })
-        s.made.sources s.made.wakes s.time s.delta s.made.state s.made.log.records s.made.due };
+        s.made.sources s.made.wakes s.time s.delta s.made.state s.made.log.records s.made.due s.made.totals.items };
 }
 
 impl Simulation {
-    ghost use Rattle.std.specs.Prelude.{ℕ, ◌≡◌, ◌↔◌, IsTrue, IfErr, IfOk, OnOk, OnErr, MatchOption, MatchResult, Some, true, false, length, replicate, slice_set};
+    ghost use Rattle.std.specs.Prelude.{ℕ, ◌≡◌, ◌↔◌, IsTrue, Some, true, false, length, replicate, slice_set};
+    ghost use Rattle.std.specs.Prelude.{IfErr, IfOk, IfSome, OnOk, OnErr, MatchOption, MatchResult};
 
     /// The simulation of a design at its start: the initialization is recorded, and each process is due. Where memory is refused, the design comes back.
     pub fn begin(alloc: Global, design: Design) -> Result<Simulation, (AllocError, Design)>
@@ -261,6 +267,7 @@ impl Simulation {
         self.time = time;
         self.made.state.update(&self.made.sources, time);
         self.made.state.record(&mut self.made.log, time, self.delta);
+        count_last(self.made.totals.as_mut_slice(), &self.made.log);
         self.made.due.find(&self.made.state, &self.made.wakes);
         clear(self.made.deposited.as_mut_slice());
         Ok(())
@@ -352,12 +359,21 @@ impl Simulation {
         (self.time, self.delta)
     }
 
-    /// The value of the net with a number; none beyond the last.
+    /// The value of the net with a number; none beyond the last. It is also that of its last change in the records.
     pub fn value(&self, net: usize) -> Option<Logic>
-        ensures { MatchOption result (length self.now.design.nets ≤ net)
+        ensures value { MatchOption result (length self.now.design.nets ≤ net)
             (λ v. (net < length self.now.design.nets) × (v ≡ (net_at (spec.reached self.now).nets net).value)) }
+        ensures records { IfSome result (λ v. value_by (records_to self.now.design self.now.cycles) net ≡ Some v) }
     {
         self.made.state.value(net)
+    }
+
+    /// How many events the net with a number had after the initialization; none beyond the last.
+    pub fn total(&self, net: usize) -> Option<u64>
+        ensures { MatchOption result (length self.now.design.nets ≤ net)
+            (λ t. (net < length self.now.design.nets) × (t ≡ total_of (records_to self.now.design self.now.cycles) net)) }
+    {
+        self.made.totals.get(net).copied()
     }
 
     /// How many events the cycles after the initialization had.

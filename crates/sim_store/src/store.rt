@@ -1,10 +1,11 @@
 //! The store of a run (IEEE 1076-2008, 14.7.5).
 
-ghost use Rattle.std.specs.Prelude.{ℕ, ◌≡◌, ◌≢◌, ◌↔◌, ◌<◌, ◌≤◌, IsTrue, List, Ok, Err, Some, None, true, false, suc, drop, length, replicate, slice_set, if◌then◌else◌};
-ghost use Rattle.std.specs.Prelude.{MatchOption, MatchResult, IfOk, IfErr, OnOk, OnErr};
+ghost use Rattle.std.specs.Prelude.{ℕ, ◌≡◌, ◌≢◌, ◌↔◌, ◌<◌, ◌≤◌, IsTrue, List, Ok, Err, Some, None, true, false, suc, drop, length, replicate, slice_set};
+ghost use Rattle.std.specs.Prelude.{MatchOption, MatchResult, IfSome, IfOk, IfErr, OnOk, OnErr};
 ghost use Rattle.sim_logic.specs.Time.{largest_time};
 ghost use Rattle.std.specs.List.{All};
 ghost use Rattle.sim_exec.specs.State.{net_at};
+ghost use Rattle.sim_store.specs.Agreement.{total_of, value_by};
 ghost use Rattle.sim_store.specs.History.{IsNamed};
 ghost use Rattle.sim_store.specs.Standard.{records_to};
 ghost use Rattle.sim_store.specs.Outcome.{IsOver};
@@ -270,12 +271,22 @@ impl WaveStore {
         }
     }
 
-    /// The value of the net with a number; none beyond the last.
+    /// The value of the net with a number; none beyond the last. It is also that of its last change in the records.
     pub fn value(&self, net: usize) -> Option<Logic>
-        ensures { MatchOption result (length self.now.progress.design.nets ≤ net)
+        ensures value { MatchOption result (length self.now.progress.design.nets ≤ net)
             (λ v. (net < length self.now.progress.design.nets) × (v ≡ (net_at (progress.reached self.now.progress).nets net).value)) }
+        ensures records { IfSome result (λ v. value_by (records_to self.now.progress.design self.now.progress.cycles) net ≡ Some v) }
     {
         self.simulation.value(net)
+    }
+
+    /// How many events the net with a number had after the initialization; none beyond the last. They are its changes in the records after the first.
+    pub fn total(&self, net: usize) -> Option<u64>
+        ensures { MatchOption result (length self.now.progress.design.nets ≤ net)
+            (λ t. (net < length self.now.progress.design.nets)
+            × (t ≡ total_of (records_to self.now.progress.design self.now.progress.cycles) net)) }
+    {
+        self.simulation.total(net)
     }
 
     /// The records from a number on, none where that is how many there are. Refusals: `Behind` where there are fewer, `Memory`, in this order.

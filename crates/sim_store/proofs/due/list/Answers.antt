@@ -20,7 +20,8 @@ loop-number-preserved c =
     let i = c.loop-number.invariant in
     elim c.if-marks-number.branch [
       | then-marks-number w ↦ (
-        ap (λ v. v.items) w.numbers-is ∙ one-marked f n c.loop-number.numbers.items w.push_reserved.new.self.items w.if-marks-number.true i.0 w.push_reserved.ensures.items,
+        ap (λ v. v.items) w.numbers-is ∙ one-marked f n c.loop-number.numbers.items w.push_reserved.new.self.items w.if-marks-number.true i.0
+            w.push_reserved.ensures.items,
         ap (λ v. v.cap) w.numbers-is ∙ (w.push_reserved.ensures.capacity ∙ i.1),
       )
       | else-marks-number w ↦ (

@@ -2,6 +2,7 @@ use Rattle.std.proofs.Common.{rules, List, length, ap, subst, arith}
 use Rattle.std.specs.List.{All}
 use Rattle.sim_design.specs.Designs.{AreOwned}
 use Rattle.sim_design.specs.Processes.{Process, IsProcess}
+use Rattle.sim_store.proofs.Counting.{totals-begin}
 use Rattle.sim_store.proofs.Going.{begins}
 use Rattle.sim_store.proofs.simulation.Simulation.begin.Goals as goal
 
@@ -14,4 +15,5 @@ invariant_of-result c =
       made = m.lists;
       progress = begins c.args.design _ c.in-Ok.made.state c.in-Ok.made.log.records c.in-Ok.made.due c.in-Ok.made.deposited.items
           (search rules) owned all (omega (arith, ap length m.records_is)) m.held_is m.records_is m.due_is m.deposited_is;
+      counts = totals-begin (length c.args.design.nets) _ c.in-Ok.made.log.records c.in-Ok.made.totals.items m.records_is m.totals_is;
     }

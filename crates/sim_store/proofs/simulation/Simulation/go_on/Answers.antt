@@ -1,13 +1,17 @@
-use Rattle.std.proofs.Common.{ℕ, suc, ◌-◌, ◌<◌, ◌≡◌, ◌++◌, [], ◌∷◌, Bool, false, List, Some, length, take, drop, ap, sym, ◌∙◌, subst, arith}
+use Rattle.std.proofs.Common.{ℕ, suc, ◌+◌, ◌-◌, ◌<◌, ◌≡◌, ◌++◌, [], ◌∷◌, Bool, false, List, Some, length, get_or, take, drop, ap, sym, ◌∙◌, subst, arith}
 use Rattle.std.proofs.lemmas.List.{length-append, length-map}
+use Rattle.std.specs.List.{filter}
 use Rattle.sim_rows.proofs.Flat.{written_back}
 use Rattle.sim_design.specs.Designs.{Design}
 use Rattle.sim_state.specs.declared.record.Record.{Record}
 use Rattle.sim_state.specs.Contents.{sources_of}
+use Rattle.sim_state.specs.Log.{record_at}
 use Rattle.sim_state.specs.Records.{changes_from}
 use Rattle.sim_store.specs.Standard.{state_of}
-use Rattle.sim_store.specs.Progress.{Progress, IsComplete, after, cleared, next_after}
+use Rattle.sim_store.specs.Agreement.{is_of}
+use Rattle.sim_store.specs.Progress.{AreTotals, Progress, IsComplete, after, cleared, next_after}
 use Rattle.sim_store.specs.contracts.simulation.Simulation.{the_view}
+use Rattle.sim_store.proofs.Counting.{changes-few, last-record, totals-few, totals-go-on}
 use Rattle.sim_store.proofs.Going.{advanced-count, advanced-keeps, advanced-time, cycle-count, net-count, next-is, slow}
 use Rattle.sim_store.proofs.simulation.Simulation.go_on.Goals as goal
 
@@ -42,6 +46,29 @@ find-requires c =
     (λ d x e. c.update.ensures d x (c.self.invariant.made.sources_are ∙ ap (λ (g : Design). sources_of g.nets) (sym e))) in
     c.self.invariant.made.wakes_sized ∙ sym count
 
+pub count_last-requires-clause-room : goal.count_last-requires-clause-room
+count_last-requires-clause-room c n =
+    let s = c.self.inside in
+    let i = c.self.invariant.progress in
+    let few : (the_view s).cycles < 4294967296 = subst (λ (g : Progress). g.cycles < 4294967296) (sym c.self.view_is) c.requires.bound in
+    let all = subst IsComplete (sym c.self.view_is) c.requires.complete in
+    let count = advanced-count i all c.args.time c.update.new.self
+    (λ d x e. c.update.ensures d x (c.self.invariant.made.sources_are ∙ ap (λ (g : Design). sources_of g.nets) (sym e))) in
+    let one : Record = record { time = c.args.time; delta = c.next_delta-self-inside.result; changes = changes_from 0 c.update.new.self.nets } in
+    let records : c.record.new.log.records ≡ s.made.log.records ++ one ∷ [] = c.record.ensures ∙ ap (λ rs. rs ++ one ∷ []) c.in_ok-reserve.ensures.same in
+    let last = last-record s.made.log.records c.record.new.log.records one records in
+    let now : get_or c.as_mut_slice.result.now n 0 ≡ get_or s.made.totals.items n 0 = ap (λ w. get_or w n 0) c.as_mut_slice.ensures.value in
+    omega (
+      arith,
+      few,
+      count,
+      i.few,
+      now,
+      ap (λ (r : Record). length r.changes) last,
+      changes-few c.update.new.self.nets,
+      totals-few i s.made.totals.items c.self.invariant.counts n,
+    )
+
 pub invariant_of-self-2 : goal.invariant_of-self-2
 invariant_of-self-2 c =
     let s = c.self.inside in
@@ -52,7 +79,10 @@ invariant_of-self-2 c =
     let one : Record = record { time = c.args.time; delta = c.next_delta-self-inside.result; changes = changes_from 0 c.update.new.self.nets } in
     let records : c.record.new.log.records ≡ s.made.log.records ++ one ∷ [] = c.record.ensures ∙ ap (λ rs. rs ++ one ∷ []) c.in_ok-reserve.ensures.same in
     let marks = written_back c.clear.new.marks s.made.deposited.items s.made.deposited.len (ap length c.clear.ensures
-    ∙ (length-map c.as_mut_slice.result.now (λ (b : Bool). false) ∙ c.as_mut_slice.ensures.len)) ∙ (c.clear.ensures ∙ ap cleared c.as_mut_slice.ensures.value) in
+    ∙ (length-map c.as_mut_slice-2.result.now (λ (b : Bool). false) ∙ c.as_mut_slice-2.ensures.len)) ∙ (c.clear.ensures
+    ∙ ap cleared c.as_mut_slice-2.ensures.value) in
+    let last = last-record s.made.log.records c.record.new.log.records one records in
+    let written = written_back c.count_last.new.totals s.made.totals.items s.made.totals.len (c.count_last.ensures.sized ∙ c.as_mut_slice.ensures.len) in
     record {
       made = c.self.invariant.made;
       progress = advanced-keeps i all c.args.time next c.requires.early c.next_delta-self-inside.result (length c.record.new.log.records - 1)
@@ -60,6 +90,14 @@ invariant_of-self-2 c =
           (λ d x e. c.update.ensures d x (c.self.invariant.made.sources_are ∙ ap (λ (g : Design). sources_of g.nets) (sym e)))
           records c.find.ensures.sized (λ p lt. c.find.ensures.found h.design.processes p c.self.invariant.made.wakes_are lt) marks
           (omega (arith, ap length records, length-append s.made.log.records (one ∷ []), cycle-count i));
+      counts = subst (AreTotals (length s.design.nets) c.record.new.log.records) (sym written)
+          (totals-go-on (length s.design.nets) s.made.log.records c.record.new.log.records one s.made.totals.items c.count_last.new.totals
+          (omega (arith, cycle-count i)) records c.self.invariant.counts
+          (c.count_last.ensures.sized ∙ ap length c.as_mut_slice.ensures.value)
+          (λ n lt. c.count_last.ensures.counted n (omega (arith, lt, ap length c.as_mut_slice.ensures.value))
+          ∙ (ap (λ (w : List ℕ). get_or w n 0 + length (filter (is_of n) (record_at c.record.new.log.records (length c.record.new.log.records - 1)).changes))
+          c.as_mut_slice.ensures.value
+          ∙ ap (λ (r : Record). get_or s.made.totals.items n 0 + length (filter (is_of n) r.changes)) last)));
     }
 
 pub returns-clause-ok : goal.returns-clause-ok
@@ -68,10 +106,15 @@ returns-clause-ok c =
     let one : Record = record { time = c.args.time; delta = c.next_delta-self-inside.result; changes = changes_from 0 c.update.new.self.nets } in
     let records : c.record.new.log.records ≡ s.made.log.records ++ one ∷ [] = c.record.ensures ∙ ap (λ rs. rs ++ one ∷ []) c.in_ok-reserve.ensures.same in
     let marks = written_back c.clear.new.marks s.made.deposited.items s.made.deposited.len (ap length c.clear.ensures
-    ∙ (length-map c.as_mut_slice.result.now (λ (b : Bool). false) ∙ c.as_mut_slice.ensures.len)) ∙ (c.clear.ensures ∙ ap cleared c.as_mut_slice.ensures.value) in
+    ∙ (length-map c.as_mut_slice-2.result.now (λ (b : Bool). false) ∙ c.as_mut_slice-2.ensures.len)) ∙ (c.clear.ensures
+    ∙ ap cleared c.as_mut_slice-2.ensures.value) in
     let cycles : length c.record.new.log.records - 1 ≡ suc (length s.made.log.records - 1) =
     omega (arith, ap length records, length-append s.made.log.records (one ∷ []), cycle-count c.self.invariant.progress) in
-    ap (λ (k : ℕ). record { design = s.design; cycles = k; deposited = take s.made.deposited.len (c.clear.new.marks ++ drop (length c.clear.new.marks) s.made.deposited.items) }) cycles
+    ap (λ (k : ℕ). record {
+      design = s.design;
+      cycles = k;
+      deposited = take s.made.deposited.len (c.clear.new.marks ++ drop (length c.clear.new.marks) s.made.deposited.items);
+    }) cycles
     ∙ (ap (λ (w : List Bool). record { design = s.design; cycles = suc (length s.made.log.records - 1); deposited = w }) marks
     ∙ ap after c.self.view_is)
 

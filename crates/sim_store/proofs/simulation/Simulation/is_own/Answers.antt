@@ -24,7 +24,8 @@ returns c =
     let out = subst (λ (g : Progress). those_in g.deposited job.number ≡ false) (sym c.self.view_is) c.requires.fresh in
     let q = process_at s.design.processes job.number in
     let is : c.index-processes-number.result ≡ q =
-    c.index-processes-number.is ∙ (get_or_default c.processes.result.now c.number.result _ no_process (omega (arith, lt, c.number.ensures, ap length c.processes.ensures.value))
+    c.index-processes-number.is ∙ (get_or_default c.processes.result.now c.number.result _ no_process
+    (omega (arith, lt, c.number.ensures, ap length c.processes.ensures.value))
     ∙ (ap (process_at c.processes.result.now) c.number.ensures ∙ ap (λ (ps : List Process). process_at ps job.number) c.processes.ensures.value)) in
     let time : job.time ≡ s.time = search (rules, tests) in
     let process : job.process ≡ q = sym c.process.ensures ∙ (sym (c.same.ensures.0 (search (rules, tests))) ∙ is) in

@@ -26,7 +26,8 @@ pub new-requires : goal.new-requires
 new-requires c =
     let s = c.self.inside in
     let h = the_view s in
-    let lt : c.args.number < length s.design.processes = subst (λ (g : Progress). c.args.number < length g.design.processes) (sym c.self.view_is) c.requires.at in
+    let lt : c.args.number < length s.design.processes = subst (λ (g : Progress). c.args.number < length g.design.processes)
+    (sym c.self.view_is) c.requires.at in
     let out = subst (λ (g : Progress). those_in g.deposited c.args.number ≡ false) (sym c.self.view_is) c.requires.fresh in
     let is : c.index-processes-number.result ≡ process_at s.design.processes c.args.number =
     c.index-processes-number.is ∙ (get_or_default c.processes.result.now c.args.number _ no_process (omega (arith, lt, ap length c.processes.ensures.value))
@@ -41,7 +42,8 @@ pub returns : goal.returns
 returns c =
     let s = c.self.inside in
     let h = the_view s in
-    let lt : c.args.number < length s.design.processes = subst (λ (g : Progress). c.args.number < length g.design.processes) (sym c.self.view_is) c.requires.at in
+    let lt : c.args.number < length s.design.processes = subst (λ (g : Progress). c.args.number < length g.design.processes)
+    (sym c.self.view_is) c.requires.at in
     let out = subst (λ (g : Progress). those_in g.deposited c.args.number ≡ false) (sym c.self.view_is) c.requires.fresh in
     let is : c.index-processes-number.result ≡ process_at s.design.processes c.args.number =
     c.index-processes-number.is ∙ (get_or_default c.processes.result.now c.args.number _ no_process (omega (arith, lt, ap length c.processes.ensures.value))

@@ -1,16 +1,25 @@
-use Rattle.std.proofs.Common.{ℕ, ◌≡◌, ◌<◌, ◌≤◌, List, length, MatchOption, subst}
+use Rattle.std.proofs.Common.{ℕ, ◌≡◌, ◌<◌, ◌≤◌, List, length, MatchOption, IfSome, Some, subst}
 use Rattle.sim_exec.specs.declared.view.NetView.{NetView}
 use Rattle.sim_exec.specs.State.{net_at}
 use Rattle.sim_store.specs.Progress.{Progress, reached}
+use Rattle.sim_store.specs.Agreement.{value_by}
+use Rattle.sim_store.specs.Standard.{records_to}
+use Rattle.sim_store.proofs.Counting.{known-value}
 use Rattle.sim_store.proofs.Going.{net-count}
 use Rattle.sim_store.proofs.simulation.Simulation.value.Goals as goal
 
-pub returns : goal.returns
-returns c =
+pub returns-clause-value : goal.returns-clause-value
+returns-clause-value c =
     let i = c.self.invariant.progress in
-    let counted = subst (λ (n : ℕ). MatchOption c.value.result (n ≤ c.args.net) (λ v. (c.args.net < n) × (v ≡ (net_at c.self.inside.made.state.nets c.args.net).value)))
+    let counted = subst (λ (n : ℕ). MatchOption c.value.result (n ≤ c.args.net)
+    (λ v. (c.args.net < n) × (v ≡ (net_at c.self.inside.made.state.nets c.args.net).value)))
     (net-count i) c.value.ensures in
     let seen = subst (λ (ns : List NetView). MatchOption c.value.result (length c.self.inside.design.nets ≤ c.args.net)
     (λ v. (c.args.net < length c.self.inside.design.nets) × (v ≡ (net_at ns c.args.net).value))) i.nets_are counted in
     subst (λ (g : Progress). MatchOption c.value.result (length g.design.nets ≤ c.args.net)
     (λ v. (c.args.net < length g.design.nets) × (v ≡ (net_at (reached g).nets c.args.net).value))) c.self.view_is seen
+
+pub returns-clause-records : goal.returns-clause-records
+returns-clause-records c =
+    subst (λ (g : Progress). IfSome c.value.result (λ v. value_by (records_to g.design g.cycles) c.args.net ≡ Some v)) c.self.view_is
+    (known-value c.self.invariant.progress c.args.net c.value.result c.value.ensures)

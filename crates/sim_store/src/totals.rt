@@ -1,0 +1,54 @@
+//! How many events each net had.
+
+ghost use Rattle.std.specs.Prelude.{ℕ, ◌≡◌, ◌==◌, ◌<◌, ◌+◌, ◌-◌, ◌^◌, length, replicate, slice_index_or, if◌then◌else◌, IfOk};
+ghost use Rattle.std.specs.List.{filter};
+ghost use Rattle.sim_state.specs.Log.{record_at};
+ghost use Rattle.sim_store.specs.Agreement.{is_of};
+
+use sim_logic::Logic;
+use sim_state::Log;
+use std::alloc::{AllocError, Global};
+
+/// So many nets, none of which had an event.
+pub fn none(alloc: Global, nets: usize) -> Result<Vec<u64>, AllocError>
+    ensures { IfOk result (λ v. v.items ≡ replicate nets 0) }
+{
+    let mut totals = Vec::new(alloc);
+    totals.resize(nets, 0)?;
+    Ok(totals)
+}
+
+/// The net with a number had one more event.
+fn count_one(totals: &mut [u64], net: usize)
+    requires { slice_index_or totals.old net 0 + 1 < 2 ^ 64 }
+    ensures sized { length totals.new ≡ length totals.old }
+    ensures counted { (n : ℕ) → n < length totals.old
+        → slice_index_or totals.new n 0 ≡ slice_index_or totals.old n 0 + (if net == n then 1 else 0) }
+{
+    if net < totals.len() {
+        totals[net] += 1;
+    }
+}
+
+/// Each change is one more event of its net.
+fn count(totals: &mut [u64], changes: &[(u32, Logic)])
+    requires { (n : ℕ) → slice_index_or totals.old n 0 + length changes.now < 2 ^ 64 }
+    ensures sized { length totals.new ≡ length totals.old }
+    ensures counted { (n : ℕ) → n < length totals.old
+        → slice_index_or totals.new n 0 ≡ slice_index_or totals.old n 0 + length (filter (is_of n) changes.now) }
+{
+    for (net, _value) in changes {
+        count_one(totals, *net as usize);
+    }
+}
+
+/// Each change in the last record is one more event of its net. It takes no memory.
+pub fn count_last(totals: &mut [u64], log: &Log)
+    requires begun { 0 < length log.now.records }
+    requires room { (n : ℕ) → slice_index_or totals.old n 0 + length (record_at log.now.records (length log.now.records - 1)).changes < 2 ^ 64 }
+    ensures sized { length totals.new ≡ length totals.old }
+    ensures counted { (n : ℕ) → n < length totals.old → slice_index_or totals.new n 0
+        ≡ slice_index_or totals.old n 0 + length (filter (is_of n) (record_at log.now.records (length log.now.records - 1)).changes) }
+{
+    count(totals, log.changes(log.len() - 1));
+}
