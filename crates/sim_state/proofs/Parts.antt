@@ -10,10 +10,14 @@ module _ (A : Type 0) (ds es : List Waveform) (vs ws : List Held) (own : Owned) 
   Mine = record { drivers = ds; variables = vs }
 
   pub part_is : (b : Bool) → A → ds ≡ es → Decides b (vs ≡ ws) → (IsTrue b → A × (Mine ≡ own)) × (A × (Mine ≡ own) → IsTrue b)
-  part_is b a same decides =
-      (λ yes. (a, ap (λ (xs : List Waveform). record { drivers = xs; variables = vs }) same
-        ∙ (ap (λ (xs : List Held). record { drivers = es; variables = xs }) (decides.0 yes) ∙ sym is)),
-        λ both. decides.1 (ap (λ (o : Owned). o.variables) (both.1 ∙ is)))
+  part_is b a same decides = (
+    λ yes. (
+      a,
+      ap (λ (xs : List Waveform). record { drivers = xs; variables = vs }) same
+          ∙ (ap (λ (xs : List Held). record { drivers = es; variables = xs }) (decides.0 yes) ∙ sym is),
+    ),
+    λ both. decides.1 (ap (λ (o : Owned). o.variables) (both.1 ∙ is)),
+  )
 
   pub part_differs : (ds ≡ es → ⊥) → (IsTrue false → A × (Mine ≡ own)) × (A × (Mine ≡ own) → IsTrue false)
   part_differs apart = (λ no. absurd cc, λ both. absurd (apart (ap (λ (o : Owned). o.drivers) (both.1 ∙ is))))

@@ -16,13 +16,13 @@ bounds-start-requires c =
 pub between-requires : goal.between-requires
 between-requires c =
     let s = read-at c.self.invariant (ap (λ (l : Logged). l.records) c.self.view_is) c.args.number _ _ c.len.result c.as_slice.result.now
-      c.as_slice-2.result.now c.requires
+    c.as_slice-2.result.now c.requires
     c.as_slice.ensures.value c.as_slice-2.ensures.value (c.len.ensures ∙ c.self.inside.changes.ok.0) c.bounds-start.ensures.start c.bounds-start.ensures.end in
     record { order = s.order; within = s.within }
 
 pub returns : goal.returns
 returns c =
     let s = read-at c.self.invariant (ap (λ (l : Logged). l.records) c.self.view_is) c.args.number _ _ c.len.result c.as_slice.result.now
-      c.as_slice-2.result.now c.requires
+    c.as_slice-2.result.now c.requires
     c.as_slice.ensures.value c.as_slice-2.ensures.value (c.len.ensures ∙ c.self.inside.changes.ok.0) c.bounds-start.ensures.start c.bounds-start.ensures.end in
     c.between.ensures ∙ s.holds
