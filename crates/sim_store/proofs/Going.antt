@@ -4,9 +4,10 @@ use Rattle.std.proofs.Common.{length, get_or, set, map, take, drop, replicate, r
 use Rattle.std.specs.List.{All}
 use Rattle.std.proofs.lemmas.Bool.Decides.{nat_tests}
 use Rattle.std.proofs.lemmas.List.{get_or-set_same, get_or-set_other, length-set, length-map, length-append, get_or-map, get_or-replicate, length-replicate}
-use Rattle.std.proofs.lemmas.List.Elements.{All-map}
+use Rattle.std.proofs.lemmas.List.Elements.{All-map, All-weaker}
 use Rattle.std.proofs.lemmas.List.{drop-drop, length-take-le}
-use Rattle.sim_wave.specs.Driver.{RisesFrom, Waveform}
+use Rattle.sim_wave.specs.Driver.{RisesFrom, Transaction, Waveform}
+use Rattle.sim_design.specs.Bodies.{Body}
 use Rattle.sim_design.specs.declared.design.DriverOf.{DriverOf}
 use Rattle.sim_design.specs.Designs.{AreOwned, Design, most}
 use Rattle.sim_design.specs.Processes.{Process, IsProcess}
@@ -262,6 +263,53 @@ module _ {h : Progress} {time delta : ℕ} {held : Contents} {records : List Rec
         resumed = resumed;
         result = rw (i.nets_are, still-owned i p out, i.time_is) (same_outcome q p (reached h) is);
       }
+
+-- ---- in place
+
+sooner : (time : ℕ) (d : Waveform) → RisesFrom (suc time) d.pending → RisesFrom time d.pending
+sooner time d h = go d.pending h
+  where
+    go : (xs : List Transaction) → RisesFrom (suc time) xs → RisesFrom time xs
+    go [] h = tt
+    go (x ∷ xs) h = (omega (arith, h.0), h.1)
+
+-- what is ready for a later time is ready for this one
+ready-sooner : (body : Body) (time : ℕ) (own : Owned) → IsReady body (suc time) own → IsReady body time own
+ready-sooner body time own is = record {
+  drivers = is.drivers;
+  variables = is.variables;
+  pending = All-weaker (λ (d : Waveform). RisesFrom (suc time) d.pending) (λ (d : Waveform). RisesFrom time d.pending) (sooner time) own.drivers is.pending;
+}
+
+module _ {h : Progress} {time delta : ℕ} {held : Contents} {records : List Record} {due : List Bool} (i : IsProgress h time delta held records due)
+    (p : ℕ) (lt : p < length h.design.processes) (out : those_in h.deposited p ≡ false) where
+  pub ready-here : IsReady (process_at h.design.processes p).body time (owned_at held.owned p)
+  ready-here =
+      let from : pending_from h time p ≡ suc time = rw out refl in
+      ready-sooner (process_at h.design.processes p).body time (owned_at held.owned p)
+      (subst (λ (n : ℕ). IsReady (process_at h.design.processes p).body n (owned_at held.owned p)) from (i.ready p lt))
+
+  -- an execution in place keeps what is held that of the simulation
+  pub executed-keeps : (process : Process) (held' : Contents) → process ≡ process_at h.design.processes p → is_due h p ≡ true
+      → held' ≡ record {
+        nets = held.nets;
+        owned = set held.owned p
+            (executed (λ object. net_at held.nets (home process object)) time process.body.statements (owned_at held.owned p));
+      }
+      → IsReady process.body time (owned_at held'.owned p) → IsProgress (with_one h p) time delta held' records due
+  executed-keeps process held' same resumed now is =
+      let q = process_at h.design.processes p in
+      let own : Owned = executed (λ object. net_at held.nets (home q object)) time q.body.statements (owned_at held.owned p) in
+      let there : p < length held.owned = omega (arith, lt, held-count i) in
+      let e : held' ≡ record { nets = held.nets; owned = set held.owned p own } =
+      now ∙ ap (λ (r : Process). record {
+        nets = held.nets;
+        owned = set held.owned p
+            (executed (λ object. net_at held.nets (home r object)) time r.body.statements (owned_at held.owned p));
+      }) same in
+      let mine : owned_at held'.owned p ≡ own = ap (λ (w : Contents). owned_at w.owned p) e ∙ get_or-set_same held.owned p own nothing_owned there in
+      deposited-keeps i p own held' (executed-result i p lt resumed out)
+      (subst (IsReady q.body time) mine (subst (λ (r : Process). IsReady r.body time (owned_at held'.owned p)) same is)) e
 
 -- ---- jobs
 

@@ -1,11 +1,11 @@
 -- What the type of a store keeps, as its run begins and goes on.
-use Rattle.std.proofs.Common.{ℕ, suc, ◌<◌, ◌≤◌, ◌≡◌, ◌≢◌, eqb, Bool, true, false, Option, None, Some, MatchOption, refl, ap, sym, subst, arith}
+use Rattle.std.proofs.Common.{ℕ, suc, ◌<◌, ◌≤◌, ◌≡◌, ◌≢◌, eqb, Bool, true, false, List, Option, None, Some, MatchOption, refl, ap, sym, subst, arith}
 use Rattle.std.proofs.lemmas.Bool.Decides.{nat_tests}
 use Rattle.sim_logic.specs.Time.{largest_time}
 use Rattle.sim_store.specs.Outcome.{IsOver}
 use Rattle.sim_store.specs.Standard.{standard, state_of}
 use Rattle.sim_store.specs.declared.store.Step.{Step}
-use Rattle.sim_store.specs.Progress.{Progress, IsComplete, after, next_after, next_in, reached}
+use Rattle.sim_store.specs.Progress.{Progress, IsComplete, after, next_after, next_in, reached, with_marks}
 use Rattle.sim_store.specs.Store.{Store, IsStore, HasEnd}
 
 -- a run that begins
@@ -44,3 +44,15 @@ store-goes-on w g time is running e next before apart at = record {
     still m lt false q over =
         let other : m ≢ w.progress.cycles = grind (arith, nat_tests) in
         is.going m (omega (arith, lt, other)) over
+
+-- a run whose processes were executed
+pub store-executed : (w : Store) (marks : List Bool) → IsStore w → w.ended ≡ None
+    → IsStore (record { progress = with_marks w.progress marks; stop = w.stop; limit = w.limit; ended = w.ended })
+store-executed w marks is running = record {
+  early = is.early;
+  within = is.within;
+  until = is.until;
+  going = is.going;
+  end = subst (λ (o : Option Step). MatchOption o (Unit {0}) (λ s. IsComplete (with_marks w.progress marks)
+      × HasEnd (record { progress = with_marks w.progress marks; stop = w.stop; limit = w.limit; ended = w.ended }) s)) (sym running) tt;
+}

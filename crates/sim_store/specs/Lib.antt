@@ -1,6 +1,7 @@
 pub mod Agreement
 pub mod Behaviour
 pub mod History
+pub mod Made
 pub mod Order
 pub mod Outcome
 pub mod Progress

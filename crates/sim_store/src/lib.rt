@@ -10,5 +10,5 @@ mod store;
 mod totals;
 
 pub use error::StoreError;
-pub use sim_state::Record;
+pub use sim_state::{Log, Record};
 pub use store::{Look, Step, WaveStore};

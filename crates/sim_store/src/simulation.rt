@@ -1,7 +1,7 @@
 //! A simulation of a design, as far as it has come (IEEE 1076-2008, 14.7.5).
 
 ghost use Rattle.std.specs.Prelude.{ℕ, suc, ◌≡◌, ◌<◌, ◌≤◌, ◌^◌, ◌+◌, [], ◌∷◌, List, Some, None, Option, true, false, length, map, replicate, drop};
-ghost use Rattle.std.specs.Prelude.{slice_set, slice_index_or, MatchOption, MatchResult, IfSome, IfOk, IfErr, OnOk, OnErr};
+ghost use Rattle.std.specs.Prelude.{slice_set, slice_index_or, MatchOption, MatchResult, IfSome, IfOk, IfErr, OnOk, OnErr, ◌↔◌, IsTrue};
 ghost use Rattle.std.specs.List.{All};
 ghost use Rattle.sim_design.specs.Processes.{IsProcess};
 ghost use Rattle.sim_state.specs.Cycles as cycles;
@@ -10,6 +10,7 @@ ghost use Rattle.sim_exec.specs.State.{Owned, net_at, owned_at};
 ghost use Rattle.sim_logic.specs.Time.{largest_time};
 ghost use Rattle.sim_store.specs.Agreement.{total_of, value_by};
 ghost use Rattle.sim_store.specs.History.{IsNamed, event_count};
+ghost use Rattle.sim_store.specs.Made.{IsOf, progress_of};
 ghost use Rattle.sim_store.specs.Progress as spec;
 ghost use Rattle.sim_store.specs.Standard.{records_to, resumed};
 ghost use Rattle.sim_store.specs.Store as store;
@@ -75,9 +76,11 @@ fn put_results(state: &mut FlatState, number: usize, results: Option<Results>)
     }
 }
 
-/// What is made of a design before its simulation starts.
+/// What is made of a design, and carried on from cycle to cycle: the time and the delta number of the last cycle, and the lists.
 #[derive(Drop)]
 struct Made {
+    time: u64,
+    delta: u64,
     sources: Rows<Source>,
     wakes: Rows<usize>,
     state: FlatState,
@@ -89,7 +92,8 @@ struct Made {
 
 /// What is made of a design: the flat lists of its nets, its first state with its record, that each process is to be executed, and that no net had an event.
 fn prepared(alloc: Global, design: &Design) -> Result<Made, AllocError>
-    ensures { IfOk result (λ m. spec.IsMade design.now m.sources m.wakes m.state m.log.records m.due m.deposited.items m.totals.items) }
+    ensures start { IfOk result (λ m. (m.time ≡ 0) × (m.delta ≡ 0)) }
+    ensures lists { IfOk result (λ m. spec.IsMade design.now m.sources m.wakes m.state m.log.records m.due m.deposited.items m.totals.items) }
 {
     let nets = design.nets().len();
     let processes = design.processes().len();
@@ -98,6 +102,8 @@ fn prepared(alloc: Global, design: &Design) -> Result<Made, AllocError>
     log.reserve(nets)?;
     state.record_all(&mut log, 0, 0);
     Ok(Made {
+        time: 0,
+        delta: 0,
         sources: sources(alloc, design)?,
         wakes: wakes(alloc, design)?,
         state,
@@ -108,31 +114,72 @@ fn prepared(alloc: Global, design: &Design) -> Result<Made, AllocError>
     })
 }
 
+/// Whether a process is due and has not been executed since the last cycle.
+fn is_missing(made: &Made, number: usize) -> bool
+    ensures { IsTrue result ↔ ((spec.those_in made.now.due number ≡ true) × (spec.those_in made.now.deposited.items number ≡ false)) }
+{
+    if !made.due.has(number) {
+        return false;
+    }
+    match made.deposited.get(number) {
+        Some(mark) => !*mark,
+        None => true,
+    }
+}
+
+/// Executes a process in place, if it is due and has not been executed since the last cycle.
+fn execute(alloc: Global, design: &Design, made: &mut Made, number: usize) -> Result<(), AllocError>
+    requires of { IsOf design.now made.old }
+    requires at { number < length design.now.processes }
+    ensures of { OnOk result (IsOf design.now made.new) }
+    ensures same { OnOk result (progress_of design.now made.new ≡ spec.with_marks (progress_of design.now made.old) made.new.deposited.items) }
+    ensures gone { OnOk result (spec.IsMissing (progress_of design.now made.new) number → ⊥) }
+    ensures others { OnOk result ((p : ℕ) → spec.IsMissing (progress_of design.now made.new) p → spec.IsMissing (progress_of design.now made.old) p) }
+{
+    if !is_missing(made, number) {
+        return Ok(());
+    }
+    let process = &design.processes()[number];
+    made.state.execute(alloc, number, process, made.time)?;
+    made.deposited[number] = true;
+    Ok(())
+}
+
+/// Executes all that are due and have not been executed since the last cycle, in place and in rising order.
+fn execute_all(alloc: Global, design: &Design, made: &mut Made) -> Result<(), AllocError>
+    requires { IsOf design.now made.old }
+    ensures of { OnOk result (IsOf design.now made.new) }
+    ensures same { OnOk result (progress_of design.now made.new ≡ spec.with_marks (progress_of design.now made.old) made.new.deposited.items) }
+    ensures complete { OnOk result (spec.IsComplete (progress_of design.now made.new)) }
+{
+    for number in 0..design.processes().len() {
+        execute(alloc, design, made, number)?;
+    }
+    Ok(())
+}
+
 /// A simulation of a design, as far as it has come. By its type, what it holds is what the cycle gives.
 #[derive(Drop)]
 pub struct Simulation {
     design: Design,
-    time: u64,
-    delta: u64,
     made: Made,
 }
 
 impl Model for Simulation {
-    ghost use Rattle.std.specs.Prelude.{◌-◌, length};
     ghost use Rattle.std.specs.Coded.{codes};
     ghost use Rattle.sim_design.specs.contracts.expression.LogicExpression as logic;
     ghost use Rattle.sim_design.specs.contracts.expression.BooleanExpression as boolean;
     ghost use Rattle.sim_design.specs.contracts.statement.Statement as statement;
-    ghost use Rattle.sim_store.specs.Progress.{Progress, IsSimulation};
+    ghost use Rattle.sim_store.specs.Progress.{Progress};
+    ghost use Rattle.sim_store.specs.Made.{IsOf, progress_of};
 
     ghost Value = { Progress };
 
     ghost coded = { Prim.hlevel (codes, logic.the_row.coded, boolean.the_row.coded, statement.the_row.coded) };
 
-    ghost view = { λ s. record { design = s.design; cycles = length s.made.log.records - 1; deposited = s.made.deposited.items } };
+    ghost view = { λ s. progress_of s.design s.made };
 
-    ghost invariant = { λ s. IsSimulation (record { design = s.design; cycles = length s.made.log.records - 1; deposited = s.made.deposited.items })
-        s.made.sources s.made.wakes s.time s.delta s.made.state s.made.log.records s.made.due s.made.totals.items };
+    ghost invariant = { λ s. IsOf s.design s.made };
 }
 
 impl Simulation {
@@ -149,12 +196,7 @@ impl Simulation {
         are_processes(design.processes());
         match prepared(alloc, &design) {
             Err(error) => Err((error, design)),
-            Ok(made) => Ok(Simulation {
-                design,
-                time: 0,
-                delta: 0,
-                made,
-            }),
+            Ok(made) => Ok(Simulation { design, made }),
         }
     }
 
@@ -170,7 +212,7 @@ impl Simulation {
         Ok(Job::new(
             self.made.log.len() - 1,
             number,
-            self.time,
+            self.made.time,
             process,
             part.views,
             part.variables,
@@ -223,7 +265,7 @@ impl Simulation {
         ensures { IsTrue result ↔ spec.IsOwn self.now job.now }
     {
         let process = &self.design.processes()[job.number()];
-        if job.time() != self.time {
+        if job.time() != self.made.time {
             return false;
         }
         if !process.same(job.process()) {
@@ -263,10 +305,12 @@ impl Simulation {
     {
         let nets = self.design.nets().len();
         self.made.log.reserve(nets)?;
-        self.delta = next_delta(time, self.time, self.delta);
-        self.time = time;
+        self.made.delta = next_delta(time, self.made.time, self.made.delta);
+        self.made.time = time;
         self.made.state.update(&self.made.sources, time);
-        self.made.state.record(&mut self.made.log, time, self.delta);
+        self.made
+            .state
+            .record(&mut self.made.log, time, self.made.delta);
         count_last(self.made.totals.as_mut_slice(), &self.made.log);
         self.made.due.find(&self.made.state, &self.made.wakes);
         clear(self.made.deposited.as_mut_slice());
@@ -305,44 +349,16 @@ impl Simulation {
         None
     }
 
-    /// Executes a process that is due and has not been executed since the last cycle.
-    fn execute(&mut self, alloc: Global, number: usize) -> Result<(), AllocError>
-        requires { spec.IsMissing self.old number }
-        ensures ok { OnOk result (self.new ≡ spec.with_one self.old number) }
-        ensures gone { OnOk result (spec.IsMissing self.new number → ⊥) }
-        ensures err { OnErr result (self.new ≡ self.old) }
+    /// Executes all that are due and have not been executed since the last cycle, in place and in rising order. Where memory is refused the simulation
+    /// is gone: of the process that wanted it neither the state before its execution is left nor that after it.
+    pub fn execute_due(self, alloc: Global) -> Result<Simulation, AllocError>
+        ensures same { IfOk result (λ s. s ≡ spec.with_marks self s.deposited) }
+        ensures complete { IfOk result spec.IsComplete }
     {
-        let job = self.job(alloc, number)?;
-        match Done::run(alloc, job) {
-            Err((error, _job)) => Err(error),
-            Ok(done) => {
-                self.deposit(done);
-                Ok(())
-            }
-        }
-    }
-
-    /// Executes the process with a number, if it is due and has not been executed since the last cycle.
-    fn execute_missing(&mut self, alloc: Global, number: usize) -> Result<(), AllocError>
-        ensures same { self.new ≡ spec.with_marks self.old self.new.deposited }
-        ensures ok { OnOk result (spec.IsMissing self.new number → ⊥) }
-        ensures others { (p : ℕ) → spec.IsMissing self.new p → spec.IsMissing self.old p }
-    {
-        if self.check(number).is_ok() {
-            self.execute(alloc, number)?;
-        }
-        Ok(())
-    }
-
-    /// Executes all that are due and have not been executed since the last cycle, in rising order. Where memory is refused, those before are executed.
-    pub fn execute_due(&mut self, alloc: Global) -> Result<(), AllocError>
-        ensures same { self.new ≡ spec.with_marks self.old self.new.deposited }
-        ensures ok { OnOk result (spec.IsComplete self.new) }
-    {
-        for number in 0..self.design.processes().len() {
-            self.execute_missing(alloc, number)?;
-        }
-        Ok(())
+        let Simulation { design, made } = self;
+        let mut made = made;
+        execute_all(alloc, &design, &mut made)?;
+        Ok(Simulation { design, made })
     }
 
     /// The numbers of the processes that the last cycle resumed, rising.
@@ -356,7 +372,7 @@ impl Simulation {
     pub fn time(&self) -> (u64, u64)
         ensures { result ≡ ((spec.reached self.now).time, (spec.reached self.now).delta) }
     {
-        (self.time, self.delta)
+        (self.made.time, self.made.delta)
     }
 
     /// The value of the net with a number; none beyond the last. It is also that of its last change in the records.
@@ -381,6 +397,14 @@ impl Simulation {
         ensures { result ≡ event_count (records_to self.now.design self.now.cycles) }
     {
         (self.made.log.count() - self.design.nets().len()) as u64
+    }
+
+    /// The log of all records.
+    pub fn history(&self) -> &Log
+        ensures records { result.now.records ≡ records_to self.now.design self.now.cycles }
+        ensures named { All (IsNamed (length self.now.design.nets)) result.now.records }
+    {
+        &self.made.log
     }
 
     /// The records from a number on.

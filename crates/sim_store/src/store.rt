@@ -19,7 +19,7 @@ use crate::simulation::Simulation;
 use sim_design::Design;
 use sim_exec::{Done, Job};
 use sim_logic::{LATEST, Logic};
-use sim_state::Record;
+use sim_state::{Log, Record};
 use std::alloc::{AllocError, Global};
 use std::marker::Model;
 
@@ -159,22 +159,34 @@ impl WaveStore {
         Ok(())
     }
 
-    /// Executes all that are due and have not been executed since the last cycle, in rising order of their numbers, on this thread. Where memory is refused,
-    /// those before are executed.
-    pub fn execute_due(&mut self, alloc: Global) -> Result<(), AllocError>
-        ensures same { self.new ≡ spec.with_deposited self.old self.new.progress.deposited }
-        ensures ok { OnOk result (progress.IsComplete self.new.progress) }
+    /// Executes all that are due and have not been executed since the last cycle, in place and in rising order of their numbers, on this thread. Where
+    /// memory is refused the store is gone: of the process that wanted it neither the state before its execution is left nor that after it.
+    pub fn execute_due(self, alloc: Global) -> Result<WaveStore, AllocError>
+        ensures same { IfOk result (λ s. s ≡ spec.with_deposited self s.progress.deposited) }
+        ensures complete { IfOk result (λ s. progress.IsComplete s.progress) }
     {
         if self.ended.is_some() {
-            return Ok(());
+            return Ok(self);
         }
-        self.simulation.execute_due(alloc)
+        let WaveStore {
+            simulation,
+            stop,
+            limit,
+            ended,
+        } = self;
+        let simulation = simulation.execute_due(alloc)?;
+        Ok(WaveStore {
+            simulation,
+            stop,
+            limit,
+            ended,
+        })
     }
 
     /// Goes on to the next cycle (14.7.5.3) once all that are due have been executed. It answers `Finished` where nothing is pending up to the stop time, and
     /// `LimitReached` where the limit would be passed: then the run has ended and its records stay. Refusals: `Ended`, `Missing` with
-    /// the least process that has not been executed, `Memory`, in this order.
-    pub fn advance(&mut self) -> Result<Step, StoreError>
+    /// the least process that has not been executed, `Memory`, in this order. What grows are the store's own lists, which keep their allocator.
+    pub fn advance(&mut self, _alloc: Global) -> Result<Step, StoreError>
         ensures ok { IfOk result (λ s. spec.IsAdvanced self.old self.new s) }
         ensures err { IfErr result (spec.IsAdvanceRefusal self.old) }
         ensures kept { OnErr result (self.new ≡ self.old) }
@@ -287,6 +299,14 @@ impl WaveStore {
             × (t ≡ total_of (records_to self.now.progress.design self.now.progress.cycles) net)) }
     {
         self.simulation.total(net)
+    }
+
+    /// The log of all records, in which nothing is copied: for each when it is, and its changes in net order. Record 0 has every net.
+    pub fn history(&self) -> &Log
+        ensures records { result.now.records ≡ records_to self.now.progress.design self.now.progress.cycles }
+        ensures named { All (IsNamed (length self.now.progress.design.nets)) result.now.records }
+    {
+        self.simulation.history()
     }
 
     /// The records from a number on, none where that is how many there are. Refusals: `Behind` where there are fewer, `Memory`, in this order.

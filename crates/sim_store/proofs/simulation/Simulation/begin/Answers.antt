@@ -1,19 +1,25 @@
-use Rattle.std.proofs.Common.{rules, List, length, ap, subst, arith}
+use Rattle.std.proofs.Common.{rules, ℕ, List, length, ap, sym, subst, arith}
 use Rattle.std.specs.List.{All}
 use Rattle.sim_design.specs.Designs.{AreOwned}
 use Rattle.sim_design.specs.Processes.{Process, IsProcess}
+use Rattle.sim_store.specs.Made.{progress_of}
+use Rattle.sim_store.specs.Progress.{IsProgress}
 use Rattle.sim_store.proofs.Counting.{totals-begin}
 use Rattle.sim_store.proofs.Going.{begins}
 use Rattle.sim_store.proofs.simulation.Simulation.begin.Goals as goal
 
 pub invariant_of-result : goal.invariant_of-result
 invariant_of-result c =
-    let m = c.in-Ok.ensures in
+    let m = c.in-Ok.ensures.lists in
     let owned : AreOwned (length c.args.design.nets) 0 0 c.args.design.processes c.args.design.drivers = search rules in
     let all : All IsProcess c.args.design.processes = subst (λ (ps : List Process). All IsProcess ps) c.processes.ensures.value c.are_processes.ensures in
+    let begun = begins c.args.design _ c.in-Ok.made.state c.in-Ok.made.log.records c.in-Ok.made.due c.in-Ok.made.deposited.items
+    (search rules) owned all (omega (arith, ap length m.records_is)) m.held_is m.records_is m.due_is m.deposited_is in
     record {
       made = m.lists;
-      progress = begins c.args.design _ c.in-Ok.made.state c.in-Ok.made.log.records c.in-Ok.made.due c.in-Ok.made.deposited.items
-          (search rules) owned all (omega (arith, ap length m.records_is)) m.held_is m.records_is m.due_is m.deposited_is;
+      progress = subst (λ (n : ℕ). IsProgress (progress_of c.args.design c.in-Ok.made) n c.in-Ok.made.delta c.in-Ok.made.state c.in-Ok.made.log.records
+          c.in-Ok.made.due) (sym c.in-Ok.ensures.start.0)
+          (subst (λ (n : ℕ). IsProgress (progress_of c.args.design c.in-Ok.made) 0 n c.in-Ok.made.state c.in-Ok.made.log.records c.in-Ok.made.due)
+          (sym c.in-Ok.ensures.start.1) begun);
       counts = totals-begin (length c.args.design.nets) _ c.in-Ok.made.log.records c.in-Ok.made.totals.items m.records_is m.totals_is;
     }

@@ -47,7 +47,7 @@ invariant_of-self c =
     record {
       made = c.self.invariant.made;
       progress = subst (λ (k : ℕ). IsProgress (record { design = h.design; cycles = h.cycles; deposited = set h.deposited k true })
-          s.time s.delta held' s.made.log.records s.made.due) (sym n)
+          s.made.time s.made.delta held' s.made.log.records s.made.due) (sym n)
           (deposited-keeps i job.number (result_of job) held' (own-result i job own miss.due) (own-ready i job own c.into_parts-job.ensures.ready) now);
       counts = c.self.invariant.counts;
     }

@@ -27,7 +27,7 @@ returns c =
     c.index-processes-number.is ∙ (get_or_default c.processes.result.now c.number.result _ no_process
     (omega (arith, lt, c.number.ensures, ap length c.processes.ensures.value))
     ∙ (ap (process_at c.processes.result.now) c.number.ensures ∙ ap (λ (ps : List Process). process_at ps job.number) c.processes.ensures.value)) in
-    let time : job.time ≡ s.time = search (rules, tests) in
+    let time : job.time ≡ s.made.time = search (rules, tests) in
     let process : job.process ≡ q = sym c.process.ensures ∙ (sym (c.same.ensures.0 (search (rules, tests))) ∙ is) in
     let reads = c.reads.ensures.value ∙ ap (λ (r : Process). r.reads) is in
     let given : record { drivers = c.drivers.result.now; variables = c.variables.result.now } ≡ job.owned =

@@ -35,7 +35,7 @@ new-requires c =
     let views = c.in_ok-part.ensures.views ∙ (ap (map (net_at s.made.state.nets)) c.reads.ensures.value
     ∙ ap (λ (q : Process). map (net_at s.made.state.nets) q.reads) is) in
     let own : Owned = record { drivers = c.in_ok-part.part.drivers.items; variables = c.in_ok-part.part.variables.items } in
-    subst (λ (q : Process). IsJob s.time q c.in_ok-part.part.views.items own) (sym (c.in_ok-process.ensures ∙ is))
+    subst (λ (q : Process). IsJob s.made.time q c.in_ok-part.part.views.items own) (sym (c.in_ok-process.ensures ∙ is))
     (job-fits c.self.invariant.progress c.args.number lt out c.in_ok-part.part.views.items own views c.in_ok-part.ensures.owned)
 
 pub returns : goal.returns

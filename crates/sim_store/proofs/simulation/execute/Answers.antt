@@ -1,0 +1,36 @@
+use Rattle.std.proofs.Common.{rules, tests, ◌≡◌, List, length, ap, sym, ◌∙◌, subst, arith}
+use Rattle.std.proofs.lemmas.List.{get_or_default}
+use Rattle.sim_design.specs.Processes.{Process}
+use Rattle.sim_exec.specs.Jobs.{IsReady}
+use Rattle.sim_exec.specs.State.{owned_at}
+use Rattle.sim_state.specs.Cycles.{no_process, process_at}
+use Rattle.sim_store.proofs.Going.{executed-keeps, held-count, ready-here}
+use Rattle.sim_store.proofs.simulation.execute.Goals as goal
+
+pub execute-requires-clause-at : goal.execute-requires-clause-at
+execute-requires-clause-at c = omega (arith, c.requires.at, held-count c.requires.of.progress)
+
+pub execute-requires-clause-ready : goal.execute-requires-clause-ready
+execute-requires-clause-ready c =
+    let missing = c.is_missing.ensures.0 (search (rules, tests)) in
+    let is : c.index-processes-number.result ≡ process_at c.args.design.now.processes c.args.number =
+    c.index-processes-number.is ∙ (get_or_default c.processes.result.now c.args.number _ no_process
+    (omega (arith, c.requires.at, ap length c.processes.ensures.value))
+    ∙ ap (λ (ps : List Process). process_at ps c.args.number) c.processes.ensures.value) in
+    subst (λ (q : Process). IsReady q.body c.args.made.now.time (owned_at c.args.made.now.state.owned c.args.number)) (sym is)
+    (ready-here c.requires.of.progress c.args.number c.requires.at missing.1)
+
+pub returns-clause-of : goal.returns-clause-of
+returns-clause-of c =
+    let i = c.requires.of.progress in
+    let missing = c.is_missing.ensures.0 (search (rules, tests)) in
+    let is : c.index-processes-number.result ≡ process_at c.args.design.now.processes c.args.number =
+    c.index-processes-number.is ∙ (get_or_default c.processes.result.now c.args.number _ no_process
+    (omega (arith, c.requires.at, ap length c.processes.ensures.value))
+    ∙ ap (λ (ps : List Process). process_at ps c.args.number) c.processes.ensures.value) in
+    record {
+      made = c.requires.of.made;
+      progress = executed-keeps i c.args.number c.requires.at missing.1 c.index-processes-number.result c.execute.new.self is
+          (sym (i.due_are c.args.number c.requires.at) ∙ missing.0) c.in_ok-execute.ensures.ok c.in_ok-execute.ensures.ready;
+      counts = c.requires.of.counts;
+    }

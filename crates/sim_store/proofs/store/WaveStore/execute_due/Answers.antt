@@ -1,0 +1,13 @@
+use Rattle.std.proofs.Common.{rules, tests, ◌≡◌, None, sym, subst}
+use Rattle.sim_store.specs.Progress.{Progress}
+use Rattle.sim_store.specs.Store.{IsStore}
+use Rattle.sim_store.specs.contracts.store.WaveStore.{the_view}
+use Rattle.sim_store.proofs.Stores.{store-executed}
+use Rattle.sim_store.proofs.store.WaveStore.execute_due.Goals as goal
+
+pub invariant_of-result : goal.invariant_of-result
+invariant_of-result c =
+    let s = c.self.inside in
+    let running : s.ended ≡ None = search (rules, tests) in
+    subst (λ (g : Progress). IsStore (record { progress = g; stop = s.stop; limit = s.limit; ended = s.ended })) (sym c.in_ok-simulation.ensures.same)
+    (store-executed (the_view s) c.in_ok-simulation.simulation.deposited c.self.invariant running)
