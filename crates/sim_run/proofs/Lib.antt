@@ -1,3 +1,2 @@
-pub mod Gathering
 pub mod Programs
 pub mod Simulations

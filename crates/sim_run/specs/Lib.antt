@@ -1,5 +1,3 @@
-pub mod Listing
 pub mod Run
 pub mod Session
 pub mod Simulation
-pub mod Writing

@@ -4,12 +4,12 @@ use Rattle.sim_design.specs.Designs.{Design}
 use Rattle.sim_store.specs.Store.{Store}
 use Rattle.sim_store.specs.declared.store.Step.{Step}
 use Rattle.std.specs.Io.KnownBytes.{Appends}
-use Rattle.sim_store.specs.Behaviour.{Behaviour}
+use Rattle.sim_store.specs.Behaviour.{Behaviour, behaviour_of}
 use Rattle.sim_store.specs.History.{History}
 use Rattle.sim_store.specs.Outcome.{FinishedAfter, LimitReached, HasOutcome}
 use Rattle.sim_options.specs.declared.options.Options.{Options}
-use Rattle.sim_run.specs.Listing.{listing}
-use Rattle.sim_run.specs.Writing.{AppendsPart}
+use Rattle.sim_listing.specs.Listing.{listing}
+use Rattle.sim_listing.specs.Writing.{AppendsPart}
 
 -- The run is finished up to the stop time and within the limit, with this history (IEEE 1076-2008, 14.7.5.1).
 pub record Finishes (design : Behaviour) (options : Options) (history : History) : Type 0 where
@@ -33,6 +33,12 @@ pub record ListsPart (design : Behaviour) (options : Options) (old new : Option 
   pub history : History
   pub finishes : Finishes design options history
   pub written : AppendsPart old new (listing history.names history.records)
+
+-- what a store has recorded: its design's names, and its records up to as many cycles as it has had
+abbrev pub history_of : Store → History
+history_of run =
+    let design = behaviour_of run.progress.design in
+    record { names = design.names; records = design.records run.progress.cycles }
 
 -- This is the store of the run of a design with these options.
 pub record IsRunOf (design : Design) (options : Options) (run : Store) : Type 0 where

@@ -13,7 +13,7 @@ use Rattle.sim_run.specs.declared.error.RunError.TheVariants as refusal
 use Rattle.sim_run.specs.declared.program.Failure.{Failure}
 use Rattle.sim_run.specs.declared.program.Failure.TheVariants as failure
 use Rattle.sim_run.specs.Simulation.{IsRefusal}
-use Rattle.sim_run.specs.Writing.{AppendsPart}
+use Rattle.sim_listing.specs.Writing.{AppendsPart}
 
 -- the bytes that a reader had were these, if they are known
 abbrev pub IsWhole : Option (List ℕ) → List ℕ → Type 0

@@ -4,6 +4,7 @@ ghost use Rattle.std.specs.Prelude.{◌≡◌};
 ghost use Rattle.sim_run.specs.declared.error.RunError.TheVariants as refusal;
 
 use sim_flat::FlatError;
+use sim_listing::WriteError;
 use sim_text::TextError;
 use std::alloc::{AllocError, AllocFailed};
 use thiserror::Error;
@@ -60,5 +61,13 @@ impl From<FlatError> for RunError {
 
     fn from(e: FlatError) -> RunError {
         RunError::Flat(e)
+    }
+}
+
+impl From<WriteError> for RunError {
+    ghost from_gives = { λ _ e. e ≡ refusal.Write };
+
+    fn from(_e: WriteError) -> RunError {
+        RunError::Write
     }
 }

@@ -1,7 +1,28 @@
 //! A run that came to its end.
 
-use sim_store::Record;
+ghost use Rattle.std.specs.Prelude.{◌≡◌, map, string_bytes, Err, IfOk, OnOk, OnErr};
+ghost use Rattle.std.specs.Io.KnownBytes.{Appends};
+ghost use Rattle.sim_listing.specs.Listing.{listing};
+ghost use Rattle.sim_listing.specs.Writing.{AppendsPart};
+ghost use Rattle.sim_store.specs.Behaviour.{behaviour_of};
+
+use crate::error::RunError;
+use sim_design::Net;
+use sim_store::{Record, WaveStore};
+use std::alloc::{AllocError, Global};
+use std::io::Write;
 use std::marker::Model;
+
+/// The names of nets.
+pub fn names_of(alloc: Global, nets: &[Net]) -> Result<Vec<String>, AllocError>
+    ensures { IfOk result (λ v. map string_bytes v.items ≡ map (λ n. n.name) nets.now) }
+{
+    let mut names = Vec::new(alloc);
+    for net in nets {
+        names.push(String::from_str(alloc, net.name())?)?;
+    }
+    Ok(names)
+}
 
 /// The records of a finished run, and the names of its nets.
 #[derive(Drop)]
@@ -23,8 +44,10 @@ impl Model for Finished {
 }
 
 impl Finished {
-    ghost use Rattle.std.specs.Prelude.{◌≡◌, ◌+◌, ◌<◌, ◌^◌, map, length, string_bytes};
+    ghost use Rattle.std.specs.Prelude.{◌≡◌, ◌+◌, ◌<◌, ◌^◌, map, length, string_bytes, IfOk, IfErr};
+    ghost use Rattle.sim_store.specs.Behaviour.{behaviour_of};
     ghost use Rattle.sim_store.specs.History.{IsHistory, event_count};
+    ghost use Rattle.sim_run.specs.declared.error.RunError.TheVariants as refusal;
 
     /// The run with these names and records, which had this many events after the initialization.
     pub fn new(names: Vec<String>, records: Vec<Record>, events: u64) -> Finished
@@ -37,6 +60,20 @@ impl Finished {
             names,
             records,
             events,
+        }
+    }
+
+    /// The history of a store as it is now, copied from its log.
+    pub fn of(alloc: Global, run: &WaveStore) -> Result<Finished, RunError>
+        ensures names { IfOk result (λ f. f.names ≡ (behaviour_of run.now.progress.design).names) }
+        ensures records { IfOk result (λ f. f.records ≡ (behaviour_of run.now.progress.design).records run.now.progress.cycles) }
+        ensures err { IfErr result (λ e. e ≡ refusal.Memory) }
+    {
+        let names = names_of(alloc, run.design().nets())?;
+        match run.records_since(alloc, 0) {
+            Ok(records) => Ok(Finished::new(names, records, run.look().events)),
+            // There is a record 0, so only memory was short.
+            Err(_refusal) => Err(RunError::Memory),
         }
     }
 
@@ -68,4 +105,17 @@ impl Finished {
     {
         self.events
     }
+}
+
+/// Writes the listing of a run: for each record, in order, a line `TIME DELTA NAME VALUE` for each of its changes, with the
+/// time in femtoseconds, and last `done CYCLES EVENTS`. The lines are gathered and go out in blocks of some KiB; nothing
+/// is allocated. `RunError::Write` comes where a write fails or takes nothing; a front of the listing is then written.
+pub fn write_listing<W: Write>(finished: &Finished, out: &mut W) -> Result<(), RunError>
+    ensures ok { OnOk result (Appends (W.contents out.old) (W.contents out.new) (listing finished.now.names finished.now.records)) }
+    ensures part { OnErr result (AppendsPart (W.contents out.old) (W.contents out.new) (listing finished.now.names finished.now.records)) }
+    ensures err { OnErr result (result ≡ Err RunError.Write) }
+{
+    let records = finished.records();
+    sim_listing::write_listing(finished.names(), &records, finished.events(), out)?;
+    Ok(())
 }

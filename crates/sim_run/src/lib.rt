@@ -1,17 +1,14 @@
 //! The run of a design, and its listing.
 #![tactic(auto)]
 
-mod block;
 mod error;
 mod finished;
-mod listing;
 mod program;
 mod run;
 mod simulation;
 
 pub use error::RunError;
-pub use finished::Finished;
-pub use listing::write_listing;
+pub use finished::{Finished, write_listing};
 pub use program::session;
 pub use sim_design::Design;
 pub use sim_flat::FlatError;

@@ -10,13 +10,13 @@ ghost use Rattle.sim_run.specs.declared.program.Failure.TheVariants as failure;
 ghost use Rattle.sim_run.specs.Run.{ReachesLimit, Lists, ListsPart};
 ghost use Rattle.sim_run.specs.Session.{ReadsSource, HasText, HasRun, HasOptions, HasHelp, IsAnswerTo, IsFailure, status_of};
 ghost use Rattle.sim_run.specs.Simulation.{HasDesign, IsRefusedText};
-ghost use Rattle.sim_run.specs.Writing.{AppendsPart};
+ghost use Rattle.sim_listing.specs.Writing.{AppendsPart};
 
-use crate::block::write_whole;
 use crate::error::RunError;
 use crate::simulation::simulate;
 use arrayvec::ArrayVec;
 use sim_flat::FlatError;
+use sim_listing::write_whole;
 use sim_options::{CliFault, Options, read_options};
 use sim_text::TextError;
 use std::alloc::Global;

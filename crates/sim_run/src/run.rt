@@ -1,39 +1,33 @@
 //! A whole run of a design, on the calling thread.
-ghost use Rattle.std.specs.Prelude.{◌≡◌, ◌≢◌, ◌<◌, ◌≤◌, ◌⊎◌, map, string_bytes, Some, None, IfOk, IfErr, OnOk, OnErr};
+ghost use Rattle.std.specs.Prelude.{◌≡◌, ◌≢◌, ◌<◌, ◌≤◌, ◌⊎◌, None, Err, IfOk, IfErr, OnOk};
+ghost use Rattle.std.specs.Io.KnownBytes.{Appends, Keeps};
+ghost use Rattle.sim_listing.specs.Listing.{listing};
+ghost use Rattle.sim_listing.specs.Writing.{AppendsPart};
 ghost use Rattle.sim_logic.specs.Time.{largest_time};
 ghost use Rattle.sim_store.specs.Behaviour.{behaviour_of};
 ghost use Rattle.sim_store.specs.Store as store;
 ghost use Rattle.sim_run.specs.declared.error.RunError.TheVariants as refusal;
-ghost use Rattle.sim_run.specs.Run.{Finishes, ReachesLimit, IsRunOf, IsSameRun, steps_left};
+ghost use Rattle.sim_run.specs.Run.{Finishes, ReachesLimit, IsRunOf, IsSameRun, history_of, steps_left};
 
 use crate::error::RunError;
-use crate::finished::Finished;
-use sim_design::{Design, Net};
+use crate::finished::names_of;
+use sim_design::Design;
+use sim_listing::write_listing;
 use sim_options::Options;
 use sim_store::{Step, WaveStore};
-use std::alloc::{AllocError, Global};
+use std::alloc::Global;
+use std::io::Write;
 
-/// The names of nets.
-fn names_of(alloc: Global, nets: &[Net]) -> Result<Vec<String>, AllocError>
-    ensures { IfOk result (λ v. map string_bytes v.items ≡ map (λ n. n.name) nets.now) }
-{
-    let mut names = Vec::new(alloc);
-    for net in nets {
-        names.push(String::from_str(alloc, net.name())?)?;
-    }
-    Ok(names)
-}
-
-/// Carries out one cycle: executes all processes that are due, in rising order, and goes on.
-fn go_on(alloc: Global, run: &mut WaveStore) -> Result<(), RunError>
-    requires { store.IsOpen run.old }
-    ensures bounds { IsSameRun run.old run.new }
-    ensures on { OnOk result (steps_left run.new < steps_left run.old) }
+/// Carries out one cycle: executes all processes that are due, in place and in rising order, and goes on.
+fn go_on(alloc: Global, run: WaveStore) -> Result<WaveStore, RunError>
+    requires { store.IsOpen run }
+    ensures bounds { IfOk result (IsSameRun run) }
+    ensures on { IfOk result (λ r. steps_left r < steps_left run) }
     ensures err { IfErr result (λ e. e ≡ refusal.Memory) }
 {
-    run.execute_due(alloc)?;
-    match run.advance() {
-        Ok(_step) => Ok(()),
+    let mut run = run.execute_due(alloc)?;
+    match run.advance(alloc) {
+        Ok(_step) => Ok(run),
         // All that are due have been executed and the run has not ended, so only memory was short.
         Err(_refusal) => Err(RunError::Memory),
     }
@@ -51,29 +45,15 @@ fn ended_run(alloc: Global, design: Design, options: &Options) -> Result<WaveSto
         Err(_refusal) => return Err(RunError::Memory),
     };
     while run.ended().is_none() {
-        go_on(alloc, &mut run)?;
+        run = go_on(alloc, run)?;
     }
     Ok(run)
 }
 
-/// The finished run whose store this is.
-fn finished(alloc: Global, run: &WaveStore) -> Result<Finished, RunError>
-    ensures names { IfOk result (λ f. f.names ≡ (behaviour_of run.now.progress.design).names) }
-    ensures records { IfOk result (λ f. f.records ≡ (behaviour_of run.now.progress.design).records run.now.progress.cycles) }
-    ensures err { IfErr result (λ e. e ≡ refusal.Memory) }
-{
-    let names = names_of(alloc, run.design().nets())?;
-    match run.records_since(alloc, 0) {
-        Ok(records) => Ok(Finished::new(names, records, run.look().events)),
-        // There is a record 0, so only memory was short.
-        Err(_refusal) => Err(RunError::Memory),
-    }
-}
-
-/// The run of a design up to the stop time and within the limit.
-pub fn run_design(alloc: Global, design: Design, options: &Options) -> Result<Finished, RunError>
+/// The run of a design up to the stop time and within the limit: its store, once it is finished.
+pub fn run_design(alloc: Global, design: Design, options: &Options) -> Result<WaveStore, RunError>
     requires { options.now.stop ≤ largest_time }
-    ensures finished { IfOk result (λ f. Finishes (behaviour_of design) options.now f) }
+    ensures finished { IfOk result (λ run. Finishes (behaviour_of design) options.now (history_of run)) }
     ensures refused { IfErr result (λ e. (e ≡ refusal.Memory)
         ⊎ ((e ≡ refusal.CycleLimit options.now.limit) × ReachesLimit (behaviour_of design) options.now)) }
 {
@@ -82,6 +62,19 @@ pub fn run_design(alloc: Global, design: Design, options: &Options) -> Result<Fi
         Some(Step::LimitReached) => Err(RunError::CycleLimit {
             limit: options.limit,
         }),
-        _ => finished(alloc, &run),
+        _ => Ok(run),
     }
+}
+
+/// Writes the listing of a store's history, from its log. Where there is no memory for the names of the nets, nothing is written.
+pub fn write_run<W: Write>(alloc: Global, run: &WaveStore, out: &mut W) -> Result<(), RunError>
+    ensures ok { OnOk result (Appends (W.contents out.old) (W.contents out.new) (listing (history_of run.now).names (history_of run.now).records)) }
+    ensures part { result ≡ Err RunError.Write
+        → AppendsPart (W.contents out.old) (W.contents out.new) (listing (history_of run.now).names (history_of run.now).records) }
+    ensures err { IfErr result (λ e. (e ≡ refusal.Write) ⊎ (e ≡ refusal.Memory)) }
+    ensures quiet { IfErr result (λ e. e ≢ RunError.Write → Keeps (W.contents out.old) (W.contents out.new)) }
+{
+    let names = names_of(alloc, run.design().nets())?;
+    write_listing(names.as_slice(), run.history(), run.look().events, out)?;
+    Ok(())
 }

@@ -2,16 +2,15 @@
 ghost use Rattle.std.specs.Prelude.{◌≡◌, ◌≢◌, ◌↔◌, true, false, Err, OnOk, IfErr, MatchResult};
 ghost use Rattle.std.specs.Io.KnownBytes.{Keeps};
 ghost use Rattle.sim_options.specs.Options.{are_in_range};
-ghost use Rattle.sim_run.specs.Run.{Finishes, Lists, ListsPart};
+ghost use Rattle.sim_run.specs.Run.{Finishes, Lists, ListsPart, history_of};
 ghost use Rattle.sim_run.specs.Simulation.{IsDesignOf, HasDesign, IsOfText, IsRefusal};
 
 use crate::error::RunError;
-use crate::finished::Finished;
-use crate::listing::write_listing;
-use crate::run::run_design;
+use crate::run::{run_design, write_run};
 use sim_design::Design;
 use sim_flat::flatten;
 use sim_options::Options;
+use sim_store::WaveStore;
 use sim_text::parse;
 use std::alloc::Global;
 use std::io::Write;
@@ -28,10 +27,11 @@ pub fn elaborate(alloc: Global, source: &[u8], options: &Options) -> Result<Desi
     Ok(design)
 }
 
-/// The finished run of a text.
-fn run_text(alloc: Global, source: &[u8], options: &Options) -> Result<Finished, RunError>
+/// The run of a text: its store, once it is finished.
+fn run_text(alloc: Global, source: &[u8], options: &Options) -> Result<WaveStore, RunError>
     requires { are_in_range options.now.stop options.now.limit options.now.workers ≡ true }
-    ensures { MatchResult result (λ f. HasDesign source.now options.now (λ design. Finishes design options.now f)) (λ e. IsRefusal source.now options.now e) }
+    ensures { MatchResult result (λ run. HasDesign source.now options.now (λ design. Finishes design options.now (history_of run)))
+        (λ e. IsRefusal source.now options.now e) }
 {
     let design = elaborate(alloc, source, options)?;
     run_design(alloc, design, options)
@@ -62,6 +62,6 @@ pub fn simulate<R: Threads + Wait + Sync, W: Write>(
     if !options.are_in_range() {
         return Err(RunError::Options);
     }
-    let finished = run_text(alloc, source, options)?;
-    write_listing(&finished, out)
+    let run = run_text(alloc, source, options)?;
+    write_run(alloc, &run, out)
 }

@@ -1,0 +1,14 @@
+//! The listing of a simulation's history, from whatever holds its records.
+#![tactic(auto)]
+
+mod block;
+mod error;
+mod history;
+mod listing;
+#[cfg(test)]
+mod tests;
+
+pub use block::write_whole;
+pub use error::WriteError;
+pub use history::{Change, Records};
+pub use listing::write_listing;

@@ -1,0 +1,116 @@
+ghost use Rattle.std.specs.Prelude.{◌≡◌, ◌<◌, length, All, IfOk, ℕ};
+ghost use Rattle.sim_logic.specs.declared.logic.Logic as logic;
+
+use crate::{Change, Records, WriteError, write_listing, write_whole};
+use sim_logic::Logic;
+use sim_state::{Log, Record};
+use sqlite_items::Items;
+use std::alloc::{AllocError, Global};
+use std::io;
+use std::io::Write;
+use std::test::Fail;
+
+/// A writer that takes a byte at a time, and so many in all.
+#[derive(Drop)]
+struct Narrow {
+    bytes: Vec<u8>,
+    room: usize,
+}
+
+impl Write for Narrow {
+    fn write(&mut self, buf: &[u8]) -> io::Result<usize> {
+        if buf.is_empty() || self.bytes.len() >= self.room {
+            return Ok(0);
+        }
+        self.bytes.push(buf[0])?;
+        Ok(1)
+    }
+
+    fn flush(&mut self) -> io::Result<()> {
+        Ok(())
+    }
+}
+
+/// Net 0 has this value.
+fn changes(alloc: Global, value: Logic) -> Result<Items<(usize, Logic)>, AllocError>
+    ensures length { IfOk result (λ found. length found ≡ 1) }
+    ensures named { IfOk result (λ found. All (λ (c : ℕ × logic.Logic). c.0 < 1) found) }
+{
+    let mut found = Items::new(alloc);
+    found.push((0, value))?;
+    Ok(found)
+}
+
+/// A record in which net 0 gets this value.
+fn record(alloc: Global, time: u64, value: Logic) -> Result<Record, AllocError>
+    ensures length { IfOk result (λ r. length r.changes ≡ 1) }
+    ensures named { IfOk result (λ r. All (λ (c : ℕ × logic.Logic). c.0 < 1) r.changes) }
+{
+    Ok(Record {
+        time,
+        delta: 0,
+        changes: changes(alloc, value)?,
+    })
+}
+
+/// What is written of two records to a writer with this room, and how it ended.
+fn listed(alloc: Global, room: usize) -> Result<(Vec<u8>, Result<(), WriteError>), AllocError> {
+    let names = vec![in alloc; String::from_str(alloc, "s")?]?;
+    let records = vec![in alloc;
+        record(alloc, 0, Logic::Zero)?,
+        record(alloc, 5_000_000, Logic::One)?,
+    ]?;
+    let mut out = Narrow {
+        bytes: Vec::new(alloc),
+        room,
+    };
+    let ended = write_listing(names.as_slice(), &records.as_slice(), 1, &mut out);
+    Ok((out.bytes, ended))
+}
+
+#[test]
+fn each_change_has_a_line(rt: HostRuntime) -> Result<(), Fail> {
+    let (bytes, ended) = listed(rt.alloc(), 1_000)?;
+    assert_eq!(rt; ended, Ok(()));
+    assert_eq!(rt;
+        bytes.as_slice(),
+        b"0 0 s 0\n5000000 0 s 1\ndone 1 1\n".as_slice()
+    );
+    Ok(())
+}
+
+#[test]
+fn a_front_is_written_where_a_write_takes_nothing(rt: HostRuntime) -> Result<(), Fail> {
+    let (bytes, ended) = listed(rt.alloc(), 10)?;
+    assert_eq!(rt; ended, Err(WriteError));
+    assert_eq!(rt; bytes.as_slice(), b"0 0 s 0\n50".as_slice());
+    Ok(())
+}
+
+#[test]
+fn bytes_go_out_whole(rt: HostRuntime) {
+    let mut out = Vec::new(rt.alloc());
+    assert_eq!(rt; write_whole(&mut out, b"done"), Ok(()));
+    assert_eq!(rt; out.as_slice(), b"done".as_slice());
+}
+
+#[test]
+fn records_of_a_slice_are_read(rt: HostRuntime) -> Result<(), Fail> {
+    let records = vec![in rt.alloc(); record(rt.alloc(), 7, Logic::H)?]?;
+    let records = records.as_slice();
+    assert_eq!(rt; Records::len(&records), 1);
+    assert_eq!(rt; Records::time(&records, 0), (7, 0));
+    assert_eq!(rt; Records::changes(&records, 0), [(0, Logic::H)].as_slice());
+    Ok(())
+}
+
+#[test]
+fn a_log_begins_with_no_records(rt: HostRuntime) {
+    assert_eq!(rt; Records::len(&Log::new(rt.alloc())), 0);
+}
+
+#[test]
+fn changes_name_a_net_and_a_value(rt: HostRuntime) {
+    assert_eq!(rt; (3u32, Logic::H).to_change(), (3, Logic::H));
+    assert_eq!(rt; (4usize, Logic::Z).to_change(), (4, Logic::Z));
+}

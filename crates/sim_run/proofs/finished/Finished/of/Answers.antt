@@ -1,0 +1,17 @@
+use Rattle.std.proofs.Common.{◌≡◌, length, map, ap, ◌∙◌, arith}
+use Rattle.std.specs.Prelude.{string_bytes}
+use Rattle.std.proofs.lemmas.List.{length-map}
+use Rattle.sim_design.specs.Designs.{Design, Net}
+use Rattle.sim_store.proofs.Records.{is_history}
+use Rattle.sim_store.proofs.Going.{length-records_to}
+use Rattle.sim_run.proofs.finished.Finished.of.Goals as goal
+
+pub new-requires-clause-history : goal.new-requires-clause-history
+new-requires-clause-history c =
+    let d = c.args.run.now.progress.design in
+    let k = c.args.run.now.progress.cycles in
+    let names : length (map string_bytes c.in_ok-names.names.items) ≡ length d.nets =
+    ap length c.in_ok-names.ensures ∙ (length-map c.nets.result.now (λ (n : Net). n.name)
+    ∙ (ap length c.nets.ensures.value ∙ ap (λ (e : Design). length e.nets) c.design.ensures)) in
+    is_history (map string_bytes c.in_ok-names.names.items) c.in-Ok.records.items (length d.nets) names
+    (omega (arith, ap length c.in-Ok.ensures.ok.1, length-records_to d k)) c.in-Ok.ensures.named

@@ -1,0 +1,7 @@
+use Rattle.std.proofs.Common.{◌≡◌, map, take}
+use Rattle.std.specs.Prelude.{string_bytes}
+use Rattle.sim_design.specs.Designs.{Net}
+use Rattle.sim_run.proofs.finished.names_of.Given as goal
+
+abbrev pub invariant-loop-net : goal.invariant-loop-net
+invariant-loop-net l = map string_bytes l.names.items ≡ map (λ (n : Net). n.name) (take l.net-index l.nets)
