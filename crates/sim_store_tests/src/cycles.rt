@@ -1,0 +1,130 @@
+//! What the cycles of a store leave.
+
+use crate::scripts::Answer::{Done, Went};
+use crate::scripts::Call::{Advance, Deposit, Run};
+use crate::scripts::answers;
+use crate::texts::{CHOICE, EXCHANGE, ONCE, TWO_DRIVERS, after, store};
+use sim_logic::{LATEST, Logic};
+use sim_store::{Look, Record, Step, StoreError, WaveStore};
+use std::alloc::Global;
+use std::test::Fail;
+
+/// Whether a record says this.
+fn is_record(record: Option<&Record>, time: u64, delta: u64, changes: &[(usize, Logic)]) -> bool {
+    match record {
+        None => false,
+        Some(record) => {
+            record.time == time && record.delta == delta && record.changes.as_slice() == changes
+        }
+    }
+}
+
+/// Whether the records of a store from a number on are one, and it says this.
+fn ends_with(
+    alloc: Global,
+    store: &WaveStore,
+    number: usize,
+    time: u64,
+    delta: u64,
+    changes: &[(usize, Logic)],
+) -> bool {
+    match store.records_since(alloc, number) {
+        Err(_refusal) => false,
+        Ok(records) => records.len() == 1 && is_record(records.first(), time, delta, changes),
+    }
+}
+
+/// The exchange of two flip-flops, whose results are handed in from the last to the first: whether the store answers so.
+fn exchanged(alloc: Global) -> Option<WaveStore> {
+    let mut store = after(alloc, EXCHANGE, 10, 1)?;
+    let mut kept = Vec::new(alloc);
+    let calls = [Run(2), Run(1), Deposit(0), Deposit(1), Advance];
+    let found = answers(alloc, &mut store, &mut kept, &calls).ok()?;
+    if found.as_slice() == [Done, Done, Done, Done, Went(Step::Next)].as_slice() {
+        Some(store)
+    } else {
+        None
+    }
+}
+
+/// Whether that leaves each with the value that the other had, in one record.
+fn is_exchanged(alloc: Global) -> Option<bool> {
+    let store = exchanged(alloc)?;
+    let record = ends_with(
+        alloc,
+        &store,
+        2,
+        5_000_000,
+        1,
+        &[(1, Logic::One), (2, Logic::Zero)],
+    );
+    let values = store.value(1) == Some(Logic::One) && store.value(3).is_none();
+    let totals = store.total(0) == Some(1) && store.total(1) == Some(1) && store.total(3).is_none();
+    Some(record && values && totals)
+}
+
+#[test]
+fn processes_that_read_each_other_take_the_values_before(rt: HostRuntime) -> Result<(), Fail> {
+    assert_eq!(rt; is_exchanged(rt.alloc()), Some(true));
+    Ok(())
+}
+
+/// Who is due after the first cycle of the exchange.
+fn is_due(alloc: Global) -> Option<bool> {
+    let store = after(alloc, EXCHANGE, 10, 1)?;
+    Some(store.due() == [1, 2].as_slice())
+}
+
+#[test]
+fn who_is_sensitive_to_what_changed_is_due(rt: HostRuntime) -> Result<(), Fail> {
+    assert_eq!(rt; is_due(rt.alloc()), Some(true));
+    Ok(())
+}
+
+/// Whether a run that has ended is read so.
+fn is_read(alloc: Global) -> Option<bool> {
+    let store = after(alloc, CHOICE, 10, 4)?;
+    let look = Look {
+        records: 4,
+        time: 10_000_000,
+        delta: 0,
+        events: 2,
+    };
+    let is_ended = store.ended() == Some(Step::Finished) && store.due().is_empty();
+    let is_same = store.look() == look && store.design().processes().len() == 2;
+    let none = store.records_since(alloc, 4).ok()?;
+    let behind = store.records_since(alloc, 9).err()?;
+    Some(is_ended && is_same && none.is_empty() && behind == StoreError::Behind { records: 4 })
+}
+
+#[test]
+fn a_run_that_has_ended_is_read(rt: HostRuntime) -> Result<(), Fail> {
+    assert_eq!(rt; is_read(rt.alloc()), Some(true));
+    Ok(())
+}
+
+/// Whether the first record has each net, and the second what changed.
+fn has_records(alloc: Global) -> Option<bool> {
+    let store = after(alloc, TWO_DRIVERS, 10, 1)?;
+    let records = store.records_since(alloc, 0).ok()?;
+    let first = is_record(records.first(), 0, 0, &[(0, Logic::U)]);
+    Some(first && records.len() == 2 && is_record(records.last(), 0, 1, &[(0, Logic::X)]))
+}
+
+#[test]
+fn record_0_has_every_net(rt: HostRuntime) -> Result<(), Fail> {
+    assert_eq!(rt; has_records(rt.alloc()), Some(true));
+    Ok(())
+}
+
+/// Whether a store tells its stop time and limit.
+fn tells_its_bounds(alloc: Global) -> Option<bool> {
+    let store = store(alloc, ONCE, 7)?;
+    Some(store.stop() == LATEST && store.limit() == 7 && store.ended().is_none())
+}
+
+#[test]
+fn a_store_tells_its_bounds(rt: HostRuntime) -> Result<(), Fail> {
+    assert_eq!(rt; tells_its_bounds(rt.alloc()), Some(true));
+    Ok(())
+}

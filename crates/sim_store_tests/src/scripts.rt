@@ -1,0 +1,120 @@
+//! What is done with a store, step by step, and what it answers.
+
+use crate::texts::after;
+use sim_exec::Done;
+use sim_store::{Step, StoreError, WaveStore};
+use std::alloc::{AllocError, Global};
+
+/// A call of a store.
+#[derive(Clone, Copy)]
+pub enum Call {
+    /// Goes on.
+    Advance,
+    /// Takes the job of a process, executes it, and keeps the result.
+    Run(usize),
+    /// Hands in the result that was kept at a place.
+    Deposit(usize),
+}
+
+/// What it answers.
+#[derive(Clone, Copy, Debug, PartialEq, Eq)]
+pub enum Answer {
+    /// It went on.
+    Went(Step),
+    /// It handed out a job, or took a result.
+    Done,
+    /// It refused.
+    Refused(StoreError),
+    /// There was no memory to execute the job, or no result at the place.
+    None,
+}
+
+/// Takes the job of a process, executes it, and keeps the result.
+fn run(
+    alloc: Global,
+    store: &WaveStore,
+    kept: &mut Vec<Option<Done>>,
+    process: usize,
+) -> Result<Answer, AllocError> {
+    match store.job(alloc, process) {
+        Err(refusal) => Ok(Answer::Refused(refusal)),
+        Ok(job) => {
+            kept.push(Done::run(alloc, job).ok())?;
+            Ok(Answer::Done)
+        }
+    }
+}
+
+/// Hands in a result.
+fn deposit(store: &mut WaveStore, done: Option<Done>) -> Answer {
+    match done {
+        None => Answer::None,
+        Some(done) => match store.deposit(done) {
+            Ok(()) => Answer::Done,
+            Err((refusal, _done)) => Answer::Refused(refusal),
+        },
+    }
+}
+
+/// The result that was kept at a place.
+fn kept_at(kept: &mut [Option<Done>], place: usize) -> Option<Done> {
+    match kept.get_mut(place) {
+        None => None,
+        Some(done) => done.take(),
+    }
+}
+
+/// Goes on.
+fn advance(alloc: Global, store: &mut WaveStore) -> Answer {
+    match store.advance(alloc) {
+        Ok(step) => Answer::Went(step),
+        Err(refusal) => Answer::Refused(refusal),
+    }
+}
+
+/// One call.
+fn answer_to(
+    alloc: Global,
+    store: &mut WaveStore,
+    kept: &mut Vec<Option<Done>>,
+    call: Call,
+) -> Result<Answer, AllocError> {
+    match call {
+        Call::Advance => Ok(advance(alloc, store)),
+        Call::Run(process) => run(alloc, store, kept, process),
+        Call::Deposit(place) => Ok(deposit(store, kept_at(kept.as_mut_slice(), place))),
+    }
+}
+
+/// The answers of some calls, one after another; results that were kept before are at hand.
+pub fn answers(
+    alloc: Global,
+    store: &mut WaveStore,
+    kept: &mut Vec<Option<Done>>,
+    calls: &[Call],
+) -> Result<Vec<Answer>, AllocError> {
+    let mut answers = Vec::new(alloc);
+    for each in calls {
+        answers.push(answer_to(alloc, store, kept, *each)?)?;
+    }
+    Ok(answers)
+}
+
+/// Whether the store of a text, which went on so many times, answers some calls so.
+pub fn answers_so(
+    alloc: Global,
+    text: &str,
+    limit: u32,
+    cycles: usize,
+    calls: &[Call],
+    expected: &[Answer],
+) -> bool {
+    let Some(mut store) = after(alloc, text, limit, cycles) else {
+        return false;
+    };
+    let mut kept = Vec::new(alloc);
+    match answers(alloc, &mut store, &mut kept, calls) {
+        Ok(found) => found.as_slice() == expected,
+        Err(_refused) => false,
+    }
+}

@@ -1,0 +1,84 @@
+//! Texts, and their stores.
+
+use sim_design::Design;
+use sim_exec::Done;
+use sim_logic::LATEST;
+use sim_run::{Options, elaborate};
+use sim_store::WaveStore;
+use std::alloc::Global;
+
+/// No signals and no processes.
+pub const EMPTY: &str = "entity t is end;architecture a of t is begin end;";
+
+/// One signal, changed once.
+pub const ONCE: &str =
+    "entity t is end;architecture a of t is signal s:std_logic:='0';begin s <= '1' after 5 ns; end;";
+
+/// Two drivers that contradict each other.
+pub const TWO_DRIVERS: &str =
+    "entity t is end;architecture a of t is signal s:std_logic;begin s <= '0'; s <= '1'; end;";
+
+/// Two flip-flops that take each other's value.
+pub const EXCHANGE: &str =
+    "entity t is end;architecture a of t is signal clk,a:std_logic:='0'; signal b:std_logic:='1';begin \
+clk <= '1' after 5 ns; process(clk) begin if rising_edge(clk) then a <= b; end if; end process; \
+process(clk) begin if rising_edge(clk) then b <= a; end if; end process; end;";
+
+/// A flip-flop that toggles at each rising edge.
+pub const TOGGLE: &str =
+    "entity t is end;architecture a of t is signal clk:std_logic:='0'; signal q:std_logic;begin \
+clk <= not clk after 5 ns; process (clk) variable v:std_logic:='0'; begin if rising_edge(clk) then v := not v; q <= v; end if; \
+end process; end;";
+
+/// A waveform that is chosen by a condition, once before and once after it changes.
+pub const CHOICE: &str =
+    "entity t is end;architecture a of t is signal a,q:std_logic:='0';begin a <= '1' after 1 ns; \
+q <= '1' after 8 ns when a = '0' else '1' after 9 ns; end;";
+
+/// The flat design of a text under the top `t`.
+pub fn design(alloc: Global, text: &str) -> Option<Design> {
+    let options = Options {
+        top: String::from_str(alloc, "t").ok()?,
+        stop: LATEST,
+        limit: 10_000,
+        workers: 1,
+    };
+    elaborate(alloc, text.as_bytes(), &options).ok()
+}
+
+/// The store of a text, with a limit of cycles.
+pub fn store(alloc: Global, text: &str, limit: u32) -> Option<WaveStore> {
+    let design = design(alloc, text)?;
+    WaveStore::new(alloc, design, LATEST, limit).ok()
+}
+
+/// Takes the result of a process, if it is due.
+fn execute(alloc: Global, store: &mut WaveStore, process: usize) {
+    if let Ok(job) = store.job(alloc, process) {
+        if let Ok(done) = Done::run(alloc, job) {
+            let _ = store.deposit(done);
+        }
+    }
+}
+
+/// One cycle more: all that are due are executed, and the store goes on.
+fn cycle(alloc: Global, store: &mut WaveStore) {
+    for process in 0..store.design().processes().len() {
+        execute(alloc, store, process);
+    }
+    let _ = store.advance(alloc);
+}
+
+/// Goes on so many times.
+fn go_on(alloc: Global, store: &mut WaveStore, cycles: usize) {
+    for _cycle in 0..cycles {
+        cycle(alloc, store);
+    }
+}
+
+/// The store of a text, which went on so many times.
+pub fn after(alloc: Global, text: &str, limit: u32, cycles: usize) -> Option<WaveStore> {
+    let mut store = store(alloc, text, limit)?;
+    go_on(alloc, &mut store, cycles);
+    Some(store)
+}
