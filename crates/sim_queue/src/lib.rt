@@ -1,0 +1,12 @@
+//! Sets of numbers, and the times at which drivers are due.
+#![tactic(auto)]
+
+mod entries;
+mod numbers;
+#[cfg(test)]
+mod tests;
+mod times;
+mod words;
+
+pub use numbers::NumberSet;
+pub use times::TimeQueue;
