@@ -1,10 +1,12 @@
 -- The branch of an if statement that is looked at: its statements are carried out, or the others are looked at.
-use Rattle.std.proofs.Common.{◌≡◌, ◌+◌, ◌<◌, ℕ, List, ◌∷◌, true, false, length, drop, get_or, map, if◌then◌else◌, refl, sym, ap, ◌∙◌}
+use Rattle.std.proofs.Common.{◌≡◌, ◌+◌, ◌<◌, ℕ, List, ◌∷◌, true, false, ◌||◌, length, drop, get_or, map, if◌then◌else◌, refl, sym, ap, ◌∙◌}
 use Rattle.std.proofs.lemmas.List.{drop_more}
 use Rattle.sim_design.specs.declared.statement.Branch.{Branch}
 use Rattle.sim_design.specs.declared.statement.Statement.{Statement}
 use Rattle.sim_design.specs.declared.statement.Statement.TheViews as views
-use Rattle.sim_exec.specs.Statements.{Steps, in_turn, first_taken, statement_done, branch_done}
+use Rattle.sim_exec.specs.declared.view.NetView.{NetView}
+use Rattle.sim_exec.specs.State.{Owned}
+use Rattle.sim_exec.specs.Statements.{Steps, in_turn, first_taken, statement_done, branch_done, own_steps, one_holds}
 use Rattle.sim_exec.proofs.StatementRules.{branch_is}
 
 module _ {S : Type 0} (steps : Steps S) (branches : List Branch) (i : ℕ) (b : Branch) where
@@ -30,3 +32,17 @@ module _ {S : Type 0} (steps : Steps S) (branches : List Branch) (i : ℕ) (b : 
       → steps.holds (views.out-Branch b).condition own ≡ false
       → first_taken (map (branch_done steps) (drop i branches)) otherwise own ≡ first_taken (map (branch_done steps) (drop (i + 1) branches)) otherwise own
   not_taken otherwise own lt is holds = looked_at otherwise own lt is ∙ rw (branch_is steps b, holds) refl
+
+module _ (look : ℕ → NetView) (now : ℕ) (branches : List Branch) (i : ℕ) (b : Branch) (own : Owned) where
+  one_looked_at : i < length branches → b ≡ get_or branches i b
+      → one_holds look now (drop i branches) own ≡ ((branch_done (own_steps look now) b).holds own || one_holds look now (drop (i + 1) branches) own)
+  unfolding one_holds
+  one_looked_at lt is = ap (λ (bs : List Branch). one_holds look now bs own) (here (own_steps look now) branches i b lt is)
+
+  pub held_now : i < length branches → b ≡ get_or branches i b → (own_steps look now).holds (views.out-Branch b).condition own ≡ true
+      → one_holds look now (drop i branches) own ≡ true
+  held_now lt is holds = one_looked_at lt is ∙ rw (branch_is (own_steps look now) b, holds) refl
+
+  pub not_held : i < length branches → b ≡ get_or branches i b → (own_steps look now).holds (views.out-Branch b).condition own ≡ false
+      → one_holds look now (drop i branches) own ≡ one_holds look now (drop (i + 1) branches) own
+  not_held lt is holds = one_looked_at lt is ∙ rw (branch_is (own_steps look now) b, holds) refl

@@ -10,3 +10,4 @@ pub mod Places
 pub mod Seeing
 pub mod StatementRules
 pub mod ValueRules
+pub mod ValuesKept

@@ -1,5 +1,6 @@
 -- The state of a design between two simulation cycles (IEEE 1076-2008, 14.7).
-use Rattle.std.specs.Prelude.{ℕ, List, [], false, slice_index_or, slice_set}
+use Rattle.std.specs.Prelude.{ℕ, List, [], false, map, slice_index_or, slice_set}
+use Rattle.sim_logic.specs.declared.logic.Logic.{Logic}
 use Rattle.sim_logic.specs.declared.logic.Logic.TheVariants.{U}
 use Rattle.sim_design.specs.declared.held.Held.{Held}
 use Rattle.sim_wave.specs.Driver.{Waveform}
@@ -38,6 +39,10 @@ net_at nets n = slice_index_or nets n no_net
 
 abbrev pub owned_at : List Owned → ℕ → Owned
 owned_at owned n = slice_index_or owned n nothing_owned
+
+-- the current values of drivers
+abbrev pub driver_values : List Waveform → List Logic
+driver_values drivers = map (λ (d : Waveform). d.value) drivers
 
 -- the state in which one process owns this
 abbrev pub with_owned : ℕ → Owned → State → State

@@ -1,5 +1,5 @@
 -- How statements are carried out (IEEE 1076-2008, 10): one after another, on whatever their steps change.
-use Rattle.std.specs.Prelude.{ℕ, List, [], ◌∷◌, Bool, true, false, if◌then◌else◌, Option, Some, None, map, slice_set}
+use Rattle.std.specs.Prelude.{ℕ, List, [], ◌∷◌, Bool, true, false, ◌||◌, if◌then◌else◌, Option, Some, None, map, slice_set}
 use Rattle.sim_design.specs.declared.held.Held.TheVariants as held
 use Rattle.sim_design.specs.declared.expression.LogicExpression.{LogicExpression}
 use Rattle.sim_design.specs.declared.expression.BooleanExpression.{BooleanExpression}
@@ -103,3 +103,8 @@ module _ (look : ℕ → NetView) (now : ℕ) where
   -- what a process owns once its statements are carried out
   unfoldable pub executed : List Statement → Owned → Owned
   executed statements own = carried_out own_steps statements own
+
+  -- whether the condition of one of these branches holds
+  unfoldable pub one_holds : List Branch → Owned → Bool
+  one_holds [] own = false
+  one_holds (b ∷ bs) own = (branch_done own_steps b).holds own || one_holds bs own

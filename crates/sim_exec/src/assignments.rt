@@ -8,6 +8,7 @@ ghost use Rattle.sim_design.specs.Bodies.{assignment_fits, is_bit, is_truth};
 ghost use Rattle.sim_wave.specs.Driver.{RisesFrom, Transaction as transaction};
 ghost use Rattle.sim_design.specs.declared.held.Held as held;
 ghost use Rattle.sim_exec.specs.Jobs.{holds_bit};
+ghost use Rattle.sim_exec.specs.State.{driver_values};
 ghost use Rattle.sim_exec.specs.Statements as spec;
 ghost use Rattle.sim_exec.specs.Values as values;
 
@@ -108,6 +109,7 @@ fn assign<N: Nets>(
         ≡ spec.assigned now mechanism (values.element_values (N.look nets.now) variables.now elements.now) driver.old) }
     ensures err { OnErr result (driver.new ≡ driver.old) }
     ensures pending { RisesFrom now driver.new.pending }
+    ensures value { driver.new.value ≡ driver.old.value }
 {
     if let [only] = elements {
         let element = element_value(nets, variables, only);
@@ -135,6 +137,7 @@ fn assign_several<N: Nets>(
         ≡ spec.assigned now mechanism (values.element_values (N.look nets.now) variables.now elements.now) driver.old) }
     ensures err { OnErr result (driver.new ≡ driver.old) }
     ensures pending { RisesFrom now driver.new.pending }
+    ensures value { driver.new.value ≡ driver.old.value }
 {
     let found = element_values(alloc, nets, variables, elements)?;
     let first = elements[0].after.fs();
@@ -160,6 +163,7 @@ pub(crate) fn assign_signal<N: Nets>(
         ≡ (spec.own_steps (N.look nets.now) now).signal assignment.now (record { drivers = drivers.old; variables = variables.now })) }
     ensures drivers { length drivers.new ≡ length drivers.old }
     ensures pending { All (λ d. RisesFrom now d.pending) drivers.new }
+    ensures values { driver_values drivers.new ≡ driver_values drivers.old }
 {
     let Some(elements) = taken_waveform(nets, body, variables, assignment) else {
         return Ok(());

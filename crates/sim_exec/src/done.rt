@@ -179,7 +179,7 @@ impl Done {
         }
     }
 
-    /// The job, and the drivers and variables after the execution; none where they are those of the job.
+    /// The job, and the drivers and variables after the execution; where there are none, they are those of the job.
     pub fn into_parts(self) -> (Job, Option<Results>)
         ensures job { result.0 ≡ self }
         ensures results { MatchOption result.1 (result_of self ≡ self.owned) (λ r. r ≡ result_of self) }

@@ -1,15 +1,16 @@
 //! Executions that assign nothing.
 
-ghost use Rattle.std.specs.Prelude.{ℕ, ◌≡◌, IsTrue, map, true};
+ghost use Rattle.std.specs.Prelude.{ℕ, ◌≡◌, IsTrue, map, not};
 ghost use Rattle.sim_exec.specs.State.{Owned};
-ghost use Rattle.sim_exec.specs.Statements.{own_steps, statement_done, branch_done, first_taken, in_turn, executed};
+ghost use Rattle.sim_exec.specs.Statements.{own_steps, statement_done, branch_done, first_taken, in_turn, one_holds};
 
 use crate::values::boolean_value;
 use crate::view::Nets;
 use sim_design::Held;
 use sim_design::statement::{Branch, Statement};
 
-/// Whether the execution of these statements is known to assign nothing: they are looked at up to the first assignment.
+/// Whether the execution of these statements is known to assign nothing: they are looked at up to the first assignment, or the first condition of a
+/// branch that holds. `false` tells nothing of them.
 #[cycle(idle)]
 #[tactic(auto, unfolding(crate::specs::Statements::in_turn))]
 pub(crate) fn assign_nothing<N: Nets>(
@@ -51,10 +52,11 @@ fn assigns_nothing<N: Nets>(nets: &N, variables: &[Held], statement: &Statement)
 }
 
 /// Whether no condition of these branches holds.
-#[tactic(auto, using(crate::proofs::StatementRules::branch_is), unfolding(crate::specs::Statements::first_taken))]
+#[tactic(auto, using(crate::proofs::StatementRules::branch_is), unfolding(crate::specs::Statements::first_taken, crate::specs::Statements::one_holds))]
 fn none_is_taken<N: Nets>(nets: &N, variables: &[Held], branches: &[Branch]) -> bool
-    ensures { IsTrue result → (now : ℕ) (otherwise : Owned → Owned) (own : Owned) → own.variables ≡ variables.now
+    ensures none { IsTrue result → (now : ℕ) (otherwise : Owned → Owned) (own : Owned) → own.variables ≡ variables.now
         → first_taken (map (branch_done (own_steps (N.look nets.now) now)) branches.now) otherwise own ≡ otherwise own }
+    ensures some { (now : ℕ) (own : Owned) → own.variables ≡ variables.now → one_holds (N.look nets.now) now branches.now own ≡ not result }
 {
     for branch in branches {
         if boolean_value(nets, variables, &branch.condition) {

@@ -99,8 +99,7 @@ impl Job {
     ghost use Rattle.sim_exec.specs.Jobs.{IsJob};
 
     /// Whether the lists fit the process: a view for each net that it reads, in the order of their numbers, its variables, each of its type, and its
-    /// drivers, all in their
-    /// order. The time is at most 2^62 - 1 fs, and what is pending is after it.
+    /// drivers, all in their order. The time is at most 2^62 - 1 fs, and what is pending is after it.
     pub fn fits(
         time: u64,
         process: &Process,

@@ -55,4 +55,5 @@ execute_branches-loop-branch-preserved g t c =
       same = λ otherwise. sym (not_taken steps c.args.branches.now c.loop-branch.branch-index c.branch-item.result otherwise own c.loop-branch-test.true
           c.branch-item.is (sym c.boolean_value.ensures ∙ c.if-boolean_value.false)) ∙ c.loop-branch.invariant.same otherwise;
       ready = c.loop-branch.invariant.ready;
+      values = c.loop-branch.invariant.values;
     }

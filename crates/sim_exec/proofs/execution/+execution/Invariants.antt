@@ -1,6 +1,6 @@
 use Rattle.std.proofs.Common.{◌≡◌, map, drop}
 use Rattle.sim_exec.specs.Jobs.{IsReady}
-use Rattle.sim_exec.specs.State.{Owned}
+use Rattle.sim_exec.specs.State.{Owned, driver_values}
 use Rattle.sim_exec.specs.Statements.{own_steps, statement_done, branch_done, in_turn, first_taken}
 use Rattle.sim_exec.proofs.execution.+execution.Given as goal
 
@@ -10,7 +10,11 @@ invariant-execute_all-loop-statement g l =
     let done = map (statement_done (own_steps (g.N.Nets.look l.nets) l.now)) in
     let own : Owned = record { drivers = l.drivers; variables = l.variables } in
     let first : Owned = record { drivers = l.fn.drivers; variables = l.fn.variables } in
-    record { same : in_turn (done (drop l.statement-index l.statements)) own ≡ in_turn (done l.fn.statements) first; ready : IsReady l.body l.now own }
+    record {
+      same : in_turn (done (drop l.statement-index l.statements)) own ≡ in_turn (done l.fn.statements) first;
+      ready : IsReady l.body l.now own;
+      values : driver_values own.drivers ≡ driver_values first.drivers;
+    }
 
 -- none so far is taken, and nothing is changed
 abbrev pub invariant-execute_branches-loop-branch : goal.invariant-execute_branches-loop-branch
@@ -21,4 +25,5 @@ invariant-execute_branches-loop-branch g l =
     record {
       same : (otherwise : Owned → Owned) → first_taken (done (drop l.branch-index l.branches)) otherwise own ≡ first_taken (done l.fn.branches) otherwise first;
       ready : IsReady l.body l.now own;
+      values : driver_values own.drivers ≡ driver_values first.drivers;
     }
