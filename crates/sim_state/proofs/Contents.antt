@@ -2,7 +2,6 @@
 use Rattle.std.proofs.Common.{ℕ, zero, suc, ◌≡◌, ◌++◌, List, [], ◌∷◌, length, get_or, set, map, refl, ap, sym, ◌∙◌, arith}
 use Rattle.std.proofs.lemmas.List.{length-map, length-set}
 use Rattle.sim_logic.specs.declared.logic.Logic.{Logic}
-use Rattle.sim_logic.specs.Resolution.{resolved}
 use Rattle.sim_design.specs.declared.held.Held.{Held}
 use Rattle.sim_design.specs.declared.design.Source.{Source}
 use Rattle.sim_design.specs.Designs.{Design, Net}
@@ -10,10 +9,11 @@ use Rattle.sim_wave.specs.Driver.{Waveform, taken}
 use Rattle.sim_rows.specs.Rows.{joined}
 use Rattle.sim_exec.specs.declared.view.NetView.{NetView}
 use Rattle.sim_exec.specs.State.{State, Owned, nothing_owned, net_at}
-use Rattle.sim_state.specs.Nets.{changed_to, source_value, net_value, nets_updated}
+use Rattle.sim_state.specs.Nets.{changed_to, net_value, nets_updated}
 use Rattle.sim_state.specs.Drivers.{waves, own_taken}
 use Rattle.sim_state.specs.Cycles.{updated}
 use Rattle.sim_state.specs.Contents.{Contents, contents_of, views_of, owned_lists, AreLists, sources_of}
+use Rattle.sim_state.specs.Changes.{row_value}
 use Rattle.sim_state.proofs.Views.{length-views_of}
 
 abbrev pub as_owned : List Waveform → List Held → Owned
@@ -58,34 +58,40 @@ pub same_owned : {ds es : List Waveform} {vs ws : List Held} → ds ≡ es → v
 same_owned {es = es} {vs = vs} d v = ap (λ w. as_owned w vs) d ∙ ap (as_owned es) v
 
 -- what flat lists hold
-abbrev pub held : List Logic → List Logic → List (List Waveform) → List (List Held) → Contents
-held values lasts dss vss = record { nets = views_of values lasts; owned = owned_lists dss vss }
+abbrev pub held : List (List Source) → List Logic → List Logic → List (List Waveform) → List (List Held) → Contents
+held sources values lasts dss vss = record { sources = sources; nets = views_of values lasts; owned = owned_lists dss vss }
 
-pub owned-by : {h : Contents} {values lasts : List Logic} {dss : List (List Waveform)} {vss : List (List Held)} → held values lasts dss vss ≡ h
+pub owned-by : {h : Contents} {sources : List (List Source)} {values lasts : List Logic} {dss : List (List Waveform)} {vss : List (List Held)}
+    → held sources values lasts dss vss ≡ h
     → AreLists values lasts dss vss → (p : ℕ) → get_or h.owned p nothing_owned ≡ record { drivers = get_or dss p []; variables = get_or vss p [] }
 owned-by {dss = dss} {vss = vss} e i p = ap (λ (g : Contents). get_or g.owned p nothing_owned) (sym e) ∙ owned-at dss vss p i.owned
 
-pub owned-count : {h : Contents} {values lasts : List Logic} {dss : List (List Waveform)} {vss : List (List Held)} → held values lasts dss vss ≡ h
+pub owned-count : {h : Contents} {sources : List (List Source)} {values lasts : List Logic} {dss : List (List Waveform)} {vss : List (List Held)}
+    → held sources values lasts dss vss ≡ h
     → AreLists values lasts dss vss → length h.owned ≡ length dss
 owned-count {dss = dss} {vss = vss} e i = ap (λ (g : Contents). length g.owned) (sym e) ∙ length-owned dss vss i.owned
 
-pub net-count : {h : Contents} {values lasts : List Logic} {dss : List (List Waveform)} {vss : List (List Held)} → held values lasts dss vss ≡ h
+pub net-count : {h : Contents} {sources : List (List Source)} {values lasts : List Logic} {dss : List (List Waveform)} {vss : List (List Held)}
+    → held sources values lasts dss vss ≡ h
     → AreLists values lasts dss vss → length h.nets ≡ length values
 net-count {values = values} {lasts = lasts} e i = ap (λ (g : Contents). length g.nets) (sym e) ∙ length-views_of values lasts i.nets
 
-pub drivers-by : {h : Contents} {values lasts : List Logic} {dss : List (List Waveform)} {vss : List (List Held)} → held values lasts dss vss ≡ h
+pub drivers-by : {h : Contents} {sources : List (List Source)} {values lasts : List Logic} {dss : List (List Waveform)} {vss : List (List Held)}
+    → held sources values lasts dss vss ≡ h
     → AreLists values lasts dss vss → waves h.owned ≡ joined dss
 drivers-by {dss = dss} {vss = vss} e i = ap (λ (g : Contents). waves g.owned) (sym e) ∙ owned-waves dss vss i.owned
 
 -- ---- one process owns something else
 
-pub held-set : {h : Contents} {values lasts : List Logic} {dss : List (List Waveform)} {vss : List (List Held)} → held values lasts dss vss ≡ h
+pub held-set : {h : Contents} {sources : List (List Source)} {values lasts : List Logic} {dss : List (List Waveform)} {vss : List (List Held)}
+    → held sources values lasts dss vss ≡ h
     → AreLists values lasts dss vss → (p : ℕ) (ds : List Waveform) (vs : List Held) (dss' : List (List Waveform)) (vss' : List (List Held))
-    → dss' ≡ set dss p ds → vss' ≡ set vss p vs → held values lasts dss' vss' ≡ record h { owned = set h.owned p (record { drivers = ds; variables = vs }) }
-held-set {h} {values} {lasts} {dss} {vss} e i p ds vs dss' vss' ed ev =
+    → dss' ≡ set dss p ds → vss' ≡ set vss p vs
+    → held sources values lasts dss' vss' ≡ record h { owned = set h.owned p (record { drivers = ds; variables = vs }) }
+held-set {h} {sources} {values} {lasts} {dss} {vss} e i p ds vs dss' vss' ed ev =
     let o : owned_lists dss' vss' ≡ set (owned_lists dss vss) p (record { drivers = ds; variables = vs }) = rw (ed, ev) (owned-set dss vss p ds vs i.owned) in
-    ap (λ w. record { nets = views_of values lasts; owned = w }) o
-    ∙ ap (λ (g : Contents). record { nets = g.nets; owned = set g.owned p (record { drivers = ds; variables = vs }) }) e
+    ap (λ w. record { sources = sources; nets = views_of values lasts; owned = w }) o
+    ∙ ap (λ (g : Contents). record { sources = g.sources; nets = g.nets; owned = set g.owned p (record { drivers = ds; variables = vs }) }) e
 
 -- what it owns then is what the new lists have there
 pub owned-now : {values lasts : List Logic} {dss : List (List Waveform)} {vss : List (List Held)} → AreLists values lasts dss vss → (p : ℕ)
@@ -107,12 +113,9 @@ sees nets values lasts values' lasts' homes homes' e ev el eh =
 
 -- ---- a cycle
 
-abbrev value_with : List Waveform → List Source → Logic
-value_with ws row = resolved (map (source_value ws) row)
-
 -- new values, with the old ones as last values
 pub views-updated : (ws : List Waveform) (nets : List Net) (values lasts : List Logic) → length values ≡ length lasts → length nets ≡ length values
-    → views_of (map (value_with ws) (sources_of nets)) values ≡ nets_updated ws nets (views_of values lasts)
+    → views_of (map (row_value ws) (sources_of nets)) values ≡ nets_updated ws nets (views_of values lasts)
 unfolding nets_updated
 views-updated ws [] values lasts e f = refl
 views-updated ws (n ∷ nets) [] lasts e f = absurd (omega arith)
@@ -120,25 +123,31 @@ views-updated ws (n ∷ nets) (v ∷ values) [] e f = absurd (omega arith)
 views-updated ws (n ∷ nets) (v ∷ values) (l ∷ lasts) e f = ap (λ w. changed_to (net_value ws n) v ∷ w)
     (views-updated ws nets values lasts (omega arith) (omega arith))
 
+abbrev after_update : Design → ℕ → Contents → Contents
+after_update design t g =
+    let owned = map (own_taken t) g.owned in
+    record { sources = sources_of design.nets; nets = nets_updated (waves owned) design.nets g.nets; owned = owned }
+
 -- an update of the flat lists is an update of what they hold
-pub held-updated : {h : Contents} {values lasts : List Logic} {dss : List (List Waveform)} {vss : List (List Held)} → held values lasts dss vss ≡ h
-    → AreLists values lasts dss vss → (t : ℕ) (sources : List (List Source)) (values' lasts' : List Logic) (dss' : List (List Waveform)) (ws : List Waveform)
-    → length sources ≡ length h.nets → dss' ≡ map (map (taken t)) dss → ws ≡ joined dss' → values' ≡ map (value_with ws) sources → lasts' ≡ values
-    → (design : Design) (s : State) → sources ≡ sources_of design.nets → h ≡ contents_of s → held values' lasts' dss' vss ≡ contents_of (updated design s t)
-held-updated {h} {values} {lasts} {dss} {vss} e i t sources values' lasts' dss' ws long ed ew ev el design s es eh =
-    let k : held values lasts dss vss ≡ contents_of s = e ∙ eh in
+pub held-updated : {h : Contents} {sources : List (List Source)} {values lasts : List Logic} {dss : List (List Waveform)} {vss : List (List Held)}
+    → held sources values lasts dss vss ≡ h
+    → AreLists values lasts dss vss → (t : ℕ) (values' lasts' : List Logic) (dss' : List (List Waveform)) (ws : List Waveform)
+    → length sources ≡ length values → dss' ≡ map (map (taken t)) dss → ws ≡ joined dss' → values' ≡ map (row_value ws) sources → lasts' ≡ values
+    → (design : Design) (s : State) → h ≡ contents_of design s → held sources values' lasts' dss' vss ≡ contents_of design (updated design s t)
+held-updated {h} {sources} {values} {lasts} {dss} {vss} e i t values' lasts' dss' ws long ed ew ev el design s eh =
+    let k : held sources values lasts dss vss ≡ contents_of design s = e ∙ eh in
+    let es : sources ≡ sources_of design.nets = ap (λ (g : Contents). g.sources) k in
     let o : owned_lists dss' vss ≡ map (own_taken t) (owned_lists dss vss) = ap (λ w. owned_lists w vss) ed ∙ owned-taken t dss vss in
     let same : length dss' ≡ length vss = omega (arith, ap length ed, length-map dss (map (taken t)), i.owned) in
     let w : ws ≡ waves (map (own_taken t) (owned_lists dss vss)) = ew ∙ (sym (owned-waves dss' vss same) ∙ ap waves o) in
-    let n : length design.nets ≡ length values = omega (arith, long, net-count e i, ap length es, length-map design.nets (λ (n : Net). n.sources)) in
+    let n : length design.nets ≡ length values = omega (arith, long, ap length es, length-map design.nets (λ (n : Net). n.sources)) in
     let v : views_of values' lasts' ≡ nets_updated ws design.nets (views_of values lasts) =
-    ap (λ z. views_of z lasts') (ev ∙ ap (map (value_with ws)) es) ∙ (ap (views_of (map (value_with ws) (sources_of design.nets))) el
+    ap (λ z. views_of z lasts') (ev ∙ ap (map (row_value ws)) es) ∙ (ap (views_of (map (row_value ws) (sources_of design.nets))) el
     ∙ views-updated ws design.nets values lasts i.nets n) in
-    let whole : held values' lasts' dss' vss ≡ record {
-      nets = nets_updated (waves (map (own_taken t) (owned_lists dss vss))) design.nets
-          (views_of values lasts);
-      owned = map (own_taken t) (owned_lists dss vss);
-    } =
-    ap (λ a. record { nets = a; owned = owned_lists dss' vss }) (v ∙ ap (λ z. nets_updated z design.nets (views_of values lasts)) w)
-    ∙ ap (λ a. record { nets = nets_updated (waves (map (own_taken t) (owned_lists dss vss))) design.nets (views_of values lasts); owned = a }) o in
-    whole ∙ ap (λ (g : Contents). record { nets = nets_updated (waves (map (own_taken t) g.owned)) design.nets g.nets; owned = map (own_taken t) g.owned }) k
+    let here = held sources values lasts dss vss in
+    let whole : held sources values' lasts' dss' vss ≡ after_update design t here =
+    ap (λ a. record { sources = a; nets = views_of values' lasts'; owned = owned_lists dss' vss }) es
+    ∙ (ap (λ a. record { sources = sources_of design.nets; nets = a; owned = owned_lists dss' vss })
+    (v ∙ ap (λ z. nets_updated z design.nets (views_of values lasts)) w)
+    ∙ ap (λ a. record { sources = sources_of design.nets; nets = (after_update design t here).nets; owned = a }) o) in
+    ◌∙◌ {b = after_update design t here} whole (ap (after_update design t) k)

@@ -1,8 +1,16 @@
 pub mod Times
 pub mod Views
-pub mod Scans
 pub mod Contents
 pub mod Starting
 pub mod Waking
 pub mod Logged
 pub mod Parts
+pub mod Walks
+pub mod Reaching
+pub mod Due
+pub mod Putting
+pub mod Updating
+pub mod Skips
+pub mod Ranges
+pub mod Taking
+pub mod Values

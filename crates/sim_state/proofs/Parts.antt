@@ -1,5 +1,5 @@
 -- A part is that of a process where its views, its drivers and its variables are.
-use Rattle.std.proofs.Common.{◌≡◌, List, Bool, true, false, IsTrue, refl, sym, ap, ◌∙◌}
+use Rattle.std.proofs.Common.{◌≡◌, List, Bool, false, IsTrue, sym, ap, ◌∙◌}
 use Rattle.std.specs.Bool.{Decides}
 use Rattle.sim_design.specs.declared.held.Held.{Held}
 use Rattle.sim_wave.specs.Driver.{Waveform}

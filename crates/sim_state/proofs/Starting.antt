@@ -1,8 +1,11 @@
 -- The first state of a design.
-use Rattle.std.proofs.Common.{ℕ, ◌+◌, ◌-◌, ◌≤◌, ◌≡◌, ◌++◌, true, not, List, [], ◌∷◌, length, take, drop, map, refl, ap, sym, ◌∙◌, arith}
+use Rattle.std.proofs.Common.{ℕ, zero, suc, ◌+◌, ◌-◌, ◌≤◌, ◌≡◌, ◌++◌, true, false, not, Bool, min, Option, None, List, [], ◌∷◌, length, take, drop, map}
+use Rattle.std.proofs.Common.{refl, ap, sym, ◌∙◌, arith}
 use Rattle.std.specs.Prelude.{slice_range}
 use Rattle.std.specs.List.{All, AllByRecursion}
-use Rattle.std.proofs.lemmas.List.{length-drop, map-append, drop-drop, take-append-drop}
+use Rattle.std.specs.List.{reduce}
+use Rattle.std.proofs.Math.ListN.{replicate}
+use Rattle.std.proofs.lemmas.List.{length-map, length-replicate, length-drop, map-append, drop-drop, take-append-drop}
 use Rattle.std.proofs.lemmas.List.Elements.{All-from_recursion}
 use Rattle.sim_logic.specs.declared.logic.Logic.{Logic}
 use Rattle.sim_logic.specs.declared.logic.Logic.TheVariants.{U, X, Zero, One, Z, W, L, H, Dash}
@@ -11,12 +14,16 @@ use Rattle.sim_design.specs.declared.design.DriverOf.{DriverOf}
 use Rattle.sim_design.specs.declared.held.Held.{Held}
 use Rattle.sim_design.specs.Processes.{Process}
 use Rattle.sim_design.specs.Designs.{AreOwned, Design, Net}
-use Rattle.sim_wave.specs.Driver.{Waveform}
+use Rattle.sim_design.specs.declared.design.Source.{Source}
+use Rattle.sim_wave.specs.Driver.{Transaction, Waveform}
+use Rattle.sim_exec.specs.State.{driver_at}
+use Rattle.sim_queue.specs.Times.{time_of}
+use Rattle.sim_state.specs.Changes.{AreDriven, IsHeld, row_value, value_at}
 use Rattle.sim_rows.specs.Rows.{joined}
 use Rattle.sim_state.specs.Nets.{net_started, net_value}
-use Rattle.sim_state.specs.Drivers.{waves, idle, first_owned, all_first_owned}
+use Rattle.sim_state.specs.Drivers.{waves, idle, first_owned, all_first_owned, next_time}
 use Rattle.sim_state.specs.Cycles.{first_state}
-use Rattle.sim_state.specs.Contents.{contents_of, views_of, owned_lists}
+use Rattle.sim_state.specs.Contents.{contents_of, views_of, owned_lists, sources_of}
 use Rattle.sim_state.proofs.Contents.{held}
 
 -- ---- the drivers of processes stand side by side
@@ -92,12 +99,12 @@ views-first ws (n ∷ nets) =
     ap (λ b. record { value = v; event = not b; last = v } ∷ views_of (map (net_value ws) nets) (map (net_value ws) nets)) (same_as_itself v)
     ∙ ap (λ w. net_started ws n ∷ w) (views-first ws nets)
 
-pub first-held : (design : Design) (nets : List Net) (processes processes' : List Process) (ds : List DriverOf) (dss : List (List Waveform))
-    (vss : List (List Held)) (ws : List Waveform) (values lasts : List Logic)
-    → nets ≡ design.nets → processes ≡ design.processes → processes' ≡ design.processes → ds ≡ design.drivers
+pub first-held : (design : Design) (nets : List Net) (sources : List (List Source)) (processes processes' : List Process) (ds : List DriverOf)
+    (dss : List (List Waveform)) (vss : List (List Held)) (ws : List Waveform) (values lasts : List Logic)
+    → nets ≡ design.nets → sources ≡ sources_of design.nets → processes ≡ design.processes → processes' ≡ design.processes → ds ≡ design.drivers
     → dss ≡ map (drivers_of ds) processes → vss ≡ map variables_of processes' → ws ≡ joined dss → values ≡ map (net_value ws) nets → lasts ≡ values
-    → held values lasts dss vss ≡ contents_of (first_state design)
-first-held design nets processes processes' ds dss vss ws values lasts en ep ep' ed es ev ew eu el =
+    → held sources values lasts dss vss ≡ contents_of design (first_state design)
+first-held design nets sources processes processes' ds dss vss ws values lasts en er ep ep' ed es ev ew eu el =
     let owned = all_first_owned design in
     let dd : dss ≡ map (drivers_of design.drivers) design.processes = es ∙ (ap (λ w. map (drivers_of w) processes) ed ∙ ap
     (map (drivers_of design.drivers)) ep) in
@@ -106,6 +113,74 @@ first-held design nets processes processes' ds dss vss ws values lasts en ep ep'
     ∙ owned-first design.drivers design.processes) in
     let w : ws ≡ waves owned = ew ∙ (ap joined dd ∙ waves-first design.drivers design.processes) in
     let u : values ≡ map (net_value (waves owned)) design.nets = eu ∙ (ap (λ z. map (net_value z) nets) w ∙ ap (map (net_value (waves owned))) en) in
-    ap (λ z. held values z dss vss) el ∙ (ap (λ z. held z z dss vss) u
-    ∙ (ap (λ z. record { nets = z; owned = owned_lists dss vss }) (views-first (waves owned) design.nets)
-    ∙ ap (λ z. record { nets = map (net_started (waves owned)) design.nets; owned = z }) o))
+    ap (λ z. held z values lasts dss vss) er ∙ (ap (λ z. held (sources_of design.nets) values z dss vss) el ∙ (ap
+    (λ z. held (sources_of design.nets) z z dss vss) u
+    ∙ (ap (λ z. record { sources = sources_of design.nets; nets = z; owned = owned_lists dss vss }) (views-first (waves owned) design.nets)
+    ∙ ap (λ z. record { sources = sources_of design.nets; nets = map (net_started (waves owned)) design.nets; owned = z }) o)))
+
+-- ---- what is kept beside it
+
+-- nothing is pending
+abbrev AreIdle : List Waveform → Type 0
+AreIdle ds = (d : ℕ) → (driver_at ds d).pending ≡ []
+
+idle-all : (ds : List DriverOf) → AreIdle (map idle_of ds)
+idle-all [] d = refl
+idle-all (x ∷ ds) zero = refl
+idle-all (x ∷ ds) (suc d) = idle-all ds d
+
+idle-append : (xs ys : List Waveform) → AreIdle xs → AreIdle ys → AreIdle (xs ++ ys)
+idle-append [] ys a b d = b d
+idle-append (x ∷ xs) ys a b zero = a 0
+idle-append (x ∷ xs) ys a b (suc d) = idle-append xs ys (λ e. a (suc e)) b d
+
+idle-first : (ds : List DriverOf) (ps : List Process) → AreIdle (joined (map (drivers_of ds) ps))
+idle-first ds [] d = refl
+idle-first ds (p ∷ ps) d =
+    idle-append (drivers_of ds p) (joined (map (drivers_of ds) ps)) (idle-all (take p.body.drivers (drop p.first_driver ds))) (idle-first ds ps) d
+
+none-idle : (w : Waveform) → w.pending ≡ [] → next_time (w ∷ []) ≡ None
+unfolding next_time
+none-idle w e = ap (λ (xs : List Transaction). reduce min (map (λ (x : Transaction). x.0) xs ++ [])) e
+
+abbrev no_time : Option ℕ
+no_time = None
+
+none-at : (n d : ℕ) → time_of (replicate n None) d ≡ None
+none-at zero d = refl
+none-at (suc n) zero = refl
+none-at (suc n) (suc d) = none-at n d
+
+same-rows : (ws : List Waveform) (nets : List Net) → map (net_value ws) nets ≡ map (row_value ws) (sources_of nets)
+same-rows ws [] = refl
+same-rows ws (n ∷ nets) = ap (λ w. net_value ws n ∷ w) (same-rows ws nets)
+
+pub first-kept : (nets : List Net) (sources : List (List Source)) (processes processes' : List Process) (ds : List DriverOf)
+    (dss : List (List Waveform)) (vss : List (List Held)) (ws : List Waveform) (values lasts : List Logic) (driven : List (List ℕ)) (times : List (Option ℕ))
+    (stale touched : List Bool) (count many : ℕ)
+    → sources ≡ sources_of nets → processes ≡ processes'
+    → dss ≡ map (drivers_of ds) processes → vss ≡ map variables_of processes' → ws ≡ joined dss → values ≡ map (net_value ws) nets → lasts ≡ values
+    → count ≡ length ws → many ≡ length values → AreDriven sources driven → length driven ≡ count → times ≡ replicate count None
+    → stale ≡ replicate count false → touched ≡ replicate many false → IsHeld values lasts dss vss sources driven times stale touched
+first-kept nets sources processes processes' ds dss vss ws values lasts driven times stale touched count many er ep es ev ew eu el ec em ad ld et est eto =
+    let total : count ≡ length (joined dss) = ec ∙ ap length ew in
+    let here : (d : ℕ) → (driver_at (joined dss) d).pending ≡ [] =
+    λ d. ap (λ w. (driver_at (joined w) d).pending) es ∙ idle-first ds processes d in
+    record {
+      lists = record {
+        nets = sym (ap length el);
+        owned = omega (arith, ap length es, ap length ev, ap length ep, length-map processes (drivers_of ds), length-map processes' variables_of);
+      };
+      timed = record {
+        sized = omega (arith, ap length et, length-replicate count no_time, total);
+        marked = omega (arith, ap length est, length-replicate count false, total);
+        current = λ d _. ap (λ w. time_of w d) et ∙ (none-at count d ∙ sym (none-idle (driver_at (joined dss) d) (here d)));
+      };
+      driven_count = ld ∙ total;
+      driving = ad;
+      resolving = eu ∙ (same-rows ws nets ∙ (ap (map (row_value ws)) (sym er) ∙ ap (λ w. map (row_value w) sources) ew));
+      touching = record {
+        sized = omega (arith, ap length eto, length-replicate many false, em);
+        still = λ n _. ap (λ w. value_at w n) (sym el);
+      };
+    }

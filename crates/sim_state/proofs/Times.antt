@@ -1,18 +1,17 @@
 -- Pending times: the least of them.
-use Rattle.std.proofs.Common.{◌≡◌, ℕ, zero, suc, ◌+◌, ◌<◌, ◌≤◌, min, List, [], ◌∷◌, ◌++◌, length}
-use Rattle.std.proofs.Common.{get_or, take, map, Option, Some, None, refl, ap, sym, ◌∙◌, arith}
+use Rattle.std.proofs.Common.{◌≡◌, ℕ, zero, suc, ◌<◌, ◌≤◌, min, List, [], ◌∷◌, ◌++◌, length}
+use Rattle.std.proofs.Common.{get_or, map, Option, Some, None, refl, ap, sym, ◌∙◌, arith}
 use Rattle.std.proofs.Common.{unwrap_or, MatchOption, fold, ◌⊎◌, inl, inr}
 use Rattle.std.proofs.Math.Decide.{dec_lt}
 use Rattle.std.specs.List.{All, Contains, reduce}
 use Rattle.std.specs.Prelude.{slice_get}
-use Rattle.std.proofs.lemmas.List.{take_more}
 use Rattle.std.proofs.lemmas.List.Concat.{flat_map-append}
 use Rattle.std.proofs.lemmas.List.Sums.{fold-append}
 use Rattle.sim_wave.specs.Driver.{RisesFrom, Transaction, Waveform, next_of}
 use Rattle.sim_state.specs.Times.{earlier}
 use Rattle.sim_state.specs.Drivers.{next_time, pending_times, IsNext}
 
-abbrev times : List Transaction → List ℕ
+abbrev pub times : List Transaction → List ℕ
 times xs = map (λ (x : Transaction). x.0) xs
 
 -- ---- the least of a list
@@ -60,16 +59,9 @@ unfolding next_time
 next_append ds es =
     ap (λ (l : List ℕ). reduce min l) (flat_map-append (λ (w : Waveform). times w.pending) ds es) ∙ reduce_append (pending_times ds) (pending_times es)
 
--- one driver more
-pub next_more : (ds : List Waveform) (i : ℕ) (d : Waveform) → i < length ds → d ≡ get_or ds i d → next_time (take (i + 1) ds) ≡ earlier
-    (next_time (take i ds)) (next_time (d ∷ []))
-next_more ds i d within is =
-    let step : take (i + 1) ds ≡ take i ds ++ d ∷ [] = take_more ds i d within ∙ ap (λ z. take i ds ++ z ∷ []) (sym is) in
-    ap next_time step ∙ next_append (take i ds) (d ∷ [])
-
 -- ---- the function gives what the relation says
 
-least_bound : (m : ℕ) (xs : List ℕ) → fold min m xs ≤ m
+pub least_bound : (m : ℕ) (xs : List ℕ) → fold min m xs ≤ m
 least_bound m [] = omega arith
 least_bound m (x ∷ xs) = let h = least_bound (min m x) xs in omega (arith, h)
 

@@ -1,14 +1,11 @@
 -- Those that are resumed are those that are sensitive to a net with an event.
-use Rattle.std.proofs.Common.{ℕ, zero, suc, ◌+◌, ◌<◌, ◌≤◌, ◌≡◌, ◌≢◌, ◌==◌, ◌++◌, ◌||◌, ◌&&◌, eqb, Bool, true, false, not, List, [], ◌∷◌, length, get_or, set}
-use Rattle.std.proofs.Common.{take, drop, add-one, refl, ap, sym, ◌∙◌, arith, ◌⊎◌, inl, inr}
+use Rattle.std.proofs.Common.{ℕ, zero, suc, ◌+◌, ◌<◌, ◌≤◌, ◌≡◌, ◌≢◌, ◌==◌, ◌++◌, ◌||◌, ◌&&◌, eqb, Bool, true, false, List, [], ◌∷◌, length, get_or, set}
+use Rattle.std.proofs.Common.{take, add-one, refl, ap, sym, ◌∙◌, arith, ◌⊎◌, inl, inr}
 use Rattle.std.proofs.lemmas.Bool.Decides.{nat_tests}
 use Rattle.std.proofs.lemmas.List.{get_or-set_same, get_or-set_other, take_more}
-use Rattle.sim_logic.specs.declared.logic.Logic.{Logic}
-use Rattle.sim_logic.specs.Logic.{is_same}
 use Rattle.sim_design.specs.Processes.{Process}
 use Rattle.sim_exec.specs.declared.view.NetView.{NetView}
 use Rattle.sim_exec.specs.State.{net_at}
-use Rattle.sim_state.specs.Contents.{views_of}
 use Rattle.sim_state.specs.Cycles.{has_event_in, process_at}
 use Rattle.sim_state.specs.Wakes.{AreWakes, is_among, is_woken}
 
@@ -18,10 +15,10 @@ or_true : (a b : Bool) → (a || b) ≡ true → (a ≡ true) ⊎ (b ≡ true)
 or_true true b e = inl refl
 or_true false b e = inr e
 
-or_left : (a b : Bool) → a ≡ true → (a || b) ≡ true
+pub or_left : (a b : Bool) → a ≡ true → (a || b) ≡ true
 or_left a b e = rw e refl
 
-or_right : (a b : Bool) → b ≡ true → (a || b) ≡ true
+pub or_right : (a b : Bool) → b ≡ true → (a || b) ≡ true
 or_right true b e = refl
 or_right false b e = e
 
@@ -45,17 +42,17 @@ pub or_false : (b : Bool) → (b || false) ≡ b
 or_false true = refl
 or_false false = refl
 
-or-assoc : (a b c : Bool) → ((a || b) || c) ≡ (a || (b || c))
+pub or-assoc : (a b c : Bool) → ((a || b) || c) ≡ (a || (b || c))
 or-assoc true b c = refl
 or-assoc false b c = refl
 
-or-turn : (a b c : Bool) → (a || (b || c)) ≡ ((b || a) || c)
+pub or-turn : (a b c : Bool) → (a || (b || c)) ≡ ((b || a) || c)
 or-turn true true c = refl
 or-turn true false c = refl
 or-turn false true c = refl
 or-turn false false c = refl
 
-and-or : (a b c : Bool) → ((a && c) || (b && c)) ≡ ((a || b) && c)
+pub and-or : (a b c : Bool) → ((a && c) || (b && c)) ≡ ((a || b) && c)
 and-or true true true = refl
 and-or true true false = refl
 and-or true false true = refl
@@ -140,20 +137,6 @@ woken-event nets wakes processes p same w = same_bools _ _
 
 -- ---- resuming
 
-pub set-resumed : (resumed : List Bool) (n p : ℕ) → p < length resumed → get_or (set resumed n true) p false ≡ ((n == p) || get_or resumed p false)
-set-resumed resumed n p lt = go (eqb n p) refl
-  where
-    go : (b : Bool) → eqb n p ≡ b → get_or (set resumed n true) p false ≡ (b || get_or resumed p false)
-    go true e =
-        let at : n ≡ p = grind (arith, nat_tests) in
-        rw at (get_or-set_same resumed p true false lt)
-    go false e =
-        let apart : p ≢ n = grind (arith, nat_tests) in
-        get_or-set_other resumed n p true false apart
-
-pub past-resumed : (resumed : List Bool) (n p : ℕ) → p < length resumed → length resumed ≤ n → get_or resumed p false ≡ ((n == p) || get_or resumed p false)
-past-resumed resumed n p lt le = let apart : eqb n p ≡ false = grind (arith, nat_tests) in rw apart refl
-
 -- one more is resumed, after those before it in the list
 pub resumed-more : (numbers : List ℕ) (i p n : ℕ) (was now new : Bool) → i < length numbers → n ≡ get_or numbers i 0 → now ≡
     (is_among (take i numbers) p || was)
@@ -161,29 +144,6 @@ pub resumed-more : (numbers : List ℕ) (i p n : ℕ) (was now new : Bool) → i
 resumed-more numbers i p n was now new lt is e f =
     f ∙ (ap (λ b. (n == p) || b) e ∙ (or-turn (n == p) (is_among (take i numbers) p) was
     ∙ ap (λ b. b || was) (ap (λ m. is_among (take i numbers) p || (m == p)) is ∙ sym (among-more numbers i p lt))))
-
--- one net more
-pub woken-more : (values lasts : List Logic) (wakes : List (List ℕ)) (i p : ℕ) (d e : Logic) (was now new : Bool) → i < length values → i < length lasts
-    → i < length wakes
-    → (is_woken (views_of (drop i values) (drop i lasts)) (drop i wakes) p || now) ≡ was
-    → new ≡ ((not (is_same (get_or lasts i e) (get_or values i d)) && is_among (get_or wakes i []) p) || now)
-    → (is_woken (views_of (drop (i + 1) values) (drop (i + 1) lasts)) (drop (i + 1) wakes) p || new) ≡ was
-woken-more values lasts wakes i p d e was now new a b c is f = rw add-one-at (go values lasts wakes i a b c is f)
-  where
-    add-one-at : i + 1 ≡ suc i
-    add-one-at = omega arith
-
-    go : (values lasts : List Logic) (wakes : List (List ℕ)) (i : ℕ) → i < length values → i < length lasts → i < length wakes
-        → (is_woken (views_of (drop i values) (drop i lasts)) (drop i wakes) p || now) ≡ was
-        → new ≡ ((not (is_same (get_or lasts i e) (get_or values i d)) && is_among (get_or wakes i []) p) || now)
-        → (is_woken (views_of (drop (suc i) values) (drop (suc i) lasts)) (drop (suc i) wakes) p || new) ≡ was
-    go [] lasts wakes i a b c is f = absurd (omega arith)
-    go (v ∷ values) [] wakes i a b c is f = absurd (omega arith)
-    go (v ∷ values) (l ∷ lasts) [] i a b c is f = absurd (omega arith)
-    go (v ∷ values) (l ∷ lasts) (ps ∷ wakes) zero a b c is f =
-        ap (λ x. is_woken (views_of values lasts) wakes p || x) f ∙ (or-turn (is_woken (views_of values lasts) wakes p)
-        (not (is_same l v) && is_among ps p) now ∙ is)
-    go (v ∷ values) (l ∷ lasts) (ps ∷ wakes) (suc i) a b c is f = go values lasts wakes i (omega arith) (omega arith) (omega arith) is f
 
 -- ---- whom nets wake
 
@@ -224,13 +184,13 @@ and_false true = refl
 and_false false = refl
 
 -- an equality of places, where it is known
-at_same : (a : Bool) (i p : ℕ) → i ≡ p → (a && (i == p)) ≡ a
+pub at_same : (a : Bool) (i p : ℕ) → i ≡ p → (a && (i == p)) ≡ a
 at_same a i p e = let t : eqb i p ≡ true = grind (arith, nat_tests) in rw t (and_true a)
 
-at_other : (a : Bool) (i p : ℕ) → i ≢ p → (a && (i == p)) ≡ false
+pub at_other : (a : Bool) (i p : ℕ) → i ≢ p → (a && (i == p)) ≡ false
 at_other a i p e = let t : eqb i p ≡ false = grind (arith, nat_tests) in rw t (and_false a)
 
-eqb-suc : (i p : ℕ) → (suc i == suc p) ≡ (i == p)
+pub eqb-suc : (i p : ℕ) → (suc i == suc p) ≡ (i == p)
 eqb-suc i p = go (eqb i p) refl
   where
     go : (b : Bool) → eqb i p ≡ b → (suc i == suc p) ≡ b

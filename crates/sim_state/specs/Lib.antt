@@ -4,5 +4,6 @@ pub mod Nets
 pub mod Cycles
 pub mod Contents
 pub mod Wakes
+pub mod Changes
 pub mod Records
 pub mod Log

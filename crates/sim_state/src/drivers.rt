@@ -1,24 +1,20 @@
 //! Drivers, one after another (IEEE 1076-2008, 14.7.2).
 
-ghost use Rattle.std.specs.Prelude.{◌≡◌, [], ◌∷◌, map, IfOk};
+ghost use Rattle.std.specs.Prelude.{ℕ, List, ◌≡◌, ◌<◌, [], ◌∷◌, false, not, length, map, slice_index_or, slice_set, IfOk, OnOk};
 ghost use Rattle.std.specs.Bool.{Decides};
-ghost use Rattle.sim_wave.specs.Driver.{taken};
-ghost use Rattle.sim_state.specs.Times as times;
+ghost use Rattle.sim_logic.specs.Logic as logic;
+ghost use Rattle.sim_wave.specs.Driver.{Waveform, taken};
+ghost use Rattle.sim_rows.specs.Rows.{joined};
+ghost use Rattle.sim_queue.specs.Numbers.{is_in};
+ghost use Rattle.sim_exec.specs.State.{driver_at};
+ghost use Rattle.sim_state.specs.Changes.{AreReached, AreTimes, first_times};
 ghost use Rattle.sim_state.specs.Drivers as spec;
 
-use sim_rows::Rows;
+use crate::sets::{insert_each, insert_range};
+use sim_queue::{NumberSet, TimeQueue};
+use sim_rows::{Rows, bounds};
 use sim_wave::Driver;
 use std::alloc::{AllocError, Global};
-
-fn earlier(a: Option<u64>, b: Option<u64>) -> Option<u64>
-    ensures { result ≡ times.earlier a b }
-{
-    match (a, b) {
-        (None, b) => b,
-        (Some(m), None) => Some(m),
-        (Some(m), Some(n)) => Some(m.min(n)),
-    }
-}
 
 /// The first pending time of a driver.
 fn first_time(driver: &Driver) -> Option<u64>
@@ -30,31 +26,108 @@ fn first_time(driver: &Driver) -> Option<u64>
     }
 }
 
-/// The least of all pending times.
-pub fn next_time(drivers: &[Driver]) -> Option<u64>
-    ensures { result ≡ spec.next_time drivers.now }
+/// Gives the queue the first pending time of each driver that is stale; then it has that of each driver. Where memory is refused, those that
+/// are stale may have any time. It looks at no other drivers.
+pub fn bring_up_to_date(
+    queue: &mut TimeQueue,
+    stale: &NumberSet,
+    drivers: &[Driver],
+) -> Result<(), AllocError>
+    requires { AreTimes queue.old stale.now drivers.now }
+    ensures times { AreTimes queue.new stale.now drivers.now }
+    ensures ok { OnOk result (queue.new ≡ first_times drivers.now) }
 {
-    let mut next = None;
-    for driver in drivers {
-        next = earlier(next, first_time(driver));
+    let mut from = 0;
+    while let Some(number) = stale.next(from) {
+        queue.put(number, first_time(&drivers[number]))?;
+        from = number + 1;
     }
-    next
+    Ok(())
 }
 
-/// Each driver takes its first transaction, if its time has come.
-fn take_each(drivers: &mut [Driver], time: u64)
-    ensures { drivers.new ≡ map (taken time) drivers.old }
+/// A driver takes its first transaction, if its time has come; says whether it has another value now.
+fn take_value(driver: &mut Driver, time: u64) -> bool
+    ensures after { driver.new ≡ taken time driver.old }
+    ensures changed { result ≡ not (logic.is_same driver.old.value driver.new.value) }
 {
-    for driver in drivers.iter_mut() {
-        driver.take(time);
+    let before = driver.value();
+    driver.take(time);
+    before != driver.value()
+}
+
+/// The driver with a number takes its first transaction, if its time has come; where it has another value then, these nets are touched
+/// (14.7.3.2).
+fn take_one(
+    drivers: &mut [Driver],
+    number: usize,
+    time: u64,
+    nets: &[usize],
+    touched: &mut NumberSet,
+)
+    requires { number < length drivers.old }
+    ensures drivers { drivers.new ≡ slice_set drivers.old number (taken time (driver_at drivers.old number)) }
+    ensures sized { length touched.new ≡ length touched.old }
+    ensures kept { (n : ℕ) → is_in touched.new n ≡ false → is_in touched.old n ≡ false }
+    ensures reached { AreReached touched.new nets.now (driver_at drivers.old number).value (taken time (driver_at drivers.old number)).value }
+{
+    if take_value(&mut drivers[number], time) {
+        insert_each(touched, nets);
     }
 }
 
-/// The same, where they stand by process.
-pub fn take_all(drivers: &mut Rows<Driver>, time: u64)
-    ensures { drivers.new ≡ map (map (taken time)) drivers.old }
+/// The drivers that are due take their transactions of a time, and nets of each that has another value then are touched. The others
+/// have none to take, and it does not look at them.
+fn take_each(
+    drivers: &mut [Driver],
+    time: u64,
+    due: &NumberSet,
+    driven: &Rows<usize>,
+    touched: &mut NumberSet,
+)
+    requires due { length due.now ≡ length drivers.old }
+    requires driven { length driven.now ≡ length drivers.old }
+    requires others { (d : ℕ) → is_in due.now d ≡ false → taken time (driver_at drivers.old d) ≡ driver_at drivers.old d }
+    ensures drivers { drivers.new ≡ map (taken time) drivers.old }
+    ensures sized { length touched.new ≡ length touched.old }
+    ensures reached { (d : ℕ) → AreReached touched.new (slice_index_or driven.now d []) (driver_at drivers.old d).value
+        (taken time (driver_at drivers.old d)).value }
 {
-    take_each(drivers.flat.as_mut_slice(), time);
+    let mut from = 0;
+    while let Some(number) = due.next(from) {
+        take_one(drivers, number, time, driven.row(number), touched);
+        from = number + 1;
+    }
+}
+
+/// The same, where drivers stand by process.
+pub fn take_due(
+    drivers: &mut Rows<Driver>,
+    time: u64,
+    due: &NumberSet,
+    driven: &Rows<usize>,
+    touched: &mut NumberSet,
+)
+    requires due { length due.now ≡ length (joined drivers.old) }
+    requires driven { length driven.now ≡ length (joined drivers.old) }
+    requires others { (d : ℕ) → is_in due.now d ≡ false → taken time (driver_at (joined drivers.old) d) ≡ driver_at (joined drivers.old) d }
+    ensures drivers { drivers.new ≡ map (map (taken time)) drivers.old }
+    ensures sized { length touched.new ≡ length touched.old }
+    ensures reached { (d : ℕ) → AreReached touched.new (slice_index_or driven.now d []) (driver_at (joined drivers.old) d).value
+        (taken time (driver_at (joined drivers.old) d)).value }
+{
+    take_each(drivers.flat.as_mut_slice(), time, due, driven, touched);
+}
+
+/// The drivers of the process with a number are stale from now on, as another list of drivers may stand there.
+pub fn mark_stale(stale: &mut NumberSet, drivers: &Rows<Driver>, number: usize)
+    requires at { number < length drivers.now }
+    requires stale { length stale.old ≡ length (joined drivers.now) }
+    ensures sized { length stale.new ≡ length stale.old }
+    ensures others { (row : List Waveform) (d : ℕ) → length row ≡ length (slice_index_or drivers.now number []) → is_in stale.new d ≡ false
+        → (is_in stale.old d ≡ false) × (driver_at (joined (slice_set drivers.now number row)) d ≡ driver_at (joined drivers.now) d) }
+{
+    let (start, end) = bounds(drivers.starts.as_slice(), number);
+    insert_range(stale, start, end);
 }
 
 /// The same drivers.

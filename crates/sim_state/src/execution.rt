@@ -3,6 +3,7 @@
 ghost use Rattle.std.specs.Prelude.{◌≡◌, ◌<◌, ◌≤◌, ◌++◌, [], length, take, drop, slice_range, slice_index_or, slice_set, OnOk};
 ghost use Rattle.sim_logic.specs.Time.{largest_time};
 ghost use Rattle.sim_exec.specs.Jobs.{IsReady};
+ghost use Rattle.sim_exec.specs.State.{driver_values};
 ghost use Rattle.sim_exec.specs.Statements.{executed};
 
 use sim_design::{Body, Held};
@@ -32,6 +33,7 @@ fn execute_between<N: Nets>(
         ≡ executed (N.look nets.now) now body.now.statements
         (record { drivers = slice_range drivers.old owned.0 owned.1; variables = slice_range variables.old held.0 held.1 })) }
     ensures ready { IsReady body.now now (record { drivers = slice_range drivers.new owned.0 owned.1; variables = slice_range variables.new held.0 held.1 }) }
+    ensures values { driver_values (slice_range drivers.new owned.0 owned.1) ≡ driver_values (slice_range drivers.old owned.0 owned.1) }
 {
     sim_exec::execute(
         alloc,
@@ -63,6 +65,7 @@ pub fn execute_at<N: Nets>(
         ≡ executed (N.look nets.now) now body.now.statements
         (record { drivers = slice_index_or drivers.old number []; variables = slice_index_or variables.old number [] })) }
     ensures ready { IsReady body.now now (record { drivers = slice_index_or drivers.new number []; variables = slice_index_or variables.new number [] }) }
+    ensures values { driver_values (slice_index_or drivers.new number []) ≡ driver_values (slice_index_or drivers.old number []) }
 {
     let owned = bounds(drivers.starts.as_slice(), number);
     let held = bounds(variables.starts.as_slice(), number);

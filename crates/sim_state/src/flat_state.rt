@@ -1,52 +1,70 @@
 //! What is held of the state of a design.
 
-ghost use Rattle.std.specs.Prelude.{ℕ, ◌≡◌, ◌↔◌, IsTrue, false, ◌<◌, ◌≤◌, ◌^◌, ◌++◌, ◌∷◌, [], List, length, map, slice_index_or, slice_set, MatchOption};
-ghost use Rattle.std.specs.Prelude.{IfOk, OnOk};
+ghost use Rattle.std.specs.Prelude.{ℕ, ◌≡◌, ◌↔◌, IsTrue, ◌<◌, ◌≤◌, ◌^◌, ◌++◌, ◌∷◌, [], List, Some, length, map, slice_set, MatchOption};
+ghost use Rattle.std.specs.Prelude.{IfOk, OnOk, OnErr};
 ghost use Rattle.std.specs.Bool.{Decides};
 ghost use Rattle.sim_logic.specs.Time.{largest_time};
 ghost use Rattle.sim_design.specs.Designs.{Design as design_value};
+ghost use Rattle.sim_design.specs.Processes.{Process as process_value};
+ghost use Rattle.sim_queue.specs.Numbers.{is_in};
 ghost use Rattle.sim_exec.specs.Jobs.{IsReady};
 ghost use Rattle.sim_exec.specs.Processes.{home};
-ghost use Rattle.sim_exec.specs.State.{State, net_at, owned_at};
+ghost use Rattle.sim_exec.specs.State.{State, driver_values, net_at, owned_at};
 ghost use Rattle.sim_exec.specs.Statements.{executed};
 ghost use Rattle.sim_state.specs.Drivers as spec;
 ghost use Rattle.sim_state.specs.Cycles.{first_state, has_event_in, process_at, updated};
-ghost use Rattle.sim_state.specs.Contents.{contents_of, sources_of};
+ghost use Rattle.sim_state.specs.Contents.{contents_of};
 ghost use Rattle.sim_state.specs.Records.{changes_from, values_of};
 ghost use Rattle.sim_state.specs.Wakes.{AreWakes};
-ghost use Rattle.sim_design.specs.Processes.{Process as process_value};
 
-use crate::drivers::{are_same, copied, next_time, take_all};
+use crate::drivers::{are_same, bring_up_to_date, copied, mark_stale, take_due};
 use crate::execution::execute_at;
 use crate::log::Log;
-use crate::nets::{Seen, are_views, resolve_each, views_at};
+use crate::nets::{Seen, are_views, resolve_touched, settle, views_at};
 use crate::resumption::find_resumed;
-use crate::start::{first_drivers, first_variables, values};
+use crate::start::{driven, first_drivers, first_variables, sources, values};
 use sim_design::{Design, Held, Process, Source};
 use sim_exec::NetView;
 use sim_logic::Logic;
+use sim_queue::{NumberSet, TimeQueue};
 use sim_rows::Rows;
 use sim_wave::Driver;
 use std::alloc::{AllocError, Global};
 use std::marker::Model;
 
 /// The nets of a design, and what its processes own, in flat lists: values and last values by net, drivers and variables by process and place.
+/// Beside these it holds what a cycle has to look at, so that it costs no more for what is as it was: a net that is not touched has no event, and
+/// the time in the queue of a driver that is not stale is its own.
 #[derive(Drop)]
 pub struct FlatState {
     values: Vec<Logic>,
     lasts: Vec<Logic>,
     drivers: Rows<Driver>,
     variables: Rows<Held>,
+    /// Of each net.
+    sources: Rows<Source>,
+    /// The nets of each driver.
+    driven: Rows<usize>,
+    /// The first pending time of each driver that is not stale.
+    queue: TimeQueue,
+    stale: NumberSet,
+    /// The nets that may have an event.
+    touched: NumberSet,
 }
 
 impl Model for FlatState {
-    ghost use Rattle.sim_state.specs.Contents.{Contents, views_of, owned_lists, AreLists};
+    ghost use Rattle.sim_state.specs.Contents.{Contents, views_of, owned_lists};
+    ghost use Rattle.sim_state.specs.Changes.{IsHeld};
 
     ghost Value = { Contents };
 
-    ghost view = { λ s. record { nets = views_of s.values.items s.lasts.items; owned = owned_lists s.drivers s.variables } };
+    ghost view = { λ s. record {
+      sources = s.sources;
+      nets = views_of s.values.items s.lasts.items;
+      owned = owned_lists s.drivers s.variables;
+    } };
 
-    ghost invariant = { λ s. AreLists s.values.items s.lasts.items s.drivers s.variables };
+    ghost invariant = { λ s. IsHeld s.values.items s.lasts.items s.drivers s.variables s.sources s.driven s.queue s.stale s.touched };
 }
 
 /// The part of a state that a process sees: the nets that it reads, and what it owns.
@@ -67,17 +85,28 @@ fn are_equal(variables: &[Held], others: &[Held]) -> bool
 impl FlatState {
     /// The state of a design before any process is executed: each driver has its first value, each net the value of its sources (14.7.5.2).
     pub fn first(alloc: Global, design: &Design) -> Result<FlatState, AllocError>
-        ensures { IfOk result (λ s. s ≡ contents_of (first_state design.now)) }
+        ensures { IfOk result (λ s. s ≡ contents_of design.now (first_state design.now)) }
     {
         let drivers = first_drivers(alloc, design.drivers(), design.processes())?;
         let variables = first_variables(alloc, design.processes())?;
         let values = values(alloc, design.nets(), drivers.flat())?;
         let lasts = Vec::from_slice(alloc, values.as_slice())?;
+        let sources = sources(alloc, design)?;
+        let count = drivers.flat().len();
+        let driven = driven(alloc, &sources, count)?;
+        let queue = TimeQueue::new(alloc, count)?;
+        let stale = NumberSet::new(alloc, count)?;
+        let touched = NumberSet::new(alloc, values.len())?;
         Ok(FlatState {
             values,
             lasts,
             drivers,
             variables,
+            sources,
+            driven,
+            queue,
+            stale,
+            touched,
         })
     }
 
@@ -130,36 +159,62 @@ impl FlatState {
         are_equal(variables, self.variables.row(number))
     }
 
-    /// Puts what the process with a number owns in the place of what it owned. It takes no memory.
+    /// Puts what the process with a number owns in the place of what it owned: its drivers have the values that they had. It takes no memory.
     pub fn put(&mut self, number: usize, drivers: Vec<Driver>, variables: Vec<Held>)
         requires at { number < length self.old.owned }
         requires drivers { length drivers.items ≡ length (owned_at self.old.owned number).drivers }
+        requires values { driver_values drivers.items ≡ driver_values (owned_at self.old.owned number).drivers }
         requires variables { length variables.items ≡ length (owned_at self.old.owned number).variables }
         ensures { self.new ≡ record self.old { owned = slice_set self.old.owned number (record { drivers = drivers.items; variables = variables.items }) } }
     {
         let mut drivers = drivers;
         let mut variables = variables;
+        mark_stale(&mut self.stale, &self.drivers, number);
         self.drivers.put(number, drivers.as_mut_slice());
         self.variables.put(number, variables.as_mut_slice());
     }
 
-    /// The time of the next cycle (14.7.5.1).
-    pub fn next(&self) -> Option<u64>
-        ensures value { result ≡ spec.next_time (spec.waves self.now.owned) }
-        ensures least { spec.IsNext (spec.waves self.now.owned) result }
+    /// The time of the next cycle (14.7.5.1). It looks only at drivers that may have another first transaction than at the call before.
+    pub fn next(&mut self) -> Result<Option<u64>, AllocError>
+        ensures same { self.new ≡ self.old }
+        ensures value { IfOk result (λ next. next ≡ spec.next_time (spec.waves self.old.owned)) }
+        ensures least { IfOk result (λ next. spec.IsNext (spec.waves self.old.owned) next) }
     {
-        next_time(self.drivers.flat())
+        bring_up_to_date(&mut self.queue, &self.stale, self.drivers.flat())?;
+        self.stale.clear();
+        Ok(self.queue.least())
     }
 
-    /// The cycle at a time: drivers take what is pending then, and nets the values of these sources, which are those of the design's nets (14.7.5.3).
-    pub fn update(&mut self, sources: &Rows<Source>, time: u64)
-        requires { length sources.now ≡ length self.old.nets }
-        ensures { (design : design_value) (s : State) → sources.now ≡ sources_of design.nets → self.old ≡ contents_of s
-            → self.new ≡ contents_of (updated design s time) }
+    /// The cycle at the time of the next: drivers take what is pending then, and nets the values of their sources (14.7.5.3). It looks only
+    /// at drivers that take a transaction, and at nets that have one with another value as a source. Where memory is refused nothing changes.
+    pub fn update(&mut self, time: u64) -> Result<(), AllocError>
+        requires next { spec.next_time (spec.waves self.old.owned) ≡ Some time }
+        ensures ok { OnOk result ((design : design_value) (s : State) → self.old ≡ contents_of design s
+            → self.new ≡ contents_of design (updated design s time)) }
+        ensures err { OnErr result (self.new ≡ self.old) }
     {
-        take_all(&mut self.drivers, time);
-        self.lasts.copy_from_slice(self.values.as_slice());
-        resolve_each(self.values.as_mut_slice(), sources, self.drivers.flat());
+        bring_up_to_date(&mut self.queue, &self.stale, self.drivers.flat())?;
+        settle(
+            self.lasts.as_mut_slice(),
+            self.values.as_slice(),
+            &self.touched,
+        );
+        self.touched.clear();
+        self.queue.take(time, &mut self.stale);
+        take_due(
+            &mut self.drivers,
+            time,
+            &self.stale,
+            &self.driven,
+            &mut self.touched,
+        );
+        resolve_touched(
+            self.values.as_mut_slice(),
+            &self.touched,
+            &self.sources,
+            self.drivers.flat(),
+        );
+        Ok(())
     }
 
     /// Executes a process, which has this number, in place. Where memory is refused, what it owns may be executed no more.
@@ -185,6 +240,7 @@ impl FlatState {
             values: self.values.as_slice(),
             lasts: self.lasts.as_slice(),
         };
+        mark_stale(&mut self.stale, &self.drivers, number);
         execute_at(
             alloc,
             &seen,
@@ -197,15 +253,17 @@ impl FlatState {
     }
 
     /// Finds the processes that the next step executes, where the last cycle is done: those that are sensitive to a net with an event.
-    pub fn find_resumed(&self, resumed: &mut [bool], wakes: &Rows<usize>)
+    pub fn find_resumed(&self, resumed: &mut NumberSet, wakes: &Rows<usize>)
         requires { length wakes.now ≡ length self.now.nets }
-        ensures { (processes : List process_value) (p : ℕ) → AreWakes processes wakes.now → p < length resumed.old
-            → slice_index_or resumed.new p false ≡ has_event_in self.now.nets (process_at processes p).sensitivity }
+        ensures sized { length resumed.new ≡ length resumed.old }
+        ensures found { (processes : List process_value) (p : ℕ) → AreWakes processes wakes.now → p < length resumed.old
+            → is_in resumed.new p ≡ has_event_in self.now.nets (process_at processes p).sensitivity }
     {
         find_resumed(
             resumed,
             self.values.as_slice(),
             self.lasts.as_slice(),
+            &self.touched,
             wakes,
         );
     }
@@ -217,7 +275,13 @@ impl FlatState {
         requires changes { length self.now.nets ≤ log.old.changes_room }
         ensures { log.new.records ≡ log.old.records ++ record { time = time; delta = delta; changes = changes_from 0 self.now.nets } ∷ [] }
     {
-        log.append(time, delta, self.values.as_slice(), self.lasts.as_slice());
+        log.append(
+            time,
+            delta,
+            self.values.as_slice(),
+            self.lasts.as_slice(),
+            &self.touched,
+        );
     }
 
     /// Appends the value of each net to a log that has room for it, as the record of the initialization.

@@ -2,11 +2,13 @@
 
 ghost use Rattle.std.specs.Prelude.{◌≡◌, ◌≢◌, ◌≤◌, ◌<◌, ◌+◌, ◌^◌, ◌++◌, ◌∷◌, [], length, slice_index_or, slice_range, vec_len, vec_capacity, OnOk};
 ghost use Rattle.std.specs.List.{enumerate_from};
+ghost use Rattle.sim_state.specs.Changes.{AreTouched};
 ghost use Rattle.sim_state.specs.Contents.{views_of};
 ghost use Rattle.sim_state.specs.Log.{all_changes, end_mark, record_at};
 ghost use Rattle.sim_state.specs.Records.{changes_from};
 
 use sim_logic::Logic;
+use sim_queue::NumberSet;
 use std::alloc::{AllocError, Global};
 use std::marker::Model;
 
@@ -32,15 +34,23 @@ fn append_change(changes: &mut Vec<(u32, Logic)>, number: usize, value: Logic, l
     }
 }
 
-/// Appends the changes of nets, in net order.
-fn append_changes(changes: &mut Vec<(u32, Logic)>, values: &[Logic], lasts: &[Logic])
+/// Appends the changes of nets, in net order. It looks only at nets that are touched.
+fn append_changes(
+    changes: &mut Vec<(u32, Logic)>,
+    values: &[Logic],
+    lasts: &[Logic],
+    touched: &NumberSet,
+)
     requires same { length lasts.now ≡ length values.now }
+    requires touched { AreTouched values.now lasts.now touched.now }
     requires few { length values.now < 2 ^ 32 }
     requires room { vec_len changes.old + length values.now ≤ vec_capacity changes.old }
     ensures { changes.new.items ≡ changes.old.items ++ changes_from 0 (views_of values.now lasts.now) }
 {
-    for number in 0..values.len() {
+    let mut from = 0;
+    while let Some(number) = touched.next(from) {
         append_change(changes, number, values[number], lasts[number]);
+        from = number + 1;
     }
 }
 
@@ -153,16 +163,24 @@ impl Log {
         Ok(())
     }
 
-    /// Appends a record of the nets that changed. There is room for it, so it takes no memory.
-    pub(crate) fn append(&mut self, time: u64, delta: u64, values: &[Logic], lasts: &[Logic])
+    /// Appends a record of the nets that changed, which are among those that are touched. There is room for it, so it takes no memory.
+    pub(crate) fn append(
+        &mut self,
+        time: u64,
+        delta: u64,
+        values: &[Logic],
+        lasts: &[Logic],
+        touched: &NumberSet,
+    )
         requires same { length lasts.now ≡ length values.now }
+        requires touched { AreTouched values.now lasts.now touched.now }
         requires few { length values.now < 2 ^ 32 }
         requires mark { 0 < self.old.marks_room }
         requires changes { length values.now ≤ self.old.changes_room }
         ensures { self.new.records ≡ self.old.records ++ record { time = time; delta = delta; changes = changes_from 0 (views_of values.now lasts.now) } ∷ [] }
     {
         let start = self.changes.len();
-        append_changes(&mut self.changes, values, lasts);
+        append_changes(&mut self.changes, values, lasts, touched);
         self.marks.push_reserved(Mark { time, delta, start });
     }
 

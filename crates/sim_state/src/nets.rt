@@ -1,16 +1,19 @@
 //! Nets: their values (IEEE 1076-2008, 14.7.3), and how processes see them.
 
-ghost use Rattle.std.specs.Prelude.{◌≡◌, length, map, fold, slice_index_or, ◌↔◌, IsTrue, IfOk};
+ghost use Rattle.std.specs.Prelude.{ℕ, [], ◌≡◌, ◌<◌, false, length, map, fold, slice_index_or, ◌↔◌, IsTrue, IfOk};
 ghost use Rattle.sim_logic.specs.declared.logic.Logic as logic;
 ghost use Rattle.sim_logic.specs.Tables.{resolution_table};
 ghost use Rattle.sim_logic.specs.Resolution.{resolved};
 ghost use Rattle.sim_exec.specs.State.{driver_at, net_at};
+ghost use Rattle.sim_queue.specs.Numbers.{is_in};
+ghost use Rattle.sim_state.specs.Changes.{AreTouched, row_value, value_at};
 ghost use Rattle.sim_state.specs.Nets as spec;
 ghost use Rattle.sim_state.specs.Contents.{views_of};
 
 use sim_design::Source;
 use sim_exec::{NetView, Nets};
 use sim_logic::{Logic, resolve_two};
+use sim_queue::NumberSet;
 use sim_rows::Rows;
 use sim_wave::Driver;
 use std::alloc::{AllocError, Global};
@@ -56,13 +59,36 @@ pub fn net_value(sources: &[Source], drivers: &[Driver]) -> Logic
     }
 }
 
-/// Each net gets the value of its sources.
-pub fn resolve_each(values: &mut [Logic], sources: &Rows<Source>, drivers: &[Driver])
-    requires { length values.old ≡ length sources.now }
-    ensures { values.new ≡ map (λ row. resolved (map (spec.source_value drivers.now) row)) sources.now }
+/// The last values of the nets that are touched become their values; those of the others are.
+pub fn settle(lasts: &mut [Logic], values: &[Logic], touched: &NumberSet)
+    requires sized { length lasts.old ≡ length values.now }
+    requires touched { AreTouched values.now lasts.old touched.now }
+    ensures { lasts.new ≡ values.now }
 {
-    for n in 0..values.len() {
-        values[n] = net_value(sources.row(n), drivers);
+    let mut from = 0;
+    while let Some(net) = touched.next(from) {
+        lasts[net] = values[net];
+        from = net + 1;
+    }
+}
+
+/// The nets that are touched get the values of their sources; the others have them.
+pub fn resolve_touched(
+    values: &mut [Logic],
+    touched: &NumberSet,
+    sources: &Rows<Source>,
+    drivers: &[Driver],
+)
+    requires touched { length touched.now ≡ length values.old }
+    requires sources { length sources.now ≡ length values.old }
+    requires others { (n : ℕ) → is_in touched.now n ≡ false → n < length values.old
+        → value_at values.old n ≡ row_value drivers.now (slice_index_or sources.now n []) }
+    ensures { values.new ≡ map (row_value drivers.now) sources.now }
+{
+    let mut from = 0;
+    while let Some(net) = touched.next(from) {
+        values[net] = net_value(sources.row(net), drivers);
+        from = net + 1;
     }
 }
 

@@ -1,17 +1,21 @@
 //! The state of a design before any process is executed (IEEE 1076-2008, 14.7.5.2), and what is made once for its cycles.
 
-ghost use Rattle.std.specs.Prelude.{◌≡◌, ◌+◌, ◌≤◌, map, length, take, drop, IfOk};
+ghost use Rattle.std.specs.Prelude.{ℕ, [], ◌≡◌, ◌+◌, ◌<◌, ◌≤◌, ◌==◌, ◌||◌, ◌&&◌, map, length, take, drop, slice_index_or, IfOk, OnOk};
 ghost use Rattle.std.specs.List.{All};
 ghost use Rattle.sim_wave.specs.Driver.{Waveform};
 ghost use Rattle.sim_state.specs.Drivers as spec;
 ghost use Rattle.sim_state.specs.Nets.{net_value};
+ghost use Rattle.sim_state.specs.Changes.{AreDriven, is_driven, is_driver};
 ghost use Rattle.sim_state.specs.Contents.{sources_of};
+ghost use Rattle.sim_state.specs.Wakes.{is_among};
 
+use crate::lists::{add, empty_lists, in_rows};
 use crate::nets::net_value;
 use sim_design::{Design, DriverOf, Held, Net, Process, Source};
 use sim_logic::Logic;
 use sim_rows::Rows;
 use sim_wave::Driver;
+use sqlite_items::Items;
 use std::alloc::{AllocError, Global};
 
 /// Drivers with their first values and nothing pending.
@@ -92,4 +96,59 @@ pub fn sources(alloc: Global, design: &Design) -> Result<Rows<Source>, AllocErro
         rows.push_row(net.sources())?;
     }
     Ok(rows)
+}
+
+/// A source of a net: where it is a driver, the net is one of that driver's.
+fn add_source(driven: &mut [Items<usize>], net: usize, source: Source) -> Result<(), AllocError>
+    ensures { OnOk result ((n d : ℕ) → d < length driven.old
+        → is_among (slice_index_or driven.new d []) n ≡ (is_among (slice_index_or driven.old d []) n || (is_driver source d && (net == n)))) }
+{
+    match source {
+        Source::Driver(number) => {
+            add(driven, number, net)?;
+            Ok(())
+        }
+        Source::Constant(_) => Ok(()),
+    }
+}
+
+/// The sources of a net: it is a net of each driver among them.
+fn add_sources(
+    driven: &mut [Items<usize>],
+    net: usize,
+    sources: &[Source],
+) -> Result<(), AllocError>
+    ensures { OnOk result ((n d : ℕ) → d < length driven.old
+        → is_among (slice_index_or driven.new d []) n ≡ (is_among (slice_index_or driven.old d []) n || (is_driven sources.now d && (net == n)))) }
+{
+    for source in sources {
+        add_source(driven, net, *source)?;
+    }
+    Ok(())
+}
+
+/// The sources of all nets.
+fn add_nets(driven: &mut [Items<usize>], sources: &Rows<Source>) -> Result<(), AllocError>
+    ensures { OnOk result ((n d : ℕ) → d < length driven.old
+        → is_among (slice_index_or driven.new d []) n ≡ (is_among (slice_index_or driven.old d []) n || is_driven (slice_index_or sources.now n []) d)) }
+{
+    for net in 0..sources.len() {
+        add_sources(driven, net, sources.row(net))?;
+    }
+    Ok(())
+}
+
+/// For each of so many drivers, the nets that have it as a source. A driver beyond them is passed over. It takes time in proportion to the
+/// drivers and to all sources.
+pub fn driven(
+    alloc: Global,
+    sources: &Rows<Source>,
+    drivers: usize,
+) -> Result<Rows<usize>, AllocError>
+    ensures value { IfOk result (λ r. AreDriven sources.now r) }
+    ensures drivers { IfOk result (λ r. length r ≡ drivers) }
+{
+    let mut lists = empty_lists(alloc, drivers)?;
+    add_nets(lists.as_mut_slice(), sources)?;
+    in_rows(alloc, lists.as_slice())
 }

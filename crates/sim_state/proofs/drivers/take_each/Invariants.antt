@@ -1,6 +1,17 @@
-use Rattle.std.proofs.Common.{◌≡◌, ◌++◌, take, drop, map}
-use Rattle.sim_wave.specs.Driver.{taken}
+use Rattle.std.proofs.Common.{ℕ, ◌≡◌, ◌≤◌, ◌-◌, length}
+use Rattle.sim_exec.specs.State.{driver_at}
+use Rattle.sim_state.proofs.Walks.{Walked}
+use Rattle.sim_state.proofs.Taking.{IsTaken}
 use Rattle.sim_state.proofs.drivers.take_each.Given as goal
 
-abbrev pub invariant-loop-driver : goal.invariant-loop-driver
-invariant-loop-driver l = l.drivers ≡ map (taken l.time) (take l.driver-index l.initial.drivers) ++ drop l.driver-index l.initial.drivers
+abbrev pub invariant-loop-number : goal.invariant-loop-number
+invariant-loop-number l = record {
+  sized : length l.touched ≡ length l.initial.touched;
+  long : length l.drivers ≡ length l.initial.drivers;
+  within : l.from ≤ length l.initial.drivers;
+  rest : (d : ℕ) → l.from ≤ d → driver_at l.drivers d ≡ driver_at l.initial.drivers d;
+  walked : Walked l.due l.from (IsTaken l.time l.initial.drivers l.driven l.drivers l.touched);
+}
+
+abbrev pub decreases-loop-number : goal.decreases-loop-number
+decreases-loop-number l = length l.initial.drivers - l.from

@@ -1,7 +1,7 @@
-use Rattle.std.proofs.Common.{[], ◌≡◌, ap, sym, subst, length, arith, get_or}
+use Rattle.std.proofs.Common.{[], ◌≡◌, ap, sym, ◌∙◌, subst, length, arith, get_or}
 use Rattle.std.specs.Prelude.{slice_range, OnOk}
 use Rattle.sim_exec.specs.Jobs.{IsReady}
-use Rattle.sim_exec.specs.State.{Owned}
+use Rattle.sim_exec.specs.State.{Owned, driver_values}
 use Rattle.sim_exec.specs.Statements.{executed}
 use Rattle.sim_rows.proofs.Flat.{count, places_read, lent_back, laid, put_there, put_alone}
 use Rattle.sim_state.proofs.Contents.{as_owned, same_owned}
@@ -82,3 +82,12 @@ returns-clause-ready g c =
     let is = same_owned (put_there c.args.drivers.now c.args.number _ i c.requires.drivers)
     (put_there c.args.variables.now c.args.number _ j c.requires.variables) in
     subst (IsReady c.args.body.now c.args.now) (sym is) c.execute_between.ensures.ready
+
+pub returns-clause-values : goal.returns-clause-values
+returns-clause-values g c =
+    let q = places_read c.drivers.invariant c.drivers.view_is c.args.number _ _ _ _ c.requires.drivers c.as_slice.ensures.value c.as_mut_slice.ensures.value
+    c.bounds-owned.ensures.start c.bounds-owned.ensures.end in
+    let i = lent_back c.drivers.invariant c.drivers.view_is c.args.number _ _ c.drivers.inside.flat.len c.execute_between.new.drivers _ _ c.requires.drivers
+    c.as_slice.ensures.value c.as_mut_slice.ensures.value
+    c.bounds-owned.ensures.start c.bounds-owned.ensures.end c.execute_between.ensures.drivers c.execute_between.auto.drivers c.drivers.inside.flat.ok.0 in
+    ap driver_values (put_there c.args.drivers.now c.args.number _ i c.requires.drivers) ∙ (c.execute_between.ensures.values ∙ ap driver_values q.holds)

@@ -3,9 +3,14 @@ use Rattle.sim_state.specs.Contents.{views_of}
 use Rattle.sim_state.specs.Records.{changes_from}
 use Rattle.sim_state.proofs.log.append_changes.Given as goal
 
+-- what is appended by now, and what nets still to be looked at will add
 abbrev pub invariant-loop-number : goal.invariant-loop-number
 invariant-loop-number l = record {
-  room : vec_len l.changes + (length l.values - l.number) ≤ vec_capacity l.changes;
-  done : l.changes.items ++ changes_from l.number (views_of (drop l.number l.values) (drop l.number l.lasts)) ≡ l.initial.changes.items ++ changes_from 0
+  within : l.from ≤ length l.values;
+  room : vec_len l.changes + (length l.values - l.from) ≤ vec_capacity l.changes;
+  done : l.changes.items ++ changes_from l.from (drop l.from (views_of l.values l.lasts)) ≡ l.initial.changes.items ++ changes_from 0
       (views_of l.values l.lasts);
 }
+
+abbrev pub decreases-loop-number : goal.decreases-loop-number
+decreases-loop-number l = length l.values - l.from

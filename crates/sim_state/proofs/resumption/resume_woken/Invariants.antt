@@ -1,9 +1,17 @@
-use Rattle.std.proofs.Common.{ℕ, ◌≡◌, ◌<◌, ◌||◌, false, length, get_or, drop}
+use Rattle.std.proofs.Common.{ℕ, ◌≡◌, ◌<◌, ◌≤◌, ◌-◌, ◌||◌, length, drop}
+use Rattle.sim_queue.specs.Numbers.{is_in}
 use Rattle.sim_state.specs.Contents.{views_of}
 use Rattle.sim_state.specs.Wakes.{is_woken}
 use Rattle.sim_state.proofs.resumption.resume_woken.Given as goal
 
-abbrev pub invariant-loop-n : goal.invariant-loop-n
-invariant-loop-n l =
-    (p : ℕ) → p < length l.resumed → (is_woken (views_of (drop l.n l.values) (drop l.n l.lasts)) (drop l.n l.wakes) p || get_or l.resumed p false)
-    ≡ (is_woken (views_of l.values l.lasts) l.wakes p || get_or l.initial.resumed p false)
+-- those that nets still to be looked at wake, and those that are resumed by now
+abbrev pub invariant-loop-net : goal.invariant-loop-net
+invariant-loop-net l = record {
+  sized : length l.resumed ≡ length l.initial.resumed;
+  within : l.from ≤ length l.values;
+  members : (p : ℕ) → p < length l.initial.resumed → (is_woken (drop l.from (views_of l.values l.lasts)) (drop l.from l.wakes) p || is_in l.resumed p)
+      ≡ (is_woken (views_of l.values l.lasts) l.wakes p || is_in l.initial.resumed p);
+}
+
+abbrev pub decreases-loop-net : goal.decreases-loop-net
+decreases-loop-net l = length l.values - l.from

@@ -8,25 +8,42 @@ use Rattle.sim_exec.specs.State.{Owned, nothing_owned}
 use Rattle.sim_exec.specs.Statements.{executed}
 use Rattle.sim_state.specs.Contents.{Contents, views_of, owned_lists}
 use Rattle.sim_state.proofs.Contents.{as_owned, owned-by, owned-count, owned-now, held-set, seen, sees}
+use Rattle.sim_state.proofs.Putting.{put-keeps}
 use Rattle.sim_state.proofs.flat_state.FlatState.execute.Goals as goal
+
+-- in which one process owns this
+abbrev with_own : Contents → ℕ → Owned → Contents
+with_own h n own = record { sources = h.sources; nets = h.nets; owned = set h.owned n own }
+
+pub mark_stale-requires : goal.mark_stale-requires
+mark_stale-requires c = record {
+  at = omega (arith, c.requires.at, owned-count c.self.view_is c.self.invariant.lists);
+  stale = c.self.invariant.timed.marked;
+}
 
 pub execute_at-requires : goal.execute_at-requires
 execute_at-requires c = record {
   now = c.requires.time;
-  drivers = omega (arith, c.requires.at, owned-count c.self.view_is c.self.invariant);
-  variables = omega (arith, c.requires.at, owned-count c.self.view_is c.self.invariant, c.self.invariant.owned);
+  drivers = omega (arith, c.requires.at, owned-count c.self.view_is c.self.invariant.lists);
+  variables = omega (arith, c.requires.at, owned-count c.self.view_is c.self.invariant.lists, c.self.invariant.lists.owned);
   ready = subst (λ (b : Body). IsReady b c.args.time (as_owned (get_or c.self.inside.drivers c.args.number [])
       (get_or c.self.inside.variables c.args.number []))) (sym c.body.ensures)
-      (subst (IsReady c.args.process.now.body c.args.time) (owned-by c.self.view_is c.self.invariant c.args.number) c.requires.ready);
+      (subst (IsReady c.args.process.now.body c.args.time) (owned-by c.self.view_is c.self.invariant.lists c.args.number) c.requires.ready);
 }
+
+pub invariant_of-self : goal.invariant_of-self
+invariant_of-self c =
+    let e = c.execute_at in
+    put-keeps c.self.invariant c.args.number (get_or e.new.drivers c.args.number []) (get_or e.new.variables c.args.number []) e.new.drivers e.new.variables
+    c.mark_stale.new.stale e.ensures.drivers e.ensures.variables e.ensures.values c.mark_stale.ensures.sized c.mark_stale.ensures.others
 
 pub returns : goal.returns
 returns c =
     let n = c.args.number in
     let s = c.self.inside in
     let e = c.execute_at in
-    let was = owned-by c.self.view_is c.self.invariant n in
-    let is = owned-now c.self.invariant n _ _ e.new.drivers e.new.variables e.ensures.drivers e.ensures.variables in
+    let was = owned-by c.self.view_is c.self.invariant.lists n in
+    let is = owned-now c.self.invariant.lists n _ _ e.new.drivers e.new.variables e.ensures.drivers e.ensures.variables in
     let now = get_or (owned_lists e.new.drivers e.new.variables) n nothing_owned in
     let net : views_of s.values.items s.lasts.items ≡ c.args.self.now.nets = ap (λ (h : Contents). h.nets) c.self.view_is in
     let look = sees c.args.self.now.nets s.values.items s.lasts.items c.as_slice.result.now c.as_slice-2.result.now c.args.process.now.nets c.nets.result.now
@@ -35,8 +52,9 @@ returns c =
     let left = as_owned (get_or s.drivers n []) (get_or s.variables n []) in
     let process = c.args.process.now in
     let done = executed (seen c.args.self.now.nets process.nets) c.args.time process.body.statements (get_or c.args.self.now.owned n nothing_owned) in
-    let alone = held-set c.self.view_is c.self.invariant n _ _ e.new.drivers e.new.variables e.ensures.drivers e.ensures.variables
-    ∙ ap (λ w. record { nets = c.args.self.now.nets; owned = set c.args.self.now.owned n w }) (sym is) in
+    let h = c.args.self.now in
+    let alone = held-set c.self.view_is c.self.invariant.lists n _ _ e.new.drivers e.new.variables e.ensures.drivers e.ensures.variables
+    ∙ ap (with_own h n) (sym is) in
     let ok : OnOk e.result (now ≡ done) =
     subst (λ (o : Owned). OnOk e.result (o ≡ done)) (sym is)
     (subst (λ (o : Owned). OnOk e.result (as_owned (get_or e.new.drivers n []) (get_or e.new.variables n []) ≡ executed
@@ -47,8 +65,7 @@ returns c =
     ≡ executed f c.args.time c.body.result.now.statements left)) look e.ensures.ok))) in
     record {
       alone = alone;
-      ok = on_ok_weaker e.result (λ (is_done : now ≡ done). alone ∙ ap (λ w. record { nets = c.args.self.now.nets; owned = set c.args.self.now.owned n w })
-          is_done) ok;
+      ok = on_ok_weaker e.result (λ (is_done : now ≡ done). alone ∙ ap (with_own h n) is_done) ok;
       ready = subst (IsReady process.body c.args.time) (sym is)
           (subst (λ (b : Body). IsReady b c.args.time (as_owned (get_or e.new.drivers n []) (get_or e.new.variables n []))) c.body.ensures e.ensures.ready);
     }

@@ -8,14 +8,18 @@ pub find_resumed-requires : goal.find_resumed-requires
 find_resumed-requires c =
     let v = ap length c.as_slice.ensures.value in
     record {
-      lasts = omega (arith, v, ap length c.as_slice-2.ensures.value, c.self.invariant.nets);
-      wakes = omega (arith, c.requires, net-count c.self.view_is c.self.invariant, v);
+      lasts = omega (arith, v, ap length c.as_slice-2.ensures.value, c.self.invariant.lists.nets);
+      touched = rw (c.as_slice.ensures.value, c.as_slice-2.ensures.value) c.self.invariant.touching;
+      wakes = omega (arith, c.requires, net-count c.self.view_is c.self.invariant.lists, v);
     }
 
 pub returns : goal.returns
-returns c processes p w lt =
-    let ns = (process_at processes p).sensitivity in
-    c.find_resumed.ensures processes p w lt
-    ∙ (ap (λ v. has_event_in (views_of v c.as_slice-2.result.now) ns) c.as_slice.ensures.value
-    ∙ (ap (λ v. has_event_in (views_of c.self.inside.values.items v) ns) c.as_slice-2.ensures.value
-    ∙ ap (λ (h : Contents). has_event_in h.nets ns) c.self.view_is))
+returns c = record {
+  sized = c.find_resumed.ensures.sized;
+  found = λ processes p w lt.
+      let ns = (process_at processes p).sensitivity in
+      c.find_resumed.ensures.found processes p w lt
+      ∙ (ap (λ v. has_event_in (views_of v c.as_slice-2.result.now) ns) c.as_slice.ensures.value
+      ∙ (ap (λ v. has_event_in (views_of c.self.inside.values.items v) ns) c.as_slice-2.ensures.value
+      ∙ ap (λ (h : Contents). has_event_in h.nets ns) c.self.view_is));
+}

@@ -7,10 +7,11 @@ use Rattle.sim_state.proofs.flat_state.FlatState.record.Goals as goal
 
 pub append-requires : goal.append-requires
 append-requires c =
-    let n = net-count c.self.view_is c.self.invariant in
+    let n = net-count c.self.view_is c.self.invariant.lists in
     let v = ap length c.as_slice.ensures.value in
     record {
-      same = omega (arith, v, ap length c.as_slice-2.ensures.value, c.self.invariant.nets);
+      same = omega (arith, v, ap length c.as_slice-2.ensures.value, c.self.invariant.lists.nets);
+      touched = rw (c.as_slice.ensures.value, c.as_slice-2.ensures.value) c.self.invariant.touching;
       few = omega (arith, c.requires.few, n, v);
       mark = c.requires.mark;
       changes = omega (arith, c.requires.changes, n, v);

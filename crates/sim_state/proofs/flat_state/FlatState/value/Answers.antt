@@ -11,11 +11,11 @@ pub returns-then-net-len : goal.returns-then-net-len
 returns-then-net-len c =
     let s = c.self.inside in
     let here : c.args.net < length s.values.items = omega (arith, c.len.ensures, c.if-net-len.true) in
-    let last : c.args.net < length s.lasts.items = omega (arith, here, c.self.invariant.nets) in (
-      omega (arith, here, net-count c.self.view_is c.self.invariant),
+    let last : c.args.net < length s.lasts.items = omega (arith, here, c.self.invariant.lists.nets) in (
+      omega (arith, here, net-count c.self.view_is c.self.invariant.lists),
       c.index.ensures ∙ (ap (λ (v : NetView). v.value) (view_here s.values.items s.lasts.items c.args.net _ U here last)
           ∙ ap (λ (g : Contents). (net_at g.nets c.args.net).value) c.self.view_is),
     )
 
 pub returns-else-net-len : goal.returns-else-net-len
-returns-else-net-len c = omega (arith, c.len.ensures, c.if-net-len.false, net-count c.self.view_is c.self.invariant)
+returns-else-net-len c = omega (arith, c.len.ensures, c.if-net-len.false, net-count c.self.view_is c.self.invariant.lists)

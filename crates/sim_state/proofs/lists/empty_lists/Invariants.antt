@@ -1,6 +1,6 @@
 use Rattle.std.proofs.Common.{ℕ, List, ◌≡◌, [], length}
 use Rattle.std.specs.List.{All}
-use Rattle.sim_state.proofs.resumption.empty_lists.Given as goal
+use Rattle.sim_state.proofs.lists.empty_lists.Given as goal
 
 abbrev pub invariant-loop-number : goal.invariant-loop-number
 invariant-loop-number l = record {
