@@ -13,15 +13,17 @@ use Rattle.sim_design.specs.Designs.{AreOwned, Design, most}
 use Rattle.sim_design.specs.Processes.{Process, IsProcess}
 use Rattle.sim_exec.specs.declared.view.NetView.{NetView}
 use Rattle.std.proofs.lemmas.List.Elements.{All-get_or}
-use Rattle.sim_exec.specs.State.{State, Owned, net_at, owned_at, nothing_owned}
+use Rattle.sim_exec.specs.State.{State, Owned, driver_values, net_at, owned_at, nothing_owned}
 use Rattle.sim_exec.specs.Statements.{executed}
 use Rattle.sim_exec.specs.Processes.{home, part, outcome}
 use Rattle.sim_exec.proofs.Frame.{same_outcome}
+use Rattle.sim_exec.proofs.ValuesKept.{values_kept}
 use Rattle.sim_logic.specs.Time.{largest_time}
 use Rattle.sim_exec.specs.Jobs.{IsJob, IsReady, Job, holds_bit, result_of, scene}
 use Rattle.sim_state.specs.declared.record.Record.{Record}
 use Rattle.sim_state.specs.Drivers.{waves, own_taken, first_owned, idle, next_time}
-use Rattle.sim_state.specs.Contents.{Contents, contents_of}
+use Rattle.sim_design.specs.declared.design.Source.{Source}
+use Rattle.sim_state.specs.Contents.{Contents, contents_of, sources_of}
 use Rattle.sim_state.specs.Cycles.{no_process, process_at, is_resumed, first_state, updated, next_delta, has_event_in}
 use Rattle.sim_state.specs.Records.{first_record, changes_from}
 use Rattle.sim_store.specs.Order.{merged}
@@ -83,7 +85,7 @@ module _ {h : Progress} {time delta : ℕ} {held : Contents} {records : List Rec
 
   -- one process more has been executed
   pub deposited-keeps : (p : ℕ) (own : Owned) (held' : Contents) → IsResult h p own → IsReady (process_at h.design.processes p).body time own
-      → held' ≡ record { nets = held.nets; owned = set held.owned p own }
+      → held' ≡ record { sources = held.sources; nets = held.nets; owned = set held.owned p own }
       → IsProgress (record h { deposited = set h.deposited p true }) time delta held' records due
   deposited-keeps p own held' r is_ready e =
       let f = those_in h.deposited in
@@ -99,6 +101,7 @@ module _ {h : Progress} {time delta : ℕ} {held : Contents} {records : List Rec
         time_is = i.time_is;
         delta_is = i.delta_is;
         early = i.early;
+        sources_are = ap (λ (w : Contents). w.sources) e ∙ i.sources_are;
         nets_are = ap (λ (w : Contents). w.nets) e ∙ i.nets_are;
         owned_are = ap (λ (w : Contents). w.owned) e ∙ (a ∙ (b ∙ m));
         records_are = i.records_are;
@@ -144,6 +147,11 @@ none-in [] p = refl
 none-in (b ∷ bs) zero = refl
 none-in (b ∷ bs) (suc p) = none-in bs p
 
+-- so none is in a set that was emptied
+pub none-marked-now : (marks : List Bool) → replicate (length marks) false ≡ cleared marks
+none-marked-now [] = refl
+none-marked-now (b ∷ bs) = ap (λ w. false ∷ w) (none-marked-now bs)
+
 later-resumed : (d : Design) (k p : ℕ) (s : State) → is_resumed d (suc k) s p ≡ has_event_in s.nets (process_at d.processes p).sensitivity
 later-resumed d k p s = let t : eqb (suc k) 0 ≡ false = grind (arith, nat_tests) in rw t refl
 
@@ -174,23 +182,25 @@ module _ {h : Progress} {time delta : ℕ} {held : Contents} {records : List Rec
       let d = h.design in
       ap (λ (s : State). s.time) (ap (or_first d) (standard-next ∙ ap (onward d (executed_together d h.cycles (reached h))) some))
 
-  pub held-is : held ≡ contents_of (executed_together h.design h.cycles (reached h))
-  held-is = ap (λ (ns : List NetView). record { nets = ns; owned = held.owned }) i.nets_are
-      ∙ ap (λ (os : List Owned). record { nets = (reached h).nets; owned = os }) present-complete
+  pub held-is : held ≡ contents_of h.design (executed_together h.design h.cycles (reached h))
+  held-is =
+      ap (λ (rows : List (List Source)). record { sources = rows; nets = held.nets; owned = held.owned }) i.sources_are
+      ∙ (ap (λ (ns : List NetView). record { sources = sources_of h.design.nets; nets = ns; owned = held.owned }) i.nets_are
+      ∙ ap (λ (os : List Owned). record { sources = sources_of h.design.nets; nets = (reached h).nets; owned = os }) present-complete)
 
   -- the nets after the cycle are as many
   pub advanced-count : (t : ℕ) (held' : Contents)
-      → ((design : Design) (s : State) → design ≡ h.design → held ≡ contents_of s → held' ≡ contents_of (updated design s t))
+      → ((design : Design) (s : State) → held ≡ contents_of design s → held' ≡ contents_of design (updated design s t))
       → length held'.nets ≡ length h.design.nets
   advanced-count t held' el =
       let x = executed_together h.design h.cycles (reached h) in
-      ap (λ (w : Contents). length w.nets) (el h.design x refl held-is)
+      ap (λ (w : Contents). length w.nets) (el h.design x held-is)
       ∙ length-nets_updated (waves (map (own_taken t) x.owned)) h.design.nets (reached h).nets (ap length (sym i.nets_are) ∙ net-count i)
 
   pub advanced-keeps : (t : ℕ) → next_time (waves held.owned) ≡ Some t → t ≤ largest_time
       → (δ k : ℕ) (held' : Contents) (records' : List Record) (due' deposited' : List Bool)
       → δ ≡ next_delta t time delta
-      → ((design : Design) (s : State) → design ≡ h.design → held ≡ contents_of s → held' ≡ contents_of (updated design s t))
+      → ((design : Design) (s : State) → held ≡ contents_of design s → held' ≡ contents_of design (updated design s t))
       → records' ≡ records ++ record { time = t; delta = δ; changes = changes_from 0 held'.nets } ∷ []
       → length due' ≡ length due
       → ((p : ℕ) → p < length due → those_in due' p ≡ has_event_in held'.nets (process_at h.design.processes p).sensitivity)
@@ -203,8 +213,7 @@ module _ {h : Progress} {time delta : ℕ} {held : Contents} {records : List Rec
       let u = updated d x t in
       let p : standard d (suc h.cycles) ≡ Some u = standard-next ∙ ap (onward d x) some in
       let q : state_of d (suc h.cycles) ≡ u = ap (or_first d) p in
-      let c : held ≡ contents_of x = held-is in
-      let l : held' ≡ contents_of u = el d x refl c in
+      let l : held' ≡ contents_of d u = el d x held-is in
       let dl : δ ≡ u.delta = ed ∙ (ap (λ (m : ℕ). next_delta t m delta) i.time_is ∙ ap (λ (m : ℕ). next_delta t (reached h).time m) i.delta_is) in
       let n : held'.nets ≡ (state_of d (suc h.cycles)).nets = ap (λ (w : Contents). w.nets) l ∙ ap (λ (w : State). w.nets) (sym q) in
       let o : held'.owned ≡ map (own_taken t) held.owned = ap (λ (w : Contents). w.owned) l ∙ ap (map (own_taken t)) (sym present-complete) in
@@ -215,6 +224,7 @@ module _ {h : Progress} {time delta : ℕ} {held : Contents} {records : List Rec
         time_is = ap (λ (w : State). w.time) (sym q);
         delta_is = dl ∙ ap (λ (w : State). w.delta) (sym q);
         early = early;
+        sources_are = ap (λ (w : Contents). w.sources) l;
         nets_are = n;
         owned_are = ap (λ (w : Contents). w.owned) l ∙ (ap (λ (w : State). w.owned) (sym q)
             ∙ sym (merged-none (those_in (cleared h.deposited)) (results (after h)) 0 (state_of d (suc h.cycles)).owned (none-in h.deposited)));
@@ -292,6 +302,7 @@ module _ {h : Progress} {time delta : ℕ} {held : Contents} {records : List Rec
   -- an execution in place keeps what is held that of the simulation
   pub executed-keeps : (process : Process) (held' : Contents) → process ≡ process_at h.design.processes p → is_due h p ≡ true
       → held' ≡ record {
+        sources = held.sources;
         nets = held.nets;
         owned = set held.owned p
             (executed (λ object. net_at held.nets (home process object)) time process.body.statements (owned_at held.owned p));
@@ -301,8 +312,9 @@ module _ {h : Progress} {time delta : ℕ} {held : Contents} {records : List Rec
       let q = process_at h.design.processes p in
       let own : Owned = executed (λ object. net_at held.nets (home q object)) time q.body.statements (owned_at held.owned p) in
       let there : p < length held.owned = omega (arith, lt, held-count i) in
-      let e : held' ≡ record { nets = held.nets; owned = set held.owned p own } =
+      let e : held' ≡ record { sources = held.sources; nets = held.nets; owned = set held.owned p own } =
       now ∙ ap (λ (r : Process). record {
+        sources = held.sources;
         nets = held.nets;
         owned = set held.owned p
             (executed (λ object. net_at held.nets (home r object)) time r.body.statements (owned_at held.owned p));
@@ -364,6 +376,21 @@ module _ {h : Progress} {time delta : ℕ} {held : Contents} {records : List Rec
   kept-drivers d f (Some r) e =
       ap (λ (w : Owned). length w.drivers) e ∙ ((own-ready f).drivers ∙ sym (i.ready job.number d.number).drivers)
 
+  -- and the current values of its drivers are as they were
+  pub kept-values : IsDue h job.number → those_in h.deposited job.number ≡ false → (kept : Option Owned)
+      → MatchOption kept (result_of job ≡ job.owned) (λ r. r ≡ result_of job)
+      → MatchOption kept (Unit {0}) (λ r. driver_values r.drivers ≡ driver_values (owned_at held.owned job.number).drivers)
+  kept-values d out None e = tt
+  kept-values d out (Some r) e =
+      let q = process_at h.design.processes job.number in
+      let is : IsProcess q = All-get_or IsProcess h.design.processes job.number no_process d.number i.processes in
+      let ran = same_outcome q job.number (reached h) is in
+      let own = owned_at (reached h).owned job.number in
+      let look = λ (object : ℕ). net_at (reached h).nets (home q object) in
+      ap (λ (w : Owned). driver_values w.drivers) (e ∙ ((own-result d).result ∙ sym ran))
+      ∙ (values_kept look (reached h).time q.body.statements own
+      ∙ ap (λ (w : Owned). driver_values w.drivers) (sym (still-owned i job.number out)))
+
   pub kept-variables : IsDue h job.number → IsReady job.process.body job.time (result_of job) → (kept : Option Owned)
       → MatchOption kept (result_of job ≡ job.owned) (λ r. r ≡ result_of job)
       → MatchOption kept (Unit {0}) (λ r. length r.variables ≡ length (owned_at held.owned job.number).variables)
@@ -411,7 +438,7 @@ drivers-there nets number first all ds (p ∷ ps) e o (suc m) lt =
 pub begins : (d : Design) (k : ℕ) (held : Contents) (records : List Record) (due deposited : List Bool) → length d.nets ≤ most
     → AreOwned (length d.nets) 0 0 d.processes d.drivers
     → All IsProcess d.processes → k ≡ 0
-    → held ≡ contents_of (first_state d) → records ≡ first_record (first_state d) ∷ [] → due ≡ replicate (length d.processes) true
+    → held ≡ contents_of d (first_state d) → records ≡ first_record (first_state d) ∷ [] → due ≡ replicate (length d.processes) true
     → deposited ≡ replicate (length d.processes) false → IsProgress (record { design = d; cycles = k; deposited = deposited }) 0 0 held records due
 unfolding standard records_to
 begins d k held records due deposited few are all e₀ e er eu ep =
@@ -420,6 +447,7 @@ begins d k held records due deposited few are all e₀ e er eu ep =
       time_is = refl;
       delta_is = refl;
       early = omega arith;
+      sources_are = refl;
       nets_are = refl;
       owned_are = sym (merged-none (those_in (replicate (length d.processes) false))
           (results (record { design = d; cycles = 0; deposited = replicate (length d.processes) false })) 0 (first_state d).owned
@@ -453,8 +481,3 @@ complete-where-none h none p lt resumed = go (those_in h.deposited p) refl
     go : (b : Bool) → those_in h.deposited p ≡ b → those_in h.deposited p ≡ true
     go true e = e
     go false e = absurd (none p lt (record { due = record { number = lt; resumed = resumed }; fresh = e }))
-
--- A process that has been executed is missing no more.
-pub deposited-gone : {h : Progress} {time delta : ℕ} {held : Contents} {records : List Record} {due : List Bool} → IsProgress h time delta held records due
-    → (p : ℕ) → IsMissing (with_one h p) p → ⊥
-deposited-gone {h = h} i p m = cc (m.fresh, get_or-set_same h.deposited p true false (omega (arith, i.sized, m.due.number)))

@@ -8,4 +8,5 @@ pub mod Records
 pub mod Selecting
 pub mod Stores
 pub mod Together
+pub mod Walks
 pub mod Weaves

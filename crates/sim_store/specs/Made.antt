@@ -6,8 +6,8 @@ use Rattle.sim_store.specs.Progress.{Progress, IsSimulation}
 
 -- as many cycles as records after the first
 abbrev pub progress_of : Design → Made → Progress
-progress_of design m = record { design = design; cycles = length m.log.records - 1; deposited = m.deposited.items }
+progress_of design m = record { design = design; cycles = length m.log.records - 1; deposited = m.deposited }
 
 -- It is what the simulation of this design holds.
 abbrev pub IsOf : Design → Made → Type 0
-IsOf design m = IsSimulation (progress_of design m) m.sources m.wakes m.time m.delta m.state m.log.records m.due m.totals.items
+IsOf design m = IsSimulation (progress_of design m) m.wakes m.time m.delta m.state m.log.records m.due m.totals.items

@@ -9,7 +9,6 @@ use Rattle.sim_exec.specs.Processes.{part, outcome}
 use Rattle.sim_logic.specs.Time.{largest_time}
 use Rattle.sim_exec.specs.Jobs.{IsReady, Job, scene}
 use Rattle.sim_state.specs.declared.record.Record.{Record}
-use Rattle.sim_design.specs.declared.design.Source.{Source}
 use Rattle.sim_state.specs.Contents.{Contents, contents_of, sources_of}
 use Rattle.sim_state.specs.Records.{first_record}
 use Rattle.sim_state.specs.Wakes.{AreWakes}
@@ -54,6 +53,7 @@ pub record IsProgress (h : Progress) (time delta : ℕ) (held : Contents) (recor
   pub time_is : time ≡ (reached h).time
   pub delta_is : delta ≡ (reached h).delta
   pub early : time ≤ largest_time
+  pub sources_are : held.sources ≡ sources_of h.design.nets
   pub nets_are : held.nets ≡ (reached h).nets
   pub owned_are : held.owned ≡ (present h).owned
   pub records_are : records ≡ records_to h.design h.cycles
@@ -84,9 +84,8 @@ pub record IsResult (h : Progress) (p : ℕ) (own : Owned) : Type 0 where
   pub resumed : is_due h p ≡ true
   pub result : own ≡ outcome (process_at h.design.processes p) (part (process_at h.design.processes p) p (reached h))
 
--- The flat lists that are made once are those of the design: the sources of each net, and the processes that it wakes.
-pub record AreMade (design : Design) (sources : List (List Source)) (wakes : List (List ℕ)) : Type 0 where
-  pub sources_are : sources ≡ sources_of design.nets
+-- The flat list that is made once is that of the design: for each net the processes that it wakes.
+pub record AreMade (design : Design) (wakes : List (List ℕ)) : Type 0 where
   pub wakes_sized : length wakes ≡ length design.nets
   pub wakes_are : AreWakes design.processes wakes
 
@@ -95,21 +94,21 @@ pub record AreTotals (nets : ℕ) (records : List Record) (totals : List ℕ) : 
   pub sized : length totals ≡ nets
   pub counted : (n : ℕ) → n < nets → slice_index_or totals n 0 ≡ total_of records n
 
--- What is made of a design at first: those lists, its first state with its record, that each process is due and none has been executed, and that no net
+-- What is made of a design at first: that list, its first state with its record, that each process is due and none has been executed, and that no net
 -- had an event.
-pub record IsMade (design : Design) (sources : List (List Source)) (wakes : List (List ℕ)) (held : Contents) (records : List Record) (due deposited : List Bool)
+pub record IsMade (design : Design) (wakes : List (List ℕ)) (held : Contents) (records : List Record) (due deposited : List Bool)
     (totals : List ℕ) : Type 0 where
-  pub lists : AreMade design sources wakes
-  pub held_is : held ≡ contents_of (first_state design)
+  pub lists : AreMade design wakes
+  pub held_is : held ≡ contents_of design (first_state design)
   pub records_is : records ≡ first_record (first_state design) ∷ []
   pub due_is : due ≡ replicate (length design.processes) true
   pub deposited_is : deposited ≡ replicate (length design.processes) false
   pub totals_is : totals ≡ replicate (length design.nets) 0
 
--- What a simulation holds: the lists that were made once, the state, records and marks of its progress, and the totals of its nets.
-pub record IsSimulation (h : Progress) (sources : List (List Source)) (wakes : List (List ℕ)) (time delta : ℕ) (held : Contents) (records : List Record)
+-- What a simulation holds: the list that was made once, the state, records and marks of its progress, and the totals of its nets.
+pub record IsSimulation (h : Progress) (wakes : List (List ℕ)) (time delta : ℕ) (held : Contents) (records : List Record)
     (due : List Bool) (totals : List ℕ) : Type 0 where
-  pub made : AreMade h.design sources wakes
+  pub made : AreMade h.design wakes
   pub progress : IsProgress h time delta held records due
   pub counts : AreTotals (length h.design.nets) records totals
 

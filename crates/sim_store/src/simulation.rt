@@ -6,7 +6,7 @@ ghost use Rattle.std.specs.List.{All};
 ghost use Rattle.sim_design.specs.Processes.{IsProcess};
 ghost use Rattle.sim_state.specs.Cycles as cycles;
 ghost use Rattle.sim_exec.specs.Jobs.{IsReady, Job as job_value, result_of};
-ghost use Rattle.sim_exec.specs.State.{Owned, net_at, owned_at};
+ghost use Rattle.sim_exec.specs.State.{Owned, driver_values, net_at, owned_at};
 ghost use Rattle.sim_logic.specs.Time.{largest_time};
 ghost use Rattle.sim_store.specs.Agreement.{total_of, value_by};
 ghost use Rattle.sim_store.specs.History.{IsNamed, event_count};
@@ -15,15 +15,16 @@ ghost use Rattle.sim_store.specs.Progress as spec;
 ghost use Rattle.sim_store.specs.Standard.{records_to, resumed};
 ghost use Rattle.sim_store.specs.Store as store;
 
-use crate::due::{Due, marked};
+use crate::due::Due;
 use crate::error::StoreError;
 use crate::history::records_from;
 use crate::totals::{count_last, none};
-use sim_design::{Design, Process, Source};
+use sim_design::{Design, Process};
 use sim_exec::{Done, Job, Results};
 use sim_logic::Logic;
+use sim_queue::NumberSet;
 use sim_rows::Rows;
-use sim_state::{FlatState, Log, Record, sources, wakes};
+use sim_state::{FlatState, Log, Record, wakes};
 use std::alloc::{AllocError, Global};
 use std::marker::Model;
 
@@ -53,19 +54,11 @@ fn are_processes(processes: &[Process])
     }
 }
 
-/// No process is marked any more.
-fn clear(marks: &mut [bool])
-    ensures { marks.new ≡ spec.cleared marks.old }
-{
-    for mark in marks.iter_mut() {
-        *mark = false;
-    }
-}
-
 /// Puts what an executed process owns in the place of what it owned, where that is other than before. It takes no memory.
 fn put_results(state: &mut FlatState, number: usize, results: Option<Results>)
     requires at { number < length state.old.owned }
     requires drivers { MatchOption results Unit (λ r. length r.drivers ≡ length (owned_at state.old.owned number).drivers) }
+    requires values { MatchOption results Unit (λ r. driver_values r.drivers ≡ driver_values (owned_at state.old.owned number).drivers) }
     requires variables { MatchOption results Unit (λ r. length r.variables ≡ length (owned_at state.old.owned number).variables) }
     ensures { state.new ≡ record state.old {
       owned = slice_set state.old.owned number (spec.kept_or (owned_at state.old.owned number) results);
@@ -81,19 +74,18 @@ fn put_results(state: &mut FlatState, number: usize, results: Option<Results>)
 struct Made {
     time: u64,
     delta: u64,
-    sources: Rows<Source>,
     wakes: Rows<usize>,
     state: FlatState,
     log: Log,
     due: Due,
-    deposited: Vec<bool>,
+    deposited: NumberSet,
     totals: Vec<u64>,
 }
 
 /// What is made of a design: the flat lists of its nets, its first state with its record, that each process is to be executed, and that no net had an event.
 fn prepared(alloc: Global, design: &Design) -> Result<Made, AllocError>
     ensures start { IfOk result (λ m. (m.time ≡ 0) × (m.delta ≡ 0)) }
-    ensures lists { IfOk result (λ m. spec.IsMade design.now m.sources m.wakes m.state m.log.records m.due m.deposited.items m.totals.items) }
+    ensures lists { IfOk result (λ m. spec.IsMade design.now m.wakes m.state m.log.records m.due m.deposited m.totals.items) }
 {
     let nets = design.nets().len();
     let processes = design.processes().len();
@@ -104,27 +96,20 @@ fn prepared(alloc: Global, design: &Design) -> Result<Made, AllocError>
     Ok(Made {
         time: 0,
         delta: 0,
-        sources: sources(alloc, design)?,
         wakes: wakes(alloc, design)?,
         state,
         log,
         due: Due::all(alloc, processes)?,
-        deposited: marked(alloc, processes, false)?,
+        deposited: NumberSet::new(alloc, processes)?,
         totals: none(alloc, nets)?,
     })
 }
 
 /// Whether a process is due and has not been executed since the last cycle.
 fn is_missing(made: &Made, number: usize) -> bool
-    ensures { IsTrue result ↔ ((spec.those_in made.now.due number ≡ true) × (spec.those_in made.now.deposited.items number ≡ false)) }
+    ensures { IsTrue result ↔ ((spec.those_in made.now.due number ≡ true) × (spec.those_in made.now.deposited number ≡ false)) }
 {
-    if !made.due.has(number) {
-        return false;
-    }
-    match made.deposited.get(number) {
-        Some(mark) => !*mark,
-        None => true,
-    }
+    made.due.has(number) && !made.deposited.contains(number)
 }
 
 /// Executes a process in place, if it is due and has not been executed since the last cycle.
@@ -132,7 +117,7 @@ fn execute(alloc: Global, design: &Design, made: &mut Made, number: usize) -> Re
     requires of { IsOf design.now made.old }
     requires at { number < length design.now.processes }
     ensures of { OnOk result (IsOf design.now made.new) }
-    ensures same { OnOk result (progress_of design.now made.new ≡ spec.with_marks (progress_of design.now made.old) made.new.deposited.items) }
+    ensures same { OnOk result (progress_of design.now made.new ≡ spec.with_marks (progress_of design.now made.old) made.new.deposited) }
     ensures gone { OnOk result (spec.IsMissing (progress_of design.now made.new) number → ⊥) }
     ensures others { OnOk result ((p : ℕ) → spec.IsMissing (progress_of design.now made.new) p → spec.IsMissing (progress_of design.now made.old) p) }
 {
@@ -141,7 +126,7 @@ fn execute(alloc: Global, design: &Design, made: &mut Made, number: usize) -> Re
     }
     let process = &design.processes()[number];
     made.state.execute(alloc, number, process, made.time)?;
-    made.deposited[number] = true;
+    made.deposited.insert(number);
     Ok(())
 }
 
@@ -149,11 +134,13 @@ fn execute(alloc: Global, design: &Design, made: &mut Made, number: usize) -> Re
 fn execute_all(alloc: Global, design: &Design, made: &mut Made) -> Result<(), AllocError>
     requires { IsOf design.now made.old }
     ensures of { OnOk result (IsOf design.now made.new) }
-    ensures same { OnOk result (progress_of design.now made.new ≡ spec.with_marks (progress_of design.now made.old) made.new.deposited.items) }
+    ensures same { OnOk result (progress_of design.now made.new ≡ spec.with_marks (progress_of design.now made.old) made.new.deposited) }
     ensures complete { OnOk result (spec.IsComplete (progress_of design.now made.new)) }
 {
-    for number in 0..design.processes().len() {
+    let mut from = 0;
+    while let Some(number) = made.due.next(from) {
         execute(alloc, design, made, number)?;
+        from = number + 1;
     }
     Ok(())
 }
@@ -221,8 +208,9 @@ impl Simulation {
     }
 
     /// The time of the next cycle (14.7.5.1).
-    pub fn next(&self) -> Option<u64>
-        ensures { spec.IsComplete self.now → result ≡ spec.next_after self.now }
+    pub fn next(&mut self) -> Result<Option<u64>, AllocError>
+        ensures same { self.new ≡ self.old }
+        ensures value { IfOk result (λ next. spec.IsComplete self.old → next ≡ spec.next_after self.old) }
     {
         self.made.state.next()
     }
@@ -252,10 +240,7 @@ impl Simulation {
     pub fn is_deposited(&self, number: usize) -> bool
         ensures { result ≡ spec.those_in self.now.deposited number }
     {
-        match self.made.deposited.get(number) {
-            Some(mark) => *mark,
-            None => false,
-        }
+        self.made.deposited.contains(number)
     }
 
     /// Whether a job is what its process would be handed out now, but for its cycle. It takes no memory.
@@ -290,7 +275,7 @@ impl Simulation {
         let (job, results) = done.into_parts();
         let number = job.number();
         put_results(&mut self.made.state, number, results);
-        self.made.deposited[number] = true;
+        self.made.deposited.insert(number);
     }
 
     /// Carries out the cycle at the time of the next, once all that are due have been executed (14.7.5.3). Where memory is refused nothing changes.
@@ -305,15 +290,15 @@ impl Simulation {
     {
         let nets = self.design.nets().len();
         self.made.log.reserve(nets)?;
+        self.made.state.update(time)?;
         self.made.delta = next_delta(time, self.made.time, self.made.delta);
         self.made.time = time;
-        self.made.state.update(&self.made.sources, time);
         self.made
             .state
             .record(&mut self.made.log, time, self.made.delta);
         count_last(self.made.totals.as_mut_slice(), &self.made.log);
         self.made.due.find(&self.made.state, &self.made.wakes);
-        clear(self.made.deposited.as_mut_slice());
+        self.made.deposited.clear();
         Ok(())
     }
 
@@ -341,10 +326,12 @@ impl Simulation {
     pub fn missing(&self) -> Option<usize>
         ensures { MatchOption result (spec.IsComplete self.now) (spec.IsLeastMissing self.now) }
     {
-        for number in 0..self.design.processes().len() {
-            if self.check(number).is_ok() {
+        let mut from = 0;
+        while let Some(number) = self.made.due.next(from) {
+            if !self.made.deposited.contains(number) {
                 return Some(number);
             }
+            from = number + 1;
         }
         None
     }

@@ -48,14 +48,15 @@ pub struct Look {
 }
 
 /// The time of the next cycle, if it is not later than the stop time.
-fn next_within(simulation: &Simulation, stop: u64) -> Option<u64>
-    requires { progress.IsComplete simulation.now }
-    ensures { MatchOption result (IsOver (progress.next_after simulation.now) stop)
-        (λ time. (progress.next_after simulation.now ≡ Some time) × (time ≤ stop)) }
+fn next_within(simulation: &mut Simulation, stop: u64) -> Result<Option<u64>, AllocError>
+    requires { progress.IsComplete simulation.old }
+    ensures same { simulation.new ≡ simulation.old }
+    ensures value { IfOk result (λ next. MatchOption next (IsOver (progress.next_after simulation.old) stop)
+        (λ time. (progress.next_after simulation.old ≡ Some time) × (time ≤ stop))) }
 {
-    match simulation.next() {
-        Some(time) if time <= stop => Some(time),
-        _ => None,
+    match simulation.next()? {
+        Some(time) if time <= stop => Ok(Some(time)),
+        _ => Ok(None),
     }
 }
 
@@ -208,7 +209,7 @@ impl WaveStore {
         ensures err { IfErr result (λ e. e ≡ refusal.Memory) }
         ensures kept { OnErr result (self.new ≡ self.old) }
     {
-        match next_within(&self.simulation, self.stop) {
+        match next_within(&mut self.simulation, self.stop)? {
             None => Ok(self.end(Step::Finished)),
             Some(_) if self.simulation.cycles() == self.limit as usize => {
                 Ok(self.end(Step::LimitReached))

@@ -1,9 +1,11 @@
-use Rattle.std.proofs.Common.{rules, tests, ◌≡◌, List, length, ap, sym, ◌∙◌, subst, arith}
+use Rattle.std.proofs.Common.{rules, tests, ◌≡◌, Bool, List, length, ap, sym, ◌∙◌, subst, arith}
 use Rattle.std.proofs.lemmas.List.{get_or_default}
 use Rattle.sim_design.specs.Processes.{Process}
 use Rattle.sim_exec.specs.Jobs.{IsReady}
 use Rattle.sim_exec.specs.State.{owned_at}
 use Rattle.sim_state.specs.Cycles.{no_process, process_at}
+use Rattle.sim_store.specs.Made.{progress_of}
+use Rattle.sim_store.specs.Progress.{IsProgress, with_marks}
 use Rattle.sim_store.proofs.Going.{executed-keeps, held-count, ready-here}
 use Rattle.sim_store.proofs.simulation.execute.Goals as goal
 
@@ -30,7 +32,9 @@ returns-clause-of c =
     ∙ ap (λ (ps : List Process). process_at ps c.args.number) c.processes.ensures.value) in
     record {
       made = c.requires.of.made;
-      progress = executed-keeps i c.args.number c.requires.at missing.1 c.index-processes-number.result c.execute.new.self is
-          (sym (i.due_are c.args.number c.requires.at) ∙ missing.0) c.in_ok-execute.ensures.ok c.in_ok-execute.ensures.ready;
+      progress = subst (λ (marks : List Bool). IsProgress (with_marks (progress_of c.args.design.now c.args.made.now) marks) c.args.made.now.time
+          c.args.made.now.delta c.execute.new.self c.args.made.now.log.records c.args.made.now.due) (sym c.insert.ensures)
+          (executed-keeps i c.args.number c.requires.at missing.1 c.index-processes-number.result c.execute.new.self is
+          (sym (i.due_are c.args.number c.requires.at) ∙ missing.0) c.in_ok-execute.ensures.ok c.in_ok-execute.ensures.ready);
       counts = c.requires.of.counts;
     }

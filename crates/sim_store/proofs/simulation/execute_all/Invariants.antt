@@ -1,10 +1,16 @@
-use Rattle.std.proofs.Common.{ℕ, ◌≡◌, ◌<◌}
+use Rattle.std.proofs.Common.{◌≡◌, ◌-◌, length}
 use Rattle.sim_store.specs.Made.{IsOf, progress_of}
-use Rattle.sim_store.specs.Progress.{IsMissing, with_marks}
+use Rattle.sim_store.specs.Progress.{with_marks}
+use Rattle.sim_store.proofs.Walks.{Passed}
 use Rattle.sim_store.proofs.simulation.execute_all.Given as goal
 
 -- only what has been executed is other than before, and none so far is missing
 abbrev pub invariant-loop-number : goal.invariant-loop-number
-invariant-loop-number l =
-    IsOf l.design l.made × (progress_of l.design l.made ≡ with_marks (progress_of l.design l.fn.made) l.made.deposited.items)
-    × ((p : ℕ) → p < l.number → IsMissing (progress_of l.design l.made) p → ⊥)
+invariant-loop-number l = record {
+  of : IsOf l.design l.made;
+  same : progress_of l.design l.made ≡ with_marks (progress_of l.design l.fn.made) l.made.deposited;
+  passed : Passed (progress_of l.design l.made) l.from;
+}
+
+abbrev pub decreases-loop-number : goal.decreases-loop-number
+decreases-loop-number l = length l.design.processes - l.from

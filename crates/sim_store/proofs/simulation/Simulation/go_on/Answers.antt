@@ -1,18 +1,16 @@
-use Rattle.std.proofs.Common.{ℕ, suc, ◌+◌, ◌-◌, ◌<◌, ◌≡◌, ◌++◌, [], ◌∷◌, Bool, false, List, Some, length, get_or, take, drop, ap, sym, ◌∙◌, subst, arith}
-use Rattle.std.proofs.lemmas.List.{length-append, length-map}
+use Rattle.std.proofs.Common.{ℕ, suc, ◌+◌, ◌-◌, ◌<◌, ◌≡◌, ◌++◌, [], ◌∷◌, List, Some, length, get_or, ap, sym, ◌∙◌, subst, arith}
+use Rattle.std.proofs.lemmas.List.{length-append}
 use Rattle.std.specs.List.{filter}
 use Rattle.sim_rows.proofs.Flat.{written_back}
-use Rattle.sim_design.specs.Designs.{Design}
 use Rattle.sim_state.specs.declared.record.Record.{Record}
-use Rattle.sim_state.specs.Contents.{sources_of}
 use Rattle.sim_state.specs.Log.{record_at}
 use Rattle.sim_state.specs.Records.{changes_from}
 use Rattle.sim_store.specs.Standard.{state_of}
 use Rattle.sim_store.specs.Agreement.{is_of}
-use Rattle.sim_store.specs.Progress.{AreTotals, Progress, IsComplete, after, cleared, next_after}
+use Rattle.sim_store.specs.Progress.{AreTotals, Progress, IsComplete, after, next_after}
 use Rattle.sim_store.specs.contracts.simulation.Simulation.{the_view}
 use Rattle.sim_store.proofs.Counting.{changes-few, last-record, totals-few, totals-go-on}
-use Rattle.sim_store.proofs.Going.{advanced-count, advanced-keeps, advanced-time, cycle-count, net-count, next-is, slow}
+use Rattle.sim_store.proofs.Going.{advanced-count, advanced-keeps, advanced-time, cycle-count, next-is, none-marked-now, slow}
 use Rattle.sim_store.proofs.simulation.Simulation.go_on.Goals as goal
 
 pub next_delta-self-inside-requires : goal.next_delta-self-inside-requires
@@ -22,28 +20,28 @@ next_delta-self-inside-requires c =
 
 pub update-requires : goal.update-requires
 update-requires c =
-    ap length c.self.invariant.made.sources_are ∙ (length-map c.self.inside.design.nets _ ∙ sym (net-count c.self.invariant.progress))
+    let all = subst IsComplete (sym c.self.view_is) c.requires.complete in
+    record {
+      next = next-is c.self.invariant.progress all ∙ subst (λ (g : Progress). next_after g ≡ Some c.args.time) (sym c.self.view_is) c.requires.next;
+    }
 
 pub record-requires-clause-few : goal.record-requires-clause-few
 record-requires-clause-few c =
     let s = c.self.inside in
     let all = subst IsComplete (sym c.self.view_is) c.requires.complete in
-    let count = advanced-count c.self.invariant.progress all c.args.time c.update.new.self
-    (λ d x e. c.update.ensures d x (c.self.invariant.made.sources_are ∙ ap (λ (g : Design). sources_of g.nets) (sym e))) in
+    let count = advanced-count c.self.invariant.progress all c.args.time c.update.new.self c.in_ok-update.ensures.ok in
     omega (arith, count, c.self.invariant.progress.few)
 
 pub record-requires-clause-changes : goal.record-requires-clause-changes
 record-requires-clause-changes c =
     let all = subst IsComplete (sym c.self.view_is) c.requires.complete in
-    let count = advanced-count c.self.invariant.progress all c.args.time c.update.new.self
-    (λ d x e. c.update.ensures d x (c.self.invariant.made.sources_are ∙ ap (λ (g : Design). sources_of g.nets) (sym e))) in
+    let count = advanced-count c.self.invariant.progress all c.args.time c.update.new.self c.in_ok-update.ensures.ok in
     omega (arith, count, ap length c.nets-nets.ensures.value, c.in_ok-reserve.ensures.changes)
 
 pub find-requires : goal.find-requires
 find-requires c =
     let all = subst IsComplete (sym c.self.view_is) c.requires.complete in
-    let count = advanced-count c.self.invariant.progress all c.args.time c.update.new.self
-    (λ d x e. c.update.ensures d x (c.self.invariant.made.sources_are ∙ ap (λ (g : Design). sources_of g.nets) (sym e))) in
+    let count = advanced-count c.self.invariant.progress all c.args.time c.update.new.self c.in_ok-update.ensures.ok in
     c.self.invariant.made.wakes_sized ∙ sym count
 
 pub count_last-requires-clause-room : goal.count_last-requires-clause-room
@@ -52,8 +50,7 @@ count_last-requires-clause-room c n =
     let i = c.self.invariant.progress in
     let few : (the_view s).cycles < 4294967296 = subst (λ (g : Progress). g.cycles < 4294967296) (sym c.self.view_is) c.requires.bound in
     let all = subst IsComplete (sym c.self.view_is) c.requires.complete in
-    let count = advanced-count i all c.args.time c.update.new.self
-    (λ d x e. c.update.ensures d x (c.self.invariant.made.sources_are ∙ ap (λ (g : Design). sources_of g.nets) (sym e))) in
+    let count = advanced-count i all c.args.time c.update.new.self c.in_ok-update.ensures.ok in
     let one : Record = record { time = c.args.time; delta = c.next_delta-self-inside.result; changes = changes_from 0 c.update.new.self.nets } in
     let records : c.record.new.log.records ≡ s.made.log.records ++ one ∷ [] = c.record.ensures ∙ ap (λ rs. rs ++ one ∷ []) c.in_ok-reserve.ensures.same in
     let last = last-record s.made.log.records c.record.new.log.records one records in
@@ -78,17 +75,14 @@ invariant_of-self-2 c =
     let next = next-is i all ∙ subst (λ (g : Progress). next_after g ≡ Some c.args.time) (sym c.self.view_is) c.requires.next in
     let one : Record = record { time = c.args.time; delta = c.next_delta-self-inside.result; changes = changes_from 0 c.update.new.self.nets } in
     let records : c.record.new.log.records ≡ s.made.log.records ++ one ∷ [] = c.record.ensures ∙ ap (λ rs. rs ++ one ∷ []) c.in_ok-reserve.ensures.same in
-    let marks = written_back c.clear.new.marks s.made.deposited.items s.made.deposited.len (ap length c.clear.ensures
-    ∙ (length-map c.as_mut_slice-2.result.now (λ (b : Bool). false) ∙ c.as_mut_slice-2.ensures.len)) ∙ (c.clear.ensures
-    ∙ ap cleared c.as_mut_slice-2.ensures.value) in
+    let marks = c.clear.ensures ∙ none-marked-now s.made.deposited in
     let last = last-record s.made.log.records c.record.new.log.records one records in
     let written = written_back c.count_last.new.totals s.made.totals.items s.made.totals.len (c.count_last.ensures.sized ∙ c.as_mut_slice.ensures.len) in
     record {
       made = c.self.invariant.made;
       progress = advanced-keeps i all c.args.time next c.requires.early c.next_delta-self-inside.result (length c.record.new.log.records - 1)
           c.update.new.self c.record.new.log.records c.find.new.self _ c.next_delta-self-inside.ensures
-          (λ d x e. c.update.ensures d x (c.self.invariant.made.sources_are ∙ ap (λ (g : Design). sources_of g.nets) (sym e)))
-          records c.find.ensures.sized (λ p lt. c.find.ensures.found h.design.processes p c.self.invariant.made.wakes_are lt) marks
+          c.in_ok-update.ensures.ok records c.find.ensures.sized (λ p lt. c.find.ensures.found h.design.processes p c.self.invariant.made.wakes_are lt) marks
           (omega (arith, ap length records, length-append s.made.log.records (one ∷ []), cycle-count i));
       counts = subst (AreTotals (length s.design.nets) c.record.new.log.records) (sym written)
           (totals-go-on (length s.design.nets) s.made.log.records c.record.new.log.records one s.made.totals.items c.count_last.new.totals
@@ -105,18 +99,10 @@ returns-clause-ok c =
     let s = c.self.inside in
     let one : Record = record { time = c.args.time; delta = c.next_delta-self-inside.result; changes = changes_from 0 c.update.new.self.nets } in
     let records : c.record.new.log.records ≡ s.made.log.records ++ one ∷ [] = c.record.ensures ∙ ap (λ rs. rs ++ one ∷ []) c.in_ok-reserve.ensures.same in
-    let marks = written_back c.clear.new.marks s.made.deposited.items s.made.deposited.len (ap length c.clear.ensures
-    ∙ (length-map c.as_mut_slice-2.result.now (λ (b : Bool). false) ∙ c.as_mut_slice-2.ensures.len)) ∙ (c.clear.ensures
-    ∙ ap cleared c.as_mut_slice-2.ensures.value) in
+    let marks = c.clear.ensures ∙ none-marked-now s.made.deposited in
     let cycles : length c.record.new.log.records - 1 ≡ suc (length s.made.log.records - 1) =
     omega (arith, ap length records, length-append s.made.log.records (one ∷ []), cycle-count c.self.invariant.progress) in
-    ap (λ (k : ℕ). record {
-      design = s.design;
-      cycles = k;
-      deposited = take s.made.deposited.len (c.clear.new.marks ++ drop (length c.clear.new.marks) s.made.deposited.items);
-    }) cycles
-    ∙ (ap (λ (w : List Bool). record { design = s.design; cycles = suc (length s.made.log.records - 1); deposited = w }) marks
-    ∙ ap after c.self.view_is)
+    rw (cycles, marks) (ap after c.self.view_is)
 
 pub returns-clause-at : goal.returns-clause-at
 returns-clause-at c =

@@ -1,10 +1,15 @@
-use Rattle.std.proofs.Common.{sym, ap, ◌∙◌, subst}
+use Rattle.std.proofs.Common.{◌≡◌, ℕ, Option, sym, ap, ◌∙◌, subst}
+use Rattle.std.proofs.lemmas.Result.{IfOk-weaker}
+use Rattle.sim_state.specs.Drivers.{next_time, waves}
 use Rattle.sim_store.specs.Progress.{IsComplete, next_after}
 use Rattle.sim_store.specs.contracts.simulation.Simulation.{the_view}
 use Rattle.sim_store.proofs.Going.{next-is}
 use Rattle.sim_store.proofs.simulation.Simulation.next.Goals as goal
 
-pub returns : goal.returns
-returns c = λ all.
-    let here : IsComplete (the_view c.self.inside) = subst IsComplete (sym c.self.view_is) all in
-    c.next.ensures.value ∙ (next-is c.self.invariant.progress here ∙ ap next_after c.self.view_is)
+pub returns-clause-value : goal.returns-clause-value
+returns-clause-value c =
+    IfOk-weaker c.next.result (λ (next : Option ℕ). next ≡ next_time (waves c.self.inside.made.state.owned))
+    (λ (next : Option ℕ). IsComplete c.args.self.now → next ≡ next_after c.args.self.now)
+    (λ next is all. let here : IsComplete (the_view c.self.inside) = subst IsComplete (sym c.self.view_is) all in
+    is ∙ (next-is c.self.invariant.progress here ∙ ap next_after c.self.view_is))
+    c.next.ensures.value

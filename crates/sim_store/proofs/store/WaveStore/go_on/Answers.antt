@@ -1,4 +1,5 @@
-use Rattle.std.proofs.Common.{◌≡◌, None, sym, ◌∙◌, subst}
+use Rattle.std.proofs.Common.{◌≡◌, None, ap, sym, ◌∙◌, subst}
+use Rattle.sim_store.specs.Progress.{Progress, after}
 use Rattle.sim_store.specs.Store.{Store}
 use Rattle.sim_store.specs.contracts.store.WaveStore.{the_view}
 use Rattle.sim_store.proofs.Stores.{store-goes-on}
@@ -9,5 +10,7 @@ invariant_of-self-in-Some-2 c =
     let s = c.self.inside in
     let w = the_view s in
     let running = subst (λ (v : Store). v.ended ≡ None) (sym c.self.view_is) c.requires.open in
-    store-goes-on w c.go_on.new.self c.in-Some.field-0 c.self.invariant running c.in_ok-go_on-in-Some-2.ensures.ok c.in-Some.ensures.0 c.in-Some.ensures.1
-    (λ e. c.if-cycles-self.false (c.cycles.ensures ∙ e)) c.in_ok-go_on-in-Some-2.ensures.at
+    let same = c.next_within.ensures.same in
+    let next = rw c.in-Some.is at c.in_ok-next_within.ensures.value in
+    store-goes-on w c.go_on.new.self c.in-Some.field-0 c.self.invariant running (c.in_ok-go_on-in-Some-2.ensures.ok ∙ ap after same) next.0 next.1
+    (λ e. c.if-cycles-self.false (c.cycles.ensures ∙ (ap (λ (g : Progress). g.cycles) same ∙ e))) c.in_ok-go_on-in-Some-2.ensures.at
