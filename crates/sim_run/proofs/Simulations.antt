@@ -1,5 +1,5 @@
 -- From the run of a design to that of a text.
-use Rattle.std.proofs.Common.{◌≡◌, ℕ, inl, inr, List, Result, Ok, Err, refl, sym, subst}
+use Rattle.std.proofs.Common.{◌≡◌, ◌≢◌, ℕ, inl, inr, List, Result, Ok, Err, refl, sym, subst}
 use Rattle.std.specs.Prelude.{◌⊎◌, MatchResult, IfOk, IfErr}
 use Rattle.sim_design.specs.Designs.{Design}
 use Rattle.sim_store.specs.Store.{Store}
@@ -21,3 +21,14 @@ pub text_run : (text : List ℕ) (options : Options) (design : Design) (r : Resu
     → MatchResult r (λ run. HasDesign text options (λ b. Finishes b options (history_of run))) (λ e. IsRefusal text options e)
 text_run text options design (Ok run) d f e = record { design = design; is_design = d; holds = f }
 text_run text options design (Err e) d f why = stopped text options design e d why
+
+-- A listing that was not written, but for a failed write, was refused for want of memory.
+unwritten : (text : List ℕ) (options : Options) (e : RunError) → (e ≡ refusal.Write) ⊎ (e ≡ refusal.Memory) → (e ≡ refusal.Write → ⊥)
+    → IsRefusal text options e
+unwritten text options e (inl p) other = absurd (other p)
+unwritten text options e (inr p) other = subst (IsRefusal text options) (sym p) tt
+
+pub not_written : (text : List ℕ) (options : Options) (r : Result (Unit {0}) RunError) → IfErr r (λ e. (e ≡ refusal.Write) ⊎ (e ≡ refusal.Memory))
+    → IfErr r (λ e. e ≢ refusal.Write → IsRefusal text options e)
+not_written text options (Ok done) why = tt
+not_written text options (Err e) why = unwritten text options e why
