@@ -16,23 +16,23 @@ use std::alloc::Global;
 
 /// Reads one name, or several with commas between them.
 #[tactic(auto, unfolding(sim_reading::specs::Declarations::names, sim_tree::specs::Input::separated))]
-pub fn names(alloc: Global, tokens: &mut Cursor<'_>) -> Result<Several<Name>, ParseError>
+pub fn names(alloc: Global, tokens: &mut Cursor) -> Result<Several<Name>, ParseError>
     ensures { Reads (spec.names (view tokens.old)) result (view tokens.new) }
 {
-    let mut found = Several::new(alloc, tokens.word(alloc)?)?;
+    let mut found = Several::new(alloc, tokens.word()?)?;
     for _turn in 0..tokens.left() {
         if !tokens.sees(Kind::Comma) {
             return Ok(found.fitted());
         }
         tokens.take();
-        found.push(tokens.word(alloc)?)?;
+        found.push(tokens.word()?)?;
     }
     Ok(found.fitted())
 }
 
 /// Reads the name written again, where a word stands, and says whether one does. `Syntax` comes at another word.
 #[tactic(auto, unfolding(sim_reading::specs::Declarations::repeated))]
-pub fn repeated(tokens: &mut Cursor<'_>, text: &[u8]) -> Result<bool, ParseError>
+pub fn repeated(tokens: &mut Cursor, text: &[u8]) -> Result<bool, ParseError>
     ensures { Reads (spec.repeated text.now (view tokens.old)) result (view tokens.new) }
 {
     if tokens.sees(Kind::Word) {
@@ -44,7 +44,7 @@ pub fn repeated(tokens: &mut Cursor<'_>, text: &[u8]) -> Result<bool, ParseError
 }
 
 #[tactic(auto, unfolding(sim_reading::specs::Declarations::initial))]
-fn initial(alloc: Global, tokens: &mut Cursor<'_>) -> Result<Option<Initial>, ParseError>
+fn initial(tokens: &mut Cursor) -> Result<Option<Initial>, ParseError>
     ensures { Reads (spec.initial (view tokens.old)) result (view tokens.new) }
 {
     if !tokens.eat(Kind::VariableAssign) {
@@ -55,12 +55,12 @@ fn initial(alloc: Global, tokens: &mut Cursor<'_>) -> Result<Option<Initial>, Pa
             let (value, at) = tokens.literal()?;
             Ok(Some(Initial::Literal { value, at }))
         }
-        _ => Ok(Some(Initial::Named(tokens.word(alloc)?))),
+        _ => Ok(Some(Initial::Named(tokens.word()?))),
     }
 }
 
 #[tactic(auto, unfolding(sim_reading::specs::Declarations::mode))]
-fn mode(tokens: &mut Cursor<'_>) -> Option<Mode>
+fn mode(tokens: &mut Cursor) -> Option<Mode>
     ensures { spec.mode (view tokens.old) ≡ Ok (result, view tokens.new) }
 {
     match tokens.peek() {
@@ -82,8 +82,7 @@ fn mode(tokens: &mut Cursor<'_>) -> Option<Mode>
 
 #[tactic(auto, unfolding(sim_reading::specs::Declarations::port_of))]
 fn port_of(
-    alloc: Global,
-    tokens: &mut Cursor<'_>,
+    tokens: &mut Cursor,
     signal: bool,
     names: Several<Name>,
 ) -> Result<PortDeclaration, ParseError>
@@ -91,8 +90,8 @@ fn port_of(
 {
     tokens.expect(Kind::Colon)?;
     let mode = mode(tokens);
-    let mark = tokens.word(alloc)?;
-    let initial = initial(alloc, tokens)?;
+    let mark = tokens.word()?;
+    let initial = initial(tokens)?;
     Ok(PortDeclaration {
         signal,
         names,
@@ -103,16 +102,16 @@ fn port_of(
 }
 
 #[tactic(auto, unfolding(sim_reading::specs::Declarations::port))]
-fn port(alloc: Global, tokens: &mut Cursor<'_>) -> Result<PortDeclaration, ParseError>
+fn port(alloc: Global, tokens: &mut Cursor) -> Result<PortDeclaration, ParseError>
     ensures { Reads (spec.port (view tokens.old)) result (view tokens.new) }
 {
     let signal = tokens.eat(Kind::Signal);
     let names = names(alloc, tokens)?;
-    port_of(alloc, tokens, signal, names)
+    port_of(tokens, signal, names)
 }
 
 #[tactic(auto, unfolding(sim_reading::specs::Declarations::port_list, sim_tree::specs::Input::separated))]
-fn port_list(alloc: Global, tokens: &mut Cursor<'_>) -> Result<Items<PortDeclaration>, ParseError>
+fn port_list(alloc: Global, tokens: &mut Cursor) -> Result<Items<PortDeclaration>, ParseError>
     ensures { Reads (spec.port_list (view tokens.old)) result (view tokens.new) }
 {
     let mut found = one(alloc, port(alloc, tokens)?)?;
@@ -128,7 +127,7 @@ fn port_list(alloc: Global, tokens: &mut Cursor<'_>) -> Result<Items<PortDeclara
 
 /// Reads a port clause, where one is written (IEEE 1076-2008, 6.5.6.3). Where none is, there are no ports.
 #[tactic(auto, unfolding(sim_reading::specs::Declarations::ports))]
-pub fn ports(alloc: Global, tokens: &mut Cursor<'_>) -> Result<Items<PortDeclaration>, ParseError>
+pub fn ports(alloc: Global, tokens: &mut Cursor) -> Result<Items<PortDeclaration>, ParseError>
     ensures { Reads (spec.ports (view tokens.old)) result (view tokens.new) }
 {
     if !tokens.eat(Kind::Port) {
@@ -142,13 +141,13 @@ pub fn ports(alloc: Global, tokens: &mut Cursor<'_>) -> Result<Items<PortDeclara
 }
 
 #[tactic(auto, unfolding(sim_reading::specs::Declarations::object))]
-fn object(alloc: Global, tokens: &mut Cursor<'_>) -> Result<ObjectDeclaration, ParseError>
+fn object(alloc: Global, tokens: &mut Cursor) -> Result<ObjectDeclaration, ParseError>
     ensures { Reads (spec.object (view tokens.old)) result (view tokens.new) }
 {
     let names = names(alloc, tokens)?;
     tokens.expect(Kind::Colon)?;
-    let mark = tokens.word(alloc)?;
-    let initial = initial(alloc, tokens)?;
+    let mark = tokens.word()?;
+    let initial = initial(tokens)?;
     tokens.expect(Kind::Semicolon)?;
     Ok(ObjectDeclaration {
         names,
@@ -159,10 +158,7 @@ fn object(alloc: Global, tokens: &mut Cursor<'_>) -> Result<ObjectDeclaration, P
 
 /// Reads the variable declarations of a process (IEEE 1076-2008, 6.4.2.4).
 #[tactic(auto, unfolding(sim_reading::specs::Declarations::variables, sim_tree::specs::Input::many))]
-pub fn variables(
-    alloc: Global,
-    tokens: &mut Cursor<'_>,
-) -> Result<Items<ObjectDeclaration>, ParseError>
+pub fn variables(alloc: Global, tokens: &mut Cursor) -> Result<Items<ObjectDeclaration>, ParseError>
     ensures { Reads (spec.variables (view tokens.old)) result (view tokens.new) }
 {
     let mut found = Vec::new(alloc);
@@ -178,7 +174,7 @@ pub fn variables(
 
 #[tactic(auto, unfolding(sim_reading::specs::Declarations::component_end))]
 fn component_end(
-    tokens: &mut Cursor<'_>,
+    tokens: &mut Cursor,
     name: Name,
     is: bool,
     ports: Items<PortDeclaration>,
@@ -198,11 +194,11 @@ fn component_end(
 }
 
 #[tactic(auto, unfolding(sim_reading::specs::Declarations::component))]
-fn component(alloc: Global, tokens: &mut Cursor<'_>) -> Result<ComponentDeclaration, ParseError>
+fn component(alloc: Global, tokens: &mut Cursor) -> Result<ComponentDeclaration, ParseError>
     ensures { Reads (spec.component (view tokens.old)) result (view tokens.new) }
 {
     tokens.expect(Kind::Component)?;
-    let name = tokens.word(alloc)?;
+    let name = tokens.word()?;
     let is = tokens.eat(Kind::Is);
     let ports = ports(alloc, tokens)?;
     component_end(tokens, name, is, ports)
@@ -215,7 +211,7 @@ fn begins_declaration(kind: Kind) -> bool
 }
 
 #[tactic(auto, unfolding(sim_reading::specs::Declarations::declaration))]
-fn declaration(alloc: Global, tokens: &mut Cursor<'_>) -> Result<Declaration, ParseError>
+fn declaration(alloc: Global, tokens: &mut Cursor) -> Result<Declaration, ParseError>
     ensures { Reads (spec.declaration (view tokens.old)) result (view tokens.new) }
 {
     match tokens.peek() {
@@ -229,10 +225,7 @@ fn declaration(alloc: Global, tokens: &mut Cursor<'_>) -> Result<Declaration, Pa
 
 /// Reads the declarations of an architecture (IEEE 1076-2008, 3.3.2).
 #[tactic(auto, unfolding(sim_reading::specs::Declarations::declarations, sim_tree::specs::Input::many))]
-pub fn declarations(
-    alloc: Global,
-    tokens: &mut Cursor<'_>,
-) -> Result<Items<Declaration>, ParseError>
+pub fn declarations(alloc: Global, tokens: &mut Cursor) -> Result<Items<Declaration>, ParseError>
     ensures { Reads (spec.declarations (view tokens.old)) result (view tokens.new) }
 {
     let mut found = Vec::new(alloc);

@@ -16,10 +16,10 @@ use std::alloc::Global;
 const MOST_PARENTHESES: usize = 64;
 
 #[tactic(auto, unfolding(crate::specs::Expressions::named))]
-fn named(alloc: Global, tokens: &mut Cursor<'_>) -> Result<Expression, ParseError>
+fn named(tokens: &mut Cursor) -> Result<Expression, ParseError>
     ensures { Reads (spec.named (view tokens.old)) result (view tokens.new) }
 {
-    let name = tokens.word(alloc)?;
+    let name = tokens.word()?;
     match tokens.peek() {
         Kind::Tick => {
             tokens.take();
@@ -28,7 +28,7 @@ fn named(alloc: Global, tokens: &mut Cursor<'_>) -> Result<Expression, ParseErro
         }
         Kind::LeftParen => {
             tokens.take();
-            let argument = tokens.word(alloc)?;
+            let argument = tokens.word()?;
             tokens.expect(Kind::RightParen)?;
             Ok(Expression::Call {
                 function: name,
@@ -41,7 +41,7 @@ fn named(alloc: Global, tokens: &mut Cursor<'_>) -> Result<Expression, ParseErro
 
 #[cycle(expression)]
 #[tactic(auto, unfolding(crate::specs::Expressions::primary))]
-fn primary(alloc: Global, tokens: &mut Cursor<'_>, depth: usize) -> Result<Expression, ParseError>
+fn primary(alloc: Global, tokens: &mut Cursor, depth: usize) -> Result<Expression, ParseError>
     ensures { Reads (spec.primary (spec.nested depth) (view tokens.old)) result (view tokens.new) }
 {
     match tokens.peek() {
@@ -50,13 +50,13 @@ fn primary(alloc: Global, tokens: &mut Cursor<'_>, depth: usize) -> Result<Expre
             Ok(Expression::Literal { value, at })
         }
         Kind::LeftParen => nested(alloc, tokens, depth),
-        _ => named(alloc, tokens),
+        _ => named(tokens),
     }
 }
 
 #[cycle(expression)]
 #[tactic(auto, unfolding(crate::specs::Expressions::factor))]
-fn factor(alloc: Global, tokens: &mut Cursor<'_>, depth: usize) -> Result<Expression, ParseError>
+fn factor(alloc: Global, tokens: &mut Cursor, depth: usize) -> Result<Expression, ParseError>
     ensures { Reads (spec.factor (spec.nested depth) (view tokens.old)) result (view tokens.new) }
 {
     match tokens.peek() {
@@ -74,7 +74,7 @@ fn factor(alloc: Global, tokens: &mut Cursor<'_>, depth: usize) -> Result<Expres
 #[cycle(expression)]
 fn comparison(
     alloc: Global,
-    tokens: &mut Cursor<'_>,
+    tokens: &mut Cursor,
     depth: usize,
     left: Expression,
     operator: Relational,
@@ -95,7 +95,7 @@ fn comparison(
 
 #[cycle(expression)]
 #[tactic(auto, unfolding(crate::specs::Expressions::relation))]
-fn relation(alloc: Global, tokens: &mut Cursor<'_>, depth: usize) -> Result<Expression, ParseError>
+fn relation(alloc: Global, tokens: &mut Cursor, depth: usize) -> Result<Expression, ParseError>
     ensures { Reads (spec.relation (spec.nested depth) (view tokens.old)) result (view tokens.new) }
 {
     let left = factor(alloc, tokens, depth)?;
@@ -108,7 +108,7 @@ fn relation(alloc: Global, tokens: &mut Cursor<'_>, depth: usize) -> Result<Expr
 
 #[cycle(expression)]
 #[tactic(auto, unfolding(crate::specs::Expressions::operand))]
-fn operand(alloc: Global, tokens: &mut Cursor<'_>, depth: usize) -> Result<Operand, ParseError>
+fn operand(alloc: Global, tokens: &mut Cursor, depth: usize) -> Result<Operand, ParseError>
     ensures { Reads (spec.operand (spec.nested depth) (view tokens.old)) result (view tokens.new) }
 {
     let operator_at = tokens.take();
@@ -159,7 +159,7 @@ fn is_repeatable(operator: Logical) -> bool
 #[tactic(auto, unfolding(sim_tree::specs::Input::sees, sim_tree::specs::Input::left))]
 fn more_operands(
     alloc: Global,
-    tokens: &mut Cursor<'_>,
+    tokens: &mut Cursor,
     depth: usize,
     operator: Logical,
     second: Operand,
@@ -180,7 +180,7 @@ fn more_operands(
 #[tactic(auto, unfolding(crate::specs::Expressions::operands))]
 fn operands(
     alloc: Global,
-    tokens: &mut Cursor<'_>,
+    tokens: &mut Cursor,
     depth: usize,
     operator: Logical,
 ) -> Result<Items<Operand>, ParseError>
@@ -198,7 +198,7 @@ fn operands(
 #[cycle(expression)]
 fn chain(
     alloc: Global,
-    tokens: &mut Cursor<'_>,
+    tokens: &mut Cursor,
     depth: usize,
     first: Expression,
     operator: Logical,
@@ -216,11 +216,7 @@ fn chain(
 
 #[cycle(expression)]
 #[tactic(auto, unfolding(crate::specs::Expressions::expression_in))]
-fn expression_in(
-    alloc: Global,
-    tokens: &mut Cursor<'_>,
-    depth: usize,
-) -> Result<Expression, ParseError>
+fn expression_in(alloc: Global, tokens: &mut Cursor, depth: usize) -> Result<Expression, ParseError>
     ensures { Reads (spec.expression_in (spec.nested depth) (view tokens.old)) result (view tokens.new) }
 {
     let first = relation(alloc, tokens, depth)?;
@@ -232,7 +228,7 @@ fn expression_in(
 
 #[cycle(expression)]
 #[tactic(auto, unfolding(crate::specs::Expressions::nested, sim_tree::specs::Input::left))]
-fn nested(alloc: Global, tokens: &mut Cursor<'_>, depth: usize) -> Result<Expression, ParseError>
+fn nested(alloc: Global, tokens: &mut Cursor, depth: usize) -> Result<Expression, ParseError>
     ensures { Reads (spec.nested depth (view tokens.old)) result (view tokens.new) }
 {
     if depth == 0 {
@@ -248,7 +244,7 @@ fn nested(alloc: Global, tokens: &mut Cursor<'_>, depth: usize) -> Result<Expres
 /// Reads an expression (IEEE 1076-2008, 9.1). `Syntax` comes at the first token with which none goes on, `TooDeep` at a
 /// parenthesis inside 64 others.
 #[tactic(auto, unfolding(crate::specs::Expressions::expression))]
-pub fn expression(alloc: Global, tokens: &mut Cursor<'_>) -> Result<Expression, ParseError>
+pub fn expression(alloc: Global, tokens: &mut Cursor) -> Result<Expression, ParseError>
     ensures { Reads (spec.expression (view tokens.old)) result (view tokens.new) }
 {
     expression_in(alloc, tokens, MOST_PARENTHESES)

@@ -17,10 +17,10 @@ use sim_tree::{Cursor, ParseError};
 use std::alloc::Global;
 
 #[tactic(auto, unfolding(crate::specs::Waveforms::time_from, sim_tree::specs::Times::is_time))]
-fn time_from(alloc: Global, tokens: &mut Cursor<'_>, left: usize) -> Result<TimeLiteral, ParseError>
+fn time_from(tokens: &mut Cursor, left: usize) -> Result<TimeLiteral, ParseError>
     ensures { Reads (spec.time_from left (view tokens.old)) result (view tokens.new) }
 {
-    let (digits, at) = tokens.number(alloc)?;
+    let (digits, at) = tokens.number()?;
     let unit = tokens.unit()?;
     match TimeLiteral::of(digits, at, unit) {
         Some(literal) => Ok(literal),
@@ -31,20 +31,20 @@ fn time_from(alloc: Global, tokens: &mut Cursor<'_>, left: usize) -> Result<Time
 /// Reads a time: a number and a unit (IEEE 1076-2008, 5.2.4). `TimeRange` comes at the number, where the time is larger
 /// than the largest.
 #[tactic(auto, unfolding(crate::specs::Waveforms::time))]
-pub fn time(alloc: Global, tokens: &mut Cursor<'_>) -> Result<TimeLiteral, ParseError>
+pub fn time(tokens: &mut Cursor) -> Result<TimeLiteral, ParseError>
     ensures { Reads (spec.time (view tokens.old)) result (view tokens.new) }
 {
     let left = tokens.left();
-    time_from(alloc, tokens, left)
+    time_from(tokens, left)
 }
 
 #[tactic(auto, unfolding(crate::specs::Waveforms::element))]
-fn element(alloc: Global, tokens: &mut Cursor<'_>) -> Result<Element, ParseError>
+fn element(alloc: Global, tokens: &mut Cursor) -> Result<Element, ParseError>
     ensures { Reads (spec.element (view tokens.old)) result (view tokens.new) }
 {
     let value = expression(alloc, tokens)?;
     if tokens.eat(Kind::After) {
-        let after = time(alloc, tokens)?;
+        let after = time(tokens)?;
         Ok(Element {
             value,
             after: Some(after),
@@ -56,7 +56,7 @@ fn element(alloc: Global, tokens: &mut Cursor<'_>) -> Result<Element, ParseError
 
 /// Reads a waveform (IEEE 1076-2008, 10.5.2.1).
 #[tactic(auto, unfolding(crate::specs::Waveforms::waveform, sim_tree::specs::Input::separated, sim_tree::specs::Input::sees))]
-pub fn waveform(alloc: Global, tokens: &mut Cursor<'_>) -> Result<Waveform, ParseError>
+pub fn waveform(alloc: Global, tokens: &mut Cursor) -> Result<Waveform, ParseError>
     ensures { Reads (spec.waveform (view tokens.old)) result (view tokens.new) }
 {
     let mut found = Several::new(alloc, element(alloc, tokens)?)?;
@@ -72,7 +72,7 @@ pub fn waveform(alloc: Global, tokens: &mut Cursor<'_>) -> Result<Waveform, Pars
 
 /// Reads a delay mechanism, where one is written (IEEE 1076-2008, 10.5.2.1).
 #[tactic(auto, unfolding(crate::specs::Waveforms::delay))]
-pub fn delay(alloc: Global, tokens: &mut Cursor<'_>) -> Result<DelayMechanism, ParseError>
+pub fn delay(tokens: &mut Cursor) -> Result<DelayMechanism, ParseError>
     ensures { Reads (spec.delay (view tokens.old)) result (view tokens.new) }
 {
     match tokens.peek() {
@@ -86,7 +86,7 @@ pub fn delay(alloc: Global, tokens: &mut Cursor<'_>) -> Result<DelayMechanism, P
         }
         Kind::Reject => {
             tokens.take();
-            let limit = time(alloc, tokens)?;
+            let limit = time(tokens)?;
             tokens.expect(Kind::Inertial)?;
             Ok(DelayMechanism::Reject(limit))
         }
@@ -98,7 +98,7 @@ pub fn delay(alloc: Global, tokens: &mut Cursor<'_>) -> Result<DelayMechanism, P
 #[tactic(auto, unfolding(crate::specs::Waveforms::condition))]
 fn condition(
     alloc: Global,
-    tokens: &mut Cursor<'_>,
+    tokens: &mut Cursor,
     waveform: Waveform,
 ) -> Result<ConditionalWaveform, ParseError>
     ensures { Reads (spec.condition waveform (view tokens.old)) result (view tokens.new) }
@@ -111,7 +111,7 @@ fn condition(
 }
 
 #[tactic(auto, unfolding(crate::specs::Waveforms::waveforms, sim_tree::specs::Input::left))]
-fn waveforms(alloc: Global, tokens: &mut Cursor<'_>) -> Result<ConditionalWaveforms, ParseError>
+fn waveforms(alloc: Global, tokens: &mut Cursor) -> Result<ConditionalWaveforms, ParseError>
     ensures { Reads (spec.waveforms (view tokens.old)) result (view tokens.new) }
 {
     let mut conditional = Vec::new(alloc);
@@ -138,14 +138,14 @@ fn waveforms(alloc: Global, tokens: &mut Cursor<'_>) -> Result<ConditionalWavefo
 #[tactic(auto, unfolding(crate::specs::Waveforms::assigned))]
 pub fn assigned(
     alloc: Global,
-    tokens: &mut Cursor<'_>,
+    tokens: &mut Cursor,
     label: Option<Name>,
     target: Name,
 ) -> Result<ConcurrentSignalAssignment, ParseError>
     ensures { Reads (spec.assigned label target (view tokens.old)) result (view tokens.new) }
 {
     tokens.expect(Kind::SignalAssign)?;
-    let delay = delay(alloc, tokens)?;
+    let delay = delay(tokens)?;
     let waveforms = waveforms(alloc, tokens)?;
     tokens.expect(Kind::Semicolon)?;
     Ok(ConcurrentSignalAssignment {

@@ -58,7 +58,7 @@ step_is Processes i = refl
 step_is Drivers i = refl
 step_is Instances i = refl
 
--- ---- without the cap: what is in a block with so many levels below it
+-- ---- without the cap: what is in a block with a number of levels below it
 steps : (Instance → ℕ) → List Instance → ℕ
 steps f [] = 0
 steps f (i ∷ is) = f i + steps f is

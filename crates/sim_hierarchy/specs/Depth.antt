@@ -5,7 +5,7 @@ use Rattle.sim_hierarchy.specs.declared.blocks.Instance.{Instance}
 use Rattle.sim_hierarchy.specs.declared.blocks.Block.{Block}
 use Rattle.sim_hierarchy.specs.Blocks.{block_of}
 
--- whether a chain of so many instances hangs below a block
+-- whether a chain of this many instances hangs below a block
 unfoldable pub has_chain : List Block → ℕ → Block → Bool
 has_chain blocks zero b = true
 has_chain blocks (suc k) b = list_any (λ (i : Instance). has_chain blocks k (block_of blocks i)) b.instances

@@ -158,7 +158,7 @@ fn next(
     Ok(rows)
 }
 
-/// The numbers of the blocks with so many levels below them. Where one level more changes none, no further one does.
+/// The numbers of the blocks with a number of levels below them. Where one level more changes none, no further one does.
 fn tables(
     alloc: Global,
     kind: Kind,

@@ -56,7 +56,7 @@ fn next(alloc: Global, table: &[bool], blocks: &[Block]) -> Result<Items<bool>, 
     Ok(rows)
 }
 
-/// Which blocks have a chain of so many instances below them. Where one level more changes no answer, no further one does.
+/// Which blocks have a chain of this many instances below them. Where one level more changes no answer, no further one does.
 fn tables(alloc: Global, blocks: &[Block], levels: usize) -> Result<Items<bool>, AllocError>
     ensures { IfOk result (λ r. r ≡ spec.table_at blocks.now levels) }
 {

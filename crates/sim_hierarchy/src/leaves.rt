@@ -13,7 +13,7 @@ use sqlite_items::Items;
 use std::alloc::{AllocError, Global};
 use std::mem;
 
-/// No leaves for so many ports and signals.
+/// No leaves for this number of ports and signals.
 pub fn none(alloc: Global, count: usize) -> Result<Vec<Items<Source>>, AllocError>
     ensures { IfOk result (λ r. r.items ≡ replicate count []) }
 {

@@ -19,7 +19,7 @@ use std::alloc::{AllocError, Global};
 /// The top, and 32 levels of instances below it.
 const LEVELS: usize = 33;
 
-/// Lays a block and what stands below it, so many levels, and gives the nets.
+/// Lays a block and what stands below it, a number of levels, and gives the nets.
 #[cycle(walk)]
 #[tactic(auto, unfolding(crate::specs::Laid::laid))]
 fn block(

@@ -22,7 +22,7 @@ const MOST_IFS: usize = 64;
 /// Reads the label written again, where a word stands, and says whether one does. `Syntax` comes at another word, and at any
 /// where there is no label.
 #[tactic(auto, unfolding(sim_reading::specs::Statements::label_again, sim_tree::specs::Input::left))]
-pub fn label_again(tokens: &mut Cursor<'_>, label: &Option<Name>) -> Result<bool, ParseError>
+pub fn label_again(tokens: &mut Cursor, label: &Option<Name>) -> Result<bool, ParseError>
     ensures { Reads (spec.label_again label.now (view tokens.old)) result (view tokens.new) }
 {
     if !tokens.sees(Kind::Word) {
@@ -40,7 +40,7 @@ pub fn label_again(tokens: &mut Cursor<'_>, label: &Option<Name>) -> Result<bool
 #[tactic(auto, unfolding(sim_reading::specs::Statements::variable_assigned))]
 fn variable_assigned(
     alloc: Global,
-    tokens: &mut Cursor<'_>,
+    tokens: &mut Cursor,
     target: Name,
 ) -> Result<Statement, ParseError>
     ensures { Reads (spec.variable_assigned target (view tokens.old)) result (view tokens.new) }
@@ -54,13 +54,13 @@ fn variable_assigned(
 #[tactic(auto, unfolding(sim_reading::specs::Statements::signal_assigned))]
 fn signal_assigned(
     alloc: Global,
-    tokens: &mut Cursor<'_>,
+    tokens: &mut Cursor,
     target: Name,
 ) -> Result<Statement, ParseError>
     ensures { Reads (spec.signal_assigned target (view tokens.old)) result (view tokens.new) }
 {
     tokens.expect(Kind::SignalAssign)?;
-    let delay = delay(alloc, tokens)?;
+    let delay = delay(tokens)?;
     let waveform = waveform(alloc, tokens)?;
     tokens.expect(Kind::Semicolon)?;
     Ok(Statement::Signal(SignalAssignment {
@@ -71,7 +71,7 @@ fn signal_assigned(
 }
 
 #[tactic(auto, unfolding(sim_reading::specs::Statements::assigned))]
-fn assigned(alloc: Global, tokens: &mut Cursor<'_>, target: Name) -> Result<Statement, ParseError>
+fn assigned(alloc: Global, tokens: &mut Cursor, target: Name) -> Result<Statement, ParseError>
     ensures { Reads (spec.assigned target (view tokens.old)) result (view tokens.new) }
 {
     match tokens.peek() {
@@ -81,7 +81,7 @@ fn assigned(alloc: Global, tokens: &mut Cursor<'_>, target: Name) -> Result<Stat
 }
 
 #[tactic(auto, unfolding(sim_reading::specs::Statements::null))]
-fn null(tokens: &mut Cursor<'_>) -> Result<Statement, ParseError>
+fn null(tokens: &mut Cursor) -> Result<Statement, ParseError>
     ensures { Reads (spec.null (view tokens.old)) result (view tokens.new) }
 {
     tokens.take();
@@ -100,7 +100,7 @@ fn begins_statement(kind: Kind) -> bool
 #[tactic(auto, unfolding(sim_reading::specs::Statements::labelled))]
 fn labelled(
     alloc: Global,
-    tokens: &mut Cursor<'_>,
+    tokens: &mut Cursor,
     depth: usize,
     label: &Option<Name>,
 ) -> Result<Statement, ParseError>
@@ -110,7 +110,7 @@ fn labelled(
         Kind::If => if_statement(alloc, tokens, depth, label),
         Kind::Null => null(tokens),
         _ => {
-            let target = tokens.word(alloc)?;
+            let target = tokens.word()?;
             assigned(alloc, tokens, target)
         }
     }
@@ -120,7 +120,7 @@ fn labelled(
 #[cycle(statement)]
 fn named(
     alloc: Global,
-    tokens: &mut Cursor<'_>,
+    tokens: &mut Cursor,
     depth: usize,
     first: Name,
 ) -> Result<Sequential, ParseError>
@@ -141,7 +141,7 @@ fn named(
 
 #[cycle(statement)]
 #[tactic(auto, unfolding(sim_reading::specs::Statements::statement))]
-fn statement(alloc: Global, tokens: &mut Cursor<'_>, depth: usize) -> Result<Sequential, ParseError>
+fn statement(alloc: Global, tokens: &mut Cursor, depth: usize) -> Result<Sequential, ParseError>
     ensures { Reads (spec.statement (spec.if_statement depth) (view tokens.old)) result (view tokens.new) }
 {
     match tokens.peek() {
@@ -160,7 +160,7 @@ fn statement(alloc: Global, tokens: &mut Cursor<'_>, depth: usize) -> Result<Seq
             })
         }
         _ => {
-            let first = tokens.word(alloc)?;
+            let first = tokens.word()?;
             named(alloc, tokens, depth, first)
         }
     }
@@ -170,7 +170,7 @@ fn statement(alloc: Global, tokens: &mut Cursor<'_>, depth: usize) -> Result<Seq
 #[tactic(auto, unfolding(sim_reading::specs::Statements::sequence, sim_tree::specs::Input::many))]
 fn sequence(
     alloc: Global,
-    tokens: &mut Cursor<'_>,
+    tokens: &mut Cursor,
     depth: usize,
 ) -> Result<Items<Sequential>, ParseError>
     ensures { Reads (spec.sequence (spec.if_statement depth) (view tokens.old)) result (view tokens.new) }
@@ -186,7 +186,7 @@ fn sequence(
 }
 
 #[tactic(auto, unfolding(crate::specs::Conditions::condition))]
-fn condition(alloc: Global, tokens: &mut Cursor<'_>) -> Result<Expression, ParseError>
+fn condition(alloc: Global, tokens: &mut Cursor) -> Result<Expression, ParseError>
     ensures { Reads (condition (view tokens.old)) result (view tokens.new) }
 {
     let condition = expression(alloc, tokens)?;
@@ -196,7 +196,7 @@ fn condition(alloc: Global, tokens: &mut Cursor<'_>) -> Result<Expression, Parse
 
 #[cycle(statement)]
 #[tactic(auto, unfolding(sim_reading::specs::Statements::branch, crate::specs::Conditions::condition))]
-fn branch(alloc: Global, tokens: &mut Cursor<'_>, depth: usize) -> Result<Branch, ParseError>
+fn branch(alloc: Global, tokens: &mut Cursor, depth: usize) -> Result<Branch, ParseError>
     ensures { Reads (spec.branch (spec.if_statement depth) (view tokens.old)) result (view tokens.new) }
 {
     let condition = condition(alloc, tokens)?;
@@ -209,11 +209,7 @@ fn branch(alloc: Global, tokens: &mut Cursor<'_>, depth: usize) -> Result<Branch
 
 #[cycle(statement)]
 #[tactic(auto, unfolding(sim_reading::specs::Statements::branches, sim_tree::specs::Input::separated))]
-fn branches(
-    alloc: Global,
-    tokens: &mut Cursor<'_>,
-    depth: usize,
-) -> Result<Items<Branch>, ParseError>
+fn branches(alloc: Global, tokens: &mut Cursor, depth: usize) -> Result<Items<Branch>, ParseError>
     ensures { Reads (spec.branches (spec.if_statement depth) (view tokens.old)) result (view tokens.new) }
 {
     let mut found = one(alloc, branch(alloc, tokens, depth)?)?;
@@ -231,7 +227,7 @@ fn branches(
 #[tactic(auto, unfolding(sim_reading::specs::Statements::otherwise))]
 fn otherwise(
     alloc: Global,
-    tokens: &mut Cursor<'_>,
+    tokens: &mut Cursor,
     depth: usize,
 ) -> Result<Option<Items<Sequential>>, ParseError>
     ensures { Reads (spec.otherwise (spec.if_statement depth) (view tokens.old)) result (view tokens.new) }
@@ -245,7 +241,7 @@ fn otherwise(
 
 #[tactic(auto, unfolding(sim_reading::specs::Statements::if_end))]
 fn if_end(
-    tokens: &mut Cursor<'_>,
+    tokens: &mut Cursor,
     label: &Option<Name>,
     branches: Items<Branch>,
     otherwise: Option<Items<Sequential>>,
@@ -267,7 +263,7 @@ fn if_end(
 #[tactic(auto, unfolding(sim_reading::specs::Statements::if_statement, sim_tree::specs::Input::left))]
 fn if_statement(
     alloc: Global,
-    tokens: &mut Cursor<'_>,
+    tokens: &mut Cursor,
     depth: usize,
     label: &Option<Name>,
 ) -> Result<Statement, ParseError>
@@ -284,7 +280,7 @@ fn if_statement(
 
 /// Reads the statements of a process (IEEE 1076-2008, 10.1). `TooDeep` comes at an `if` inside 64 others.
 #[tactic(auto, unfolding(sim_reading::specs::Statements::statements))]
-pub fn statements(alloc: Global, tokens: &mut Cursor<'_>) -> Result<Items<Sequential>, ParseError>
+pub fn statements(alloc: Global, tokens: &mut Cursor) -> Result<Items<Sequential>, ParseError>
     ensures { Reads (spec.statements (view tokens.old)) result (view tokens.new) }
 {
     sequence(alloc, tokens, MOST_IFS)

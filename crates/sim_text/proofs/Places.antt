@@ -1,6 +1,6 @@
 -- Where the faults of a file stand among its tokens.
 use Rattle.std.proofs.Common.{◌≡◌, ◌≢◌, ℕ, get_or, ◌+◌, ◌-◌, ◌<◌, ◌≤◌, ◌⊎◌, inl, inr, List, ◌∷◌, ◌++◌, length, Some, None, Err, refl, sym, ap, subst}
-use Rattle.std.proofs.Common.{◌∙◌, arith, length-append}
+use Rattle.std.proofs.Common.{Result, Ok, IfOk, IfErr, ◌∙◌, arith, length-append}
 use Rattle.std.specs.List.{slice_get, Contains}
 use Rattle.std.proofs.lemmas.List.Elements.{Contains-get_or, Contains-append_right}
 use Rattle.std.proofs.lemmas.Option.{slice_get_read, slice_get_cases}
@@ -11,7 +11,9 @@ use Rattle.sim_tree.specs.declared.error.ParseError.TheVariants as error
 use Rattle.sim_tree.specs.Input.{Input, Reads}
 use Rattle.sim_tree.specs.Faults.{IsTooLarge, IsOpening}
 use Rattle.sim_reading.specs.Units.{file}
-use Rattle.sim_reading.proofs.WholeFiles.{is_refused, large_time, deep_opening}
+use Rattle.sim_reading.proofs.WholeFiles.{is_found, is_only, is_refused, large_time, deep_opening}
+use Rattle.sim_tree.specs.DesignFile.{DesignFile}
+use Rattle.sim_tree.specs.Grammar.{IsFile}
 use Rattle.sim_text.specs.Faults.{place_of, start_or, fault_of, HasLargeTime, OpensAt, IsPlace, AreNoFile, IsFaultOf}
 
 seam : {X : Type 0} (front : List X) (x : X) (rest : List X) → slice_get (front ++ x ∷ rest) (length front) ≡ Some x
@@ -81,3 +83,17 @@ told_of i m end error.OutOfMemory r = tt
 told_of i m end (error.Syntax n) r = (no_file i m (error.Syntax n) (λ p. absurd cc) r, place_at i n end)
 told_of i m end (error.TooDeep n) r = (no_file i m (error.TooDeep n) (λ p. absurd cc) r, opens_at i n end (deep_opening i n (r (λ q. absurd cc))))
 told_of i m end (error.TimeRange n) r = (no_file i m (error.TimeRange n) (λ p. absurd cc) r, large_at i n end (large_time i n (r (λ q. absurd cc))))
+
+-- what the reader of a file answers of the tokens
+pub found_of : (i m : Input) (r : Result DesignFile ParseError) → Reads (file i) r m → IfOk r (λ f. IsFile f i)
+found_of i m (Ok f) h = is_found i m f h
+found_of i m (Err e) h = tt
+
+pub only_of : (i m : Input) (r : Result DesignFile ParseError) → Reads (file i) r m → IfOk r (λ f. (other : DesignFile) → IsFile other i → other ≡ f)
+only_of i m (Ok f) h = λ other w. is_only i m f other h w
+only_of i m (Err e) h = tt
+
+pub refused_of : (i m : Input) (r : Result DesignFile ParseError) → Reads (file i) r m
+    → IfErr r (λ e. (end : ℕ) → IsFaultOf i end (fault_of i end e))
+refused_of i m (Ok f) h = tt
+refused_of i m (Err e) h = λ end. told_of i m end e h

@@ -1,15 +1,36 @@
--- The file of a text's tokens is the only one that the text is.
-use Rattle.std.proofs.Common.{◌≡◌, ℕ, List, Result, Ok, Err, IfOk, subst}
+-- The file of a text's tokens is the only one that the text is; and their fault is the text's, when they are cut again.
+use Rattle.std.proofs.Common.{◌≡◌, ℕ, List, length, Result, Ok, Err, IfOk, subst}
 use Rattle.sim_token.specs.Token.{Token}
 use Rattle.sim_token.specs.declared.error.TextError.{TextError}
 use Rattle.sim_token.specs.Cutting.{AreTokens}
 use Rattle.sim_token.proofs.Cuts.{one_cutting}
 use Rattle.sim_tree.specs.DesignFile.{DesignFile}
 use Rattle.sim_tree.specs.Grammar.{IsFile}
-use Rattle.sim_text.specs.Texts.{IsText}
+use Rattle.sim_tree.specs.declared.error.ParseError.{ParseError}
+use Rattle.sim_tree.specs.declared.error.ParseError.TheVariants as error
+use Rattle.sim_text.specs.Faults.{IsFaultOf, fault_of}
+use Rattle.sim_text.specs.Texts.{HasTokens, IsText, IsFault}
 
 pub only_in : (text : List ℕ) (ts : List Token) → AreTokens text ts → (r : Result DesignFile TextError)
     → IfOk r (λ file. (other : DesignFile) → IsFile other ts → other ≡ file)
     → IfOk r (λ file. (other : DesignFile) → IsText text other → other ≡ file)
 only_in text ts are (Ok file) h = λ other w. h other (subst (IsFile other) (one_cutting text w.tokens ts w.are_tokens are) w.holds)
 only_in text ts are (Err e) h = tt
+
+again : (text : List ℕ) (e : ParseError) (ts : List Token) → AreTokens text ts
+    → HasTokens text (λ us. IsFaultOf us (length text) (fault_of us (length text) e))
+    → HasTokens text (λ us. IsFaultOf us (length text) (fault_of ts (length text) e))
+again text e ts are h = record {
+  short = h.short;
+  tokens = ts;
+  are_tokens = are;
+  holds = subst (λ us. IsFaultOf us (length text) (fault_of us (length text) e)) (one_cutting text h.tokens ts h.are_tokens are) h.holds;
+}
+
+-- The fault of the tokens, told of those that were cut again.
+pub told_again : (text : List ℕ) (e : ParseError) (ts : List Token) → AreTokens text ts
+    → HasTokens text (λ us. IsFaultOf us (length text) (fault_of us (length text) e)) → IsFault text (fault_of ts (length text) e)
+told_again text error.OutOfMemory ts are h = tt
+told_again text (error.Syntax n) ts are h = again text (error.Syntax n) ts are h
+told_again text (error.TooDeep n) ts are h = again text (error.TooDeep n) ts are h
+told_again text (error.TimeRange n) ts are h = again text (error.TimeRange n) ts are h

@@ -20,7 +20,7 @@ use sqlite_items::Items;
 use std::alloc::Global;
 
 #[tactic(auto, unfolding(sim_reading::specs::Concurrents::sensitivity))]
-fn sensitivity(alloc: Global, tokens: &mut Cursor<'_>) -> Result<Sensitivity, ParseError>
+fn sensitivity(alloc: Global, tokens: &mut Cursor) -> Result<Sensitivity, ParseError>
     ensures { Reads (spec.sensitivity (view tokens.old)) result (view tokens.new) }
 {
     if tokens.eat(Kind::All) {
@@ -33,7 +33,7 @@ fn sensitivity(alloc: Global, tokens: &mut Cursor<'_>) -> Result<Sensitivity, Pa
 #[tactic(auto, unfolding(sim_reading::specs::Concurrents::process_body))]
 fn process_body(
     alloc: Global,
-    tokens: &mut Cursor<'_>,
+    tokens: &mut Cursor,
     label: Option<Name>,
     sensitivity: Sensitivity,
     is: bool,
@@ -58,11 +58,7 @@ fn process_body(
 }
 
 #[tactic(auto, unfolding(sim_reading::specs::Concurrents::process))]
-fn process(
-    alloc: Global,
-    tokens: &mut Cursor<'_>,
-    label: Option<Name>,
-) -> Result<Process, ParseError>
+fn process(alloc: Global, tokens: &mut Cursor, label: Option<Name>) -> Result<Process, ParseError>
     ensures { Reads (spec.process label (view tokens.old)) result (view tokens.new) }
 {
     tokens.expect(Kind::Process)?;
@@ -75,7 +71,7 @@ fn process(
 }
 
 #[tactic(auto, unfolding(sim_reading::specs::Concurrents::actual))]
-fn actual(alloc: Global, tokens: &mut Cursor<'_>) -> Result<Actual, ParseError>
+fn actual(tokens: &mut Cursor) -> Result<Actual, ParseError>
     ensures { Reads (spec.actual (view tokens.old)) result (view tokens.new) }
 {
     match tokens.peek() {
@@ -84,19 +80,15 @@ fn actual(alloc: Global, tokens: &mut Cursor<'_>) -> Result<Actual, ParseError>
             Ok(Actual::Literal { value, at })
         }
         Kind::Open => Ok(Actual::Open { at: tokens.take() }),
-        _ => Ok(Actual::Named(tokens.word(alloc)?)),
+        _ => Ok(Actual::Named(tokens.word()?)),
     }
 }
 
 #[tactic(auto, unfolding(sim_reading::specs::Concurrents::associated))]
-fn associated(
-    alloc: Global,
-    tokens: &mut Cursor<'_>,
-    formal: Name,
-) -> Result<Association, ParseError>
+fn associated(tokens: &mut Cursor, formal: Name) -> Result<Association, ParseError>
     ensures { Reads (spec.associated formal (view tokens.old)) result (view tokens.new) }
 {
-    let actual = actual(alloc, tokens)?;
+    let actual = actual(tokens)?;
     Ok(Association {
         formal: Some(formal),
         actual,
@@ -104,23 +96,23 @@ fn associated(
 }
 
 #[tactic(auto, unfolding(sim_reading::specs::Concurrents::named_association))]
-fn named_association(alloc: Global, tokens: &mut Cursor<'_>) -> Result<Association, ParseError>
+fn named_association(tokens: &mut Cursor) -> Result<Association, ParseError>
     ensures { Reads (spec.named_association (view tokens.old)) result (view tokens.new) }
 {
-    let formal = tokens.word(alloc)?;
+    let formal = tokens.word()?;
     tokens.expect(Kind::Arrow)?;
-    associated(alloc, tokens, formal)
+    associated(tokens, formal)
 }
 
 #[tactic(auto, unfolding(sim_reading::specs::Concurrents::free_association))]
-fn free_association(alloc: Global, tokens: &mut Cursor<'_>) -> Result<Association, ParseError>
+fn free_association(tokens: &mut Cursor) -> Result<Association, ParseError>
     ensures { Reads (spec.free_association (view tokens.old)) result (view tokens.new) }
 {
     match tokens.peek() {
         Kind::Word => {
-            let name = tokens.word(alloc)?;
+            let name = tokens.word()?;
             if tokens.eat(Kind::Arrow) {
-                associated(alloc, tokens, name)
+                associated(tokens, name)
             } else {
                 Ok(Association {
                     formal: None,
@@ -129,7 +121,7 @@ fn free_association(alloc: Global, tokens: &mut Cursor<'_>) -> Result<Associatio
             }
         }
         _ => {
-            let actual = actual(alloc, tokens)?;
+            let actual = actual(tokens)?;
             Ok(Association {
                 formal: None,
                 actual,
@@ -139,17 +131,13 @@ fn free_association(alloc: Global, tokens: &mut Cursor<'_>) -> Result<Associatio
 }
 
 #[tactic(auto, unfolding(sim_reading::specs::Concurrents::association))]
-fn association(
-    alloc: Global,
-    tokens: &mut Cursor<'_>,
-    named: bool,
-) -> Result<Association, ParseError>
+fn association(tokens: &mut Cursor, named: bool) -> Result<Association, ParseError>
     ensures { Reads (spec.association named (view tokens.old)) result (view tokens.new) }
 {
     if named {
-        named_association(alloc, tokens)
+        named_association(tokens)
     } else {
-        free_association(alloc, tokens)
+        free_association(tokens)
     }
 }
 
@@ -163,13 +151,13 @@ fn is_named(formal: &Option<Name>) -> bool
 }
 
 #[tactic(auto, unfolding(sim_reading::specs::Concurrents::associations))]
-fn associations(alloc: Global, tokens: &mut Cursor<'_>) -> Result<Items<Association>, ParseError>
+fn associations(alloc: Global, tokens: &mut Cursor) -> Result<Items<Association>, ParseError>
     ensures { Reads (spec.associations (view tokens.old)) result (view tokens.new) }
 {
     let mut found = Vec::new(alloc);
     let mut named = false;
     for _turn in 0..tokens.left() {
-        let association = association(alloc, tokens, named)?;
+        let association = association(tokens, named)?;
         named = named || is_named(&association.formal);
         found.push(association)?;
         if !tokens.eat(Kind::Comma) {
@@ -180,7 +168,7 @@ fn associations(alloc: Global, tokens: &mut Cursor<'_>) -> Result<Items<Associat
 }
 
 #[tactic(auto, unfolding(sim_reading::specs::Concurrents::port_map))]
-fn port_map(alloc: Global, tokens: &mut Cursor<'_>) -> Result<Items<Association>, ParseError>
+fn port_map(alloc: Global, tokens: &mut Cursor) -> Result<Items<Association>, ParseError>
     ensures { Reads (spec.port_map (view tokens.old)) result (view tokens.new) }
 {
     if !tokens.eat(Kind::Port) {
@@ -196,7 +184,7 @@ fn port_map(alloc: Global, tokens: &mut Cursor<'_>) -> Result<Items<Association>
 #[tactic(auto, unfolding(sim_reading::specs::Concurrents::instance))]
 fn instance(
     alloc: Global,
-    tokens: &mut Cursor<'_>,
+    tokens: &mut Cursor,
     label: Name,
     unit: Instantiated,
 ) -> Result<Concurrent, ParseError>
@@ -212,26 +200,26 @@ fn instance(
 }
 
 #[tactic(auto, unfolding(sim_reading::specs::Concurrents::chosen))]
-fn chosen(alloc: Global, tokens: &mut Cursor<'_>) -> Result<Option<Name>, ParseError>
+fn chosen(tokens: &mut Cursor) -> Result<Option<Name>, ParseError>
     ensures { Reads (spec.chosen (view tokens.old)) result (view tokens.new) }
 {
     if !tokens.eat(Kind::LeftParen) {
         return Ok(None);
     }
-    let name = tokens.word(alloc)?;
+    let name = tokens.word()?;
     tokens.expect(Kind::RightParen)?;
     Ok(Some(name))
 }
 
 #[tactic(auto, unfolding(sim_reading::specs::Concurrents::entity_named))]
-fn entity_named(alloc: Global, tokens: &mut Cursor<'_>) -> Result<Instantiated, ParseError>
+fn entity_named(tokens: &mut Cursor) -> Result<Instantiated, ParseError>
     ensures { Reads (spec.entity_named (view tokens.old)) result (view tokens.new) }
 {
     tokens.take();
-    let library = tokens.word(alloc)?;
+    let library = tokens.word()?;
     tokens.expect(Kind::Dot)?;
-    let entity = tokens.word(alloc)?;
-    let architecture = chosen(alloc, tokens)?;
+    let entity = tokens.word()?;
+    let architecture = chosen(tokens)?;
     Ok(Instantiated::Entity {
         library,
         entity,
@@ -242,7 +230,7 @@ fn entity_named(alloc: Global, tokens: &mut Cursor<'_>) -> Result<Instantiated, 
 #[tactic(auto, unfolding(sim_reading::specs::Concurrents::concurrent_assigned))]
 fn concurrent_assigned(
     alloc: Global,
-    tokens: &mut Cursor<'_>,
+    tokens: &mut Cursor,
     label: Option<Name>,
     target: Name,
 ) -> Result<Concurrent, ParseError>
@@ -255,7 +243,7 @@ fn concurrent_assigned(
 #[tactic(auto, unfolding(sim_reading::specs::Concurrents::concurrent_process))]
 fn concurrent_process(
     alloc: Global,
-    tokens: &mut Cursor<'_>,
+    tokens: &mut Cursor,
     label: Option<Name>,
 ) -> Result<Concurrent, ParseError>
     ensures { Reads (spec.concurrent_process label (view tokens.old)) result (view tokens.new) }
@@ -267,7 +255,7 @@ fn concurrent_process(
 /// Reads an assignment to this name, or an instance of the component with this name.
 fn after_name(
     alloc: Global,
-    tokens: &mut Cursor<'_>,
+    tokens: &mut Cursor,
     label: Name,
     name: Name,
 ) -> Result<Concurrent, ParseError>
@@ -288,14 +276,14 @@ fn after_name(
 }
 
 #[tactic(auto, unfolding(sim_reading::specs::Concurrents::labelled))]
-fn labelled(alloc: Global, tokens: &mut Cursor<'_>, label: Name) -> Result<Concurrent, ParseError>
+fn labelled(alloc: Global, tokens: &mut Cursor, label: Name) -> Result<Concurrent, ParseError>
     ensures { Reads (spec.labelled label (view tokens.old)) result (view tokens.new) }
 {
     match tokens.peek() {
         Kind::Process => concurrent_process(alloc, tokens, Some(label)),
         Kind::Component => {
             tokens.take();
-            let name = tokens.word(alloc)?;
+            let name = tokens.word()?;
             instance(
                 alloc,
                 tokens,
@@ -307,22 +295,18 @@ fn labelled(alloc: Global, tokens: &mut Cursor<'_>, label: Name) -> Result<Concu
             )
         }
         Kind::Entity => {
-            let unit = entity_named(alloc, tokens)?;
+            let unit = entity_named(tokens)?;
             instance(alloc, tokens, label, unit)
         }
         _ => {
-            let name = tokens.word(alloc)?;
+            let name = tokens.word()?;
             after_name(alloc, tokens, label, name)
         }
     }
 }
 
 /// Reads an assignment to this name, or a statement with this label.
-fn after_first(
-    alloc: Global,
-    tokens: &mut Cursor<'_>,
-    first: Name,
-) -> Result<Concurrent, ParseError>
+fn after_first(alloc: Global, tokens: &mut Cursor, first: Name) -> Result<Concurrent, ParseError>
     ensures { Reads (spec.first_by first (kind (view tokens.old)) (view tokens.old)) result (view tokens.new) }
 {
     match tokens.peek() {
@@ -335,13 +319,13 @@ fn after_first(
 }
 
 #[tactic(auto, unfolding(sim_reading::specs::Concurrents::concurrent))]
-fn concurrent(alloc: Global, tokens: &mut Cursor<'_>) -> Result<Concurrent, ParseError>
+fn concurrent(alloc: Global, tokens: &mut Cursor) -> Result<Concurrent, ParseError>
     ensures { Reads (spec.concurrent (view tokens.old)) result (view tokens.new) }
 {
     match tokens.peek() {
         Kind::Process => concurrent_process(alloc, tokens, None),
         _ => {
-            let first = tokens.word(alloc)?;
+            let first = tokens.word()?;
             after_first(alloc, tokens, first)
         }
     }
@@ -355,7 +339,7 @@ fn begins_concurrent(kind: Kind) -> bool
 
 /// Reads the statements of an architecture (IEEE 1076-2008, 11.1).
 #[tactic(auto, unfolding(sim_reading::specs::Concurrents::concurrents, sim_tree::specs::Input::many))]
-pub fn concurrents(alloc: Global, tokens: &mut Cursor<'_>) -> Result<Items<Concurrent>, ParseError>
+pub fn concurrents(alloc: Global, tokens: &mut Cursor) -> Result<Items<Concurrent>, ParseError>
     ensures { Reads (spec.concurrents (view tokens.old)) result (view tokens.new) }
 {
     let mut found = Vec::new(alloc);

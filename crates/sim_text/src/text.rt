@@ -1,12 +1,12 @@
 //! The syntax tree of a text.
 
-ghost use Rattle.std.specs.Prelude.{◌≡◌, ◌<◌, ◌↔◌, length, Err, IfOk, IfErr, MatchResult};
+ghost use Rattle.std.specs.Prelude.{◌≡◌, ◌<◌, ◌↔◌, ℕ, length, Err, IfOk, IfErr, MatchResult};
 ghost use Rattle.sim_token.specs.Limits.{most_bytes};
 ghost use Rattle.sim_token.specs.declared.error.TextError.TheVariants as fault;
 ghost use Rattle.sim_tree.specs.DesignFile.{DesignFile};
 ghost use Rattle.sim_tree.specs.Grammar.{IsFile};
 ghost use Rattle.sim_text.specs.Faults.{place_of, fault_of, IsFaultOf};
-ghost use Rattle.sim_text.specs.Texts.{IsText, IsFault};
+ghost use Rattle.sim_text.specs.Texts.{HasTokens, IsText, IsFault};
 
 use crate::units::file;
 use sim_token::{TextError, Token, tokens};
@@ -40,16 +40,27 @@ fn fault_of(tokens: &[Token], end: usize, error: ParseError) -> TextError
     }
 }
 
-/// The file that the tokens of a text of this length are.
-fn file_of(alloc: Global, tokens: &[Token], end: usize) -> Result<DesignFile, TextError>
-    ensures found { IfOk result (λ file. IsFile file tokens.now) }
+/// The file that these tokens are. Its names are moved out of them.
+fn file_of(alloc: Global, tokens: Vec<Token>) -> Result<DesignFile, ParseError>
+    ensures found { IfOk result (λ file. IsFile file tokens.items) }
     // No other file is written with these tokens.
-    ensures only { IfOk result (λ file. (other : DesignFile) → IsFile other tokens.now → other ≡ file) }
-    ensures refused { IfErr result (λ e. IsFaultOf tokens.now end e) }
+    ensures only { IfOk result (λ file. (other : DesignFile) → IsFile other tokens.items → other ≡ file) }
+    ensures refused { IfErr result (λ e. (end : ℕ) → IsFaultOf tokens.items end (fault_of tokens.items end e)) }
 {
-    match file(alloc, &mut Cursor::new(tokens)) {
-        Ok(found) => Ok(found),
-        Err(error) => Err(fault_of(tokens, end, error)),
+    file(alloc, &mut Cursor::new(tokens))
+}
+
+/// The fault of a text that a reader refused. The reader has used up its tokens, so they are cut again for the place.
+fn fault_in(alloc: Global, source: &[u8], error: ParseError) -> TextError
+    requires { HasTokens source.now (λ tokens. IsFaultOf tokens (length source.now) (fault_of tokens (length source.now) error)) }
+    ensures { IsFault source.now result }
+{
+    if matches!(error, ParseError::OutOfMemory) {
+        return TextError::Memory;
+    }
+    match tokens(alloc, source) {
+        Ok(tokens) => fault_of(tokens.as_slice(), source.len(), error),
+        Err(fault) => fault,
     }
 }
 
@@ -66,5 +77,8 @@ pub fn parse(alloc: Global, source: &[u8]) -> Result<DesignFile, TextError>
     ensures too_long { (result ≡ Err fault.TooLong) ↔ (most_bytes < length source.now) }
 {
     let tokens = tokens(alloc, source)?;
-    file_of(alloc, tokens.as_slice(), source.len())
+    match file_of(alloc, tokens) {
+        Ok(found) => Ok(found),
+        Err(error) => Err(fault_in(alloc, source, error)),
+    }
 }

@@ -16,7 +16,7 @@ use sqlite_items::Items;
 use std::alloc::Global;
 
 #[tactic(auto, unfolding(sim_reading::specs::Units::suffixes, sim_tree::specs::Input::left))]
-fn suffixes(alloc: Global, tokens: &mut Cursor<'_>) -> Result<(Items<Name>, bool), ParseError>
+fn suffixes(alloc: Global, tokens: &mut Cursor) -> Result<(Items<Name>, bool), ParseError>
     ensures { Reads (spec.suffixes (view tokens.old)) result (view tokens.new) }
 {
     let mut found = Vec::new(alloc);
@@ -25,7 +25,7 @@ fn suffixes(alloc: Global, tokens: &mut Cursor<'_>) -> Result<(Items<Name>, bool
         if tokens.eat(Kind::All) {
             return Ok((fitted(found), true));
         }
-        found.push(tokens.word(alloc)?)?;
+        found.push(tokens.word()?)?;
         if !tokens.sees(Kind::Dot) {
             return Ok((fitted(found), false));
         }
@@ -34,10 +34,10 @@ fn suffixes(alloc: Global, tokens: &mut Cursor<'_>) -> Result<(Items<Name>, bool
 }
 
 #[tactic(auto, unfolding(sim_reading::specs::Units::selected))]
-fn selected(alloc: Global, tokens: &mut Cursor<'_>) -> Result<SelectedName, ParseError>
+fn selected(alloc: Global, tokens: &mut Cursor) -> Result<SelectedName, ParseError>
     ensures { Reads (spec.selected (view tokens.old)) result (view tokens.new) }
 {
-    let prefix = tokens.word(alloc)?;
+    let prefix = tokens.word()?;
     let (suffixes, all) = suffixes(alloc, tokens)?;
     Ok(SelectedName {
         prefix,
@@ -47,10 +47,7 @@ fn selected(alloc: Global, tokens: &mut Cursor<'_>) -> Result<SelectedName, Pars
 }
 
 #[tactic(auto, unfolding(sim_reading::specs::Units::selected_names, sim_tree::specs::Input::separated))]
-fn selected_names(
-    alloc: Global,
-    tokens: &mut Cursor<'_>,
-) -> Result<Several<SelectedName>, ParseError>
+fn selected_names(alloc: Global, tokens: &mut Cursor) -> Result<Several<SelectedName>, ParseError>
     ensures { Reads (spec.selected_names (view tokens.old)) result (view tokens.new) }
 {
     let mut found = Several::new(alloc, selected(alloc, tokens)?)?;
@@ -65,7 +62,7 @@ fn selected_names(
 }
 
 #[tactic(auto, unfolding(sim_reading::specs::Units::context_item))]
-fn context_item(alloc: Global, tokens: &mut Cursor<'_>) -> Result<ContextItem, ParseError>
+fn context_item(alloc: Global, tokens: &mut Cursor) -> Result<ContextItem, ParseError>
     ensures { Reads (spec.context_item (view tokens.old)) result (view tokens.new) }
 {
     match tokens.peek() {
@@ -91,7 +88,7 @@ fn begins_context(kind: Kind) -> bool
 }
 
 #[tactic(auto, unfolding(sim_reading::specs::Units::context, sim_tree::specs::Input::many))]
-fn context(alloc: Global, tokens: &mut Cursor<'_>) -> Result<Items<ContextItem>, ParseError>
+fn context(alloc: Global, tokens: &mut Cursor) -> Result<Items<ContextItem>, ParseError>
     ensures { Reads (spec.context (view tokens.old)) result (view tokens.new) }
 {
     let mut found = Vec::new(alloc);
@@ -105,11 +102,11 @@ fn context(alloc: Global, tokens: &mut Cursor<'_>) -> Result<Items<ContextItem>,
 }
 
 #[tactic(auto, unfolding(sim_reading::specs::Units::entity))]
-fn entity(alloc: Global, tokens: &mut Cursor<'_>) -> Result<Entity, ParseError>
+fn entity(alloc: Global, tokens: &mut Cursor) -> Result<Entity, ParseError>
     ensures { Reads (spec.entity (view tokens.old)) result (view tokens.new) }
 {
     tokens.expect(Kind::Entity)?;
-    let name = tokens.word(alloc)?;
+    let name = tokens.word()?;
     tokens.expect(Kind::Is)?;
     let ports = ports(alloc, tokens)?;
     tokens.expect(Kind::End)?;
@@ -127,7 +124,7 @@ fn entity(alloc: Global, tokens: &mut Cursor<'_>) -> Result<Entity, ParseError>
 #[tactic(auto, unfolding(sim_reading::specs::Units::architecture_body))]
 fn architecture_body(
     alloc: Global,
-    tokens: &mut Cursor<'_>,
+    tokens: &mut Cursor,
     name: Name,
     entity: Name,
     declarations: Items<Declaration>,
@@ -151,20 +148,20 @@ fn architecture_body(
 }
 
 #[tactic(auto, unfolding(sim_reading::specs::Units::architecture))]
-fn architecture(alloc: Global, tokens: &mut Cursor<'_>) -> Result<Architecture, ParseError>
+fn architecture(alloc: Global, tokens: &mut Cursor) -> Result<Architecture, ParseError>
     ensures { Reads (spec.architecture (view tokens.old)) result (view tokens.new) }
 {
     tokens.expect(Kind::Architecture)?;
-    let name = tokens.word(alloc)?;
+    let name = tokens.word()?;
     tokens.expect(Kind::Of)?;
-    let entity = tokens.word(alloc)?;
+    let entity = tokens.word()?;
     tokens.expect(Kind::Is)?;
     let declarations = declarations(alloc, tokens)?;
     architecture_body(alloc, tokens, name, entity, declarations)
 }
 
 #[tactic(auto, unfolding(sim_reading::specs::Units::library_unit))]
-fn library_unit(alloc: Global, tokens: &mut Cursor<'_>) -> Result<LibraryUnit, ParseError>
+fn library_unit(alloc: Global, tokens: &mut Cursor) -> Result<LibraryUnit, ParseError>
     ensures { Reads (spec.library_unit (view tokens.old)) result (view tokens.new) }
 {
     match tokens.peek() {
@@ -174,7 +171,7 @@ fn library_unit(alloc: Global, tokens: &mut Cursor<'_>) -> Result<LibraryUnit, P
 }
 
 #[tactic(auto, unfolding(sim_reading::specs::Units::unit))]
-fn unit(alloc: Global, tokens: &mut Cursor<'_>) -> Result<DesignUnit, ParseError>
+fn unit(alloc: Global, tokens: &mut Cursor) -> Result<DesignUnit, ParseError>
     ensures { Reads (spec.unit (view tokens.old)) result (view tokens.new) }
 {
     let context = context(alloc, tokens)?;
@@ -186,7 +183,7 @@ fn unit(alloc: Global, tokens: &mut Cursor<'_>) -> Result<DesignUnit, ParseError
 }
 
 #[tactic(auto, unfolding(sim_reading::specs::Units::units_of))]
-fn units_of(alloc: Global, tokens: &mut Cursor<'_>) -> Result<Several<DesignUnit>, ParseError>
+fn units_of(alloc: Global, tokens: &mut Cursor) -> Result<Several<DesignUnit>, ParseError>
     ensures { Reads (spec.units_of (view tokens.old)) result (view tokens.new) }
 {
     let mut found = Several::new(alloc, unit(alloc, tokens)?)?;
@@ -200,7 +197,7 @@ fn units_of(alloc: Global, tokens: &mut Cursor<'_>) -> Result<Several<DesignUnit
 }
 
 #[tactic(auto, unfolding(sim_reading::specs::Units::finish, sim_tree::specs::Input::left))]
-fn finish(tokens: &mut Cursor<'_>) -> Result<(), ParseError>
+fn finish(tokens: &mut Cursor) -> Result<(), ParseError>
     ensures { Reads (spec.finish (view tokens.old)) result (view tokens.new) }
 {
     if tokens.is_empty() {
@@ -212,7 +209,7 @@ fn finish(tokens: &mut Cursor<'_>) -> Result<(), ParseError>
 
 /// Reads a file (IEEE 1076-2008, 13.1). Behind its units no token may be left.
 #[tactic(auto, unfolding(sim_reading::specs::Units::file))]
-pub fn file(alloc: Global, tokens: &mut Cursor<'_>) -> Result<DesignFile, ParseError>
+pub fn file(alloc: Global, tokens: &mut Cursor) -> Result<DesignFile, ParseError>
     ensures { Reads (spec.file (view tokens.old)) result (view tokens.new) }
 {
     let units = units_of(alloc, tokens)?;

@@ -56,6 +56,14 @@ impl Token {
         self.text.as_slice()
     }
 
+    /// The same as text, which is moved out of it: nothing is copied.
+    pub fn into_text(self) -> Items<u8>
+        ensures text { result ≡ self.text }
+        ensures word { HasWord self.kind result }
+    {
+        self.text
+    }
+
     /// The place of its first byte in the text, from 0.
     pub fn start(&self) -> usize
         ensures { result ≡ self.now.start }

@@ -1,4 +1,5 @@
 pub mod Turns
+pub mod OneItemATurn
 pub mod Names
 pub mod Digits
 pub mod Writings

@@ -21,7 +21,7 @@ Input = List Token
 
 -- the tokens that a cursor has left
 abbrev pub view : Cursor → Input
-view c = c.rest.now
+view c = c.rest.items
 
 -- how many tokens are left
 unfoldable pub left : Input → ℕ

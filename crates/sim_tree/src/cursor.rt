@@ -1,6 +1,7 @@
 //! A cursor over the tokens of a text.
 
-ghost use Rattle.std.specs.Prelude.{◌≡◌, Ok, [], ◌↔◌, IsTrue};
+ghost use Rattle.std.specs.Prelude.{◌≡◌, Ok, List, [], ◌∷◌, ◌↔◌, true, false, IsTrue, IfNone, IfSome};
+ghost use Rattle.sim_token.specs.Token.{Token};
 ghost use Rattle.sim_tree.specs.Input as spec;
 ghost use Rattle.sim_tree.specs.Input.{Reads, view};
 
@@ -9,20 +10,22 @@ use crate::name::Name;
 use sim_logic::{Logic, Unit};
 use sim_token::{Kind, Token};
 use sqlite_items::Items;
-use std::alloc::Global;
+use std::collections::VecDeque;
 
-/// The tokens that are left.
+/// The tokens that are left. A token that is read leaves the cursor, so its text can be moved into the tree.
 #[derive(Drop)]
-pub struct Cursor<'a> {
-    rest: &'a [Token],
+pub struct Cursor {
+    rest: VecDeque<Token>,
 }
 
-impl<'a> Cursor<'a> {
+impl Cursor {
     /// At the first of these tokens.
-    pub fn new(rest: &'a [Token]) -> Cursor<'a>
-        ensures { view result ≡ rest.now }
+    pub fn new(tokens: Vec<Token>) -> Cursor
+        ensures { view result ≡ tokens.items }
     {
-        Cursor { rest }
+        Cursor {
+            rest: VecDeque::from_vec(tokens),
+        }
     }
 
     /// How many tokens are left.
@@ -45,9 +48,9 @@ impl<'a> Cursor<'a> {
     pub fn peek(&self) -> Kind
         ensures { result ≡ spec.kind (view self.now) }
     {
-        match self.rest {
-            [] => Kind::EndOfText,
-            [token, ..] => token.kind(),
+        match self.rest.front() {
+            Some(token) => token.kind(),
+            None => Kind::EndOfText,
         }
     }
 
@@ -57,12 +60,9 @@ impl<'a> Cursor<'a> {
         ensures place { result ≡ spec.place (view self.old) }
         ensures next { view self.new ≡ spec.next (view self.old) }
     {
-        match self.rest {
-            [] => 0,
-            [token, rest @ ..] => {
-                self.rest = rest;
-                token.start()
-            }
+        match self.rest.pop_front() {
+            Some(token) => token.start(),
+            None => 0,
         }
     }
 
@@ -98,32 +98,40 @@ impl<'a> Cursor<'a> {
         }
     }
 
+    /// The next token, if it is of this kind; else it is left.
+    fn next_of(&mut self, kind: Kind) -> Option<Token>
+        ensures left { IfNone result (view self.new ≡ view self.old) }
+        ensures none { IfNone result ((t : Token) (rest : List Token) → view self.old ≡ t ∷ rest → spec.same_kind t.kind kind ≡ false) }
+        ensures some { IfSome result (λ t. (view self.old ≡ t ∷ view self.new) × (spec.same_kind t.kind kind ≡ true)) }
+    {
+        match self.rest.front() {
+            Some(token) if same_kind(token.kind(), kind) => self.rest.pop_front(),
+            _ => None,
+        }
+    }
+
     /// The name that comes next. `Syntax` comes where no word does.
-    #[tactic(auto, using(crate::proofs::Tokens::same_is), unfolding(crate::specs::Input::word, crate::specs::Input::left))]
-    pub fn word(&mut self, alloc: Global) -> Result<Name, ParseError>
+    #[tactic(auto, unfolding(crate::specs::Input::word, crate::specs::Input::left))]
+    pub fn word(&mut self) -> Result<Name, ParseError>
         ensures { Reads (spec.word (view self.old)) result (view self.new) }
     {
-        match self.rest {
-            [token, rest @ ..] if same_kind(token.kind(), Kind::Word) => {
-                let name = Name::of(alloc, token)?;
-                self.rest = rest;
-                Ok(name)
-            }
-            _ => Err(ParseError::Syntax(self.left())),
+        match self.next_of(Kind::Word) {
+            Some(token) => Ok(Name::of(token)),
+            None => Err(ParseError::Syntax(self.left())),
         }
     }
 
     /// The character literal that comes next, and where it starts. `Syntax` comes where none does.
-    #[tactic(auto, unfolding(crate::specs::Input::literal, crate::specs::Input::left))]
+    #[tactic(auto, unfolding(crate::specs::Input::literal, crate::specs::Input::left, crate::specs::Input::next, crate::specs::Input::place))]
     pub fn literal(&mut self) -> Result<(Logic, usize), ParseError>
         ensures { Reads (spec.literal (view self.old)) result (view self.new) }
     {
-        match self.rest {
-            [token, rest @ ..] if same_kind(token.kind(), Kind::Literal) => {
+        match self.rest.front() {
+            Some(token) if same_kind(token.kind(), Kind::Literal) => {
                 match logic_of(token.text()) {
                     Some(value) => {
-                        self.rest = rest;
-                        Ok((value, token.start()))
+                        let at = self.take();
+                        Ok((value, at))
                     }
                     None => Err(ParseError::Syntax(self.left())),
                 }
@@ -134,29 +142,28 @@ impl<'a> Cursor<'a> {
 
     /// The digits of the number that comes next, and where it starts. `Syntax` comes where none does.
     #[tactic(auto, unfolding(crate::specs::Input::number, crate::specs::Input::left))]
-    pub fn number(&mut self, alloc: Global) -> Result<(Items<u8>, usize), ParseError>
+    pub fn number(&mut self) -> Result<(Items<u8>, usize), ParseError>
         ensures { Reads (spec.number (view self.old)) result (view self.new) }
     {
-        match self.rest {
-            [token, rest @ ..] if same_kind(token.kind(), Kind::Number) => {
-                let digits = Items::from_slice(alloc, token.text())?;
-                self.rest = rest;
-                Ok((digits, token.start()))
+        match self.next_of(Kind::Number) {
+            Some(token) => {
+                let at = token.start();
+                Ok((token.into_text(), at))
             }
-            _ => Err(ParseError::Syntax(self.left())),
+            None => Err(ParseError::Syntax(self.left())),
         }
     }
 
     /// The word that comes next, as a unit of time (5.2.4). `Syntax` comes where it is none.
-    #[tactic(auto, unfolding(crate::specs::Input::unit, crate::specs::Input::left))]
+    #[tactic(auto, unfolding(crate::specs::Input::unit, crate::specs::Input::left, crate::specs::Input::next))]
     pub fn unit(&mut self) -> Result<Unit, ParseError>
         ensures { Reads (spec.unit (view self.old)) result (view self.new) }
     {
-        match self.rest {
-            [token, rest @ ..] if same_kind(token.kind(), Kind::Word) => {
+        match self.rest.front() {
+            Some(token) if same_kind(token.kind(), Kind::Word) => {
                 match unit_in(token.text()) {
                     Some(unit) => {
-                        self.rest = rest;
+                        self.take();
                         Ok(unit)
                     }
                     None => Err(ParseError::Syntax(self.left())),
@@ -167,14 +174,14 @@ impl<'a> Cursor<'a> {
     }
 
     /// Goes past this word. `Syntax` comes where another token is next.
-    #[tactic(auto, unfolding(crate::specs::Input::repeat, crate::specs::Input::left))]
+    #[tactic(auto, unfolding(crate::specs::Input::repeat, crate::specs::Input::left, crate::specs::Input::next))]
     pub fn repeat(&mut self, text: &[u8]) -> Result<(), ParseError>
         ensures { Reads (spec.repeat text.now (view self.old)) result (view self.new) }
     {
-        match self.rest {
-            [token, rest @ ..] if same_kind(token.kind(), Kind::Word) => {
+        match self.rest.front() {
+            Some(token) if same_kind(token.kind(), Kind::Word) => {
                 if token.text() == text {
-                    self.rest = rest;
+                    self.take();
                     Ok(())
                 } else {
                     Err(ParseError::Syntax(self.left()))

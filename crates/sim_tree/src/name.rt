@@ -31,15 +31,16 @@ impl Name {
     ghost use Rattle.sim_token.specs.declared.kind.Kind.TheVariants as kind;
     ghost use Rattle.sim_token.specs.Token.{is_word};
 
-    /// The name that a word of the text is.
-    pub fn of(alloc: Global, token: &Token) -> Result<Name, AllocError>
-        requires { token.now.kind ≡ kind.Word }
-        ensures { IfOk result (λ n. n ≡ record { text = token.now.text; at = token.now.start }) }
+    /// The name that a word of the text is. The word's text is moved into it.
+    pub fn of(token: Token) -> Name
+        requires { token.kind ≡ kind.Word }
+        ensures { result ≡ record { text = token.text; at = token.start } }
     {
-        Ok(Name {
-            text: Items::from_slice(alloc, token.text())?,
-            at: token.start(),
-        })
+        let at = token.start();
+        Name {
+            text: token.into_text(),
+            at,
+        }
     }
 
     /// The same name again.

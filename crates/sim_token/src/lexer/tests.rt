@@ -31,61 +31,29 @@ fn tokens_have_their_text_and_place(rt: HostRuntime) {
     assert_tokens(
         &rt,
         rt.alloc(),
-        b"s<='1';",
+        b"s<='1'; s'event 5ns 1_000 END Q_1 IS\x0band'1' a--b\x0bc--d\x0ce/**/f/*g*/'h--i",
         &[
             (Kind::Word, b"s", 0, 1),
             (Kind::SignalAssign, b"", 1, 3),
             (Kind::Literal, b"1", 3, 6),
             (Kind::Semicolon, b"", 6, 7),
-        ],
-    );
-    assert_tokens(
-        &rt,
-        rt.alloc(),
-        b"s'event",
-        &[
-            (Kind::Word, b"s", 0, 1),
-            (Kind::Tick, b"", 1, 2),
-            (Kind::Word, b"event", 2, 7),
-        ],
-    );
-    assert_tokens(
-        &rt,
-        rt.alloc(),
-        b"5ns 1_000",
-        &[
-            (Kind::Number, b"5", 0, 1),
-            (Kind::Word, b"ns", 1, 3),
-            (Kind::Number, b"1000", 4, 9),
-        ],
-    );
-    assert_tokens(
-        &rt,
-        rt.alloc(),
-        b"END Q_1 IS\x0b",
-        &[
-            (Kind::End, b"", 0, 3),
-            (Kind::Word, b"q_1", 4, 7),
-            (Kind::Is, b"", 8, 10),
-        ],
-    );
-    assert_tokens(
-        &rt,
-        rt.alloc(),
-        b"and'1'",
-        &[(Kind::And, b"", 0, 3), (Kind::Literal, b"1", 3, 6)],
-    );
-    assert_tokens(
-        &rt,
-        rt.alloc(),
-        b"a--b\x0bc--d\x0ce/**/f/*g*/'h--i",
-        &[
-            (Kind::Word, b"a", 0, 1),
-            (Kind::Word, b"c", 5, 6),
-            (Kind::Word, b"e", 10, 11),
-            (Kind::Word, b"f", 15, 16),
-            (Kind::Tick, b"", 21, 22),
-            (Kind::Word, b"h", 22, 23),
+            (Kind::Word, b"s", 8, 9),
+            (Kind::Tick, b"", 9, 10),
+            (Kind::Word, b"event", 10, 15),
+            (Kind::Number, b"5", 16, 17),
+            (Kind::Word, b"ns", 17, 19),
+            (Kind::Number, b"1000", 20, 25),
+            (Kind::End, b"", 26, 29),
+            (Kind::Word, b"q_1", 30, 33),
+            (Kind::Is, b"", 34, 36),
+            (Kind::And, b"", 37, 40),
+            (Kind::Literal, b"1", 40, 43),
+            (Kind::Word, b"a", 44, 45),
+            (Kind::Word, b"c", 49, 50),
+            (Kind::Word, b"e", 54, 55),
+            (Kind::Word, b"f", 59, 60),
+            (Kind::Tick, b"", 65, 66),
+            (Kind::Word, b"h", 66, 67),
         ],
     );
 }

@@ -1,8 +1,8 @@
-use Rattle.std.proofs.Common.{◌≡◌, ◌-◌}
 use Rattle.sim_token.specs.declared.kind.Kind.TheVariants as k
-use Rattle.sim_tree.specs.Input.{view, many_from, same_kind, ◌>>◌, take_token, word}
+use Rattle.sim_tree.specs.Input.{view, word}
+use Rattle.sim_tree.proofs.OneItemATurn.{AfterEach}
 use Rattle.sim_reading.specs.Declarations.{names}
 use Rattle.sim_declaration.proofs.declarations.names.Given as goal
 
 abbrev pub invariant-loop-turn : goal.invariant-loop-turn
-invariant-loop-turn l = names (view l.fn.tokens) ≡ many_from (λ y. same_kind y k.Comma) (take_token >> word) (l._turn-end - l._turn) l.found (view l.tokens)
+invariant-loop-turn l = AfterEach (names (view l.fn.tokens)) k.Comma word l._turn-end l._turn l.found (view l.tokens)

@@ -1,35 +1,15 @@
-use Rattle.std.proofs.Common.{rules, arith}
-use Rattle.std.proofs.lemmas.Grind.{common_steps}
-use Rattle.sim_tree.proofs.Turns.{one_more, no_more}
-use Rattle.sim_token.specs.declared.kind.Kind.TheVariants as k
-use Rattle.sim_tree.specs.Input.{view, many_from, same_kind, sees, ◌>>◌, take_token}
-use Rattle.sim_reading.specs.Declarations.{port}
+use Rattle.std.proofs.Common.{rules}
+use Rattle.sim_tree.proofs.OneItemATurn.{one_after, none_after}
 use Rattle.sim_declaration.proofs.declarations.port_list.Goals as goal
 
 pub returns-then-not-sees : goal.returns-then-not-sees
-unfolding many_from sees
-returns-then-not-sees c =
-    let e = one_more (λ n. many_from (λ y. same_kind y k.Semicolon) (take_token >> port) n c.loop-turn.found.items (view c.loop-turn.tokens)) _
-    c.loop-turn._turn c.loop-turn-test.true c.loop-turn.invariant in
-    first_of (search rules, grind (arith, common_steps))
+returns-then-not-sees c = let e = one_after c.loop-turn.invariant c.loop-turn-test.true in search rules
 
 pub returns-in_err-port-2 : goal.returns-in_err-port-2
-unfolding many_from sees
-returns-in_err-port-2 c =
-    let e = one_more (λ n. many_from (λ y. same_kind y k.Semicolon) (take_token >> port) n c.loop-turn.found.items (view c.loop-turn.tokens)) _
-    c.loop-turn._turn c.loop-turn-test.true c.loop-turn.invariant in
-    first_of (search rules, grind (arith, common_steps))
+returns-in_err-port-2 c = let e = one_after c.loop-turn.invariant c.loop-turn-test.true in search rules
 
 pub loop-turn-preserved : goal.loop-turn-preserved
-unfolding many_from sees
-loop-turn-preserved c =
-    let e = one_more (λ n. many_from (λ y. same_kind y k.Semicolon) (take_token >> port) n c.loop-turn.found.items (view c.loop-turn.tokens)) _
-    c.loop-turn._turn c.loop-turn-test.true c.loop-turn.invariant in
-    first_of (search rules, grind (arith, common_steps))
+loop-turn-preserved c = let e = one_after c.loop-turn.invariant c.loop-turn-test.true in search rules
 
 pub returns : goal.returns
-unfolding many_from sees
-returns c =
-    let e = no_more (λ n. many_from (λ y. same_kind y k.Semicolon) (take_token >> port) n c.loop-turn.found.items (view c.loop-turn.tokens)) _
-    c.loop-turn._turn c.loop-turn-test.false c.loop-turn.invariant in
-    first_of (search rules, grind (arith, common_steps))
+returns c = let e = none_after c.loop-turn.invariant c.loop-turn-test.false in search rules

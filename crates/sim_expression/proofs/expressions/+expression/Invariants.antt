@@ -1,5 +1,6 @@
-use Rattle.std.proofs.Common.{◌≡◌, true, [], ◌∷◌, ◌+◌, ◌-◌, ◌*◌}
-use Rattle.sim_tree.specs.Input.{view, many_from}
+use Rattle.std.proofs.Common.{true, [], ◌∷◌, ◌+◌, ◌*◌}
+use Rattle.sim_tree.specs.Input.{view}
+use Rattle.sim_tree.proofs.OneItemATurn.{AsManyAsCome}
 use Rattle.sim_expression.specs.Expressions.{nested, more_operands, operand, goes_on}
 use Rattle.sim_expression.proofs.expressions.+expression.Given as goal
 
@@ -34,5 +35,5 @@ abbrev pub decreases-expression_in : goal.decreases-expression_in
 decreases-expression_in l = 10 * l.depth + 9
 
 abbrev pub invariant-more_operands-loop-turn : goal.invariant-more_operands-loop-turn
-invariant-more_operands-loop-turn l = more_operands (nested l.depth) true l.operator (l.fn.second ∷ []) (view l.fn.tokens) ≡ many_from
-    (goes_on l.operator) (operand (nested l.depth)) (l._turn-end - l._turn) l.found.items (view l.tokens)
+invariant-more_operands-loop-turn l = AsManyAsCome (more_operands (nested l.depth) true l.operator (l.fn.second ∷ []) (view l.fn.tokens))
+    (goes_on l.operator) (operand (nested l.depth)) l._turn-end l._turn l.found.items (view l.tokens)

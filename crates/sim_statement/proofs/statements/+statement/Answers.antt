@@ -1,66 +1,34 @@
 use Rattle.std.proofs.Common.{rules, arith}
 use Rattle.std.proofs.lemmas.Grind.{common_steps}
-use Rattle.sim_tree.proofs.Turns.{one_more, no_more, deeper}
-use Rattle.sim_token.specs.declared.kind.Kind.TheVariants as k
-use Rattle.sim_tree.specs.Input.{view, many_from, same_kind, sees, ◌>>◌, take_token}
-use Rattle.sim_reading.specs.Statements.{if_statement, statement, begins_statement, branch}
+use Rattle.sim_tree.proofs.Turns.{deeper}
+use Rattle.sim_tree.proofs.OneItemATurn.{one_more, no_more, one_after, none_after}
+use Rattle.sim_tree.specs.Input.{view}
+use Rattle.sim_reading.specs.Statements.{if_statement}
 use Rattle.sim_statement.proofs.statements.+statement.Goals as goal
 
 pub sequence-returns-then-not-begins_statement : goal.sequence-returns-then-not-begins_statement
-unfolding many_from sees
-sequence-returns-then-not-begins_statement t c =
-    let e = one_more (λ n. many_from begins_statement (statement (if_statement c.args.depth)) n c.loop-turn.found.items (view c.loop-turn.tokens)) _
-    c.loop-turn._turn c.loop-turn-test.true c.loop-turn.invariant in
-    first_of (search rules, grind (arith, common_steps))
+sequence-returns-then-not-begins_statement t c = let e = one_more c.loop-turn.invariant c.loop-turn-test.true in search rules
 
 pub sequence-returns-in_err-statement : goal.sequence-returns-in_err-statement
-unfolding many_from sees
-sequence-returns-in_err-statement t c =
-    let e = one_more (λ n. many_from begins_statement (statement (if_statement c.args.depth)) n c.loop-turn.found.items (view c.loop-turn.tokens)) _
-    c.loop-turn._turn c.loop-turn-test.true c.loop-turn.invariant in
-    first_of (search rules, grind (arith, common_steps))
+sequence-returns-in_err-statement t c = let e = one_more c.loop-turn.invariant c.loop-turn-test.true in search rules
 
 pub sequence-loop-turn-preserved : goal.sequence-loop-turn-preserved
-unfolding many_from sees
-sequence-loop-turn-preserved t c =
-    let e = one_more (λ n. many_from begins_statement (statement (if_statement c.args.depth)) n c.loop-turn.found.items (view c.loop-turn.tokens)) _
-    c.loop-turn._turn c.loop-turn-test.true c.loop-turn.invariant in
-    first_of (search rules, grind (arith, common_steps))
+sequence-loop-turn-preserved t c = let e = one_more c.loop-turn.invariant c.loop-turn-test.true in search rules
 
 pub sequence-returns : goal.sequence-returns
-unfolding many_from sees
-sequence-returns t c =
-    let e = no_more (λ n. many_from begins_statement (statement (if_statement c.args.depth)) n c.loop-turn.found.items (view c.loop-turn.tokens)) _
-    c.loop-turn._turn c.loop-turn-test.false c.loop-turn.invariant in
-    first_of (search rules, grind (arith, common_steps))
+sequence-returns t c = let e = no_more c.loop-turn.invariant c.loop-turn-test.false in search rules
 
 pub branches-returns-then-not-sees : goal.branches-returns-then-not-sees
-unfolding many_from sees
-branches-returns-then-not-sees t c =
-    let e = one_more (λ n. many_from (λ y. same_kind y k.Elsif) (take_token >> branch (if_statement c.args.depth)) n c.loop-turn.found.items
-    (view c.loop-turn.tokens)) _ c.loop-turn._turn c.loop-turn-test.true c.loop-turn.invariant in
-    first_of (search rules, grind (arith, common_steps))
+branches-returns-then-not-sees t c = let e = one_after c.loop-turn.invariant c.loop-turn-test.true in search rules
 
 pub branches-returns-in_err-branch-2 : goal.branches-returns-in_err-branch-2
-unfolding many_from sees
-branches-returns-in_err-branch-2 t c =
-    let e = one_more (λ n. many_from (λ y. same_kind y k.Elsif) (take_token >> branch (if_statement c.args.depth)) n c.loop-turn.found.items
-    (view c.loop-turn.tokens)) _ c.loop-turn._turn c.loop-turn-test.true c.loop-turn.invariant in
-    first_of (search rules, grind (arith, common_steps))
+branches-returns-in_err-branch-2 t c = let e = one_after c.loop-turn.invariant c.loop-turn-test.true in search rules
 
 pub branches-loop-turn-preserved : goal.branches-loop-turn-preserved
-unfolding many_from sees
-branches-loop-turn-preserved t c =
-    let e = one_more (λ n. many_from (λ y. same_kind y k.Elsif) (take_token >> branch (if_statement c.args.depth)) n c.loop-turn.found.items
-    (view c.loop-turn.tokens)) _ c.loop-turn._turn c.loop-turn-test.true c.loop-turn.invariant in
-    first_of (search rules, grind (arith, common_steps))
+branches-loop-turn-preserved t c = let e = one_after c.loop-turn.invariant c.loop-turn-test.true in search rules
 
 pub branches-returns : goal.branches-returns
-unfolding many_from sees
-branches-returns t c =
-    let e = no_more (λ n. many_from (λ y. same_kind y k.Elsif) (take_token >> branch (if_statement c.args.depth)) n c.loop-turn.found.items
-    (view c.loop-turn.tokens)) _ c.loop-turn._turn c.loop-turn-test.false c.loop-turn.invariant in
-    first_of (search rules, grind (arith, common_steps))
+branches-returns t c = let e = none_after c.loop-turn.invariant c.loop-turn-test.false in search rules
 
 pub if_statement-returns-in_err-branches : goal.if_statement-returns-in_err-branches
 unfolding if_statement

@@ -1,6 +1,7 @@
-use Rattle.std.proofs.Common.{◌≡◌, ◌+◌, ◌-◌, ◌*◌}
+use Rattle.std.proofs.Common.{◌+◌, ◌*◌}
 use Rattle.sim_token.specs.declared.kind.Kind.TheVariants as k
-use Rattle.sim_tree.specs.Input.{view, many_from, same_kind, ◌>>◌, take_token}
+use Rattle.sim_tree.specs.Input.{view}
+use Rattle.sim_tree.proofs.OneItemATurn.{AsManyAsCome, AfterEach}
 use Rattle.sim_reading.specs.Statements.{if_statement, sequence, statement, begins_statement, branches, branch}
 use Rattle.sim_statement.proofs.statements.+statement.Given as goal
 
@@ -29,9 +30,9 @@ abbrev pub decreases-branches : goal.decreases-branches
 decreases-branches l = 8 * l.depth + 6
 
 abbrev pub invariant-sequence-loop-turn : goal.invariant-sequence-loop-turn
-invariant-sequence-loop-turn l = sequence (if_statement l.depth) (view l.fn.tokens) ≡ many_from begins_statement (statement (if_statement l.depth))
-    (l._turn-end - l._turn) l.found.items (view l.tokens)
+invariant-sequence-loop-turn l = AsManyAsCome (sequence (if_statement l.depth) (view l.fn.tokens)) begins_statement (statement (if_statement l.depth))
+    l._turn-end l._turn l.found.items (view l.tokens)
 
 abbrev pub invariant-branches-loop-turn : goal.invariant-branches-loop-turn
-invariant-branches-loop-turn l = branches (if_statement l.depth) (view l.fn.tokens) ≡ many_from (λ y. same_kind y k.Elsif)
-    (take_token >> branch (if_statement l.depth)) (l._turn-end - l._turn) l.found.items (view l.tokens)
+invariant-branches-loop-turn l = AfterEach (branches (if_statement l.depth) (view l.fn.tokens)) k.Elsif (branch (if_statement l.depth)) l._turn-end l._turn
+    l.found.items (view l.tokens)

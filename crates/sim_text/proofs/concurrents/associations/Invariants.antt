@@ -1,7 +1,7 @@
-use Rattle.std.proofs.Common.{◌≡◌, ◌-◌}
 use Rattle.sim_tree.specs.Input.{view}
+use Rattle.sim_tree.proofs.Turns.{IsLeft}
 use Rattle.sim_reading.specs.Concurrents.{associations, associations_from}
 use Rattle.sim_text.proofs.concurrents.associations.Given as goal
 
 abbrev pub invariant-loop-turn : goal.invariant-loop-turn
-invariant-loop-turn l = associations (view l.fn.tokens) ≡ associations_from (l._turn-end - l._turn) l.named l.found.items (view l.tokens)
+invariant-loop-turn l = IsLeft (associations (view l.fn.tokens)) (λ n. associations_from n l.named l.found.items (view l.tokens)) l._turn-end l._turn

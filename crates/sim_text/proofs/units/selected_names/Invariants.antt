@@ -1,9 +1,8 @@
-use Rattle.std.proofs.Common.{◌≡◌, ◌-◌}
 use Rattle.sim_token.specs.declared.kind.Kind.TheVariants as k
-use Rattle.sim_tree.specs.Input.{view, many_from, same_kind, ◌>>◌, take_token}
+use Rattle.sim_tree.specs.Input.{view}
+use Rattle.sim_tree.proofs.OneItemATurn.{AfterEach}
 use Rattle.sim_reading.specs.Units.{selected_names, selected}
 use Rattle.sim_text.proofs.units.selected_names.Given as goal
 
 abbrev pub invariant-loop-turn : goal.invariant-loop-turn
-invariant-loop-turn l = selected_names (view l.fn.tokens) ≡ many_from (λ y. same_kind y k.Comma) (take_token >> selected) (l._turn-end - l._turn)
-    l.found (view l.tokens)
+invariant-loop-turn l = AfterEach (selected_names (view l.fn.tokens)) k.Comma selected l._turn-end l._turn l.found (view l.tokens)
