@@ -1,3 +1,4 @@
 pub mod NestedNets
 pub mod SourceTrees
 pub mod TopBlocks
+pub mod WholeTrees

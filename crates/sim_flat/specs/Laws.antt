@@ -1,14 +1,15 @@
 -- What holds of a design without fault: its nets have the values of the ports and signals that they are (IEEE 1076-2008, 14.7.3).
-use Rattle.std.specs.Prelude.{ℕ, ◌≡◌, List, map}
+use Rattle.std.specs.Prelude.{ℕ, ◌≡◌, List, [], map, slice_index_or}
 use Rattle.sim_logic.specs.declared.logic.Logic.{Logic}
 use Rattle.sim_logic.specs.Resolution.{resolved}
 use Rattle.sim_logic.specs.Sources.{SourceTree, nested}
 use Rattle.sim_design.specs.declared.design.Source.{Source}
 use Rattle.sim_design.specs.declared.design.Source.TheVariants as source
-use Rattle.sim_design.specs.Designs.{Net}
+use Rattle.sim_design.specs.Designs.{Net, Design}
 use Rattle.sim_hierarchy.specs.declared.blocks.Block.{Block}
-use Rattle.sim_hierarchy.specs.Flat.{gather, port_trees, scenes_of, tree_of}
-use Rattle.sim_hierarchy.specs.Hierarchy.{Own, Scene, own_at}
+use Rattle.sim_hierarchy.specs.Blocks.{no_block}
+use Rattle.sim_hierarchy.specs.Flat.{drivers_at, gather, nets_at, port_trees, processes_at, scenes_of, tree_of}
+use Rattle.sim_hierarchy.specs.Hierarchy.{Own, Scene, own_at, scenes}
 
 -- the source tree of a port or signal that is a net
 abbrev pub tree : List Block → List Scene → Scene → Own → SourceTree
@@ -29,3 +30,21 @@ source_value driving (source.Constant value) = value
 -- whatever the values of the drivers are.
 abbrev pub HasValueOf : SourceTree → Net → Type 0
 HasValueOf t n = (driving : ℕ → Logic) → resolved (map (source_value driving) n.sources) ≡ nested driving t
+
+-- ---- the same where instances are followed down another number of levels, of which the top is the first
+
+-- what stands in a number of levels
+abbrev pub scenes_to : ℕ → List Block → ℕ → List Scene
+scenes_to levels blocks top = scenes blocks levels [] (slice_index_or blocks top no_block)
+
+-- the source trees of its nets
+abbrev pub trees_to : ℕ → List Block → ℕ → List SourceTree
+trees_to levels blocks top =
+    let all = scenes_to levels blocks top in
+    gather (λ s. map (tree blocks all s) (own_at s)) all
+
+-- its flat design
+abbrev pub flat_to : ℕ → List Block → ℕ → Design
+flat_to levels blocks top =
+    let all = scenes_to levels blocks top in
+    record { nets = gather (nets_at blocks all) all; processes = gather (processes_at all) all; drivers = gather (drivers_at all) all }

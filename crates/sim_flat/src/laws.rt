@@ -1,13 +1,14 @@
 //! Laws of flat designs.
 
-ghost use Rattle.std.specs.Prelude.{List};
+ghost use Rattle.std.specs.Prelude.{◌≡◌, ◌≤◌, ℕ, List};
 ghost use Rattle.std.specs.List.{All, AllZip};
 ghost use Rattle.sim_logic.specs.Sources.{IsResolvable};
 ghost use Rattle.sim_design.specs.Designs.{Design};
 ghost use Rattle.sim_hierarchy.specs.declared.blocks.Block.{Block};
+ghost use Rattle.sim_hierarchy.specs.Blocks.{levels};
 ghost use Rattle.sim_flat.specs.declared.top.Top.{Top};
 ghost use Rattle.sim_flat.specs.Hierarchies.{IsFlat};
-ghost use Rattle.sim_flat.specs.Laws.{HasValueOf, trees};
+ghost use Rattle.sim_flat.specs.Laws.{HasValueOf, flat_to, trees, trees_to};
 
 /// In the source tree of each net of a design without fault, no port or signal of type std_ulogic has more than one source, in whatever
 /// instance it stands (IEEE 1076-2008, 6.4.2.3).
@@ -21,4 +22,13 @@ pub fn unresolved_names_have_at_most_one_source()
 pub fn nets_resolve_as_the_nested_names()
     ensures { (blocks : List Block) (top : Top) (design : Design) →
         IsFlat blocks top design → AllZip HasValueOf (trees blocks top.block) design.nets }
+{}
+
+/// A design without fault is that of the whole hierarchy, and so are the source trees of its nets: the number of levels down which instances are
+/// followed cuts nothing off, since with any larger number both are the same.
+pub fn nothing_is_cut_off()
+    ensures trees { (blocks : List Block) (top : Top) (design : Design) →
+        IsFlat blocks top design → (n : ℕ) → levels ≤ n → trees_to n blocks top.block ≡ trees blocks top.block }
+    ensures design { (blocks : List Block) (top : Top) (design : Design) →
+        IsFlat blocks top design → (n : ℕ) → levels ≤ n → flat_to n blocks top.block ≡ design }
 {}

@@ -164,7 +164,7 @@ all_noted_found g from f (n ∷ ns) lt reached known =
     all_noted_found g from (noted f n) ns (λ k d below. lt (suc k) d (omega arith)) (λ k d below. reached (suc k) d (omega arith))
     (noted_found g from f n (lt 0 0 (omega arith)) (reached 0 0 (omega arith)) known)
 
--- ---- the search after so many turns: what those that were looked at lead to is marked
+-- ---- the search after a number of turns: what those that were looked at lead to is marked
 record IsSearched (g : Graph) (from at : ℕ) (f : Found) : Type 0 where
   found : IsFound g from f
   shown : IsMarked f from

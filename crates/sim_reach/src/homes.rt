@@ -53,7 +53,7 @@ fn is_free(homes: &[Option<usize>], n: usize) -> bool
     matches!(homes.get(n), Some(None))
 }
 
-/// No home for any of so many blocks.
+/// No home for any of this number of blocks.
 fn no_homes(alloc: Global, count: usize) -> Result<Vec<Option<usize>>, AllocError>
     ensures { IfOk result (λ h. h.items ≡ replicate count None) }
 {

@@ -10,7 +10,7 @@ ghost use Rattle.sim_template.specs.Below.{AreBelow};
 use sim_tree::declaration::{Declaration, PortDeclaration};
 use std::alloc::AllocError;
 
-/// So many more: memory can hold a name for each.
+/// This number more: memory can hold a name for each.
 fn more(count: usize, names: usize) -> Result<usize, AllocError>
     ensures { IfOk result (λ n. n ≡ count + names) }
 {
