@@ -7,11 +7,16 @@ use sim_tree::{Cursor, ParseError};
 use std::alloc::Global;
 use std::test::Fail;
 
+/// A cursor at the front of a text.
+pub fn cursor_of(alloc: Global, text: &str) -> Result<Cursor, Fail> {
+    let tokens = tokens(alloc, text.as_bytes())?;
+    Ok(Cursor::new(tokens))
+}
+
 /// The word at the front of a text with its place.
 fn word(alloc: Global, text: &str) -> Result<String, Fail> {
-    let tokens = tokens(alloc, text.as_bytes())?;
-    let mut cursor = Cursor::new(tokens.as_slice());
-    let name = cursor.word(alloc)?;
+    let mut cursor = cursor_of(alloc, text)?;
+    let name = cursor.word()?;
     let mut line = String::new(alloc);
     put_name(&mut line, &name)?;
     Ok(line)
@@ -25,9 +30,8 @@ fn a_word_is_read_with_its_place(rt: HostRuntime) -> Result<(), Fail> {
 
 /// The digits of the number at the front of a text with their place.
 fn number(alloc: Global, text: &str) -> Result<String, Fail> {
-    let tokens = tokens(alloc, text.as_bytes())?;
-    let mut cursor = Cursor::new(tokens.as_slice());
-    let (digits, at) = cursor.number(alloc)?;
+    let mut cursor = cursor_of(alloc, text)?;
+    let (digits, at) = cursor.number()?;
     let mut line = String::new(alloc);
     put_ascii(&mut line, digits.as_slice())?;
     put_at(&mut line, "", at)?;
@@ -40,61 +44,34 @@ fn a_number_is_read_with_its_place(rt: HostRuntime) -> Result<(), Fail> {
     Ok(())
 }
 
-/// The character literal at the front of a text.
-fn literal(alloc: Global, text: &str) -> Result<(Logic, usize), Fail> {
-    let tokens = tokens(alloc, text.as_bytes())?;
-    let mut cursor = Cursor::new(tokens.as_slice());
-    let found = cursor.literal()?;
-    Ok(found)
+/// The character literal at the front of a text with its place, and the unit after it.
+fn literal_and_unit(alloc: Global, text: &str) -> Result<((Logic, usize), Unit), Fail> {
+    let mut cursor = cursor_of(alloc, text)?;
+    let literal = cursor.literal()?;
+    Ok((literal, cursor.unit()?))
 }
 
 #[test]
-fn a_literal_is_read_as_its_value(rt: HostRuntime) -> Result<(), Fail> {
-    for (text, wanted) in [
-        ("'U'", Logic::U),
-        ("'X'", Logic::X),
-        ("'0'", Logic::Zero),
-        ("'1'", Logic::One),
-        ("'Z'", Logic::Z),
-        ("'W'", Logic::W),
-        ("'L'", Logic::L),
-        ("'H'", Logic::H),
-        ("'-'", Logic::Dash),
+fn literals_and_units_are_read_by_their_names(rt: HostRuntime) -> Result<(), Fail> {
+    for (text, value, unit) in [
+        ("'U' fs", Logic::U, Unit::Fs),
+        ("'X' PS", Logic::X, Unit::Ps),
+        ("'0' Ns", Logic::Zero, Unit::Ns),
+        ("'1' us", Logic::One, Unit::Us),
+        ("'Z' ms", Logic::Z, Unit::Ms),
+        ("'W' sec", Logic::W, Unit::Sec),
+        ("'L' min", Logic::L, Unit::Min),
+        ("'H' hr", Logic::H, Unit::Hr),
+        ("'-' hr", Logic::Dash, Unit::Hr),
     ] {
-        assert_eq!(rt; literal(rt.alloc(), text)?, (wanted, 0));
-    }
-    Ok(())
-}
-
-/// The unit at the front of a text.
-fn unit(alloc: Global, text: &str) -> Result<Unit, Fail> {
-    let tokens = tokens(alloc, text.as_bytes())?;
-    let mut cursor = Cursor::new(tokens.as_slice());
-    let found = cursor.unit()?;
-    Ok(found)
-}
-
-#[test]
-fn a_unit_is_read_by_its_name(rt: HostRuntime) -> Result<(), Fail> {
-    for (text, wanted) in [
-        ("fs", Unit::Fs),
-        ("PS", Unit::Ps),
-        ("Ns", Unit::Ns),
-        ("us", Unit::Us),
-        ("ms", Unit::Ms),
-        ("sec", Unit::Sec),
-        ("min", Unit::Min),
-        ("hr", Unit::Hr),
-    ] {
-        assert_eq!(rt; unit(rt.alloc(), text)?, wanted);
+        assert_eq!(rt; literal_and_unit(rt.alloc(), text)?, ((value, 0), unit));
     }
     Ok(())
 }
 
 /// Goes past `event`, another word than `ab`, and that word; and says what was refused, and how many tokens are left.
 fn pass_words(alloc: Global, text: &str) -> Result<(Option<ParseError>, usize), Fail> {
-    let tokens = tokens(alloc, text.as_bytes())?;
-    let mut cursor = Cursor::new(tokens.as_slice());
+    let mut cursor = cursor_of(alloc, text)?;
     cursor.event()?;
     let refused = cursor.repeat(b"ab".as_slice()).err();
     cursor.repeat(b"abc".as_slice())?;
@@ -110,8 +87,7 @@ fn words_are_passed_in_any_case(rt: HostRuntime) -> Result<(), Fail> {
 
 /// The place of a `(`; whether a comma and then a semicolon were passed; and the places of two tokens after them.
 fn pass_delimiters(alloc: Global, text: &str) -> Result<(usize, bool, bool, usize, usize), Fail> {
-    let tokens = tokens(alloc, text.as_bytes())?;
-    let mut cursor = Cursor::new(tokens.as_slice());
+    let mut cursor = cursor_of(alloc, text)?;
     let open = cursor.expect(Kind::LeftParen)?;
     let comma = cursor.eat(Kind::Comma);
     let semicolon = cursor.eat(Kind::Semicolon);
@@ -128,8 +104,7 @@ fn tokens_are_passed_by_their_kind(rt: HostRuntime) -> Result<(), Fail> {
 
 /// Whether a token of this kind comes next, or none where it is the end.
 fn shows(alloc: Global, text: &str, kind: Kind) -> Result<bool, Fail> {
-    let tokens = tokens(alloc, text.as_bytes())?;
-    let cursor = Cursor::new(tokens.as_slice());
+    let cursor = cursor_of(alloc, text)?;
     let is_end = kind == Kind::EndOfText;
     Ok(cursor.peek() == kind && cursor.sees(kind) && cursor.is_empty() == is_end)
 }
@@ -149,18 +124,16 @@ fn a_cursor_shows_what_comes_next(rt: HostRuntime) -> Result<(), Fail> {
 
 /// Tries to read a word, a number and a literal where a `(` stands; and says what was refused.
 fn refused_values(alloc: Global, text: &str) -> Result<[Option<ParseError>; 3], Fail> {
-    let tokens = tokens(alloc, text.as_bytes())?;
-    let mut cursor = Cursor::new(tokens.as_slice());
-    let word = cursor.word(alloc).err();
-    let number = cursor.number(alloc).err();
+    let mut cursor = cursor_of(alloc, text)?;
+    let word = cursor.word().err();
+    let number = cursor.number().err();
     let literal = cursor.literal().err();
     Ok([word, number, literal])
 }
 
 /// The same of a unit, `event` and a `)`.
 fn refused_words(alloc: Global, text: &str) -> Result<[Option<ParseError>; 3], Fail> {
-    let tokens = tokens(alloc, text.as_bytes())?;
-    let mut cursor = Cursor::new(tokens.as_slice());
+    let mut cursor = cursor_of(alloc, text)?;
     let unit = cursor.unit().err();
     let event = cursor.event().err();
     let close = cursor.expect(Kind::RightParen).err();

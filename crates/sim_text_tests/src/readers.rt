@@ -1,5 +1,6 @@
 //! Readers of parts of a text: the tree that each reads, as a line, and how many tokens it leaves.
 
+use crate::cursors::cursor_of;
 use crate::written::declarations::{put_declarations, put_ports, put_variables};
 use crate::written::expressions::put_expression;
 use crate::written::put_names;
@@ -9,132 +10,17 @@ use sim_declaration::declarations::{declarations, names, ports, repeated, variab
 use sim_expression::expressions::expression;
 use sim_expression::waveforms::{assigned, delay, time, waveform};
 use sim_statement::statements::{label_again, statements};
-use sim_text::tokens;
-use sim_tree::{Cursor, ParseError};
+use sim_tree::ParseError;
 use sqlite_items::Boxed;
 use std::alloc::Global;
 use std::test::Fail;
 
 fn read_expression(alloc: Global, text: &str) -> Result<(String, usize), Fail> {
-    let tokens = tokens(alloc, text.as_bytes())?;
-    let mut cursor = Cursor::new(tokens.as_slice());
+    let mut cursor = cursor_of(alloc, text)?;
     let tree = Boxed::new(alloc, expression(alloc, &mut cursor)?)?;
     let mut line = String::new(alloc);
     put_expression(&mut line, tree.get())?;
     Ok((line, cursor.left()))
-}
-
-/// Where the expression at the front of a text starts.
-fn read_start(alloc: Global, text: &str) -> Result<usize, Fail> {
-    let tokens = tokens(alloc, text.as_bytes())?;
-    let mut cursor = Cursor::new(tokens.as_slice());
-    let tree = Boxed::new(alloc, expression(alloc, &mut cursor)?)?;
-    Ok(tree.get().start())
-}
-
-fn read_time(alloc: Global, text: &str) -> Result<(String, usize), Fail> {
-    let tokens = tokens(alloc, text.as_bytes())?;
-    let mut cursor = Cursor::new(tokens.as_slice());
-    let tree = time(alloc, &mut cursor)?;
-    let mut line = String::new(alloc);
-    put_time(&mut line, &tree)?;
-    Ok((line, cursor.left()))
-}
-
-fn read_waveform(alloc: Global, text: &str) -> Result<(String, usize), Fail> {
-    let tokens = tokens(alloc, text.as_bytes())?;
-    let mut cursor = Cursor::new(tokens.as_slice());
-    let tree = waveform(alloc, &mut cursor)?;
-    let mut line = String::new(alloc);
-    put_waveform(&mut line, tree.as_slice())?;
-    Ok((line, cursor.left()))
-}
-
-fn read_delay(alloc: Global, text: &str) -> Result<(String, usize), Fail> {
-    let tokens = tokens(alloc, text.as_bytes())?;
-    let mut cursor = Cursor::new(tokens.as_slice());
-    let tree = delay(alloc, &mut cursor)?;
-    let mut line = String::new(alloc);
-    put_delay(&mut line, &tree)?;
-    Ok((line, cursor.left()))
-}
-
-/// Reads an assignment after its target.
-fn read_assigned(alloc: Global, text: &str) -> Result<(String, usize), Fail> {
-    let tokens = tokens(alloc, text.as_bytes())?;
-    let mut cursor = Cursor::new(tokens.as_slice());
-    let target = cursor.word(alloc)?;
-    let tree = assigned(alloc, &mut cursor, None, target)?;
-    let mut line = String::new(alloc);
-    put_assignment(&mut line, &tree)?;
-    Ok((line, cursor.left()))
-}
-
-fn read_names(alloc: Global, text: &str) -> Result<(String, usize), Fail> {
-    let tokens = tokens(alloc, text.as_bytes())?;
-    let mut cursor = Cursor::new(tokens.as_slice());
-    let tree = names(alloc, &mut cursor)?;
-    let mut line = String::new(alloc);
-    put_names(&mut line, tree.as_slice())?;
-    Ok((line, cursor.left()))
-}
-
-fn read_ports(alloc: Global, text: &str) -> Result<(String, usize), Fail> {
-    let tokens = tokens(alloc, text.as_bytes())?;
-    let mut cursor = Cursor::new(tokens.as_slice());
-    let tree = ports(alloc, &mut cursor)?;
-    let mut line = String::new(alloc);
-    put_ports(&mut line, tree.as_slice())?;
-    Ok((line, cursor.left()))
-}
-
-fn read_variables(alloc: Global, text: &str) -> Result<(String, usize), Fail> {
-    let tokens = tokens(alloc, text.as_bytes())?;
-    let mut cursor = Cursor::new(tokens.as_slice());
-    let tree = variables(alloc, &mut cursor)?;
-    let mut line = String::new(alloc);
-    put_variables(&mut line, tree.as_slice())?;
-    Ok((line, cursor.left()))
-}
-
-fn read_declarations(alloc: Global, text: &str) -> Result<(String, usize), Fail> {
-    let tokens = tokens(alloc, text.as_bytes())?;
-    let mut cursor = Cursor::new(tokens.as_slice());
-    let tree = declarations(alloc, &mut cursor)?;
-    let mut line = String::new(alloc);
-    put_declarations(&mut line, tree.as_slice())?;
-    Ok((line, cursor.left()))
-}
-
-fn read_statements(alloc: Global, text: &str) -> Result<(String, usize), Fail> {
-    let tokens = tokens(alloc, text.as_bytes())?;
-    let mut cursor = Cursor::new(tokens.as_slice());
-    let tree = statements(alloc, &mut cursor)?;
-    let mut line = String::new(alloc);
-    put_statements(&mut line, tree.as_slice())?;
-    Ok((line, cursor.left()))
-}
-
-/// Whether the name `t` is written again.
-fn read_repeated(alloc: Global, text: &str) -> Result<Result<bool, ParseError>, Fail> {
-    let tokens = tokens(alloc, text.as_bytes())?;
-    let mut cursor = Cursor::new(tokens.as_slice());
-    Ok(repeated(&mut cursor, b"t".as_slice()))
-}
-
-/// Whether the first word is written again, as a label.
-fn read_label(alloc: Global, text: &str) -> Result<Result<bool, ParseError>, Fail> {
-    let tokens = tokens(alloc, text.as_bytes())?;
-    let mut cursor = Cursor::new(tokens.as_slice());
-    let label = Some(cursor.word(alloc)?);
-    Ok(label_again(&mut cursor, &label))
-}
-
-/// Whether a label is written again that there is not.
-fn read_no_label(alloc: Global, text: &str) -> Result<Result<bool, ParseError>, Fail> {
-    let tokens = tokens(alloc, text.as_bytes())?;
-    let mut cursor = Cursor::new(tokens.as_slice());
-    Ok(label_again(&mut cursor, &None))
 }
 
 #[test]
@@ -166,6 +52,13 @@ fn expressions_keep_their_operators_and_places(rt: HostRuntime) -> Result<(), Fa
     Ok(())
 }
 
+/// Where the expression at the front of a text starts.
+fn read_start(alloc: Global, text: &str) -> Result<usize, Fail> {
+    let mut cursor = cursor_of(alloc, text)?;
+    let tree = Boxed::new(alloc, expression(alloc, &mut cursor)?)?;
+    Ok(tree.get().start())
+}
+
 #[test]
 fn expressions_start_with_their_first_token(rt: HostRuntime) -> Result<(), Fail> {
     for (text, wanted) in [
@@ -183,6 +76,14 @@ fn expressions_start_with_their_first_token(rt: HostRuntime) -> Result<(), Fail>
     Ok(())
 }
 
+fn read_waveform(alloc: Global, text: &str) -> Result<(String, usize), Fail> {
+    let mut cursor = cursor_of(alloc, text)?;
+    let tree = waveform(alloc, &mut cursor)?;
+    let mut line = String::new(alloc);
+    put_waveform(&mut line, tree.as_slice())?;
+    Ok((line, cursor.left()))
+}
+
 #[test]
 fn waveforms_keep_digits_and_units(rt: HostRuntime) -> Result<(), Fail> {
     let found = read_waveform(rt.alloc(), "'0', a after 1_0 ps, b after 007 NS when")?;
@@ -192,6 +93,14 @@ fn waveforms_keep_digits_and_units(rt: HostRuntime) -> Result<(), Fail> {
     );
     assert_eq!(rt; found.1, 1);
     Ok(())
+}
+
+fn read_time(alloc: Global, text: &str) -> Result<(String, usize), Fail> {
+    let mut cursor = cursor_of(alloc, text)?;
+    let tree = time(&mut cursor)?;
+    let mut line = String::new(alloc);
+    put_time(&mut line, &tree)?;
+    Ok((line, cursor.left()))
 }
 
 #[test]
@@ -213,6 +122,14 @@ fn times_keep_their_units(rt: HostRuntime) -> Result<(), Fail> {
     Ok(())
 }
 
+fn read_delay(alloc: Global, text: &str) -> Result<(String, usize), Fail> {
+    let mut cursor = cursor_of(alloc, text)?;
+    let tree = delay(&mut cursor)?;
+    let mut line = String::new(alloc);
+    put_delay(&mut line, &tree)?;
+    Ok((line, cursor.left()))
+}
+
 #[test]
 fn delays_are_kept_as_written(rt: HostRuntime) -> Result<(), Fail> {
     for (text, wanted) in [
@@ -226,6 +143,16 @@ fn delays_are_kept_as_written(rt: HostRuntime) -> Result<(), Fail> {
         assert_eq!(rt; found.1, 1, "{text}");
     }
     Ok(())
+}
+
+/// Reads an assignment after its target.
+fn read_assigned(alloc: Global, text: &str) -> Result<(String, usize), Fail> {
+    let mut cursor = cursor_of(alloc, text)?;
+    let target = cursor.word()?;
+    let tree = assigned(alloc, &mut cursor, None, target)?;
+    let mut line = String::new(alloc);
+    put_assignment(&mut line, &tree)?;
+    Ok((line, cursor.left()))
 }
 
 #[test]
@@ -245,12 +172,28 @@ fn assignments_keep_their_conditions(rt: HostRuntime) -> Result<(), Fail> {
     Ok(())
 }
 
+fn read_names(alloc: Global, text: &str) -> Result<(String, usize), Fail> {
+    let mut cursor = cursor_of(alloc, text)?;
+    let tree = names(alloc, &mut cursor)?;
+    let mut line = String::new(alloc);
+    put_names(&mut line, tree.as_slice())?;
+    Ok((line, cursor.left()))
+}
+
 #[test]
 fn names_are_read_up_to_the_last_comma(rt: HostRuntime) -> Result<(), Fail> {
     let found = read_names(rt.alloc(), "a, B , c;")?;
     assert_eq!(rt; found.0.as_str(), "a@0,b@3,c@7");
     assert_eq!(rt; found.1, 1);
     Ok(())
+}
+
+fn read_ports(alloc: Global, text: &str) -> Result<(String, usize), Fail> {
+    let mut cursor = cursor_of(alloc, text)?;
+    let tree = ports(alloc, &mut cursor)?;
+    let mut line = String::new(alloc);
+    put_ports(&mut line, tree.as_slice())?;
+    Ok((line, cursor.left()))
 }
 
 #[test]
@@ -269,6 +212,14 @@ fn ports_keep_their_modes(rt: HostRuntime) -> Result<(), Fail> {
     Ok(())
 }
 
+fn read_variables(alloc: Global, text: &str) -> Result<(String, usize), Fail> {
+    let mut cursor = cursor_of(alloc, text)?;
+    let tree = variables(alloc, &mut cursor)?;
+    let mut line = String::new(alloc);
+    put_variables(&mut line, tree.as_slice())?;
+    Ok((line, cursor.left()))
+}
+
 #[test]
 fn variables_keep_their_first_values(rt: HostRuntime) -> Result<(), Fail> {
     let text = "variable v, w : std_logic := 'L'; variable b : boolean; begin";
@@ -277,6 +228,14 @@ fn variables_keep_their_first_values(rt: HostRuntime) -> Result<(), Fail> {
     assert_eq!(rt; found.0.as_str(), wanted);
     assert_eq!(rt; found.1, 1);
     Ok(())
+}
+
+fn read_declarations(alloc: Global, text: &str) -> Result<(String, usize), Fail> {
+    let mut cursor = cursor_of(alloc, text)?;
+    let tree = declarations(alloc, &mut cursor)?;
+    let mut line = String::new(alloc);
+    put_declarations(&mut line, tree.as_slice())?;
+    Ok((line, cursor.left()))
 }
 
 #[test]
@@ -289,6 +248,14 @@ fn declarations_keep_their_optional_words(rt: HostRuntime) -> Result<(), Fail> {
     assert_eq!(rt; found.0.as_str(), wanted);
     assert_eq!(rt; found.1, 1);
     Ok(())
+}
+
+fn read_statements(alloc: Global, text: &str) -> Result<(String, usize), Fail> {
+    let mut cursor = cursor_of(alloc, text)?;
+    let tree = statements(alloc, &mut cursor)?;
+    let mut line = String::new(alloc);
+    put_statements(&mut line, tree.as_slice())?;
+    Ok((line, cursor.left()))
 }
 
 #[test]
@@ -310,6 +277,12 @@ fn statements_keep_their_labels(rt: HostRuntime) -> Result<(), Fail> {
     Ok(())
 }
 
+/// Whether the name `t` is written again.
+fn read_repeated(alloc: Global, text: &str) -> Result<Result<bool, ParseError>, Fail> {
+    let mut cursor = cursor_of(alloc, text)?;
+    Ok(repeated(&mut cursor, b"t".as_slice()))
+}
+
 #[test]
 fn a_name_is_written_again_as_it_was(rt: HostRuntime) -> Result<(), Fail> {
     for (text, wanted) in [
@@ -320,6 +293,19 @@ fn a_name_is_written_again_as_it_was(rt: HostRuntime) -> Result<(), Fail> {
         assert_eq!(rt; read_repeated(rt.alloc(), text)?, wanted, "{text}");
     }
     Ok(())
+}
+
+/// Whether the first word is written again, as a label.
+fn read_label(alloc: Global, text: &str) -> Result<Result<bool, ParseError>, Fail> {
+    let mut cursor = cursor_of(alloc, text)?;
+    let label = Some(cursor.word()?);
+    Ok(label_again(&mut cursor, &label))
+}
+
+/// Whether a label is written again that there is not.
+fn read_no_label(alloc: Global, text: &str) -> Result<Result<bool, ParseError>, Fail> {
+    let mut cursor = cursor_of(alloc, text)?;
+    Ok(label_again(&mut cursor, &None))
 }
 
 #[test]

@@ -24,8 +24,12 @@ fn units_keep_their_optional_words(rt: HostRuntime) -> Result<(), Fail> {
             "entity e@7 is end entity again;architecture a@38 of e@43 is begin end architecture;architecture b@84 of e@89 is begin end architecture again;",
         ),
         (
-            "library ieee, work; use ieee.std_logic_1164.ALL, work.p.q; use work.all; entity e is end entity; library x; entity y is end y;",
-            "library ieee@8,work@14;use ieee@24.std_logic_1164@29.all,work@49.p@54.q@56;use work@63.all;entity e@80 is end entity;library x@105;entity y@115 is end again;",
+            "library ieee, work; use ieee.std_logic_1164.ALL, work.p.q; entity e is end entity;",
+            "library ieee@8,work@14;use ieee@24.std_logic_1164@29.all,work@49.p@54.q@56;entity e@66 is end entity;",
+        ),
+        (
+            "use work.all; entity e is end entity; library x; entity y is end y;",
+            "use work@4.all;entity e@21 is end entity;library x@46;entity y@56 is end again;",
         ),
         (
             "entity e is port (signal A, b : in Std_Logic := '1'; c : std_ulogic); end;",
@@ -41,12 +45,16 @@ fn units_keep_their_optional_words(rt: HostRuntime) -> Result<(), Fail> {
 fn concurrent_statements_keep_their_labels_and_places(rt: HostRuntime) -> Result<(), Fail> {
     for (text, wanted) in [
         (
-            "architecture a of t is signal s : x; begin u1:c; u2:component c port map(a,'0',open,x=>y,z=>open); u3:entity work.e(r)port map(p=>'-'); u4:entity Lib.e; end;",
-            "architecture a@13 of t@18 is signal s@30:x@34;begin u1@43:c@46;u2@49:component c@62 port map(a@73,'0'@75,open@79,x@84=>y@87,z@89=>open@92);u3@99:entity work@109.e@114(r@116) port map(p@127=>'-'@130);u4@136:entity lib@146.e@150;end;",
+            "architecture a of t is signal s : x; begin u1:c; u2:component c port map(a,'0',open,x=>y,z=>open); end;",
+            "architecture a@13 of t@18 is signal s@30:x@34;begin u1@43:c@46;u2@49:component c@62 port map(a@73,'0'@75,open@79,x@84=>y@87,z@89=>open@92);end;",
         ),
         (
-            "architecture a of t is begin p:process(all)is variable v:boolean; begin null; end process P; process(a, b)begin end process; end;",
-            "architecture a@13 of t@18 is begin p@29:process(all)is variable v@55:boolean@57;begin null;end process again;process(a@101,b@104)begin end process;end;",
+            "architecture a of t is begin u3:entity work.e(r)port map(p=>'-'); u4:entity Lib.e; end;",
+            "architecture a@13 of t@18 is begin u3@29:entity work@39.e@44(r@46) port map(p@57=>'-'@60);u4@66:entity lib@76.e@80;end;",
+        ),
+        (
+            "architecture a of t is begin p:process(all)is variable v:b; begin null; end process P; process(a, b)begin end process; end;",
+            "architecture a@13 of t@18 is begin p@29:process(all)is variable v@55:b@57;begin null;end process again;process(a@95,b@98)begin end process;end;",
         ),
         (
             "architecture a of t is begin l:s <= a and b and c; s <= reject 2 ns inertial b; end;",
