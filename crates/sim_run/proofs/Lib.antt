@@ -1,2 +1,3 @@
+pub mod NestedValues
 pub mod Programs
 pub mod Simulations

@@ -3,6 +3,7 @@
 
 mod error;
 mod finished;
+pub mod laws;
 mod program;
 mod run;
 mod simulation;
