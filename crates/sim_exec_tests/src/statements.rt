@@ -29,7 +29,7 @@ w <= '1' when x = '0' else '0' when y = '1'; \
 k <= '1' when x = '0' else 'W' after 1 ns when z = 'H' else '0'; \
 end;";
 
-/// So many views, of x, y and z.
+/// This number of views, of x, y and z.
 fn views(alloc: Global) -> Result<Vec<NetView>, AllocError> {
     let mut views = Vec::new(alloc);
     views.push(changed(Logic::Zero, Logic::One))?;
@@ -38,7 +38,7 @@ fn views(alloc: Global) -> Result<Vec<NetView>, AllocError> {
     Ok(views)
 }
 
-/// So many drivers at 'U'.
+/// This number of drivers at 'U'.
 fn drivers(alloc: Global, count: usize) -> Result<Vec<Driver>, AllocError> {
     let mut drivers = Vec::new(alloc);
     for _turn in 0..count {

@@ -10,7 +10,7 @@ use std::io;
 use std::io::Write;
 use std::test::Fail;
 
-/// A writer that takes a byte at a time, and so many in all.
+/// A writer that takes a byte at a time, and a number of them in all.
 #[derive(Drop)]
 struct Narrow {
     bytes: Vec<u8>,

@@ -128,7 +128,7 @@ pub fn next_number(words: &[u64], tops: &[u64], from: usize) -> Option<usize>
     }
 }
 
-/// So many words without a number.
+/// This number of words without a member.
 pub fn zeros(alloc: Global, count: usize) -> Result<Vec<u64>, AllocError>
     ensures len { IfOk result (λ words. length words.items ≡ count) }
     ensures none { IfOk result (λ words. (k : ℕ) → slice_index words.items k ≡ 0) }

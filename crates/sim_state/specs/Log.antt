@@ -35,7 +35,7 @@ pub record IsLog (records : List Record) (marks : List Mark) (changes : List (�
   pub marking : marks ≡ marks_from 0 records
   pub changing : changes ≡ all_changes records
 
--- where so many changes end
+-- where a count of changes ends
 abbrev pub end_mark : ℕ → Mark
 end_mark count = record { time = 0; delta = 0; start = count }
 

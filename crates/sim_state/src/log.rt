@@ -65,7 +65,7 @@ fn append_values(changes: &mut Vec<(u32, Logic)>, values: &[Logic])
     }
 }
 
-/// Where the changes of a record start and end, where there are so many in all.
+/// Where the changes of a record start and end; `count` is that of all changes.
 fn bounds(marks: &[Mark], count: usize, number: usize) -> (usize, usize)
     requires { number + 1 ≤ length marks.now }
     ensures start { result.0 ≡ (slice_index_or marks.now number (end_mark count)).start }
@@ -152,7 +152,7 @@ impl Log {
         between(self.changes.as_slice(), start, end)
     }
 
-    /// Makes room for a record of so many changes. The records stay.
+    /// Makes room for a record of this number of changes. The records stay.
     pub fn reserve(&mut self, changes: usize) -> Result<(), AllocError>
         ensures same { self.new.records ≡ self.old.records }
         ensures mark { OnOk result (0 < self.new.marks_room) }

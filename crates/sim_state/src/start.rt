@@ -138,7 +138,7 @@ fn add_nets(driven: &mut [Items<usize>], sources: &Rows<Source>) -> Result<(), A
     Ok(())
 }
 
-/// For each of so many drivers, the nets that have it as a source. A driver beyond them is passed over. It takes time in proportion to the
+/// For each of this number of drivers, the nets that have it as a source. A driver beyond them is passed over. It takes time in proportion to the
 /// drivers and to all sources.
 pub fn driven(
     alloc: Global,

@@ -17,7 +17,7 @@ use Rattle.sim_store.specs.Agreement.{total_of}
 use Rattle.sim_store.specs.Order.{together}
 use Rattle.sim_store.specs.Standard.{standard, state_of, records_to, next_of, executed_in_turn, those}
 
--- A simulation of a design, after so many cycles, in which these processes have been executed since. All else follows.
+-- A simulation of a design, after a number of cycles, in which these processes have been executed since. All else follows.
 pub record Progress : Type 0 where
   pub design : Design
   pub cycles : ℕ
@@ -127,7 +127,7 @@ pub record IsJobOf (h : Progress) (p : ℕ) (job : Job) : Type 0 where
 abbrev pub next_after : Progress → Option ℕ
 next_after h = next_of (executed_in_turn h.design h.cycles (reached h))
 
--- the time of the next cycle after so many cycles of a design
+-- the time of the next cycle after a number of cycles of a design
 abbrev pub next_in : Design → ℕ → Option ℕ
 next_in design cycles = next_of (executed_in_turn design cycles (state_of design cycles))
 

@@ -35,7 +35,7 @@ abbrev pub cycle_in_turn : Design → ℕ → Option State → Option State
 cycle_in_turn design cycles None = None
 cycle_in_turn design cycles (Some s) = let x = executed_in_turn design cycles s in onward design x (next_of x)
 
--- the state after so many cycles, where there are so many
+-- the state after a number of cycles, where there are as many
 unfoldable pub standard : Design → ℕ → Option State
 standard design zero = Some (first_state design)
 standard design (suc cycles) = cycle_in_turn design cycles (standard design cycles)
@@ -53,7 +53,7 @@ unfoldable pub parallel : Design → ℕ → Option State
 parallel design zero = Some (first_state design)
 parallel design (suc cycles) = cycle_together design cycles (parallel design cycles)
 
--- the state after so many cycles of the standard; where there are fewer, the first
+-- the state after a number of cycles of the standard; where there are fewer, the first
 abbrev pub or_first : Design → Option State → State
 or_first design None = first_state design
 or_first design (Some s) = s
@@ -68,7 +68,7 @@ abbrev pub recorded : ℕ → State → Record
 recorded zero s = first_record s
 recorded (suc cycles) s = record_of s
 
--- the records of the initialization and of so many cycles
+-- the records of the initialization and of a number of cycles
 unfoldable pub records_to : Design → ℕ → List Record
 records_to design zero = recorded zero (state_of design zero) ∷ []
 records_to design (suc cycles) = records_to design cycles ++ recorded (suc cycles) (state_of design (suc cycles)) ∷ []

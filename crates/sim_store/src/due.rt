@@ -32,7 +32,7 @@ impl Model for Due {
 }
 
 impl Due {
-    /// So many processes, all of them due.
+    /// This number of processes, all of them due.
     pub fn all(alloc: Global, count: usize) -> Result<Due, AllocError>
         ensures { IfOk result (λ d. d ≡ replicate count true) }
     {

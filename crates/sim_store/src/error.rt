@@ -27,7 +27,7 @@ pub enum StoreError {
     /// A process that is due has not been executed; it is the least.
     #[error("Missing {process}")]
     Missing { process: usize },
-    /// There are not so many records.
+    /// There are fewer records.
     #[error("Behind {records}")]
     Behind { records: usize },
     /// The stop time is later than 2^62 - 1 fs.

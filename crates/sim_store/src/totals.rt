@@ -9,7 +9,7 @@ use sim_logic::Logic;
 use sim_state::Log;
 use std::alloc::{AllocError, Global};
 
-/// So many nets, none of which had an event.
+/// This number of nets, none of which had an event.
 pub fn none(alloc: Global, nets: usize) -> Result<Vec<u64>, AllocError>
     ensures { IfOk result (λ v. v.items ≡ replicate nets 0) }
 {
