@@ -1,38 +1,15 @@
 //! What the cycles of a store leave.
 
+use crate::records::{ends_with, is_record};
 use crate::scripts::Answer::{Done, Went};
 use crate::scripts::Call::{Advance, Deposit, Run};
-use crate::scripts::answers;
+use crate::scripts::{answers, are_same};
 use crate::texts::{CHOICE, EXCHANGE, ONCE, TWO_DRIVERS, after, store};
 use sim_logic::{LATEST, Logic};
+use sim_run::Finished;
 use sim_store::{Look, Record, Step, StoreError, WaveStore};
 use std::alloc::Global;
 use std::test::Fail;
-
-/// Whether a record says this.
-fn is_record(record: Option<&Record>, time: u64, delta: u64, changes: &[(usize, Logic)]) -> bool {
-    match record {
-        None => false,
-        Some(record) => {
-            record.time == time && record.delta == delta && record.changes.as_slice() == changes
-        }
-    }
-}
-
-/// Whether the records of a store from a number on are one, and it says this.
-fn ends_with(
-    alloc: Global,
-    store: &WaveStore,
-    number: usize,
-    time: u64,
-    delta: u64,
-    changes: &[(usize, Logic)],
-) -> bool {
-    match store.records_since(alloc, number) {
-        Err(_refusal) => false,
-        Ok(records) => records.len() == 1 && is_record(records.first(), time, delta, changes),
-    }
-}
 
 /// The exchange of two flip-flops, whose results are handed in from the last to the first: whether the store answers so.
 fn exchanged(alloc: Global) -> Option<WaveStore> {
@@ -40,7 +17,10 @@ fn exchanged(alloc: Global) -> Option<WaveStore> {
     let mut kept = Vec::new(alloc);
     let calls = [Run(2), Run(1), Deposit(0), Deposit(1), Advance];
     let found = answers(alloc, &mut store, &mut kept, &calls).ok()?;
-    if found.as_slice() == [Done, Done, Done, Done, Went(Step::Next)].as_slice() {
+    if are_same(
+        found.as_slice(),
+        &[Done, Done, Done, Done, Went(Step::Next)],
+    ) {
         Some(store)
     } else {
         None
@@ -100,6 +80,48 @@ fn is_read(alloc: Global) -> Option<bool> {
 #[test]
 fn a_run_that_has_ended_is_read(rt: HostRuntime) -> Result<(), Fail> {
     assert_eq!(rt; is_read(rt.alloc()), Some(true));
+    Ok(())
+}
+
+/// Whether these are the names of two nets.
+fn are_named(names: &[String], first: &str, second: &str) -> bool {
+    match names {
+        [one, other] => one.as_str() == first && other.as_str() == second,
+        _ => false,
+    }
+}
+
+/// A copy of the history of a run that has ended.
+fn copied(alloc: Global) -> Option<Finished> {
+    let store = after(alloc, CHOICE, 10, 4)?;
+    Finished::of(alloc, &store).ok()
+}
+
+/// Whether these are the records of that run.
+fn are_records(records: &[Record]) -> bool {
+    records.len() == 4
+        && is_record(records.get(1), 1_000_000, 0, &[(0, Logic::One)])
+        && is_record(records.get(2), 8_000_000, 0, &[(1, Logic::One)])
+        && is_record(records.get(3), 10_000_000, 0, &[])
+}
+
+/// Whether a copy of a history has that run's names, records, cycles and events.
+fn is_history(copy: &Finished) -> bool {
+    are_named(copy.names(), "a", "q")
+        && are_records(copy.records())
+        && copy.cycles() == 3
+        && copy.events() == 2
+}
+
+/// Whether it is copied so.
+fn is_copied(alloc: Global) -> Option<bool> {
+    let copy = copied(alloc)?;
+    Some(is_history(&copy))
+}
+
+#[test]
+fn a_history_is_copied(rt: HostRuntime) -> Result<(), Fail> {
+    assert_eq!(rt; is_copied(rt.alloc()), Some(true));
     Ok(())
 }
 

@@ -5,6 +5,10 @@
 #[cfg(test)]
 mod cycles;
 #[cfg(test)]
+mod plain;
+#[cfg(test)]
+mod records;
+#[cfg(test)]
 mod refusals;
 #[cfg(test)]
 mod scripts;

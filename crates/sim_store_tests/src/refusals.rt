@@ -2,7 +2,7 @@
 
 use crate::scripts::Answer::{Done, Refused, Went};
 use crate::scripts::Call::{Advance, Deposit, Run};
-use crate::scripts::{answers, answers_so};
+use crate::scripts::{answers, answers_so, are_same};
 use crate::texts::{EMPTY, ONCE, TOGGLE, TWO_DRIVERS, design, store};
 use sim_logic::LATEST;
 use sim_store::{Step, StoreError, WaveStore};
@@ -56,14 +56,11 @@ fn is_foreign(alloc: Global, text: &str, other: &str) -> Option<bool> {
     let mut kept = Vec::new(alloc);
     answers(alloc, &mut first, &mut kept, &[Run(0)]).ok()?;
     let found = answers(alloc, &mut second, &mut kept, &[Deposit(0), Advance]).ok()?;
-    Some(
-        found.as_slice()
-            == [
-                Refused(StoreError::Foreign),
-                Refused(StoreError::Missing { process: 0 }),
-            ]
-            .as_slice(),
-    )
+    let expected = [
+        Refused(StoreError::Foreign),
+        Refused(StoreError::Missing { process: 0 }),
+    ];
+    Some(are_same(found.as_slice(), &expected))
 }
 
 #[test]

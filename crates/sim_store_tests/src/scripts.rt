@@ -17,7 +17,7 @@ pub enum Call {
 }
 
 /// What it answers.
-#[derive(Clone, Copy, Debug, PartialEq, Eq)]
+#[derive(Clone, Copy)]
 pub enum Answer {
     /// It went on.
     Went(Step),
@@ -100,7 +100,26 @@ pub fn answers(
     Ok(answers)
 }
 
-/// Whether the store of a text, which went on so many times, answers some calls so.
+/// Whether two answers are the same.
+fn is_same(answer: Answer, other: Answer) -> bool {
+    match (answer, other) {
+        (Answer::Went(step), Answer::Went(other)) => step == other,
+        (Answer::Refused(refusal), Answer::Refused(other)) => refusal == other,
+        (Answer::Done, Answer::Done) | (Answer::None, Answer::None) => true,
+        _ => false,
+    }
+}
+
+/// Whether these are the same answers.
+pub fn are_same(answers: &[Answer], others: &[Answer]) -> bool {
+    answers.len() == others.len()
+        && answers
+            .iter()
+            .zip(others)
+            .all(|(answer, other)| is_same(*answer, *other))
+}
+
+/// Whether the store of a text, after this many cycles, answers some calls so.
 pub fn answers_so(
     alloc: Global,
     text: &str,
@@ -114,7 +133,7 @@ pub fn answers_so(
     };
     let mut kept = Vec::new(alloc);
     match answers(alloc, &mut store, &mut kept, calls) {
-        Ok(found) => found.as_slice() == expected,
+        Ok(found) => are_same(found.as_slice(), expected),
         Err(_refused) => false,
     }
 }

@@ -35,6 +35,15 @@ pub const CHOICE: &str =
     "entity t is end;architecture a of t is signal a,q:std_logic:='0';begin a <= '1' after 1 ns; \
 q <= '1' after 8 ns when a = '0' else '1' after 9 ns; end;";
 
+/// Pulses on a signal with two drivers, some of them rejected, through instances, with a delta cycle after each.
+pub const PULSES: &str =
+    "entity e is port (signal i : in std_logic; signal o : out std_logic); end;\
+architecture a of e is signal m : std_logic := '1'; begin m <= i; o <= transport not m after 3 ns, m after 4 ns; end;\
+entity t is end;architecture a of t is signal c,d : std_logic := '0'; signal s : std_logic; \
+component e is port (signal i : in std_logic; signal o : out std_logic); end component; begin \
+c <= not c after 7 ns; d <= reject 2 ns inertial not d after 5 ns when c = '1' else c after 3 ns; \
+u : e port map (c, s); v : e port map (i => d, o => s); end;";
+
 /// The flat design of a text under the top `t`.
 pub fn design(alloc: Global, text: &str) -> Option<Design> {
     let options = Options {
@@ -69,14 +78,14 @@ fn cycle(alloc: Global, store: &mut WaveStore) {
     let _ = store.advance(alloc);
 }
 
-/// Goes on so many times.
+/// Goes on for this many cycles.
 fn go_on(alloc: Global, store: &mut WaveStore, cycles: usize) {
     for _cycle in 0..cycles {
         cycle(alloc, store);
     }
 }
 
-/// The store of a text, which went on so many times.
+/// The store of a text, after this many cycles.
 pub fn after(alloc: Global, text: &str, limit: u32, cycles: usize) -> Option<WaveStore> {
     let mut store = store(alloc, text, limit)?;
     go_on(alloc, &mut store, cycles);
