@@ -9,6 +9,7 @@ mod listing;
 mod reading;
 
 use anyhow::{Context, Result, bail};
+use reading::Step;
 use std::env;
 
 fn main(rt: HostRuntime) -> Result<()> {
@@ -24,8 +25,8 @@ fn main(rt: HostRuntime) -> Result<()> {
         }
         "execution" => execution::run(&rt, count),
         "listing" => listing::run(&rt, count),
-        "tokens" => reading::run_tokens(&rt, count),
-        "parse" => reading::run_parse(&rt, count),
+        "tokens" => reading::run(&rt, Step::Tokens, count),
+        "parse" => reading::run(&rt, Step::Parse, count),
         _ => bail!("no such subject"),
     }
 }

@@ -15,6 +15,38 @@ pub fn source<R: Input + AllocGlobal>(rt: &R) -> Result<Vec<u8>> {
     Ok(text)
 }
 
+/// What is timed, and what is counted of it.
+#[derive(Clone, Copy)]
+pub enum Step {
+    /// the lexer: tokens
+    Tokens,
+    /// the lexer and the parser after it: design units
+    Parse,
+}
+
+impl Step {
+    fn name(self) -> &'static str {
+        match self {
+            Step::Tokens => "tokens",
+            Step::Parse => "parse",
+        }
+    }
+
+    fn counted(self) -> &'static str {
+        match self {
+            Step::Tokens => "tokens",
+            Step::Parse => "units",
+        }
+    }
+
+    fn count(self, alloc: Global, text: &[u8]) -> Result<usize, TextError> {
+        match self {
+            Step::Tokens => count_tokens(alloc, text),
+            Step::Parse => count_units(alloc, text),
+        }
+    }
+}
+
 fn count_tokens(alloc: Global, text: &[u8]) -> Result<usize, TextError> {
     let found = tokens(alloc, text)?;
     Ok(found.len())
@@ -25,34 +57,19 @@ fn count_units(alloc: Global, text: &[u8]) -> Result<usize, TextError> {
     Ok(found.units().len())
 }
 
-/// Times the lexer.
-pub fn run_tokens<R: Print + Eprint + Input + Clock + AllocGlobal>(
+/// Times a step.
+pub fn run<R: Print + Eprint + Input + Clock + AllocGlobal>(
     rt: &R,
+    step: Step,
     count: u64,
 ) -> Result<()> {
     let text = source(rt)?;
     for _ in 0..count {
         let start = Instant::now(rt)?;
-        let tokens = count_tokens(rt.alloc(), text.as_slice())?;
+        let found = step.count(rt.alloc(), text.as_slice())?;
         let took = start.elapsed(rt)?.as_micros();
-        eprintln!(rt; "tokens: {took} us")?;
-        println!(rt; "tokens: {tokens}")?;
-    }
-    Ok(())
-}
-
-/// Times the lexer and the parser after it.
-pub fn run_parse<R: Print + Eprint + Input + Clock + AllocGlobal>(
-    rt: &R,
-    count: u64,
-) -> Result<()> {
-    let text = source(rt)?;
-    for _ in 0..count {
-        let start = Instant::now(rt)?;
-        let units = count_units(rt.alloc(), text.as_slice())?;
-        let took = start.elapsed(rt)?.as_micros();
-        eprintln!(rt; "parse: {took} us")?;
-        println!(rt; "units: {units}")?;
+        eprintln!(rt; "{}: {took} us", step.name())?;
+        println!(rt; "{}: {found}", step.counted())?;
     }
     Ok(())
 }

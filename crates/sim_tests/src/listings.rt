@@ -26,11 +26,7 @@ fn a_failing_writer_has_a_front_of_the_listing(rt: HostRuntime) -> Result<(), Fa
     let alloc = rt.alloc();
     for in_all in 0..32 {
         for a_call in [1, 8192] {
-            let mut out = Failing {
-                taken: Vec::new(alloc),
-                a_call,
-                in_all,
-            };
+            let mut out = Failing::new(alloc, a_call, in_all);
             let asked = options(alloc)?;
             let answer = simulate(&rt, alloc, TEXT, &asked, &mut out);
             let wanted = if in_all < 31 {
@@ -42,11 +38,7 @@ fn a_failing_writer_has_a_front_of_the_listing(rt: HostRuntime) -> Result<(), Fa
             assert_eq!(rt; out.taken.as_slice(), &LISTING[..in_all], "{in_all}");
         }
     }
-    let mut none = Failing {
-        taken: Vec::new(alloc),
-        a_call: 0,
-        in_all: 100,
-    };
+    let mut none = Failing::new(alloc, 0, 100);
     let asked = options(alloc)?;
     let answer = simulate(&rt, alloc, TEXT, &asked, &mut none);
     assert_eq!(rt; answer, Err(RunError::Write));

@@ -87,16 +87,8 @@ fn a_failed_write_has_status_4_even_where_the_line_fails_too(rt: HostRuntime) ->
         (6, b"vsim: ".as_slice()),
     ] {
         let mut input = TEXT;
-        let mut out = Failing {
-            taken: Vec::new(alloc),
-            a_call: 8192,
-            in_all: 10,
-        };
-        let mut err = Failing {
-            taken: Vec::new(alloc),
-            a_call: 1,
-            in_all,
-        };
+        let mut out = Failing::new(alloc, 8192, 10);
+        let mut err = Failing::new(alloc, 1, in_all);
         let status = session(
             &rt,
             alloc,
@@ -116,11 +108,7 @@ fn a_failed_write_has_status_4_even_where_the_line_fails_too(rt: HostRuntime) ->
 fn help_to_a_writer_that_fails_has_status_4(rt: HostRuntime) -> Result<(), Fail> {
     let alloc = rt.alloc();
     let mut input = TEXT;
-    let mut out = Failing {
-        taken: Vec::new(alloc),
-        a_call: 8192,
-        in_all: 10,
-    };
+    let mut out = Failing::new(alloc, 8192, 10);
     let mut err = Vec::new(alloc);
     let status = session(
         &rt,

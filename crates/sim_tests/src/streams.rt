@@ -1,18 +1,32 @@
 //! Readers and writers in memory that give and take little at a time, or fail.
 
+use std::alloc::Global;
 use std::io;
 use std::io::{ErrorKind, Read, Write};
 
-/// A writer that takes at most `a_call` bytes a call, and fails once it has taken `in_all`.
+/// A writer that takes at most `a_call` bytes a call, fails once it has taken `in_all`, and counts the calls.
 #[derive(Drop)]
 pub struct Failing {
     pub taken: Vec<u8>,
     pub a_call: usize,
     pub in_all: usize,
+    pub calls: usize,
+}
+
+impl Failing {
+    pub fn new(alloc: Global, a_call: usize, in_all: usize) -> Failing {
+        Failing {
+            taken: Vec::new(alloc),
+            a_call,
+            in_all,
+            calls: 0,
+        }
+    }
 }
 
 impl Write for Failing {
     fn write(&mut self, buf: &[u8]) -> io::Result<usize> {
+        self.calls = self.calls.saturating_add(1);
         let room = self.in_all.saturating_sub(self.taken.len());
         if room == 0 && !buf.is_empty() {
             return Err(io::Error::from(ErrorKind::Other));
