@@ -3,7 +3,7 @@
 use crate::records::{ends_with, is_record};
 use crate::scripts::Answer::{Done, Went};
 use crate::scripts::Call::{Advance, Deposit, Run};
-use crate::scripts::{answers, are_same};
+use crate::scripts::answers_so;
 use crate::texts::{CHOICE, EXCHANGE, ONCE, TWO_DRIVERS, after, store};
 use sim_logic::{LATEST, Logic};
 use sim_run::Finished;
@@ -16,11 +16,8 @@ fn exchanged(alloc: Global) -> Option<WaveStore> {
     let mut store = after(alloc, EXCHANGE, 10, 1)?;
     let mut kept = Vec::new(alloc);
     let calls = [Run(2), Run(1), Deposit(0), Deposit(1), Advance];
-    let found = answers(alloc, &mut store, &mut kept, &calls).ok()?;
-    if are_same(
-        found.as_slice(),
-        &[Done, Done, Done, Done, Went(Step::Next)],
-    ) {
+    let expected = [Done, Done, Done, Done, Went(Step::Next)];
+    if answers_so(alloc, &mut store, &mut kept, &calls, &expected) {
         Some(store)
     } else {
         None
@@ -61,20 +58,38 @@ fn who_is_sensitive_to_what_changed_is_due(rt: HostRuntime) -> Result<(), Fail> 
     Ok(())
 }
 
-/// Whether a run that has ended is read so.
-fn is_read(alloc: Global) -> Option<bool> {
-    let store = after(alloc, CHOICE, 10, 4)?;
+/// Whether a store has ended after four records, two events and ten nanoseconds, and nothing is due.
+fn has_ended(store: &WaveStore) -> bool {
     let look = Look {
         records: 4,
         time: 10_000_000,
         delta: 0,
         events: 2,
     };
-    let is_ended = store.ended() == Some(Step::Finished) && store.due().is_empty();
-    let is_same = store.look() == look && store.design().processes().len() == 2;
-    let none = store.records_since(alloc, 4).ok()?;
-    let behind = store.records_since(alloc, 9).err()?;
-    Some(is_ended && is_same && none.is_empty() && behind == StoreError::Behind { records: 4 })
+    store.ended() == Some(Step::Finished) && store.due().is_empty() && store.look() == look
+}
+
+/// Whether a store has no records from the fourth on, and says so of later ones.
+fn has_four_records(alloc: Global, store: &WaveStore) -> bool {
+    match store.records_since(alloc, 4) {
+        Ok(none) => none.is_empty() && is_behind(alloc, store),
+        Err(_refusal) => false,
+    }
+}
+
+/// Whether a store refuses records from the ninth on, as there are four.
+fn is_behind(alloc: Global, store: &WaveStore) -> bool {
+    match store.records_since(alloc, 9) {
+        Ok(_records) => false,
+        Err(refusal) => refusal == StoreError::Behind { records: 4 },
+    }
+}
+
+/// Whether a run that has ended is read so.
+fn is_read(alloc: Global) -> Option<bool> {
+    let store = after(alloc, CHOICE, 10, 4)?;
+    let processes = store.design().processes().len();
+    Some(has_ended(&store) && has_four_records(alloc, &store) && processes == 2)
 }
 
 #[test]
@@ -125,12 +140,21 @@ fn a_history_is_copied(rt: HostRuntime) -> Result<(), Fail> {
     Ok(())
 }
 
-/// Whether the first record has each net, and the second what changed.
+/// Whether the first record of a store has each net, and the second what changed.
+fn has_two_records(alloc: Global, store: &WaveStore) -> bool {
+    match store.records_since(alloc, 0) {
+        Ok(records) => {
+            let first = is_record(records.first(), 0, 0, &[(0, Logic::U)]);
+            first && records.len() == 2 && is_record(records.last(), 0, 1, &[(0, Logic::X)])
+        }
+        Err(_refusal) => false,
+    }
+}
+
+/// Whether two drivers that contradict each other are recorded so.
 fn has_records(alloc: Global) -> Option<bool> {
     let store = after(alloc, TWO_DRIVERS, 10, 1)?;
-    let records = store.records_since(alloc, 0).ok()?;
-    let first = is_record(records.first(), 0, 0, &[(0, Logic::U)]);
-    Some(first && records.len() == 2 && is_record(records.last(), 0, 1, &[(0, Logic::X)]))
+    Some(has_two_records(alloc, &store))
 }
 
 #[test]

@@ -2,7 +2,7 @@
 
 use crate::scripts::Answer::{Done, Refused, Went};
 use crate::scripts::Call::{Advance, Deposit, Run};
-use crate::scripts::{answers, answers_so, are_same};
+use crate::scripts::{answers_so, text_answers_so};
 use crate::texts::{EMPTY, ONCE, TOGGLE, TWO_DRIVERS, design, store};
 use sim_logic::LATEST;
 use sim_store::{Step, StoreError, WaveStore};
@@ -13,7 +13,7 @@ use std::test::Fail;
 fn missing_processes_and_results_that_come_twice_or_late(rt: HostRuntime) -> Result<(), Fail> {
     let alloc = rt.alloc();
     assert!(rt;
-        answers_so(
+        text_answers_so(
             alloc,
             TWO_DRIVERS,
             10,
@@ -54,13 +54,20 @@ fn is_foreign(alloc: Global, text: &str, other: &str) -> Option<bool> {
     let mut first = store(alloc, text, 10)?;
     let mut second = store(alloc, other, 10)?;
     let mut kept = Vec::new(alloc);
-    answers(alloc, &mut first, &mut kept, &[Run(0)]).ok()?;
-    let found = answers(alloc, &mut second, &mut kept, &[Deposit(0), Advance]).ok()?;
     let expected = [
         Refused(StoreError::Foreign),
         Refused(StoreError::Missing { process: 0 }),
     ];
-    Some(are_same(found.as_slice(), &expected))
+    Some(
+        answers_so(alloc, &mut first, &mut kept, &[Run(0)], &[Done])
+            && answers_so(
+                alloc,
+                &mut second,
+                &mut kept,
+                &[Deposit(0), Advance],
+                &expected,
+            ),
+    )
 }
 
 #[test]
@@ -73,7 +80,7 @@ fn a_result_of_another_store_is_foreign(rt: HostRuntime) -> Result<(), Fail> {
 fn a_process_that_is_not_due_has_no_job(rt: HostRuntime) -> Result<(), Fail> {
     let alloc = rt.alloc();
     assert!(rt;
-        answers_so(
+        text_answers_so(
             alloc,
             TOGGLE,
             10,
@@ -89,7 +96,7 @@ fn a_process_that_is_not_due_has_no_job(rt: HostRuntime) -> Result<(), Fail> {
 fn a_run_that_has_ended_goes_on_no_more(rt: HostRuntime) -> Result<(), Fail> {
     let alloc = rt.alloc();
     assert!(rt;
-        answers_so(
+        text_answers_so(
             alloc,
             EMPTY,
             10,
@@ -111,7 +118,7 @@ fn a_run_may_have_as_many_cycles_as_its_limit(rt: HostRuntime) -> Result<(), Fai
     let calls = [Run(0), Deposit(0), Advance, Advance];
     let ended = Refused(StoreError::Ended);
     assert!(rt;
-        answers_so(
+        text_answers_so(
             alloc,
             ONCE,
             1,
@@ -121,7 +128,7 @@ fn a_run_may_have_as_many_cycles_as_its_limit(rt: HostRuntime) -> Result<(), Fai
         )
     );
     assert!(rt;
-        answers_so(
+        text_answers_so(
             alloc,
             ONCE,
             0,

@@ -87,7 +87,7 @@ fn answer_to(
 }
 
 /// The answers of some calls, one after another; results that were kept before are at hand.
-pub fn answers(
+fn answers(
     alloc: Global,
     store: &mut WaveStore,
     kept: &mut Vec<Option<Done>>,
@@ -111,7 +111,7 @@ fn is_same(answer: Answer, other: Answer) -> bool {
 }
 
 /// Whether these are the same answers.
-pub fn are_same(answers: &[Answer], others: &[Answer]) -> bool {
+fn are_same(answers: &[Answer], others: &[Answer]) -> bool {
     answers.len() == others.len()
         && answers
             .iter()
@@ -119,8 +119,22 @@ pub fn are_same(answers: &[Answer], others: &[Answer]) -> bool {
             .all(|(answer, other)| is_same(*answer, *other))
 }
 
-/// Whether the store of a text, after this many cycles, answers some calls so.
+/// Whether a store answers some calls so; results that were kept before are at hand.
 pub fn answers_so(
+    alloc: Global,
+    store: &mut WaveStore,
+    kept: &mut Vec<Option<Done>>,
+    calls: &[Call],
+    expected: &[Answer],
+) -> bool {
+    match answers(alloc, store, kept, calls) {
+        Ok(found) => are_same(found.as_slice(), expected),
+        Err(_refused) => false,
+    }
+}
+
+/// Whether the store of a text, after this many cycles, answers some calls so.
+pub fn text_answers_so(
     alloc: Global,
     text: &str,
     limit: u32,
@@ -132,8 +146,5 @@ pub fn answers_so(
         return false;
     };
     let mut kept = Vec::new(alloc);
-    match answers(alloc, &mut store, &mut kept, calls) {
-        Ok(found) => are_same(found.as_slice(), expected),
-        Err(_refused) => false,
-    }
+    answers_so(alloc, &mut store, &mut kept, calls, expected)
 }
