@@ -1,7 +1,7 @@
 -- Where no chain of instances is longer than the levels, the trees and the design are those of the whole hierarchy: with more levels the same
 -- scenes are found, each with more levels below it, and nothing that is told of them differs.
-use Rattle.std.proofs.Common.{◌≡◌, ℕ, zero, suc, ◌+◌, ◌-◌, ◌≤◌, ◌||◌, List, [], ◌∷◌, ◌++◌, Bool, true, false, map, slice_index_or}
-use Rattle.std.proofs.Common.{refl, ap, sym, ◌∙◌, subst, arith}
+use Rattle.std.proofs.Common.{◌≡◌, ℕ, zero, suc, ◌+◌, ◌-◌, ◌≤◌, ◌||◌, List, [], ◌∷◌, ◌++◌}
+use Rattle.std.proofs.Common.{Bool, true, false, map, slice_index_or, refl, ap, sym, ◌∙◌, subst, arith}
 use Rattle.std.specs.List.{list_any}
 use Rattle.sim_logic.specs.Sources.{SourceTree, leaves}
 use Rattle.sim_design.specs.Designs.{Design}
@@ -99,7 +99,8 @@ before_raised count m same [] p = refl
 before_raised count m same (s ∷ ss) p = rw (same s, before_raised count m same ss p) refl
 
 -- ---- source trees
-of_ports_same : (one other : ℕ → Object → SourceTree) → ((n : ℕ) (o : Object) → one n o ≡ other n o) → (links : List Link) (m n : ℕ) (ps : List Port)
+of_ports_same : (one other : ℕ → Object → SourceTree) → ((n : ℕ) (o : Object) → one n o ≡ other n o)
+    → (links : List Link) (m n : ℕ) (ps : List Port)
     → of_ports one links m n ps ≡ of_ports other links m n ps
 unfolding of_ports
 of_ports_same one other same links m n [] = refl
