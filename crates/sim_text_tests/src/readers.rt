@@ -122,14 +122,6 @@ fn times_keep_their_units(rt: HostRuntime) -> Result<(), Fail> {
     Ok(())
 }
 
-fn read_delay(alloc: Global, text: &str) -> Result<(String, usize), Fail> {
-    let mut cursor = cursor_of(alloc, text)?;
-    let tree = delay(&mut cursor)?;
-    let mut line = String::new(alloc);
-    put_delay(&mut line, &tree)?;
-    Ok((line, cursor.left()))
-}
-
 #[test]
 fn delays_are_kept_as_written(rt: HostRuntime) -> Result<(), Fail> {
     for (text, wanted) in [
@@ -143,6 +135,14 @@ fn delays_are_kept_as_written(rt: HostRuntime) -> Result<(), Fail> {
         assert_eq!(rt; found.1, 1, "{text}");
     }
     Ok(())
+}
+
+fn read_delay(alloc: Global, text: &str) -> Result<(String, usize), Fail> {
+    let mut cursor = cursor_of(alloc, text)?;
+    let tree = delay(&mut cursor)?;
+    let mut line = String::new(alloc);
+    put_delay(&mut line, &tree)?;
+    Ok((line, cursor.left()))
 }
 
 /// Reads an assignment after its target.
@@ -212,14 +212,6 @@ fn ports_keep_their_modes(rt: HostRuntime) -> Result<(), Fail> {
     Ok(())
 }
 
-fn read_variables(alloc: Global, text: &str) -> Result<(String, usize), Fail> {
-    let mut cursor = cursor_of(alloc, text)?;
-    let tree = variables(alloc, &mut cursor)?;
-    let mut line = String::new(alloc);
-    put_variables(&mut line, tree.as_slice())?;
-    Ok((line, cursor.left()))
-}
-
 #[test]
 fn variables_keep_their_first_values(rt: HostRuntime) -> Result<(), Fail> {
     let text = "variable v, w : std_logic := 'L'; variable b : boolean; begin";
@@ -228,6 +220,14 @@ fn variables_keep_their_first_values(rt: HostRuntime) -> Result<(), Fail> {
     assert_eq!(rt; found.0.as_str(), wanted);
     assert_eq!(rt; found.1, 1);
     Ok(())
+}
+
+fn read_variables(alloc: Global, text: &str) -> Result<(String, usize), Fail> {
+    let mut cursor = cursor_of(alloc, text)?;
+    let tree = variables(alloc, &mut cursor)?;
+    let mut line = String::new(alloc);
+    put_variables(&mut line, tree.as_slice())?;
+    Ok((line, cursor.left()))
 }
 
 fn read_declarations(alloc: Global, text: &str) -> Result<(String, usize), Fail> {
