@@ -14,7 +14,7 @@ use Rattle.sim_exec.specs.Statements.{own_steps, waveform_assigned, executed}
 use Rattle.sim_exec.proofs.Alongside.{Keeps, each_of_all, all_go}
 
 -- a driver is replaced by one with its value
-pub value_kept : (drivers : List Waveform) (place : ℕ) (driver : Waveform) → driver.value ≡ (driver_at drivers place).value
+value_kept : (drivers : List Waveform) (place : ℕ) (driver : Waveform) → driver.value ≡ (driver_at drivers place).value
     → driver_values (set drivers place driver) ≡ driver_values drivers
 value_kept drivers place driver e = map-set_same (λ (d : Waveform). d.value) drivers place driver no_driver e
 

@@ -91,36 +91,9 @@ fn taken_waveform<'a, N: Nets>(
     }
 }
 
-/// Assigns a waveform to a driver (10.5.2.2).
-fn assign<N: Nets>(
-    alloc: Global,
-    nets: &N,
-    now: u64,
-    mechanism: statement::Delay,
-    elements: &[Element],
-    variables: &[Held],
-    driver: &mut Driver,
-) -> Result<(), AllocError>
-    requires waveform { IsWaveform elements.now }
-    requires rejected { IsRejected mechanism elements.now }
-    requires now { now ≤ largest_time }
-    requires pending { RisesFrom now driver.old.pending }
-    ensures ok { OnOk result (driver.new
-        ≡ spec.assigned now mechanism (values.element_values (N.look nets.now) variables.now elements.now) driver.old) }
-    ensures err { OnErr result (driver.new ≡ driver.old) }
-    ensures pending { RisesFrom now driver.new.pending }
-    ensures value { driver.new.value ≡ driver.old.value }
-{
-    if let [only] = elements {
-        let element = element_value(nets, variables, only);
-        return driver.edit(now, delay(mechanism, element.0), &[element]);
-    }
-    assign_several(alloc, nets, now, mechanism, elements, variables, driver)
-}
-
-/// Assigns a waveform of any number of elements to a driver.
+/// Assigns a waveform of any number of elements to a driver (10.5.2.2).
 #[inline(never)]
-fn assign_several<N: Nets>(
+fn assign<N: Nets>(
     alloc: Global,
     nets: &N,
     now: u64,
@@ -168,16 +141,14 @@ pub(crate) fn assign_signal<N: Nets>(
     let Some(elements) = taken_waveform(nets, body, variables, assignment) else {
         return Ok(());
     };
+    let mechanism = assignment.delay;
     let driver = &mut drivers[assignment.driver];
-    assign(
-        alloc,
-        nets,
-        now,
-        assignment.delay,
-        elements,
-        variables,
-        driver,
-    )?;
+    if let [only] = elements {
+        let element = element_value(nets, variables, only);
+        driver.edit(now, delay(mechanism, element.0), &[element])?;
+        return Ok(());
+    }
+    assign(alloc, nets, now, mechanism, elements, variables, driver)?;
     Ok(())
 }
 

@@ -1,6 +1,6 @@
 //! Executed jobs.
 
-ghost use Rattle.std.specs.Prelude.{ℕ, ◌≡◌, List, IfOk};
+ghost use Rattle.std.specs.Prelude.{◌≡◌, IfOk};
 ghost use Rattle.sim_exec.specs.Jobs.{IsDone};
 ghost use Rattle.sim_design.specs.Processes.{rising};
 ghost use Rattle.sim_exec.specs.State.{net_at};

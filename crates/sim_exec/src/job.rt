@@ -1,9 +1,9 @@
 //! What is handed out to be executed.
 
-ghost use Rattle.std.specs.Prelude.{◌≡◌, ◌↔◌, suc, map, length, IsTrue};
+ghost use Rattle.std.specs.Prelude.{◌≡◌, ◌↔◌, suc, map, IsTrue};
 ghost use Rattle.std.specs.List.{All};
 ghost use Rattle.sim_wave.specs.Driver.{RisesFrom};
-ghost use Rattle.sim_exec.specs.Jobs.{IsJob, holds_bit};
+ghost use Rattle.sim_exec.specs.Jobs.{holds_bit};
 
 use crate::view::NetView;
 use sim_design::{Held, Process};

@@ -1,6 +1,6 @@
 //! The values of expressions (IEEE 1076-2008, 9).
 
-ghost use Rattle.std.specs.Prelude.{◌≡◌, fold, map, slice_get, option_copied};
+ghost use Rattle.std.specs.Prelude.{◌≡◌, fold, map, slice_get};
 ghost use Rattle.sim_exec.specs.Values as spec;
 
 use crate::view::{NetView, Nets};
@@ -20,20 +20,6 @@ fn logic_operation(operator: Logical, left: Logic, right: Logic) -> Logic
         Logical::Xnor => left.xnor(right),
         Logical::Nand => left.nand(right),
         Logical::Nor => left.nor(right),
-    }
-}
-
-/// A logical operator on two boolean values (9.2.2).
-fn boolean_operation(operator: Logical, left: bool, right: bool) -> bool
-    ensures { result ≡ spec.boolean_operation operator left right }
-{
-    match operator {
-        Logical::And => left && right,
-        Logical::Or => left || right,
-        Logical::Xor => left != right,
-        Logical::Xnor => left == right,
-        Logical::Nand => !(left && right),
-        Logical::Nor => !(left || right),
     }
 }
 
@@ -160,7 +146,8 @@ pub fn boolean_value<N: Nets>(nets: &N, variables: &[Held], expression: &Boolean
     }
 }
 
-/// A value and those of these expressions, with the operator between each two.
+/// A value and those of these expressions, with the operator between each two. Of `and`, `or`, `nand` and `nor` the right operand is evaluated only where
+/// the left one does not decide (9.2.2).
 #[cycle(boolean_values)]
 #[inline(never)]
 fn boolean_chain<N: Nets>(
@@ -174,7 +161,14 @@ fn boolean_chain<N: Nets>(
 {
     let mut value = first;
     for operand in rest {
-        value = boolean_operation(operator, value, boolean_value(nets, variables, operand));
+        value = match operator {
+            Logical::And => value && boolean_value(nets, variables, operand),
+            Logical::Or => value || boolean_value(nets, variables, operand),
+            Logical::Xor => value != boolean_value(nets, variables, operand),
+            Logical::Xnor => value == boolean_value(nets, variables, operand),
+            Logical::Nand => !(value && boolean_value(nets, variables, operand)),
+            Logical::Nor => !(value || boolean_value(nets, variables, operand)),
+        };
     }
     value
 }
