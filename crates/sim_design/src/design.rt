@@ -139,7 +139,7 @@ impl Model for Design {
 }
 
 impl Design {
-    ghost use Rattle.std.specs.Prelude.{◌≡◌, ◌<◌, ◌≤◌, ◌^◌, ◌≢◌, ℕ, IfOk, IfSome, IfNone, List, map, length};
+    ghost use Rattle.std.specs.Prelude.{◌≡◌, ◌<◌, ◌≤◌, ◌≢◌, IfOk, length};
     ghost use Rattle.std.specs.Bool.{Decides};
     ghost use Rattle.std.specs.List.{All};
     ghost use Rattle.std.specs.Option.{MatchOption};

@@ -74,10 +74,7 @@ impl LogicExpression {
             Self::Literal(value) => matches!(self, Self::Literal(own) if own == value),
             Self::Object(place) => matches!(self, Self::Object(own) if own == place),
             Self::Variable(place) => matches!(self, Self::Variable(own) if own == place),
-            Self::Not(operand) => match self {
-                Self::Not(own) => own.get().same(operand.get()),
-                _ => false,
-            },
+            Self::Not(operand) => matches!(self, Self::Not(own) if own.get().same(operand.get())),
             Self::Chain {
                 operator,
                 first,
@@ -131,25 +128,40 @@ impl BooleanExpression {
             Self::Variable(place) => matches!(self, Self::Variable(own) if own == place),
             Self::Event(object) => matches!(self, Self::Event(own) if own == object),
             Self::Edge { rising, object } => self.is_edge(*rising, *object),
-            Self::Not(operand) => match self {
-                Self::Not(own) => own.get().same(operand.get()),
-                _ => false,
-            },
+            Self::Not(operand) => matches!(self, Self::Not(own) if own.get().same(operand.get())),
             Self::Chain {
                 operator,
                 first,
                 rest,
-            } => self.is_chain(*operator, first.get(), rest.as_slice()),
+            } => matches!(
+                self,
+                Self::Chain { operator: own, first: own_first, rest: own_rest }
+                    if own == operator
+                        && own_first.get().same(first.get())
+                        && are_same(own_rest.as_slice(), rest.as_slice())
+            ),
             Self::LogicComparison {
                 left,
                 operator,
                 right,
-            } => self.is_logic_comparison(left.get(), *operator, right.get()),
+            } => matches!(
+                self,
+                Self::LogicComparison { left: own_left, operator: own, right: own_right }
+                    if own == operator
+                        && own_left.get().same(left.get())
+                        && own_right.get().same(right.get())
+            ),
             Self::BooleanComparison {
                 left,
                 operator,
                 right,
-            } => self.is_boolean_comparison(left.get(), *operator, right.get()),
+            } => matches!(
+                self,
+                Self::BooleanComparison { left: own_left, operator: own, right: own_right }
+                    if own == operator
+                        && own_left.get().same(left.get())
+                        && own_right.get().same(right.get())
+            ),
         }
     }
 
@@ -165,79 +177,18 @@ impl BooleanExpression {
             _ => false,
         }
     }
-
-    /// Whether it is the chain of this operator and these operands.
-    #[cycle(boolean_expressions)]
-    fn is_chain(
-        &self,
-        operator: Logical,
-        first: &BooleanExpression,
-        rest: &[BooleanExpression],
-    ) -> bool
-        ensures { Decides result (self.now ≡ boolean.Chain operator first.now rest.now) }
-    {
-        match self {
-            Self::Chain {
-                operator: own,
-                first: own_first,
-                rest: own_rest,
-            } => *own == operator
-                && own_first.get().same(first)
-                && same_boolean_expressions(own_rest.as_slice(), rest),
-            _ => false,
-        }
-    }
-
-    /// Whether it is the comparison by this operator of these values of std_ulogic.
-    fn is_logic_comparison(
-        &self,
-        left: &LogicExpression,
-        operator: Relational,
-        right: &LogicExpression,
-    ) -> bool
-        ensures { Decides result (self.now ≡ boolean.LogicComparison left.now operator right.now) }
-    {
-        match self {
-            Self::LogicComparison {
-                left: own_left,
-                operator: own,
-                right: own_right,
-            } => *own == operator && own_left.get().same(left) && own_right.get().same(right),
-            _ => false,
-        }
-    }
-
-    /// Whether it is the comparison by this operator of these boolean values.
-    #[cycle(boolean_expressions)]
-    fn is_boolean_comparison(
-        &self,
-        left: &BooleanExpression,
-        operator: Relational,
-        right: &BooleanExpression,
-    ) -> bool
-        ensures { Decides result (self.now ≡ boolean.BooleanComparison left.now operator right.now) }
-    {
-        match self {
-            Self::BooleanComparison {
-                left: own_left,
-                operator: own,
-                right: own_right,
-            } => *own == operator && own_left.get().same(left) && own_right.get().same(right),
-            _ => false,
-        }
-    }
 }
 
-/// Whether these are the same expressions, in the same order.
+/// Whether operands of type boolean are the same, in the same order.
 #[cycle(boolean_expressions)]
-fn same_boolean_expressions(expressions: &[BooleanExpression], others: &[BooleanExpression]) -> bool
-    ensures { Decides result (expressions.now ≡ others.now) }
+fn are_same(operands: &[BooleanExpression], others: &[BooleanExpression]) -> bool
+    ensures { Decides result (operands.now ≡ others.now) }
 {
-    if expressions.len() != others.len() {
+    if operands.len() != others.len() {
         return false;
     }
-    for (i, expression) in expressions.iter().enumerate() {
-        if !expression.same(&others[i]) {
+    for place in 0..operands.len() {
+        if !operands[place].same(&others[place]) {
             return false;
         }
     }

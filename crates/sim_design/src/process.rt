@@ -83,7 +83,7 @@ impl Model for Process {
 }
 
 impl Process {
-    ghost use Rattle.std.specs.Prelude.{◌≡◌, ◌+◌, true, IfOk, length};
+    ghost use Rattle.std.specs.Prelude.{◌≡◌, IfOk, length};
     ghost use Rattle.std.specs.Bool.{Decides};
     ghost use Rattle.sim_design.specs.Bodies.{objects_of};
     ghost use Rattle.sim_design.specs.Processes.{IsProcess, nets_of, rising};
