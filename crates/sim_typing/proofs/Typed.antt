@@ -1,6 +1,6 @@
 -- An expression without faults has a type, where each name that has a value has one.
 use Rattle.std.proofs.Common.{◌≡◌, ℕ, Bool, true, false, List, [], ◌∷◌, ◌++◌, map, Option, Some, None, is_some, refl, sym, ap, subst}
-use Rattle.sim_tree.specs.declared.declaration.Mode.TheVariants.{In, Out, Inout}
+use Rattle.sim_tree.specs.declared.declaration.Mode.TheVariants.{Out}
 use Rattle.sim_tree.specs.declared.expression.Expression.{Expression}
 use Rattle.sim_tree.specs.declared.expression.Expression.TheVariants as e
 use Rattle.sim_tree.specs.declared.expression.Expression.TheOpen as o
@@ -29,16 +29,11 @@ value_typed : (at : ℕ) (o : Option Meaning) → has_type o ≡ true → IsType
 unfolding value_read
 value_typed at None h f = cc
 value_typed at (Some (m.Port object Out t)) h f = cc
-value_typed at (Some (m.Port object In t)) h f = h
-value_typed at (Some (m.Port object Inout t)) h f = h
+value_typed at (Some (m.Port object mode t)) h f = h
 value_typed at (Some (m.Signal object t)) h f = h
 value_typed at (Some (m.Variable place t)) h f = h
 value_typed at (Some (m.Truth value)) h f = refl
-value_typed at (Some (m.Component place)) h f = cc
-value_typed at (Some m.Label) h f = cc
-value_typed at (Some (m.LogicMark resolved)) h f = cc
-value_typed at (Some m.BooleanMark) h f = cc
-value_typed at (Some (m.Edge rising)) h f = cc
+value_typed at (Some _) h f = cc
 
 test_typed : (fs : List Fault) → IsTyped (event_test fs)
 unfolding event_test

@@ -1,7 +1,7 @@
 -- The faults of assignments, sequences of statements and sensitivity lists (IEEE 1076-2008, 10 and 11).
 use Rattle.std.specs.Prelude.{ℕ, List, [], ◌∷◌, ◌++◌, Option, Some, None}
 use Rattle.sim_tree.specs.Name.{Name}
-use Rattle.sim_tree.specs.declared.declaration.Mode.TheVariants.{In, Out, Inout}
+use Rattle.sim_tree.specs.declared.declaration.Mode.TheVariants.{In}
 use Rattle.sim_tree.specs.declared.waveform.ConcurrentSignalAssignment.{ConcurrentSignalAssignment}
 use Rattle.sim_tree.specs.declared.sequential.SignalAssignment.{SignalAssignment}
 use Rattle.sim_tree.specs.declared.sequential.VariableAssignment.{VariableAssignment}
@@ -28,16 +28,9 @@ use Rattle.sim_typing.specs.Waveforms.{condition_faults, value_faults, waveform_
 unfoldable pub signal_target_faults : ℕ → Option Meaning → List Fault
 signal_target_faults at None = fault k.Unknown at
 signal_target_faults at (Some (m.Port object In t)) = fault k.WriteIn at
-signal_target_faults at (Some (m.Port object Out t)) = []
-signal_target_faults at (Some (m.Port object Inout t)) = []
+signal_target_faults at (Some (m.Port object mode t)) = []
 signal_target_faults at (Some (m.Signal object t)) = []
-signal_target_faults at (Some (m.Variable place t)) = fault k.WrongKind at
-signal_target_faults at (Some (m.Truth value)) = fault k.WrongKind at
-signal_target_faults at (Some (m.Component place)) = fault k.WrongKind at
-signal_target_faults at (Some m.Label) = fault k.WrongKind at
-signal_target_faults at (Some (m.LogicMark resolved)) = fault k.WrongKind at
-signal_target_faults at (Some m.BooleanMark) = fault k.WrongKind at
-signal_target_faults at (Some (m.Edge rising)) = fault k.WrongKind at
+signal_target_faults at (Some _) = fault k.WrongKind at
 
 -- the type of a target that is a port or a signal
 abbrev pub signal_type : Option Meaning → Option ty.Type

@@ -1,6 +1,6 @@
 -- The types of expressions, and the faults inside them (IEEE 1076-2008, 9).
 use Rattle.std.specs.Prelude.{ℕ, ◌||◌, List, [], ◌∷◌, ◌++◌, Bool, true, false, Option, Some, None}
-use Rattle.sim_tree.specs.declared.declaration.Mode.TheVariants.{In, Out, Inout}
+use Rattle.sim_tree.specs.declared.declaration.Mode.TheVariants.{Out}
 use Rattle.sim_tree.specs.declared.expression.Expression.{Expression}
 use Rattle.sim_tree.specs.declared.expression.Expression.TheOpen as x
 use Rattle.sim_tree.specs.declared.expression.Expression.TheFolds as folds
@@ -35,31 +35,19 @@ faulty_name kind at = record { type = None; named = true; faults = fault kind at
 unfoldable pub value_read : ℕ → Option Meaning → Judged
 value_read at None = faulty_name k.Unknown at
 value_read at (Some (m.Port object Out t)) = faulty_name k.ReadOut at
-value_read at (Some (m.Port object In t)) = name_of t
-value_read at (Some (m.Port object Inout t)) = name_of t
+value_read at (Some (m.Port object mode t)) = name_of t
 value_read at (Some (m.Signal object t)) = name_of t
 value_read at (Some (m.Variable place t)) = name_of t
 value_read at (Some (m.Truth value)) = name_of (Some Boolean)
-value_read at (Some (m.Component place)) = faulty_name k.WrongKind at
-value_read at (Some m.Label) = faulty_name k.WrongKind at
-value_read at (Some (m.LogicMark resolved)) = faulty_name k.WrongKind at
-value_read at (Some m.BooleanMark) = faulty_name k.WrongKind at
-value_read at (Some (m.Edge rising)) = faulty_name k.WrongKind at
+value_read at (Some _) = faulty_name k.WrongKind at
 
 -- A name whose events count is that of a port which is not of mode out, or of a signal.
 unfoldable pub signal_read : ℕ → Option Meaning → List Fault
 signal_read at None = fault k.Unknown at
 signal_read at (Some (m.Port object Out t)) = fault k.ReadOut at
-signal_read at (Some (m.Port object In t)) = []
-signal_read at (Some (m.Port object Inout t)) = []
+signal_read at (Some (m.Port object mode t)) = []
 signal_read at (Some (m.Signal object t)) = []
-signal_read at (Some (m.Variable place t)) = fault k.WrongKind at
-signal_read at (Some (m.Truth value)) = fault k.WrongKind at
-signal_read at (Some (m.Component place)) = fault k.WrongKind at
-signal_read at (Some m.Label) = fault k.WrongKind at
-signal_read at (Some (m.LogicMark resolved)) = fault k.WrongKind at
-signal_read at (Some m.BooleanMark) = fault k.WrongKind at
-signal_read at (Some (m.Edge rising)) = fault k.WrongKind at
+signal_read at (Some _) = fault k.WrongKind at
 
 -- Only an edge function is called.
 unfoldable pub function_called : ℕ → Option Meaning → List Fault

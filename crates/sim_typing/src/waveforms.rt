@@ -138,29 +138,6 @@ pub(crate) fn waveform(
     values(inner, outer, target, waveform, first);
 }
 
-/// Notes the faults of a waveform and its condition.
-#[tactic(auto, using(sim_scope::proofs::FirstFaults::first_of_both), unfolding(crate::specs::Waveforms::alternative_faults))]
-fn alternative(
-    inner: &Scope<'_>,
-    outer: &Scope<'_>,
-    mechanism: &DelayMechanism,
-    target: Option<Type>,
-    alternative: &ConditionalWaveform,
-    first: &mut Option<Fault>,
-)
-    ensures { first.new ≡ first_of first.old (spec.alternative_faults (means inner.now outer.now) mechanism.now target alternative.now) }
-{
-    waveform(
-        inner,
-        outer,
-        mechanism,
-        target,
-        alternative.waveform.as_slice(),
-        first,
-    );
-    condition(inner, outer, &alternative.condition, first);
-}
-
 /// Notes the faults of waveforms with their conditions.
 #[tactic(auto, unfolding(crate::specs::Waveforms::conditional_faults, sim_scope::specs::Faults::first_of))]
 fn conditional(
@@ -174,7 +151,9 @@ fn conditional(
     ensures { first.new ≡ first_of first.old (spec.conditional_faults (means inner.now outer.now) mechanism.now target alternatives.now) }
 {
     for each in alternatives {
-        alternative(inner, outer, mechanism, target, each, first);
+        let elements = each.waveform.as_slice();
+        waveform(inner, outer, mechanism, target, elements, first);
+        condition(inner, outer, &each.condition, first);
     }
 }
 

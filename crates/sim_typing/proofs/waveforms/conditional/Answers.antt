@@ -1,13 +1,17 @@
-use Rattle.std.proofs.Common.{refl}
+use Rattle.std.proofs.Common.{◌≡◌, refl, rules}
+use Rattle.sim_scope.specs.Faults.{first_of}
 use Rattle.sim_scope.specs.Scopes.{means}
+use Rattle.sim_scope.proofs.FirstFaults.{first_of_both}
 use Rattle.sim_typing.specs.Waveforms.{alternative_faults, conditional_faults}
 use Rattle.sim_typing.proofs.Turns.{one_more}
 use Rattle.sim_typing.proofs.waveforms.conditional.Goals as goal
 
 pub loop-each-preserved : goal.loop-each-preserved
-unfolding conditional_faults
+unfolding alternative_faults conditional_faults
 loop-each-preserved c =
     let look = means c.args.inner.now c.args.outer.now in
-    one_more (conditional_faults look c.args.mechanism.now c.args.target) (alternative_faults look c.args.mechanism.now c.args.target) (λ x xs. refl)
+    let each = alternative_faults look c.args.mechanism.now c.args.target in
+    let step : c.condition.new.first ≡ first_of c.loop-each.first (each c.each-item.result) = search (rules, first_of_both) in
+    one_more (conditional_faults look c.args.mechanism.now c.args.target) each (λ x xs. refl)
     c.args.alternatives.now c.loop-each.each-index c.each-item.result c.loop-each-test.true c.each-item.is
-    c.loop-each.first c.alternative.new.first _ c.alternative.ensures c.loop-each.invariant
+    c.loop-each.first c.condition.new.first _ step c.loop-each.invariant
