@@ -1,5 +1,5 @@
 -- Each expression of a process as an equation, by its variants.
-use Rattle.std.proofs.Common.{◌≡◌, ℕ, List, [], ◌∷◌, map, Bool, true, false, refl, sym, ap, ◌∙◌}
+use Rattle.std.proofs.Common.{◌≡◌, ℕ, List, [], ◌∷◌, map, true, false, refl, sym, ap, ◌∙◌}
 use Rattle.sim_logic.specs.declared.logic.Logic.{Logic}
 use Rattle.sim_logic.specs.declared.logic.Logic.TheVariants as value
 use Rattle.sim_scope.specs.Scopes.{Look}
@@ -216,7 +216,6 @@ pub ruleset logics_are = (
   not_logic_of,
   comparison_logic_of,
   chain_logic_of,
-  operand_logic_of,
 )
 
 -- each kind of expression of boolean
@@ -230,5 +229,4 @@ pub ruleset booleans_are = (
   booleans_compared,
   logics_compared,
   chain_boolean_of,
-  operand_boolean_of,
 )

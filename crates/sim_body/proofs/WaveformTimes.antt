@@ -1,5 +1,5 @@
 -- Waveforms whose times are in order are waveforms of the design, and reject no more than their first times.
-use Rattle.std.proofs.Common.{◌≡◌, ◌≤◌, ◌<◌, ℕ, ◌&&◌, nat_lt, nat_le, List, [], ◌∷◌, map, Bool, true, false, refl}
+use Rattle.std.proofs.Common.{◌≡◌, ℕ, ◌&&◌, List, [], ◌∷◌, map, Bool, true, false, refl}
 use Rattle.std.specs.List.{All}
 use Rattle.std.proofs.lemmas.Bool.{ltb-true}
 use Rattle.sim_scope.specs.Scopes.{Look}

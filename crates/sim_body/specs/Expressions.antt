@@ -1,5 +1,5 @@
 -- Expressions as a process executes them (IEEE 1076-2008, 9): names by place, each expression by its type, parentheses gone.
-use Rattle.std.specs.Prelude.{ℕ, Bool, true, false, if◌then◌else◌, List, [], ◌∷◌, Option, Some, None}
+use Rattle.std.specs.Prelude.{Bool, true, false, if◌then◌else◌, List, [], ◌∷◌, Option, Some}
 use Rattle.sim_logic.specs.declared.logic.Logic.TheVariants as value
 use Rattle.sim_scope.specs.declared.scope.Type.TheVariants.{Logic, Boolean}
 use Rattle.sim_scope.specs.declared.scope.Meaning.{Meaning}

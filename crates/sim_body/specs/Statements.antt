@@ -1,5 +1,5 @@
 -- Statements as a process executes them (IEEE 1076-2008, 10): names by place, times in femtoseconds, labels gone.
-use Rattle.std.specs.Prelude.{ℕ, ◌==◌, Bool, true, false, List, [], ◌∷◌, ◌++◌, map, if◌then◌else◌, Option, Some, None}
+use Rattle.std.specs.Prelude.{ℕ, ◌==◌, List, [], ◌∷◌, ◌++◌, map, if◌then◌else◌, Option, Some, None}
 use Rattle.std.specs.List.{concat, list_any, position}
 use Rattle.sim_scope.specs.declared.scope.Type.TheVariants.{Logic, Boolean}
 use Rattle.sim_scope.specs.declared.scope.Meaning.{Meaning}
@@ -13,7 +13,6 @@ use Rattle.sim_tree.specs.declared.waveform.DelayMechanism.{DelayMechanism}
 use Rattle.sim_tree.specs.declared.waveform.DelayMechanism.TheVariants as mechanism
 use Rattle.sim_tree.specs.declared.waveform.ConcurrentSignalAssignment.{ConcurrentSignalAssignment}
 use Rattle.sim_tree.specs.declared.sequential.SignalAssignment as tree_signal
-use Rattle.sim_tree.specs.declared.sequential.VariableAssignment as tree_variable
 use Rattle.sim_tree.specs.declared.sequential.Sequential as tree_sequential
 use Rattle.sim_tree.specs.declared.sequential.Branch as tree_branch
 use Rattle.sim_tree.specs.declared.sequential.Statement as tree_statement

@@ -1,6 +1,5 @@
 -- What names mean is there: ports and signals of the architecture, and variables of the process, each of its type.
-use Rattle.std.specs.Prelude.{ℕ, ◌≡◌, nat_lt, Bool, true, List, Option, Some, None, slice_get}
-use Rattle.sim_scope.specs.declared.scope.Type as type
+use Rattle.std.specs.Prelude.{ℕ, ◌≡◌, nat_lt, Bool, true, List, Option, Some, slice_get}
 use Rattle.sim_scope.specs.declared.scope.Type.TheVariants.{Logic, Boolean}
 use Rattle.sim_scope.specs.declared.scope.Meaning.{Meaning}
 use Rattle.sim_scope.specs.declared.scope.Meaning.TheVariants as m

@@ -2,6 +2,7 @@
 
 ghost use Rattle.std.specs.Prelude.{◌≡◌, ℕ, true, IfOk, List, map};
 ghost use Rattle.std.specs.List.{All};
+ghost use Rattle.sim_design.specs.declared.expression.BooleanExpression.TheVariants as boolean;
 ghost use Rattle.sim_design.specs.declared.held.Held as held;
 ghost use Rattle.sim_design.specs.Bodies.{boolean_fits, logic_fits};
 ghost use Rattle.sim_scope.specs.Scopes.{means};
@@ -12,7 +13,7 @@ use crate::names::Names;
 use sim_design::expression::{BooleanExpression, LogicExpression};
 use sim_logic::Logic;
 use sim_scope::{Meaning, Type};
-use sim_tree::expression::{Expression, Operand};
+use sim_tree::expression::{Expression, Logical, Operand, Relational};
 use sqlite_items::{Boxed, Items};
 use std::alloc::{AllocError, Global};
 
@@ -143,29 +144,13 @@ pub fn logic(
         } => {
             let first = Boxed::new(alloc, logic(alloc, names, first.get())?)?;
             let rest = logic_operands(alloc, names, rest.as_slice())?;
-            let operator = *operator;
             Ok(LogicExpression::Chain {
-                operator,
+                operator: *operator,
                 first,
                 rest,
             })
         }
     }
-}
-
-/// An operand of a chain of type std_ulogic.
-#[cycle(logic)]
-#[tactic(auto, using(crate::proofs::Translations::logics_are, sim_design::proofs::Fitting::logics_fit))]
-fn logic_operand(
-    alloc: Global,
-    names: &Names<'_, '_>,
-    operand: &Operand,
-) -> Result<LogicExpression, AllocError>
-    requires within { AreWithin (means names.now.process.now names.now.architecture.now) names.now.objects names.now.variables.now }
-    ensures value { IfOk result (λ r. r ≡ spec.operand_logic (means names.now.process.now names.now.architecture.now) operand.now) }
-    ensures fits { IfOk result (λ r. logic_fits names.now.objects names.now.variables.now r ≡ true) }
-{
-    logic(alloc, names, &operand.operand)
 }
 
 /// The operands after the first of a chain of type std_ulogic.
@@ -181,9 +166,33 @@ fn logic_operands(
 {
     let mut found = Vec::with_capacity(alloc, operands.len())?;
     for each in operands {
-        found.push(logic_operand(alloc, names, each)?)?;
+        found.push(logic(alloc, names, &each.operand)?)?;
     }
     Ok(Items::from_vec(found))
+}
+
+/// `=` or `/=` between operands of type std_ulogic (9.2.3).
+#[tactic(auto, using(sim_design::proofs::Fitting::booleans_fit))]
+fn logic_comparison(
+    alloc: Global,
+    names: &Names<'_, '_>,
+    left: &Expression,
+    operator: Relational,
+    right: &Expression,
+) -> Result<BooleanExpression, AllocError>
+    requires within { AreWithin (means names.now.process.now names.now.architecture.now) names.now.objects names.now.variables.now }
+    ensures value { IfOk result (λ r. r ≡ boolean.LogicComparison
+        (spec.logic_of (means names.now.process.now names.now.architecture.now) left.now) operator
+        (spec.logic_of (means names.now.process.now names.now.architecture.now) right.now)) }
+    ensures fits { IfOk result (λ r. boolean_fits names.now.objects names.now.variables.now r ≡ true) }
+{
+    let left = Boxed::new(alloc, logic(alloc, names, left)?)?;
+    let right = Boxed::new(alloc, logic(alloc, names, right)?)?;
+    Ok(BooleanExpression::LogicComparison {
+        left,
+        operator,
+        right,
+    })
 }
 
 /// An expression of type boolean. A comparison goes by the type of its left operand.
@@ -219,10 +228,9 @@ pub fn boolean(
         } if is_boolean(names, left.get()) => {
             let left = Boxed::new(alloc, boolean(alloc, names, left.get())?)?;
             let right = Boxed::new(alloc, boolean(alloc, names, right.get())?)?;
-            let operator = *operator;
             Ok(BooleanExpression::BooleanComparison {
                 left,
-                operator,
+                operator: *operator,
                 right,
             })
         }
@@ -231,62 +239,42 @@ pub fn boolean(
             operator,
             right,
             ..
-        } => {
-            let left = Boxed::new(alloc, logic(alloc, names, left.get())?)?;
-            let right = Boxed::new(alloc, logic(alloc, names, right.get())?)?;
-            let operator = *operator;
-            Ok(BooleanExpression::LogicComparison {
-                left,
-                operator,
-                right,
-            })
-        }
+        } => logic_comparison(alloc, names, left.get(), *operator, right.get()),
         Expression::Chain {
             operator,
             first,
             rest,
         } => {
             let first = Boxed::new(alloc, boolean(alloc, names, first.get())?)?;
-            let rest = boolean_operands(alloc, names, rest.as_slice())?;
-            let operator = *operator;
-            Ok(BooleanExpression::Chain {
-                operator,
-                first,
-                rest,
-            })
+            boolean_chain(alloc, names, rest.as_slice(), *operator, first)
         }
     }
 }
 
-/// An operand of a chain of type boolean.
+/// A chain of type boolean, whose first operand is made.
 #[cycle(boolean)]
-#[tactic(auto, using(crate::proofs::Translations::booleans_are, sim_design::proofs::Fitting::booleans_fit))]
-fn boolean_operand(
-    alloc: Global,
-    names: &Names<'_, '_>,
-    operand: &Operand,
-) -> Result<BooleanExpression, AllocError>
-    requires within { AreWithin (means names.now.process.now names.now.architecture.now) names.now.objects names.now.variables.now }
-    ensures value { IfOk result (λ r. r ≡ spec.operand_boolean (means names.now.process.now names.now.architecture.now) operand.now) }
-    ensures fits { IfOk result (λ r. boolean_fits names.now.objects names.now.variables.now r ≡ true) }
-{
-    boolean(alloc, names, &operand.operand)
-}
-
-/// The operands after the first of a chain of type boolean.
-#[cycle(boolean)]
-fn boolean_operands(
+#[tactic(auto, using(sim_design::proofs::Fitting::booleans_fit))]
+fn boolean_chain(
     alloc: Global,
     names: &Names<'_, '_>,
     operands: &[Operand],
-) -> Result<Items<BooleanExpression>, AllocError>
+    operator: Logical,
+    first: Boxed<BooleanExpression>,
+) -> Result<BooleanExpression, AllocError>
     requires within { AreWithin (means names.now.process.now names.now.architecture.now) names.now.objects names.now.variables.now }
-    ensures value { IfOk result (λ r. r ≡ map (spec.operand_boolean (means names.now.process.now names.now.architecture.now)) operands.now) }
-    ensures fits { IfOk result (λ r. All (λ x. boolean_fits names.now.objects names.now.variables.now x ≡ true) r) }
+    requires first { boolean_fits names.now.objects names.now.variables.now first ≡ true }
+    ensures value { IfOk result (λ r. r ≡ boolean.Chain operator first
+        (map (spec.operand_boolean (means names.now.process.now names.now.architecture.now)) operands.now)) }
+    ensures fits { IfOk result (λ r. boolean_fits names.now.objects names.now.variables.now r ≡ true) }
 {
     let mut found = Vec::with_capacity(alloc, operands.len())?;
     for each in operands {
-        found.push(boolean_operand(alloc, names, each)?)?;
+        found.push(boolean(alloc, names, &each.operand)?)?;
     }
-    Ok(Items::from_vec(found))
+    let rest = Items::from_vec(found);
+    Ok(BooleanExpression::Chain {
+        operator,
+        first,
+        rest,
+    })
 }

@@ -1,6 +1,6 @@
 //! Waveforms and signal assignments (IEEE 1076-2008, 10.5).
 
-ghost use Rattle.std.specs.Prelude.{◌≡◌, true, IfOk, IfSome, ◌<◌, length, map, List};
+ghost use Rattle.std.specs.Prelude.{◌≡◌, true, IfOk, IfSome, ◌<◌, length, map};
 ghost use Rattle.std.specs.List.{All};
 ghost use Rattle.sim_scope.specs.Scopes.{means};
 ghost use Rattle.sim_design.specs.Bodies.{conditional_fits, last_fits, logic_fits, waveform_fits};

@@ -1,4 +1,4 @@
-use Rattle.std.proofs.Common.{◌≡◌, true, take, map, length, List, ℕ}
+use Rattle.std.proofs.Common.{◌≡◌, true, take, map, length}
 use Rattle.std.specs.List.{All}
 use Rattle.sim_scope.specs.Scopes.{means}
 use Rattle.sim_design.specs.Bodies.{branch_fits, statement_fits}

@@ -1,4 +1,4 @@
-use Rattle.std.proofs.Common.{◌≡◌, drop, List, ℕ}
+use Rattle.std.proofs.Common.{◌≡◌, drop}
 use Rattle.std.specs.List.{list_all}
 use Rattle.sim_body.specs.Timed as spec
 use Rattle.sim_body.proofs.timed.conditionals_timed.Given as goal

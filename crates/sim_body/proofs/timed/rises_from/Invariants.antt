@@ -1,4 +1,4 @@
-use Rattle.std.proofs.Common.{◌≡◌, drop, List, ℕ}
+use Rattle.std.proofs.Common.{◌≡◌, drop}
 use Rattle.sim_body.specs.Timed as spec
 use Rattle.sim_body.proofs.timed.rises_from.Given as goal
 

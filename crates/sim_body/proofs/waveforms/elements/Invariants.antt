@@ -1,4 +1,4 @@
-use Rattle.std.proofs.Common.{◌≡◌, true, take, map, List, ℕ}
+use Rattle.std.proofs.Common.{◌≡◌, true, take, map}
 use Rattle.std.specs.List.{All}
 use Rattle.sim_scope.specs.Scopes.{means}
 use Rattle.sim_design.specs.Bodies.{logic_fits}
