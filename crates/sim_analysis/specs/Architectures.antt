@@ -1,7 +1,6 @@
 -- The faults of the architectures of a file (IEEE 1076-2008, 3.3).
 use Rattle.std.specs.Prelude.{ℕ, Bool, List, [], ◌∷◌, ◌++◌, Option, Some, None}
 use Rattle.sim_tree.specs.declared.declaration.PortDeclaration.{PortDeclaration}
-use Rattle.sim_tree.specs.declared.unit.Entity.{Entity}
 use Rattle.sim_tree.specs.declared.unit.Architecture.{Architecture}
 use Rattle.sim_scope.specs.declared.fault.Kind.TheVariants as k
 use Rattle.sim_scope.specs.declared.fault.Fault.{Fault}
@@ -9,7 +8,7 @@ use Rattle.sim_scope.specs.Faults.{fault, where_}
 use Rattle.sim_region.specs.Regions.{architecture_region}
 use Rattle.sim_region.specs.DeclarationFaults as declarations
 use Rattle.sim_instance.specs.Interfaces.{components}
-use Rattle.sim_instance.specs.Libraries.{Library, entity_of, first_entity}
+use Rattle.sim_instance.specs.Libraries.{Library, entity_of, first_entity, ports_in}
 use Rattle.sim_analysis.specs.BodyNames.{BodyNames, is_known, with_name}
 use Rattle.sim_analysis.specs.Statements.{statements_faults}
 
@@ -40,14 +39,14 @@ body_faults l ps a =
     declarations.architecture_faults region ps a.declarations a.statements
     ++ statements_faults l region (components a.declarations) a.statements
 
--- the same of an architecture of this entity: of one of no entity nothing is asked
-abbrev pub body_of : Library → Option Entity → Architecture → List Fault
+-- the same where the entity is there: of an architecture of no entity nothing is asked
+abbrev pub body_of : Library → Option (List PortDeclaration) → Architecture → List Fault
 body_of l None a = []
-body_of l (Some e) a = body_faults l e.ports a
+body_of l (Some ps) a = body_faults l ps a
 
 -- the same of an architecture of the entity that it names
 abbrev pub known_faults : Library → Architecture → List Fault
-known_faults l a = body_of l (entity_of l a.entity.text) a
+known_faults l a = body_of l (ports_in (entity_of l a.entity.text)) a
 
 -- those of each architecture
 unfoldable pub bodies_faults : Library → List Architecture → List Fault

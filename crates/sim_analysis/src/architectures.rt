@@ -11,10 +11,9 @@ use crate::statements::check_statements;
 use sim_instance::Library;
 use sim_instance::interface::components;
 use sim_region::check::{check_architecture, check_predefined};
-use sim_region::region;
+use sim_region::{EntityPorts, region};
 use sim_scope::fault::note;
 use sim_scope::{Fault, Kind};
-use sim_tree::declaration::PortDeclaration;
 use sim_tree::unit::Architecture;
 use std::alloc::{AllocError, Global};
 
@@ -75,11 +74,11 @@ fn check_names(
 
 /// Notes the faults of the declarations and statements of an architecture of an entity with these ports.
 #[tactic(auto, using(sim_scope::proofs::FirstFaults::first_of_both), unfolding(crate::specs::Architectures::body_faults))]
-fn check_body(
+fn check_body<'a>(
     alloc: Global,
     library: &Library<'_>,
-    ports: &[PortDeclaration],
-    architecture: &Architecture,
+    ports: &'a EntityPorts<'a>,
+    architecture: &'a Architecture,
     first: &mut Option<Fault>,
 ) -> Result<(), AllocError>
     ensures { OnOk result (first.new ≡ first_of first.old (spec.body_faults library.now ports.now architecture.now)) }
@@ -102,18 +101,18 @@ fn check_body(
 
 /// Notes the faults of the declarations and statements of an architecture, where its entity is known.
 #[tactic(auto, unfolding(sim_scope::specs::Faults::first_of))]
-fn check_known(
+fn check_known<'a>(
     alloc: Global,
-    library: &Library<'_>,
-    architecture: &Architecture,
+    library: &'a Library<'a>,
+    architecture: &'a Architecture,
     first: &mut Option<Fault>,
 ) -> Result<(), AllocError>
     ensures { OnOk result (first.new ≡ first_of first.old (spec.known_faults library.now architecture.now)) }
 {
-    match library.entity(architecture.entity.text()) {
+    match library.entity_ports(architecture.entity.text()) {
         None => Ok(()),
-        Some(entity) => {
-            check_body(alloc, library, entity.ports.as_slice(), architecture, first)?;
+        Some(ports) => {
+            check_body(alloc, library, ports, architecture, first)?;
             Ok(())
         }
     }
@@ -121,10 +120,10 @@ fn check_known(
 
 /// Notes the faults of the declarations and statements of architectures.
 #[tactic(auto, unfolding(crate::specs::Architectures::bodies_faults, sim_instance::specs::Libraries::architectures_at, sim_scope::specs::Faults::first_of))]
-fn check_bodies(
+fn check_bodies<'a>(
     alloc: Global,
-    library: &Library<'_>,
-    architectures: &[&Architecture],
+    library: &'a Library<'a>,
+    architectures: &[&'a Architecture],
     first: &mut Option<Fault>,
 ) -> Result<(), AllocError>
     ensures { OnOk result (first.new ≡ first_of first.old (spec.bodies_faults library.now (architectures_at architectures.now))) }
@@ -137,10 +136,10 @@ fn check_bodies(
 
 /// Notes the faults of architectures (3.3), each with the first entity of the name that it gives.
 #[tactic(auto, using(sim_scope::proofs::FirstFaults::first_of_both), unfolding(crate::specs::Architectures::architectures_faults))]
-pub fn check_architectures(
+pub fn check_architectures<'a>(
     alloc: Global,
-    library: &Library<'_>,
-    architectures: &[&Architecture],
+    library: &'a Library<'a>,
+    architectures: &[&'a Architecture],
     first: &mut Option<Fault>,
 ) -> Result<(), AllocError>
     ensures { OnOk result (first.new ≡ first_of first.old (spec.architectures_faults library.now (architectures_at architectures.now))) }

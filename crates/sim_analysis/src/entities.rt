@@ -42,7 +42,7 @@ fn check_entity(alloc: Global, entity: &Entity, first: &mut Option<Fault>) -> Re
     ensures { OnOk result (first.new ≡ first_of first.old (spec.entity_faults entity.now)) }
 {
     let nothing = Scope::new(alloc);
-    let own = region::ports(alloc, entity.ports.as_slice(), &nothing)?;
+    let own = Scope::of(region::ports(alloc, entity.ports.as_slice(), &nothing)?);
     check_ports(alloc, &own, &nothing, entity.ports.as_slice(), first)?;
     Ok(())
 }

@@ -4,6 +4,9 @@ use sim_design::Body;
 use sim_logic::Logic;
 use sim_tree::name::Name;
 use sqlite_items::Items;
+use std::alloc::{AllocError, Global};
+use std::marker::Model;
+use std::sync::Arc;
 
 /// What a port of an instance is associated with (IEEE 1076-2008, 6.5.6.3).
 #[derive(Clone, Copy, Debug)]
@@ -30,6 +33,49 @@ pub struct Port {
     pub drives: bool,
 }
 
+/// The ports of an entity, by place, which all of its architectures share.
+#[derive(Drop)]
+pub struct Ports {
+    list: Arc<Items<Port>, Global>,
+}
+
+impl Model for Ports {
+    ghost use Rattle.std.specs.Prelude.{List};
+    ghost use Rattle.std.specs.Arc.{arc_value};
+    ghost use Rattle.sim_hierarchy.specs.declared.blocks.Port.{Port};
+
+    ghost Value = { List Port };
+
+    ghost view = { λ p. arc_value p.list };
+}
+
+impl Ports {
+    ghost use Rattle.std.specs.Prelude.{◌≡◌, IfOk};
+
+    /// The ports, by place.
+    pub fn as_slice(&self) -> &[Port]
+        ensures { result.now ≡ self.now }
+    {
+        self.list.as_slice()
+    }
+
+    /// The same ports, shared.
+    pub fn try_copy(&self) -> Result<Ports, AllocError>
+        ensures { IfOk result (λ p. p ≡ self.now) }
+    {
+        let list = Arc::try_clone(&self.list)?;
+        Ok(Ports { list })
+    }
+
+    /// These ports.
+    pub fn new(alloc: Global, ports: Items<Port>) -> Result<Ports, AllocError>
+        ensures { IfOk result (λ p. p ≡ ports) }
+    {
+        let list = Arc::new(alloc, ports)?;
+        Ok(Ports { list })
+    }
+}
+
 /// A process of an architecture.
 #[derive(Drop)]
 pub struct Template {
@@ -54,7 +100,7 @@ pub struct Instance {
 /// An architecture with its entity.
 #[derive(Drop)]
 pub struct Block {
-    pub ports: Items<Port>,
+    pub ports: Ports,
     pub signals: Items<Object>,
     pub processes: Items<Template>,
     pub instances: Items<Instance>,

@@ -1,8 +1,8 @@
 //! How much there is below a block, found level by level without laying it.
 
-ghost use Rattle.std.specs.Prelude.{◌≡◌, ◌<◌, IfOk, length, slice_index_or};
+ghost use Rattle.std.specs.Prelude.{◌≡◌, ◌<◌, IfOk, length};
 ghost use Rattle.std.specs.List.{All};
-ghost use Rattle.sim_hierarchy.specs.Blocks.{IsBlock, no_block};
+ghost use Rattle.sim_hierarchy.specs.Blocks.{IsBlock};
 ghost use Rattle.sim_hierarchy.specs.Counts as spec;
 
 use crate::blocks::{Block, Instance, Link, Template};

@@ -12,5 +12,5 @@ mod processes;
 pub mod rising;
 mod walk;
 
-pub use blocks::{Block, Instance, Link, Object, Port, Template};
+pub use blocks::{Block, Instance, Link, Object, Port, Ports, Template};
 pub use walk::expand;

@@ -1,6 +1,6 @@
 //! The walk over the hierarchy: each instance before what stands below it, in text order.
 
-ghost use Rattle.std.specs.Prelude.{◌≡◌, ◌<◌, ◌++◌, [], IfOk, OnOk, length, slice_index_or};
+ghost use Rattle.std.specs.Prelude.{◌≡◌, ◌<◌, [], IfOk, length};
 ghost use Rattle.std.specs.List.{All};
 ghost use Rattle.sim_hierarchy.specs.Blocks.{IsBlock, IsInstance, IsWithinLimits, size};
 ghost use Rattle.sim_hierarchy.specs.Flat.{flat};

@@ -1,10 +1,11 @@
 -- Items, and references to them.
 use Rattle.std.proofs.Common.{ℕ, zero, suc, ◌≡◌, ◌+◌, List, [], ◌∷◌, ◌++◌, Bool, Option, Some, None, Bor, slice_get, refl, ap, sym, ◌∙◌}
 use Rattle.std.specs.Option.{option_or, option_copied}
+use Rattle.sim_tree.specs.declared.declaration.PortDeclaration.{PortDeclaration}
 use Rattle.sim_tree.specs.declared.unit.Entity.{Entity}
 use Rattle.sim_tree.specs.declared.unit.Architecture.{Architecture}
 use Rattle.sim_region.specs.Ports.{Port}
-use Rattle.sim_instance.specs.Libraries.{Library, entities_at, architectures_at, first_entity, interfaces, at_place, interface_of, entity_of}
+use Rattle.sim_instance.specs.Libraries.{Library, entities_at, architectures_at, first_entity, interfaces, declared_ports, ports_in, at_place, interface_of, entity_of}
 use Rattle.sim_instance.specs.Places.{where_at, first_place, last_place}
 
 pub first_entity_at : (test : Entity → Bool) (at : ℕ) (es : List (Bor Entity))
@@ -57,3 +58,21 @@ entity_some l es n place o view some is =
     ap option_copied is
     ∙ (led_to es place
     ∙ (ap (λ (x : List Entity). slice_get x place) view ∙ ap (at_place l.entities) (sym some ∙ ap (λ (x : List Entity). first_entity x n) view)))
+
+pub ports_none : (l : Library) (es : List Entity) (n : List ℕ) → es ≡ l.entities → first_entity es n ≡ None → None ≡ ports_in (entity_of l n)
+ports_none l es n view none = ap ports_in (entity_none l es n view none)
+
+-- the ports of the entity at a place
+ports_at : (es : List Entity) (i : ℕ) → slice_get (declared_ports es) i ≡ ports_in (slice_get es i)
+unfolding declared_ports
+ports_at [] i = refl
+ports_at (e ∷ es) zero = refl
+ports_at (e ∷ es) (suc i) = ports_at es i
+
+pub ports_some : (l : Library) (es : List Entity) (n : List ℕ) (place : ℕ) (items : List (List PortDeclaration)) → es ≡ l.entities
+    → first_entity es n ≡ Some place → items ≡ declared_ports es → slice_get items place ≡ ports_in (entity_of l n)
+unfolding entity_of
+ports_some l es n place items view some is =
+    ap (λ (x : List (List PortDeclaration)). slice_get x place) is
+    ∙ (ports_at es place
+    ∙ ap ports_in (ap (λ (x : List Entity). slice_get x place) view ∙ ap (at_place l.entities) (sym some ∙ ap (λ (x : List Entity). first_entity x n) view)))

@@ -2,6 +2,7 @@
 use Rattle.std.specs.Prelude.{ℕ, ◌&&◌, List, [], ◌∷◌, ◌++◌, Bool, Option, Some, None, slice_get}
 use Rattle.std.specs.Borrow.{Bor}
 use Rattle.std.specs.Str.{bytes_eq}
+use Rattle.sim_tree.specs.declared.declaration.PortDeclaration.{PortDeclaration}
 use Rattle.sim_tree.specs.declared.unit.Entity.{Entity}
 use Rattle.sim_tree.specs.declared.unit.Architecture.{Architecture}
 use Rattle.sim_tree.specs.declared.unit.LibraryUnit.{LibraryUnit}
@@ -77,6 +78,16 @@ last_named architectures e n = last_place (is_named_of e n) 0 architectures
 unfoldable pub interfaces : List Entity → List (List Port)
 interfaces [] = []
 interfaces (e ∷ es) = ports_of e.ports ∷ interfaces es
+
+-- the ports that each entity declares
+unfoldable pub declared_ports : List Entity → List (List PortDeclaration)
+declared_ports [] = []
+declared_ports (e ∷ es) = e.ports ∷ declared_ports es
+
+-- the ports that an entity declares, where it is there
+abbrev pub ports_in : Option Entity → Option (List PortDeclaration)
+ports_in None = None
+ports_in (Some e) = Some e.ports
 
 -- what stands at a place
 abbrev pub at_place : {X : Type 0} → List X → Option ℕ → Option X

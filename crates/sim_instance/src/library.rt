@@ -6,6 +6,7 @@ ghost use Rattle.sim_instance.specs.Places.{place_of, place_of_both};
 
 use crate::interface::Interface;
 use crate::places::{PairPlaces, Places};
+use sim_region::EntityPorts;
 use sim_tree::DesignFile;
 use sim_tree::unit::{Architecture, DesignUnit, Entity, LibraryUnit};
 use std::alloc::{AllocError, Global};
@@ -16,6 +17,7 @@ use std::marker::Model;
 pub struct Library<'a> {
     entities: Vec<&'a Entity>,
     interfaces: Vec<Interface<'a>>,
+    ports: Vec<EntityPorts<'a>>,
     architectures: Vec<&'a Architecture>,
     first_entities: Places<'a>,
     last_architectures: Places<'a>,
@@ -39,6 +41,7 @@ impl<'a> Model for Library<'a> {
 
     ghost invariant = { λ l.
         (l.interfaces.items ≡ spec.interfaces (spec.entities_at l.entities.items))
+        × (l.ports.items ≡ spec.declared_ports (spec.entities_at l.entities.items))
         × ((n : List ℕ) → place_of l.first_entities n ≡ spec.first_entity (spec.entities_at l.entities.items) n)
         × ((e : List ℕ) → place_of l.last_architectures e ≡ spec.last_architecture (spec.architectures_at l.architectures.items) e)
         × ((e n : List ℕ) → place_of_both l.named_architectures e n ≡ spec.last_named (spec.architectures_at l.architectures.items) e n) };
@@ -115,6 +118,21 @@ fn interfaces<'a>(alloc: Global, entities: &[&'a Entity]) -> Result<Vec<Interfac
     Ok(interfaces)
 }
 
+/// The ports of each entity with the region that they make.
+#[tactic(auto, unfolding(crate::specs::Libraries::declared_ports, crate::specs::Libraries::entities_at))]
+fn entity_ports<'a>(
+    alloc: Global,
+    entities: &[&'a Entity],
+) -> Result<Vec<EntityPorts<'a>>, AllocError>
+    ensures { IfOk result (λ ports. ports.items ≡ spec.declared_ports (spec.entities_at entities.now)) }
+{
+    let mut ports = Vec::with_capacity(alloc, entities.len())?;
+    for entity in entities {
+        ports.push(EntityPorts::of(alloc, entity.ports.as_slice())?)?;
+    }
+    Ok(ports)
+}
+
 /// The places of entities by their names, of which the first of each name counts.
 fn first_entities<'a>(alloc: Global, entities: &[&'a Entity]) -> Result<Places<'a>, AllocError>
     ensures { IfOk result (λ places. (n : List ℕ) → place_of places n ≡ spec.first_entity (spec.entities_at entities.now) n) }
@@ -155,7 +173,7 @@ fn named_architectures<'a>(
 }
 
 impl<'a> Library<'a> {
-    ghost use Rattle.std.specs.Prelude.{◌≡◌, ℕ, List, Option, IfOk, slice_get};
+    ghost use Rattle.std.specs.Prelude.{◌≡◌, ℕ, List, Option, IfOk};
     ghost use Rattle.std.specs.Option.{option_copied};
     ghost use Rattle.sim_instance.specs.Libraries as spec;
 
@@ -166,12 +184,14 @@ impl<'a> Library<'a> {
         let entities = entities_in(alloc, file.units())?;
         let architectures = architectures_in(alloc, file.units())?;
         let interfaces = interfaces(alloc, entities.as_slice())?;
+        let ports = entity_ports(alloc, entities.as_slice())?;
         let first_entities = first_entities(alloc, entities.as_slice())?;
         let last_architectures = last_architectures(alloc, architectures.as_slice())?;
         let named_architectures = named_architectures(alloc, architectures.as_slice())?;
         Ok(Library {
             entities,
             interfaces,
+            ports,
             architectures,
             first_entities,
             last_architectures,
@@ -194,6 +214,23 @@ impl<'a> Library<'a> {
             None => None,
             Some(place) => self.entities.get(place).copied(),
         }
+    }
+
+    /// The ports that the entity of a name declares, with the region that they make.
+    pub fn entity_ports(&self, name: &[u8]) -> Option<&EntityPorts<'a>>
+        ensures { option_copied result ≡ spec.ports_in (spec.entity_of self.now name.now) }
+    {
+        match self.first_entities.find(name) {
+            None => None,
+            Some(place) => self.ports.get(place),
+        }
+    }
+
+    /// The ports that each entity declares, by its place.
+    pub fn ports(&self) -> &[EntityPorts<'a>]
+        ensures { result.now ≡ spec.declared_ports self.now.entities }
+    {
+        self.ports.as_slice()
     }
 
     /// The ports of the entity of a name.

@@ -1,23 +1,22 @@
 -- Each block of a plan stands among the blocks: its processes fit any block of its size, and its instances are known.
-use Rattle.std.proofs.Common.{◌≡◌, ℕ, List, [], ◌∷◌, ◌++◌, map, All, sym, subst}
+use Rattle.std.proofs.Common.{◌≡◌, ℕ, List, [], ◌∷◌, ◌++◌, All, sym, subst}
 use Rattle.std.proofs.lemmas.List.Elements.{All-nil, All-push}
 use Rattle.sim_tree.specs.declared.declaration.Declaration.{Declaration}
 use Rattle.sim_tree.specs.declared.declaration.PortDeclaration.{PortDeclaration}
 use Rattle.sim_tree.specs.declared.unit.Concurrent.{Concurrent}
 use Rattle.sim_scope.specs.Scopes.{Region}
-use Rattle.sim_region.specs.Ports.{ports_of}
 use Rattle.sim_instance.specs.Libraries.{Library}
 use Rattle.sim_template.specs.Below.{AreBelow, object_count}
 use Rattle.sim_template.specs.Templates.{FitsBlocks}
 use Rattle.sim_hierarchy.specs.declared.blocks.Block.{Block}
 use Rattle.sim_hierarchy.specs.declared.blocks.Instance.{Instance}
 use Rattle.sim_hierarchy.specs.Blocks.{IsBlock, IsInstance, IsTemplate, no_block, size}
-use Rattle.sim_plan.specs.Plans.{blocks_of, instances_of, port, seen, signals_of}
+use Rattle.sim_plan.specs.Plans.{block_ports, blocks_of, instances_of, seen, signals_of}
 use Rattle.sim_plan.proofs.KnownInstances.{instances_known}
 use Rattle.sim_plan.proofs.Sizes.{size_is}
 
 module _ (l : Library) (region : Region) (declared : List PortDeclaration) (ds : List Declaration) (cs : List Concurrent) (objects : ℕ) (b : Block)
-    (counted : objects ≡ object_count declared ds) (ports : b.ports ≡ map (port (seen region)) (ports_of declared))
+    (counted : objects ≡ object_count declared ds) (ports : b.ports ≡ block_ports declared)
     (signals : b.signals ≡ signals_of (seen region) ds) (instances : b.instances ≡ instances_of l (seen region) cs) where
   size_counted : size b ≡ objects
   size_counted = rw (ports, signals, counted) (size_is (seen region) declared ds)

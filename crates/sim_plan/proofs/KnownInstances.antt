@@ -23,7 +23,7 @@ use Rattle.sim_scope.specs.declared.scope.Meaning.{Meaning}
 use Rattle.sim_scope.specs.declared.scope.Meaning.TheVariants as m
 use Rattle.sim_scope.specs.Scopes.{Look, Region}
 use Rattle.sim_region.specs.Ports.{Port, ports_of}
-use Rattle.sim_region.specs.Regions.{architecture_region}
+use Rattle.sim_region.specs.Regions.{ports_region}
 use Rattle.sim_instance.specs.Instances.{architecture_place, entity_name}
 use Rattle.sim_instance.specs.Libraries.{Library, at_place, entity_of, first_entity, interface_of, interfaces}
 use Rattle.sim_instance.specs.Libraries.{is_named_of, is_of, last_architecture, last_named}
@@ -34,7 +34,7 @@ use Rattle.sim_template.specs.Below.{AreBelow}
 use Rattle.sim_template.proofs.RegionLaws.{concurrent_within}
 use Rattle.sim_hierarchy.specs.declared.blocks.Block.{Block}
 use Rattle.sim_hierarchy.specs.Blocks.{IsInstance, LeadsBelow, no_block, size}
-use Rattle.sim_plan.specs.Plans.{seen, link_to, link_of, links_of, links_at, ports_known, ports_declared, ports_named, port}
+use Rattle.sim_plan.specs.Plans.{block_ports, seen, link_to, link_of, links_of, links_at, ports_known, ports_declared, ports_named, port}
 use Rattle.sim_plan.specs.Plans.{block_number, instance_of, instances_of, block_of, blocks_of}
 
 -- ---- the place of an architecture
@@ -146,7 +146,7 @@ link_below count look within (Some (actual.Open at)) = tt
 -- the block of an instance is there, and the instance has a link for each of its ports
 bound : (l : Library) (look : Look) (o : Option ℕ) (i : tree.Instance) → architecture_place l i.unit ≡ o
     → (block_number l o < length (blocks_of l)) × (length (links_at l look o i) ≡ length (get_or (blocks_of l) (block_number l o) no_block).ports)
-unfolding block_number links_at links_of block_of blocks_of
+unfolding block_number links_at links_of block_of block_ports blocks_of
 bound l look None i e =
     let last = at_end (block_of l) l.architectures in
     (last.1, ap (λ (b : Block). length b.ports) (sym last.0))
@@ -160,7 +160,7 @@ bound l look (Some place) i e =
       front.1,
       length-map-range_with_len (λ (n : ℕ). link_of look (associated ports i.associations n)) 0 (length ports)
           ∙ (ap (λ (ps : List Port). length ps) same
-          ∙ (sym (length-map (ports_of declared) (port (seen (architecture_region declared at.architecture.declarations at.architecture.statements))))
+          ∙ (sym (length-map (ports_of declared) (port (seen (ports_region [] declared))))
           ∙ ap (λ (b : Block). length b.ports) (sym front.0))),
     )
 

@@ -1,13 +1,10 @@
 -- Architectures are read through lists of references to them: by recursion on the lists.
-use Rattle.std.proofs.Common.{◌≡◌, ℕ, zero, suc, ◌+◌, ◌<◌, List, [], ◌∷◌, ◌++◌, map, length, drop, get_or, slice_get}
-use Rattle.std.proofs.Common.{Option, Some, Bor, refl, ap, sym, ◌∙◌, append_assoc}
-use Rattle.std.specs.Option.{option_copied}
+use Rattle.std.proofs.Common.{◌≡◌, ℕ, ◌+◌, ◌<◌, List, [], ◌∷◌, ◌++◌, map, length, drop, get_or}
+use Rattle.std.proofs.Common.{Bor, refl, ap, ◌∙◌, append_assoc}
 use Rattle.sim_tree.specs.declared.unit.Architecture.{Architecture}
-use Rattle.sim_tree.specs.declared.unit.Entity.{Entity}
 use Rattle.sim_hierarchy.specs.declared.blocks.Block.{Block}
-use Rattle.sim_instance.specs.Libraries.{Library, architectures_at, at_place, entities_at, first_entity}
+use Rattle.sim_instance.specs.Libraries.{architectures_at}
 use Rattle.sim_instance.proofs.PlaceLoops.{opened}
-use Rattle.sim_plan.specs.Plans.{ports_declared, ports_named}
 
 pub architectures_count : (xs : List (Bor Architecture)) → length xs ≡ length (architectures_at xs)
 unfolding architectures_at

@@ -8,8 +8,9 @@ use Rattle.sim_tree.specs.declared.declaration.PortDeclaration.{PortDeclaration}
 use Rattle.sim_scope.specs.Scopes.{Look}
 use Rattle.sim_region.specs.DeclaredNames.{port_names}
 use Rattle.sim_region.specs.Ports.{ports_named, ports_of}
+use Rattle.sim_region.specs.Regions.{ports_region}
 use Rattle.sim_template.specs.Below.{object_count, signal_names}
-use Rattle.sim_plan.specs.Plans.{object, port, signals_of}
+use Rattle.sim_plan.specs.Plans.{block_ports, object, port, seen, signals_of}
 
 ports_named_count : (p : PortDeclaration) (ns : List Name) → length (ports_named p ns) ≡ length ns
 unfolding ports_named
@@ -38,6 +39,6 @@ signals_count look (declaration.Signal o ∷ ds) = rw (
 signals_count look (declaration.Component c ∷ ds) = signals_count look ds
 
 pub size_is : (look : Look) (ps : List PortDeclaration) (ds : List Declaration)
-    → length (map (port look) (ports_of ps)) + length (signals_of look ds) ≡ object_count ps ds
-unfolding object_count
-size_is look ps ds = rw (length-map (ports_of ps) (port look), ports_count ps, signals_count look ds) refl
+    → length (block_ports ps) + length (signals_of look ds) ≡ object_count ps ds
+unfolding object_count block_ports
+size_is look ps ds = rw (length-map (ports_of ps) (port (seen (ports_region [] ps))), ports_count ps, signals_count look ds) refl

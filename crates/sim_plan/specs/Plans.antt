@@ -23,9 +23,9 @@ use Rattle.sim_scope.specs.declared.scope.Meaning.{Meaning}
 use Rattle.sim_scope.specs.declared.scope.Meaning.TheVariants as m
 use Rattle.sim_scope.specs.Scopes.{Look, Region, means}
 use Rattle.sim_region.specs.Ports.{Port, ports_of}
-use Rattle.sim_region.specs.Regions.{architecture_region}
+use Rattle.sim_region.specs.Regions.{architecture_region, ports_region}
 use Rattle.sim_instance.specs.Instances.{architecture_place, entity_name}
-use Rattle.sim_instance.specs.Libraries.{Library, entity_of, interface_of}
+use Rattle.sim_instance.specs.Libraries.{Library, declared_ports, entity_of, interface_of}
 use Rattle.sim_instance.specs.PortMaps.{associated}
 use Rattle.sim_template.specs.Below.{object_count}
 use Rattle.sim_template.specs.Templates.{assignment_template, process_template}
@@ -70,6 +70,14 @@ drives Inout = true
 -- a port
 abbrev pub port : Look → Port → block_port.Port
 port look p = record { object = object look p.mark p.initial p.name; drives = drives p.mode }
+
+-- The ports that an entity declares: its architectures share them. A mark means what it means in the region of these ports.
+unfoldable pub block_ports : List PortDeclaration → List block_port.Port
+block_ports declared = map (port (seen (ports_region [] declared))) (ports_of declared)
+
+-- those of each entity of a library, by its place
+unfoldable pub shared_ports : Library → List (List block_port.Port)
+shared_ports l = map block_ports (declared_ports l.entities)
 
 -- the signals of a declaration
 abbrev pub signals_declared : Look → Declaration → List Object
@@ -162,7 +170,7 @@ block_of l a =
     let declared = ports_named l a.entity.text in
     let region = architecture_region declared a.declarations a.statements in
     record {
-      ports = map (port (seen region)) (ports_of declared);
+      ports = block_ports declared;
       signals = signals_of (seen region) a.declarations;
       processes = templates_of region (object_count declared a.declarations) a.statements;
       instances = instances_of l (seen region) a.statements;

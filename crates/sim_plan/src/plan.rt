@@ -1,19 +1,20 @@
 //! The blocks of a design file (IEEE 1076-2008, 3.2, 3.3).
 
-ghost use Rattle.std.specs.Prelude.{◌≡◌, ◌+◌, IfOk, length, map};
+ghost use Rattle.std.specs.Prelude.{◌≡◌, ◌+◌, [], IfOk, length, map};
 ghost use Rattle.std.specs.List.{All};
 ghost use Rattle.sim_hierarchy.specs.Blocks.{IsBlock, no_block};
-ghost use Rattle.sim_instance.specs.Libraries.{architectures_at};
+ghost use Rattle.std.specs.Option.{option_copied};
+ghost use Rattle.sim_instance.specs.Libraries.{architectures_at, at_place};
 ghost use Rattle.sim_plan.specs.Plans as spec;
 
 use crate::instances::instances;
 use crate::objects::{ports, signals};
 use crate::templates::templates;
-use sim_hierarchy::Block;
+use sim_hierarchy::{Block, Ports};
 use sim_instance::Library;
-use sim_region::region;
+use sim_region::{EntityPorts, region};
+use sim_scope::Scope;
 use sim_template::count::object_count;
-use sim_tree::declaration::PortDeclaration;
 use sim_tree::name::Name;
 use sim_tree::unit::Architecture;
 use sqlite_items::Items;
@@ -21,31 +22,91 @@ use std::alloc::{AllocError, Global};
 
 /// The ports that the entity of a name declares; none where it is not there.
 #[tactic(auto, unfolding(crate::specs::Plans::ports_named))]
-fn ports_named<'a>(library: &Library<'a>, name: &Name) -> &'a [PortDeclaration]
+fn ports_named<'l>(
+    library: &'l Library<'l>,
+    none: &'l EntityPorts<'l>,
+    name: &Name,
+) -> &'l EntityPorts<'l>
+    requires none { none.now ≡ [] }
     ensures { result.now ≡ spec.ports_named library.now name.now.text }
 {
-    match library.entity(name.text()) {
-        None => &[],
-        Some(entity) => entity.ports.as_slice(),
+    library.entity_ports(name.text()).unwrap_or(none)
+}
+
+/// The ports that an entity declares, as those of a block.
+#[tactic(auto, unfolding(crate::specs::Plans::block_ports))]
+fn block_ports(alloc: Global, declared: &EntityPorts<'_>) -> Result<Ports, AllocError>
+    ensures { IfOk result (λ r. r ≡ spec.block_ports declared.now) }
+{
+    let region = Scope::after(alloc, declared.region());
+    let ports = ports(alloc, &region, declared.declarations())?;
+    let shared = Ports::new(alloc, ports)?;
+    Ok(shared)
+}
+
+/// The ports that each entity declares, as those of a block.
+fn shared_ports(alloc: Global, declared: &[EntityPorts<'_>]) -> Result<Vec<Ports>, AllocError>
+    ensures { IfOk result (λ r. r.items ≡ map spec.block_ports declared.now) }
+{
+    let mut found = Vec::with_capacity(alloc, declared.len())?;
+    for each in declared {
+        found.push(block_ports(alloc, each)?)?;
+    }
+    Ok(found)
+}
+
+/// The ports that are shared at a place, where there are any.
+fn shared_at(shared: &[Ports], place: Option<usize>) -> Option<&Ports>
+    ensures { option_copied result ≡ at_place shared.now place }
+{
+    match place {
+        None => None,
+        Some(place) => shared.get(place),
+    }
+}
+
+/// The ports of a block of the entity of a name, shared with its other blocks.
+fn ports_of_block(
+    alloc: Global,
+    library: &Library<'_>,
+    shared: &[Ports],
+    name: &Name,
+) -> Result<Ports, AllocError>
+    requires shared { shared.now ≡ spec.shared_ports library.now }
+    ensures { IfOk result (λ r. r ≡ spec.block_ports (spec.ports_named library.now name.now.text)) }
+{
+    match shared_at(shared, library.entity_place(name.text())) {
+        None => {
+            let none = Ports::new(alloc, Items::new(alloc))?;
+            Ok(none)
+        }
+        Some(ports) => {
+            let copy = ports.try_copy()?;
+            Ok(copy)
+        }
     }
 }
 
 /// An architecture with its entity.
 #[tactic(auto, unfolding(crate::specs::Plans::block_of))]
-fn block(
+fn block<'l>(
     alloc: Global,
-    library: &Library<'_>,
-    architecture: &Architecture,
+    library: &'l Library<'l>,
+    none: &'l EntityPorts<'l>,
+    shared: &[Ports],
+    architecture: &'l Architecture,
 ) -> Result<Block, AllocError>
+    requires none { none.now ≡ [] }
+    requires shared { shared.now ≡ spec.shared_ports library.now }
     ensures value { IfOk result (λ b. b ≡ spec.block_of library.now architecture.now) }
     ensures known { IfOk result (λ b. IsBlock (spec.blocks_of library.now) b) }
 {
-    let declared = ports_named(library, &architecture.entity);
+    let declared = ports_named(library, none, &architecture.entity);
     let declarations = architecture.declarations.as_slice();
     let statements = architecture.statements.as_slice();
     let region = region::architecture(alloc, declared, declarations, statements)?;
     let objects = object_count(declared, declarations)?;
-    let ports = ports(alloc, &region, declared)?;
+    let ports = ports_of_block(alloc, library, shared, &architecture.entity)?;
     let signals = signals(alloc, &region, declarations)?;
     let instances = instances(alloc, library, &region, statements)?;
     let processes = templates(alloc, &region, objects, statements)?;
@@ -58,30 +119,35 @@ fn block(
 }
 
 /// The empty block.
-fn no_block(alloc: Global) -> Block
-    ensures { result ≡ no_block }
+fn no_block(alloc: Global) -> Result<Block, AllocError>
+    ensures { IfOk result (λ b. b ≡ no_block) }
 {
-    Block {
-        ports: Items::new(alloc),
+    let ports = Ports::new(alloc, Items::new(alloc))?;
+    Ok(Block {
+        ports,
         signals: Items::new(alloc),
         processes: Items::new(alloc),
         instances: Items::new(alloc),
-    }
+    })
 }
 
 /// Architectures, each with its entity.
 #[tactic(auto, unfolding(sim_instance::specs::Libraries::architectures_at))]
-fn each_block(
+fn each_block<'l>(
     alloc: Global,
-    library: &Library<'_>,
-    architectures: &[&Architecture],
+    library: &'l Library<'l>,
+    none: &'l EntityPorts<'l>,
+    shared: &[Ports],
+    architectures: &[&'l Architecture],
 ) -> Result<Vec<Block>, AllocError>
+    requires none { none.now ≡ [] }
+    requires shared { shared.now ≡ spec.shared_ports library.now }
     ensures value { IfOk result (λ r. r.items ≡ map (spec.block_of library.now) (architectures_at architectures.now)) }
     ensures known { IfOk result (λ r. All (IsBlock (spec.blocks_of library.now)) r.items) }
 {
     let mut found = Vec::new(alloc);
     for each in architectures {
-        found.push(block(alloc, library, each)?)?;
+        found.push(block(alloc, library, none, shared, each)?)?;
     }
     Ok(found)
 }
@@ -93,7 +159,10 @@ pub fn blocks(alloc: Global, library: &Library<'_>) -> Result<Items<Block>, Allo
     ensures length { IfOk result (λ r. length r ≡ length library.now.architectures + 1) }
     ensures known { IfOk result (λ r. All (IsBlock r) r) }
 {
-    let mut found = each_block(alloc, library, library.architectures())?;
-    found.push(no_block(alloc))?;
+    let none = EntityPorts::of(alloc, &[])?;
+    let shared = shared_ports(alloc, library.ports())?;
+    let architectures = library.architectures();
+    let mut found = each_block(alloc, library, &none, shared.as_slice(), architectures)?;
+    found.push(no_block(alloc)?)?;
     Ok(Items::from_vec(found))
 }

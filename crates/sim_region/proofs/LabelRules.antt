@@ -1,5 +1,5 @@
 -- The labels of sequential statements, as equations.
-use Rattle.std.proofs.Common.{◌≡◌, Bool, List, [], ◌∷◌, ◌++◌, map, Option, Some, None, refl, sym, ap, ◌∙◌, append_assoc}
+use Rattle.std.proofs.Common.{◌≡◌, Bool, List, [], ◌∷◌, ◌++◌, map, Some, None, refl, sym, ap, ◌∙◌, append_assoc}
 use Rattle.std.proofs.lemmas.List.{append-nil}
 use Rattle.sim_tree.specs.Name.{Name}
 use Rattle.sim_tree.specs.declared.sequential.SignalAssignment.{SignalAssignment}

@@ -1,5 +1,5 @@
 -- Lists of names, put together piece by piece.
-use Rattle.std.proofs.Common.{◌≡◌, ℕ, suc, length, List, [], ◌∷◌, ◌++◌, refl, ap, sym, ◌∙◌, append_assoc, Bor}
+use Rattle.std.proofs.Common.{◌≡◌, suc, length, List, [], ◌∷◌, ◌++◌, refl, ap, append_assoc, Bor}
 use Rattle.std.proofs.lemmas.List.{append-nil}
 use Rattle.sim_tree.specs.Name.{Name}
 use Rattle.sim_region.specs.DeclaredNames.{named_by}

@@ -8,12 +8,13 @@ ghost use Rattle.sim_region.specs.DeclaredNames.{named_by, body_names};
 ghost use Rattle.sim_region.specs.Regions.{port_labels, ports_region};
 ghost use Rattle.sim_region.specs.DeclarationFaults as spec;
 
+use crate::entity::EntityPorts;
 use crate::names::Names;
 use crate::region;
 use crate::value::check_object;
 use sim_scope::fault::{Fault, Kind, note};
 use sim_scope::predefined::predefined;
-use sim_scope::scope::{Meaning, Scope};
+use sim_scope::scope::{Declare, Meaning, Scope};
 use sim_tree::declaration::{Declaration, ObjectDeclaration, PortDeclaration};
 use sim_tree::name::Name;
 use sim_tree::unit::{Concurrent, Process};
@@ -158,7 +159,7 @@ fn check_component(
 ) -> Result<(), AllocError>
     ensures { OnOk result (first.new ≡ first_of first.old (spec.ports_faults (ports_region scope.now ports.now) scope.now ports.now)) }
 {
-    let own = region::ports(alloc, ports, scope)?;
+    let own = Scope::of(region::ports(alloc, ports, scope)?);
     check_ports(alloc, &own, scope, ports, first)?;
     Ok(())
 }
@@ -209,35 +210,34 @@ fn check_declarations(
 }
 
 /// Notes the faults of the names that an architecture declares; its entity's ports have its names already.
-fn check_body_names(
+fn check_body_names<'a>(
     alloc: Global,
-    ports: &[PortDeclaration],
-    declarations: &[Declaration],
-    statements: &[Concurrent],
+    entity: &'a EntityPorts<'a>,
+    declarations: &'a [Declaration],
+    statements: &'a [Concurrent],
     first: &mut Option<Fault>,
 ) -> Result<(), AllocError>
-    ensures { OnOk result (first.new ≡ first_of first.old (spec.names_faults (port_labels ports.now) (body_names declarations.now statements.now))) }
+    ensures { OnOk result (first.new ≡ first_of first.old (spec.names_faults (port_labels entity.now) (body_names declarations.now statements.now))) }
 {
-    let port_names = Names::of_ports(alloc, ports)?;
     let names = Names::of_body(alloc, declarations, statements)?;
-    let mut known = region::labels(alloc, &port_names)?;
+    let mut known = Scope::after(alloc, entity.labels());
     check_names(&mut known, &names, first)?;
     Ok(())
 }
 
 /// Notes the faults of the names of an architecture and of its declarations, by its region and the ports of its entity.
 #[tactic(auto, using(sim_scope::proofs::FirstFaults::first_of_both), unfolding(crate::specs::DeclarationFaults::architecture_faults))]
-pub fn check_architecture(
+pub fn check_architecture<'a>(
     alloc: Global,
     scope: &Scope<'_>,
-    ports: &[PortDeclaration],
-    declarations: &[Declaration],
-    statements: &[Concurrent],
+    entity: &'a EntityPorts<'a>,
+    declarations: &'a [Declaration],
+    statements: &'a [Concurrent],
     first: &mut Option<Fault>,
 ) -> Result<(), AllocError>
-    ensures { OnOk result (first.new ≡ first_of first.old (spec.architecture_faults scope.now ports.now declarations.now statements.now)) }
+    ensures { OnOk result (first.new ≡ first_of first.old (spec.architecture_faults scope.now entity.now declarations.now statements.now)) }
 {
-    check_body_names(alloc, ports, declarations, statements, first)?;
+    check_body_names(alloc, entity, declarations, statements, first)?;
     check_declarations(alloc, scope, declarations, first)?;
     Ok(())
 }

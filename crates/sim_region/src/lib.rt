@@ -2,10 +2,12 @@
 #![tactic(auto)]
 
 pub mod check;
+pub mod entity;
 pub mod names;
 pub mod port;
 pub mod region;
 pub mod value;
 
+pub use entity::EntityPorts;
 pub use names::Names;
 pub use port::Port;

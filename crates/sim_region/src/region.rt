@@ -2,12 +2,13 @@
 
 ghost use Rattle.std.specs.Prelude.{◌≡◌, ◌+◌, [], length, OnOk, IfOk};
 ghost use Rattle.sim_scope.specs.Scopes.{declaring, means};
-ghost use Rattle.sim_region.specs.DeclaredNames.{named_by, body_names};
+ghost use Rattle.sim_region.specs.DeclaredNames.{named_by};
 ghost use Rattle.sim_region.specs.Regions as spec;
 
+use crate::entity::EntityPorts;
 use crate::names::Names;
 use crate::port::mode_of;
-use sim_scope::scope::{Meaning, Scope, Type, look_up};
+use sim_scope::scope::{Declare, Meaning, Part, Scope, Type, look_up};
 use sim_tree::declaration::{Declaration, Mode, ObjectDeclaration, PortDeclaration};
 use sim_tree::name::Name;
 use sim_tree::unit::{Concurrent, Process};
@@ -69,37 +70,37 @@ fn next(place: usize) -> Result<usize, AllocError>
 
 /// Declares names of which nothing else is known.
 #[tactic(auto, unfolding(crate::specs::Regions::labels, crate::specs::DeclaredNames::named_by, sim_scope::specs::Scopes::declaring))]
-fn declare_each<'a>(scope: &mut Scope<'a>, names: &[&'a Name]) -> Result<(), AllocError>
-    ensures { OnOk result (scope.new ≡ spec.naming scope.old (named_by names.now)) }
+fn declare_each<'a, D: Declare<'a>>(region: &mut D, names: &[&'a Name]) -> Result<(), AllocError>
+    ensures { OnOk result (D.declared region.new ≡ spec.naming (D.declared region.old) (named_by names.now)) }
 {
     for name in names {
-        scope.declare(name.text(), Meaning::Label)?;
+        region.declare(name.text(), Meaning::Label)?;
     }
     Ok(())
 }
 
 /// Declares names of which nothing else is known, as labels.
-pub fn declare_labels<'a>(scope: &mut Scope<'a>, names: &Names<'a>) -> Result<(), AllocError>
-    ensures { OnOk result (scope.new ≡ spec.naming scope.old names.now) }
+fn declare_labels<'a, D: Declare<'a>>(region: &mut D, names: &Names<'a>) -> Result<(), AllocError>
+    ensures { OnOk result (D.declared region.new ≡ spec.naming (D.declared region.old) names.now) }
 {
-    declare_each(scope, names.as_slice())?;
+    declare_each(region, names.as_slice())?;
     Ok(())
 }
 
 /// Declares objects in a row, the first at this place, and gives the place after the last.
 #[tactic(auto, using(crate::proofs::Declaring::in_pieces), unfolding(crate::specs::Regions::objects, sim_scope::specs::Scopes::declaring))]
-fn declare_objects<'a>(
-    scope: &mut Scope<'a>,
+fn declare_objects<'a, D: Declare<'a>>(
+    region: &mut D,
     object: Object,
     first: usize,
     names: &'a [Name],
 ) -> Result<usize, AllocError>
-    ensures declared { OnOk result (scope.new ≡ declaring scope.old (spec.objects object first names.now)) }
+    ensures declared { OnOk result (D.declared region.new ≡ declaring (D.declared region.old) (spec.objects object first names.now)) }
     ensures place { IfOk result (λ place. place ≡ first + length names.now) }
 {
     let mut place = first;
     for name in names {
-        scope.declare(name.text(), object.meaning(place))?;
+        region.declare(name.text(), object.meaning(place))?;
         place = next(place)?;
     }
     Ok(place)
@@ -117,73 +118,42 @@ fn mark_type(
     type_marked(may_be_boolean, look_up(inner, outer, mark.text()))
 }
 
-/// Declares the ports of a declaration, the first at this place, and gives the place after the last.
-fn declare_port<'a>(
-    scope: &mut Scope<'a>,
-    inner: &Scope<'_>,
-    outer: &Scope<'_>,
-    place: usize,
-    port: &'a PortDeclaration,
-) -> Result<usize, AllocError>
-    ensures declared { OnOk result (scope.new ≡ declaring scope.old (spec.port_objects (means inner.now outer.now) place port.now)) }
-    ensures place { IfOk result (λ after. after ≡ place + length port.now.names) }
-{
-    let object = Object::Port {
-        mode: mode_of(port.mode),
-        type_: mark_type(inner, outer, false, &port.mark),
-    };
-    let after = declare_objects(scope, object, place, port.names.as_slice())?;
-    Ok(after)
-}
-
 /// Declares ports, the first at place 0. A mark is looked up in two regions.
 #[tactic(auto, using(crate::proofs::Declaring::in_pieces), unfolding(crate::specs::Regions::ports, sim_scope::specs::Scopes::declaring))]
 fn declare_ports<'a>(
-    scope: &mut Scope<'a>,
+    part: &mut Part<'a>,
     inner: &Scope<'_>,
     outer: &Scope<'_>,
     ports: &'a [PortDeclaration],
 ) -> Result<(), AllocError>
-    ensures { OnOk result (scope.new ≡ declaring scope.old (spec.ports (means inner.now outer.now) 0 ports.now)) }
+    ensures { OnOk result (part.new ≡ declaring part.old (spec.ports (means inner.now outer.now) 0 ports.now)) }
 {
     let mut place = 0;
     for port in ports {
-        place = declare_port(scope, inner, outer, place, port)?;
+        let object = Object::Port {
+            mode: mode_of(port.mode),
+            type_: mark_type(inner, outer, false, &port.mark),
+        };
+        place = declare_objects(part, object, place, port.names.as_slice())?;
     }
     Ok(())
 }
 
-/// Declares the variables of a declaration, the first at this place, and gives the place after the last.
-fn declare_variable<'a>(
-    scope: &mut Scope<'a>,
-    inner: &Scope<'_>,
-    outer: &Scope<'_>,
-    place: usize,
-    variable: &'a ObjectDeclaration,
-) -> Result<usize, AllocError>
-    ensures declared { OnOk result (scope.new ≡ declaring scope.old (spec.variable_objects (means inner.now outer.now) place variable.now)) }
-    ensures place { IfOk result (λ after. after ≡ place + length variable.now.names) }
-{
-    let object = Object::Variable {
-        type_: mark_type(inner, outer, true, &variable.mark),
-    };
-    let after = declare_objects(scope, object, place, variable.names.as_slice())?;
-    Ok(after)
-}
-
-/// Declares variables, the first at place 0. A mark is looked up in two regions.
+/// Declares the variables of a process, whose region stands in that of its architecture, the first at place 0.
 #[tactic(auto, using(crate::proofs::Declaring::in_pieces), unfolding(crate::specs::Regions::variables, sim_scope::specs::Scopes::declaring))]
 fn declare_variables<'a>(
-    scope: &mut Scope<'a>,
+    part: &mut Part<'a>,
     inner: &Scope<'_>,
     outer: &Scope<'_>,
     variables: &'a [ObjectDeclaration],
 ) -> Result<(), AllocError>
-    ensures { OnOk result (scope.new ≡ declaring scope.old (spec.variables (means inner.now outer.now) 0 variables.now)) }
+    ensures { OnOk result (part.new ≡ declaring part.old (spec.variables (means inner.now outer.now) 0 variables.now)) }
 {
     let mut place = 0;
     for variable in variables {
-        place = declare_variable(scope, inner, outer, place, variable)?;
+        let type_ = mark_type(inner, outer, true, &variable.mark);
+        let object = Object::Variable { type_ };
+        place = declare_objects(part, object, place, variable.names.as_slice())?;
     }
     Ok(())
 }
@@ -247,12 +217,12 @@ fn declare_declarations<'a>(
 }
 
 /// Names of which nothing else is known, as a region.
-pub fn labels<'a>(alloc: Global, names: &Names<'a>) -> Result<Scope<'a>, AllocError>
-    ensures { IfOk result (λ s. s ≡ spec.naming [] names.now) }
+pub fn labels<'a>(alloc: Global, names: &Names<'a>) -> Result<Part<'a>, AllocError>
+    ensures { IfOk result (λ part. part ≡ spec.naming [] names.now) }
 {
-    let mut scope = Scope::new(alloc);
-    declare_labels(&mut scope, names)?;
-    Ok(scope)
+    let mut part = Part::new(alloc);
+    declare_labels(&mut part, names)?;
+    Ok(part)
 }
 
 /// The region of the ports of an entity, in an empty one, or of a component, in that of its architecture.
@@ -261,46 +231,45 @@ pub fn ports<'a>(
     alloc: Global,
     ports: &'a [PortDeclaration],
     outer: &Scope<'_>,
-) -> Result<Scope<'a>, AllocError>
-    ensures { IfOk result (λ s. s ≡ spec.ports_region outer.now ports.now) }
+) -> Result<Part<'a>, AllocError>
+    ensures { IfOk result (λ part. part ≡ spec.ports_region outer.now ports.now) }
 {
     let names = Names::of_ports(alloc, ports)?;
-    let own = labels(alloc, &names)?;
-    let mut scope = Scope::new(alloc);
-    declare_ports(&mut scope, &own, outer, ports)?;
-    Ok(scope)
+    let own = Scope::of(labels(alloc, &names)?);
+    let mut part = Part::new(alloc);
+    declare_ports(&mut part, &own, outer, ports)?;
+    Ok(part)
 }
 
-/// The names that an architecture sees, of which nothing else is known.
+/// The names that an architecture of an entity sees, of which nothing else is known.
 fn architecture_labels<'a>(
     alloc: Global,
-    ports: &Names<'a>,
+    entity: &'a EntityPorts<'a>,
     declarations: &'a [Declaration],
     statements: &'a [Concurrent],
 ) -> Result<Scope<'a>, AllocError>
-    ensures { IfOk result (λ s. s ≡ spec.naming (spec.naming [] ports.now) (body_names declarations.now statements.now)) }
+    ensures { IfOk result (λ s. s ≡ spec.architecture_labels entity.now declarations.now statements.now) }
 {
     let names = Names::of_body(alloc, declarations, statements)?;
-    let mut scope = labels(alloc, ports)?;
+    let mut scope = Scope::after(alloc, entity.labels());
     declare_labels(&mut scope, &names)?;
     Ok(scope)
 }
 
-/// The region of an architecture: the ports of its entity, its declarations and its labels.
+/// The region of an architecture: it goes on from that of the ports of its entity with its declarations and its labels.
 #[tactic(auto, unfolding(crate::specs::Regions::architecture_region))]
 pub fn architecture<'a>(
     alloc: Global,
-    ports: &'a [PortDeclaration],
+    entity: &'a EntityPorts<'a>,
     declarations: &'a [Declaration],
     statements: &'a [Concurrent],
 ) -> Result<Scope<'a>, AllocError>
-    ensures { IfOk result (λ s. s ≡ spec.architecture_region ports.now declarations.now statements.now) }
+    ensures { IfOk result (λ s. s ≡ spec.architecture_region entity.now declarations.now statements.now) }
 {
-    let names = Names::of_ports(alloc, ports)?;
-    let own = architecture_labels(alloc, &names, declarations, statements)?;
+    let own = architecture_labels(alloc, entity, declarations, statements)?;
     let nothing = Scope::new(alloc);
-    let mut scope = self::ports(alloc, ports, &nothing)?;
-    declare_declarations(&mut scope, &own, &nothing, names.len(), declarations)?;
+    let mut scope = Scope::after(alloc, entity.region());
+    declare_declarations(&mut scope, &own, &nothing, entity.count(), declarations)?;
     let labels = Names::of_concurrents(alloc, statements)?;
     declare_labels(&mut scope, &labels)?;
     Ok(scope)
@@ -316,10 +285,10 @@ pub fn process<'a>(
     ensures { IfOk result (λ s. s ≡ spec.process_region outer.now process.now) }
 {
     let names = Names::of_process(alloc, process)?;
-    let own = self::labels(alloc, &names)?;
-    let mut scope = Scope::new(alloc);
-    declare_variables(&mut scope, &own, outer, process.variables.as_slice())?;
+    let own = Scope::of(self::labels(alloc, &names)?);
+    let mut part = Part::new(alloc);
+    declare_variables(&mut part, &own, outer, process.variables.as_slice())?;
     let labels = Names::of_statements(alloc, process.statements.as_slice())?;
-    declare_labels(&mut scope, &labels)?;
-    Ok(scope)
+    declare_labels(&mut part, &labels)?;
+    Ok(Scope::of(part))
 }

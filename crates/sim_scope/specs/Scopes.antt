@@ -1,5 +1,6 @@
 -- What names mean (IEEE 1076-2008, 12).
 use Rattle.std.specs.Prelude.{ℕ, List, [], ◌∷◌, ◌++◌, Bool, true, false, if◌then◌else◌, Option, Some, None, is_some, codes}
+use Rattle.std.specs.Borrow.{Bor}
 use Rattle.std.specs.Str.{bytes_eq}
 use Rattle.sim_scope.specs.declared.scope.Meaning.{Meaning}
 use Rattle.sim_scope.specs.declared.scope.Meaning.TheVariants as m
@@ -34,6 +35,11 @@ declaring ds (x ∷ xs) = declaring (with_first ds x.0 x.1) xs
 abbrev pub or_else : Option Meaning → Option Meaning → Option Meaning
 or_else None b = b
 or_else (Some a) b = Some a
+
+-- the names of the part from which a region goes on, where there is one
+abbrev pub part_at : Option (Bor Region) → Region
+part_at None = []
+part_at (Some part) = part.now
 
 -- the predefined names (IEEE 1076-2008, 16.3; IEEE 1164)
 unfoldable pub predefined : Look

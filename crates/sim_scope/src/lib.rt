@@ -6,4 +6,4 @@ pub mod predefined;
 pub mod scope;
 
 pub use fault::{Fault, Kind};
-pub use scope::{Meaning, Scope, Type};
+pub use scope::{Declare, Meaning, Part, Scope, Type};

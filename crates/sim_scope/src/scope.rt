@@ -1,6 +1,6 @@
 //! Declarative regions: what the names that are declared in one mean (IEEE 1076-2008, 12).
 
-ghost use Rattle.std.specs.Prelude.{◌≡◌, ◌∷◌, [], OnOk, OnErr, IfOk, is_none};
+ghost use Rattle.std.specs.Prelude.{◌≡◌, [], OnOk, OnErr, IfOk, is_none};
 ghost use Rattle.sim_scope.specs.Scopes as spec;
 
 use crate::predefined::predefined;
@@ -55,13 +55,25 @@ pub enum Meaning {
     },
 }
 
-/// The names of a declarative region, each with what its first declaration says.
+/// A declarative region, or a part of one, to which names are added.
+pub trait Declare<'a> {
+    /// Its names, each with what its first declaration says.
+    ghost declared: { Self → spec.Region };
+
+    /// Declares a name, unless it is declared already, and says whether it is new.
+    fn declare(&mut self, name: &'a [u8], meaning: Meaning) -> Result<bool, AllocError>
+        ensures declared { OnOk result (declared self.new ≡ spec.with_first (declared self.old) name.now meaning) }
+        ensures is_new { IfOk result (λ b. b ≡ is_none (spec.found (declared self.old) name.now)) }
+        ensures kept { OnErr result (declared self.new ≡ declared self.old) };
+}
+
+/// A part of a declarative region by itself: the ports of an entity, which go on in each of its architectures.
 #[derive(Drop)]
-pub struct Scope<'a> {
+pub struct Part<'a> {
     meanings: IndexMap<&'a [u8], Meaning>,
 }
 
-impl<'a> Model for Scope<'a> {
+impl<'a> Model for Part<'a> {
     ghost use Rattle.std.specs.Prelude.{ℕ, List, map};
     ghost use Rattle.sim_scope.specs.declared.scope.Meaning.{Meaning};
 
@@ -70,13 +82,95 @@ impl<'a> Model for Scope<'a> {
     ghost view = { λ s. map (λ e. (e.0.now, e.1)) s.meanings.entries };
 }
 
+impl<'a> Part<'a> {
+    /// A part without names.
+    pub fn new(alloc: Global) -> Part<'a>
+        ensures { result ≡ [] }
+    {
+        Part {
+            meanings: IndexMap::new(alloc),
+        }
+    }
+
+    /// What a name means, where it is declared in this part.
+    pub fn find(&self, name: &[u8]) -> Option<Meaning>
+        ensures { result ≡ spec.found self.now name.now }
+    {
+        self.meanings.get(name).copied()
+    }
+}
+
+impl<'a> Declare<'a> for Part<'a> {
+    ghost use Rattle.sim_scope.specs.Scopes.{Region};
+
+    ghost declared = { λ (part : Region). part };
+
+    fn declare(&mut self, name: &'a [u8], meaning: Meaning) -> Result<bool, AllocError> {
+        if self.meanings.contains_key(name) {
+            return Ok(false);
+        }
+        self.meanings.insert(name, meaning)?;
+        Ok(true)
+    }
+}
+
+/// What a name means in the part from which a region goes on, where there is one.
+#[tactic(auto, unfolding(crate::specs::Scopes::found))]
+fn found_in(part: Option<&Part<'_>>, name: &[u8]) -> Option<Meaning>
+    ensures { result ≡ spec.found (spec.part_at part.entry) name.now }
+{
+    match part {
+        None => None,
+        Some(part) => part.find(name),
+    }
+}
+
+/// The names of a declarative region, each with what its first declaration says. Where it goes on from another part, as an
+/// architecture does from its entity, that part is shared.
+#[derive(Drop)]
+pub struct Scope<'a> {
+    first: Option<&'a Part<'a>>,
+    own: Part<'a>,
+}
+
+impl<'a> Model for Scope<'a> {
+    ghost use Rattle.std.specs.Prelude.{ℕ, List, ◌++◌};
+    ghost use Rattle.sim_scope.specs.declared.scope.Meaning.{Meaning};
+    ghost use Rattle.sim_scope.specs.Scopes as spec;
+
+    ghost Value = { List (List ℕ × Meaning) };
+
+    ghost view = { λ s. spec.part_at s.first ++ s.own };
+}
+
 impl<'a> Scope<'a> {
     /// A region without names.
     pub fn new(alloc: Global) -> Scope<'a>
         ensures { result ≡ [] }
     {
         Scope {
-            meanings: IndexMap::new(alloc),
+            first: None,
+            own: Part::new(alloc),
+        }
+    }
+
+    /// The region of one part.
+    pub fn of(part: Part<'a>) -> Scope<'a>
+        ensures { result ≡ part.entry }
+    {
+        Scope {
+            first: None,
+            own: part,
+        }
+    }
+
+    /// The region that goes on from a part.
+    pub fn after(alloc: Global, part: &'a Part<'a>) -> Scope<'a>
+        ensures { result ≡ part.now }
+    {
+        Scope {
+            first: Some(part),
+            own: Part::new(alloc),
         }
     }
 
@@ -84,20 +178,24 @@ impl<'a> Scope<'a> {
     pub fn find(&self, name: &[u8]) -> Option<Meaning>
         ensures { result ≡ spec.found self.now name.now }
     {
-        self.meanings.get(name).copied()
+        match found_in(self.first, name) {
+            Some(meaning) => Some(meaning),
+            None => self.own.find(name),
+        }
     }
+}
 
-    /// Declares a name, unless it is declared already, and says whether it is new.
-    pub fn declare(&mut self, name: &'a [u8], meaning: Meaning) -> Result<bool, AllocError>
-        ensures declared { OnOk result (self.new ≡ spec.with_first self.old name.now meaning) }
-        ensures is_new { IfOk result (λ b. b ≡ is_none (spec.found self.old name.now)) }
-        ensures kept { OnErr result (self.new ≡ self.old) }
-    {
-        if self.meanings.contains_key(name) {
+impl<'a> Declare<'a> for Scope<'a> {
+    ghost use Rattle.sim_scope.specs.Scopes.{Region};
+
+    ghost declared = { λ (region : Region). region };
+
+    fn declare(&mut self, name: &'a [u8], meaning: Meaning) -> Result<bool, AllocError> {
+        if found_in(self.first, name).is_some() {
             return Ok(false);
         }
-        self.meanings.insert(name, meaning)?;
-        Ok(true)
+        let is_new = self.own.declare(name, meaning)?;
+        Ok(is_new)
     }
 }
 

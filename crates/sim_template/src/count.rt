@@ -2,12 +2,12 @@
 
 ghost use Rattle.std.specs.Prelude.{◌≡◌, ◌+◌, IfOk, List, length};
 ghost use Rattle.sim_tree.specs.declared.unit.Concurrent.{Concurrent};
-ghost use Rattle.sim_region.specs.DeclaredNames.{port_names};
 ghost use Rattle.sim_region.specs.Regions.{architecture_region};
 ghost use Rattle.sim_template.specs.Below as spec;
 ghost use Rattle.sim_template.specs.Below.{AreBelow};
 
-use sim_tree::declaration::{Declaration, PortDeclaration};
+use sim_region::EntityPorts;
+use sim_tree::declaration::Declaration;
 use std::alloc::AllocError;
 
 /// This number more: memory can hold a name for each.
@@ -16,18 +16,6 @@ fn more(count: usize, names: usize) -> Result<usize, AllocError>
 {
     let sum = count.checked_add(names).ok_or(AllocError)?;
     Ok(sum)
-}
-
-/// How many ports are written.
-#[tactic(auto, unfolding(sim_region::specs::DeclaredNames::port_names))]
-fn port_count(ports: &[PortDeclaration]) -> Result<usize, AllocError>
-    ensures { IfOk result (λ n. n ≡ length (port_names ports.now)) }
-{
-    let mut count = 0;
-    for port in ports {
-        count = more(count, port.names.as_slice().len())?;
-    }
-    Ok(count)
 }
 
 /// How many signals a declaration declares.
@@ -55,14 +43,13 @@ fn signal_count(declarations: &[Declaration]) -> Result<usize, AllocError>
 /// How many ports and signals an architecture has. What its names mean is there.
 #[tactic(auto, unfolding(crate::specs::Below::object_count))]
 pub fn object_count(
-    ports: &[PortDeclaration],
+    ports: &EntityPorts<'_>,
     declarations: &[Declaration],
 ) -> Result<usize, AllocError>
     ensures count { IfOk result (λ n. n ≡ spec.object_count ports.now declarations.now) }
     ensures below { (cs : List Concurrent) → IfOk result (λ n. AreBelow n (architecture_region ports.now declarations.now cs)) }
 {
-    let ports = port_count(ports)?;
     let signals = signal_count(declarations)?;
-    let count = more(ports, signals)?;
+    let count = more(ports.count(), signals)?;
     Ok(count)
 }

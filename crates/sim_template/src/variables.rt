@@ -1,7 +1,6 @@
 //! The first values of the variables of a process (IEEE 1076-2008, 6.4.2.4, 11.3).
 
 ghost use Rattle.std.specs.Prelude.{◌≡◌, ◌++◌, IfOk, OnOk, true};
-ghost use Rattle.sim_region.specs.Regions.{mark_type};
 ghost use Rattle.sim_scope.specs.Scopes.{means};
 ghost use Rattle.sim_template.specs.FirstValues as spec;
 
@@ -118,6 +117,6 @@ pub fn first_values(
     ensures { IfOk result (λ r. r ≡ spec.first_values architecture.now process.now) }
 {
     let names = Names::of_process(alloc, process)?;
-    let own = labels(alloc, &names)?;
+    let own = Scope::of(labels(alloc, &names)?);
     values_of(alloc, &own, architecture, process.variables.as_slice())
 }

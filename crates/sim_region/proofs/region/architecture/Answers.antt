@@ -9,9 +9,9 @@ returns c =
       c.in_ok-declare_labels.ensures,
       c.in_ok-declare_declarations.ensures,
       c.in_ok-labels.ensures,
-      c.in_ok-scope.ensures,
+      c.after-scope.ensures,
+      c.region.ensures,
       c.in_ok-own.ensures,
-      c.len.ensures,
-      c.in_ok-names.ensures,
+      c.count.ensures,
       c.new-nothing.ensures,
     ) refl

@@ -4,6 +4,7 @@ use Rattle.sim_region.specs.Regions.{objects}
 use Rattle.sim_region.proofs.region.declare_objects.Given as goal
 
 abbrev pub invariant-loop-name : goal.invariant-loop-name
-invariant-loop-name l =
-    (declaring l.scope (objects l.object l.place (drop l.name-index l.names)) ≡ declaring l.fn.scope (objects l.object l.first l.names))
+invariant-loop-name g l =
+    (declaring (g.D.Declare.declared l.region) (objects l.object l.place (drop l.name-index l.names))
+    ≡ declaring (g.D.Declare.declared l.fn.region) (objects l.object l.first l.names))
     × (l.place ≡ l.first + l.name-index)

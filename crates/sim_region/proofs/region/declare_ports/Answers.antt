@@ -1,8 +1,11 @@
+use Rattle.std.proofs.Common.{◌∙◌, refl}
 use Rattle.sim_scope.specs.Scopes.{means}
 use Rattle.sim_region.proofs.Declaring.{ports_step}
 use Rattle.sim_region.proofs.region.declare_ports.Goals as goal
 
 pub loop-port-preserved : goal.loop-port-preserved
 loop-port-preserved c =
-    ports_step (means c.args.inner.now c.args.outer.now) c.loop-port.scope _ _ c.loop-port.place _ c.loop-port.port-index c.args.ports.now
-    c.port-item.result c.loop-port-test.true c.port-item.is c.loop-port.invariant c.in_ok-place.ensures.declared c.in_ok-place.ensures.place
+    ports_step (means c.args.inner.now c.args.outer.now) c.loop-port.part _ _ c.loop-port.place _ c.loop-port.port-index c.args.ports.now
+    c.port-item.result c.loop-port-test.true c.port-item.is c.loop-port.invariant
+    (c.in_ok-place.ensures.declared ∙ rw (c.mode_of.ensures, c.mark_type.ensures, c.as_slice.ensures.value) refl)
+    (c.in_ok-place.ensures.place ∙ rw c.as_slice.ensures.value refl)

@@ -5,5 +5,5 @@ use Rattle.sim_region.proofs.region.declare_ports.Given as goal
 
 abbrev pub invariant-loop-port : goal.invariant-loop-port
 invariant-loop-port l =
-    declaring l.scope (ports (means l.inner l.outer) l.place (drop l.port-index l.ports))
-    ≡ declaring l.fn.scope (ports (means l.inner l.outer) 0 l.ports)
+    declaring l.part (ports (means l.inner l.outer) l.place (drop l.port-index l.ports))
+    ≡ declaring l.fn.part (ports (means l.inner l.outer) 0 l.ports)

@@ -5,5 +5,5 @@ use Rattle.sim_region.proofs.region.declare_variables.Given as goal
 
 abbrev pub invariant-loop-variable : goal.invariant-loop-variable
 invariant-loop-variable l =
-    declaring l.scope (variables (means l.inner l.outer) l.place (drop l.variable-index l.variables))
-    ≡ declaring l.fn.scope (variables (means l.inner l.outer) 0 l.variables)
+    declaring l.part (variables (means l.inner l.outer) l.place (drop l.variable-index l.variables))
+    ≡ declaring l.fn.part (variables (means l.inner l.outer) 0 l.variables)

@@ -4,4 +4,5 @@ use Rattle.sim_region.proofs.region.ports.Goals as goal
 
 pub returns : goal.returns
 unfolding ports_region
-returns c = rw (c.in_ok-declare_ports.ensures, c.in_ok-own.ensures, c.in_ok-names.ensures, c.new-scope.ensures) refl
+returns c =
+    rw (c.in_ok-declare_ports.ensures, c.of-own.ensures, c.in_ok-labels.ensures, c.in_ok-names.ensures, c.new-part.ensures) refl

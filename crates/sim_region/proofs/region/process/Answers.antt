@@ -6,12 +6,14 @@ pub returns : goal.returns
 unfolding process_region
 returns c =
     rw (
+      c.of.ensures,
       c.in_ok-declare_labels.ensures,
+      c.in_ok-labels-2.ensures,
       c.in_ok-declare_variables.ensures,
+      c.of-own.ensures,
       c.in_ok-labels.ensures,
-      c.in_ok-own.ensures,
       c.in_ok-names.ensures,
-      c.new-scope.ensures,
+      c.new-part.ensures,
       c.as_slice.ensures,
       c.as_slice-2.ensures,
     ) refl

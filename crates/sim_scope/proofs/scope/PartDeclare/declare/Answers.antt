@@ -1,7 +1,7 @@
 use Rattle.std.proofs.Common.{◌∙◌, sym, ap, is_some}
 use Rattle.sim_scope.specs.Scopes.{Region, found, with_first}
 use Rattle.sim_scope.proofs.Regions.{found-lookup, added, there, none, some}
-use Rattle.sim_scope.proofs.scope.Scope.declare.Goals as goal
+use Rattle.sim_scope.proofs.scope.PartDeclare.declare.Goals as goal
 
 pub returns-then-contains_key-clause-declared : goal.returns-then-contains_key-clause-declared
 returns-then-contains_key-clause-declared c =

@@ -1,0 +1,85 @@
+//! The ports of an entity with the region that they make, in which those of its architectures go on (IEEE 1076-2008, 12.1).
+
+ghost use Rattle.std.specs.Prelude.{◌≡◌, [], IfOk};
+ghost use Rattle.sim_region.specs.Regions as spec;
+
+use crate::names::Names;
+use crate::region;
+use sim_scope::{Part, Scope};
+use sim_tree::declaration::PortDeclaration;
+use std::alloc::{AllocError, Global};
+use std::marker::Model;
+
+/// The ports of an entity. Their region is made once, however many architectures there are.
+#[derive(Drop)]
+pub struct EntityPorts<'a> {
+    declarations: &'a [PortDeclaration],
+    labels: Part<'a>,
+    region: Part<'a>,
+    count: usize,
+}
+
+impl<'a> Model for EntityPorts<'a> {
+    ghost use Rattle.std.specs.Prelude.{◌≡◌, List, []};
+    ghost use Rattle.sim_tree.specs.declared.declaration.PortDeclaration.{PortDeclaration};
+    ghost use Rattle.sim_region.specs.Regions as spec;
+
+    ghost Value = { List PortDeclaration };
+
+    ghost view = { λ e. e.declarations.now };
+
+    ghost invariant = { λ e.
+        (e.labels ≡ spec.port_labels e.declarations.now)
+        × (e.region ≡ spec.ports_region [] e.declarations.now)
+        × (e.count ≡ spec.port_count e.declarations.now) };
+}
+
+impl<'a> EntityPorts<'a> {
+    /// The ports that an entity declares.
+    pub fn of(
+        alloc: Global,
+        declarations: &'a [PortDeclaration],
+    ) -> Result<EntityPorts<'a>, AllocError>
+        ensures { IfOk result (λ e. e ≡ declarations.now) }
+    {
+        let names = Names::of_ports(alloc, declarations)?;
+        let count = names.len();
+        let labels = region::labels(alloc, &names)?;
+        let nothing = Scope::new(alloc);
+        let region = region::ports(alloc, declarations, &nothing)?;
+        Ok(EntityPorts {
+            declarations,
+            labels,
+            region,
+            count,
+        })
+    }
+
+    /// Their declarations.
+    pub fn declarations(&self) -> &'a [PortDeclaration]
+        ensures { result.now ≡ self.now }
+    {
+        self.declarations
+    }
+
+    /// Their names, of which nothing else is known.
+    pub fn labels(&self) -> &Part<'a>
+        ensures { result.now ≡ spec.port_labels self.now }
+    {
+        &self.labels
+    }
+
+    /// What their names mean.
+    pub fn region(&self) -> &Part<'a>
+        ensures { result.now ≡ spec.ports_region [] self.now }
+    {
+        &self.region
+    }
+
+    /// How many ports there are.
+    pub fn count(&self) -> usize
+        ensures { result ≡ spec.port_count self.now }
+    {
+        self.count
+    }
+}
