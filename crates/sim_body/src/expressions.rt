@@ -225,7 +225,10 @@ pub fn boolean(
             operator,
             right,
             ..
-        } if is_boolean(names, left.get()) => {
+        } => {
+            if !is_boolean(names, left.get()) {
+                return logic_comparison(alloc, names, left.get(), *operator, right.get());
+            }
             let left = Boxed::new(alloc, boolean(alloc, names, left.get())?)?;
             let right = Boxed::new(alloc, boolean(alloc, names, right.get())?)?;
             Ok(BooleanExpression::BooleanComparison {
@@ -234,12 +237,6 @@ pub fn boolean(
                 right,
             })
         }
-        Expression::Comparison {
-            left,
-            operator,
-            right,
-            ..
-        } => logic_comparison(alloc, names, left.get(), *operator, right.get()),
         Expression::Chain {
             operator,
             first,
@@ -251,7 +248,7 @@ pub fn boolean(
     }
 }
 
-/// A chain of type boolean, whose first operand is made.
+/// A chain of type boolean, whose first operand is translated.
 #[cycle(boolean)]
 #[tactic(auto, using(sim_design::proofs::Fitting::booleans_fit))]
 fn boolean_chain(

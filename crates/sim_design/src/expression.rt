@@ -5,8 +5,6 @@
 
 ghost use Rattle.std.specs.Prelude.{◌≡◌};
 ghost use Rattle.std.specs.Bool.{Decides};
-ghost use Rattle.sim_design.specs.declared.expression.LogicExpression.TheVariants as logic;
-ghost use Rattle.sim_design.specs.declared.expression.BooleanExpression.TheVariants as boolean;
 
 use sim_logic::Logic;
 use sim_tree::expression::{Logical, Relational};
@@ -79,24 +77,11 @@ impl LogicExpression {
                 operator,
                 first,
                 rest,
-            } => self.is_chain(*operator, first.get(), rest.as_slice()),
-        }
-    }
-
-    /// Whether it is the chain of this operator and these operands.
-    #[cycle(logic_expressions)]
-    fn is_chain(&self, operator: Logical, first: &LogicExpression, rest: &[LogicExpression]) -> bool
-        ensures { Decides result (self.now ≡ logic.Chain operator first.now rest.now) }
-    {
-        match self {
-            Self::Chain {
-                operator: own,
-                first: own_first,
-                rest: own_rest,
-            } => *own == operator
-                && own_first.get().same(first)
-                && same_logic_expressions(own_rest.as_slice(), rest),
-            _ => false,
+            } => matches!(
+                self,
+                Self::Chain { operator: own, first: own_first, rest: own_rest }
+                    if own == operator && own_first.get().same(first.get()) && same_logic_expressions(own_rest.as_slice(), rest.as_slice())
+            ),
         }
     }
 }
@@ -127,7 +112,8 @@ impl BooleanExpression {
             Self::Literal(value) => matches!(self, Self::Literal(own) if own == value),
             Self::Variable(place) => matches!(self, Self::Variable(own) if own == place),
             Self::Event(object) => matches!(self, Self::Event(own) if own == object),
-            Self::Edge { rising, object } => self.is_edge(*rising, *object),
+            Self::Edge { rising, object } =>
+                matches!(self, Self::Edge { rising: own, object: own_object } if own == rising && own_object == object),
             Self::Not(operand) => matches!(self, Self::Not(own) if own.get().same(operand.get())),
             Self::Chain {
                 operator,
@@ -136,9 +122,7 @@ impl BooleanExpression {
             } => matches!(
                 self,
                 Self::Chain { operator: own, first: own_first, rest: own_rest }
-                    if own == operator
-                        && own_first.get().same(first.get())
-                        && are_same(own_rest.as_slice(), rest.as_slice())
+                    if own == operator && own_first.get().same(first.get()) && same_boolean_expressions(own_rest.as_slice(), rest.as_slice())
             ),
             Self::LogicComparison {
                 left,
@@ -147,9 +131,7 @@ impl BooleanExpression {
             } => matches!(
                 self,
                 Self::LogicComparison { left: own_left, operator: own, right: own_right }
-                    if own == operator
-                        && own_left.get().same(left.get())
-                        && own_right.get().same(right.get())
+                    if own == operator && own_left.get().same(left.get()) && own_right.get().same(right.get())
             ),
             Self::BooleanComparison {
                 left,
@@ -158,37 +140,22 @@ impl BooleanExpression {
             } => matches!(
                 self,
                 Self::BooleanComparison { left: own_left, operator: own, right: own_right }
-                    if own == operator
-                        && own_left.get().same(left.get())
-                        && own_right.get().same(right.get())
+                    if own == operator && own_left.get().same(left.get()) && own_right.get().same(right.get())
             ),
-        }
-    }
-
-    /// Whether it is this edge of this signal or port.
-    fn is_edge(&self, rising: bool, object: usize) -> bool
-        ensures { Decides result (self.now ≡ boolean.Edge rising object) }
-    {
-        match self {
-            Self::Edge {
-                rising: own,
-                object: own_object,
-            } => *own == rising && *own_object == object,
-            _ => false,
         }
     }
 }
 
-/// Whether operands of type boolean are the same, in the same order.
+/// Whether these are the same expressions, in the same order.
 #[cycle(boolean_expressions)]
-fn are_same(operands: &[BooleanExpression], others: &[BooleanExpression]) -> bool
-    ensures { Decides result (operands.now ≡ others.now) }
+fn same_boolean_expressions(expressions: &[BooleanExpression], others: &[BooleanExpression]) -> bool
+    ensures { Decides result (expressions.now ≡ others.now) }
 {
-    if operands.len() != others.len() {
+    if expressions.len() != others.len() {
         return false;
     }
-    for place in 0..operands.len() {
-        if !operands[place].same(&others[place]) {
+    for (i, expression) in expressions.iter().enumerate() {
+        if !expression.same(&others[i]) {
             return false;
         }
     }
