@@ -1,6 +1,5 @@
 //! Waveforms and delays (IEEE 1076-2008, 10.5).
 
-ghost use Rattle.std.specs.Prelude.{◌≡◌};
 ghost use Rattle.sim_expression.specs.Waveforms as spec;
 ghost use Rattle.sim_tree.specs.Input.{Reads, view};
 

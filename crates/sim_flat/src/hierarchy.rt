@@ -1,6 +1,6 @@
 //! The hierarchy of blocks under the top (IEEE 1076-2008, 14).
 
-ghost use Rattle.std.specs.Prelude.{◌≡◌, ◌<◌, MatchResult, length};
+ghost use Rattle.std.specs.Prelude.{◌<◌, MatchResult, length};
 ghost use Rattle.std.specs.List.{All};
 ghost use Rattle.sim_hierarchy.specs.Blocks.{IsBlock};
 ghost use Rattle.sim_flat.specs.Hierarchies as spec;

@@ -1,6 +1,6 @@
 //! The top: the entity that is elaborated, and its architecture (IEEE 1076-2008, 7.3.3, 14.1).
 
-ghost use Rattle.std.specs.Prelude.{◌≡◌, MatchResult, map};
+ghost use Rattle.std.specs.Prelude.{MatchResult};
 ghost use Rattle.std.specs.Char.{to_ascii_lowercase};
 ghost use Rattle.sim_flat.specs.Tops as spec;
 

@@ -1,10 +1,10 @@
 //! The heap of times: an entry for each time that a driver was given, of which some are stale.
 
-ghost use Rattle.std.specs.Prelude.{◌≡◌, ◌≢◌, ◌<◌, ◌≤◌, ◌+◌, ◌∷◌, ℕ, List, [], length, true, false, Option, None, Some, OnOk, OnErr, IsOk, IfSome};
+ghost use Rattle.std.specs.Prelude.{◌≡◌, ◌≢◌, ◌<◌, ◌≤◌, ◌+◌, ◌∷◌, ℕ, [], length, true, false, Option, None, Some, OnOk, OnErr, IsOk, IfSome};
 ghost use Rattle.std.specs.Prelude.{IfNone, replicate, slice_index_or};
 ghost use Rattle.std.specs.List.{Contains};
 ghost use Rattle.std.specs.List.Sorted.{IsPermutation};
-ghost use Rattle.std.specs.BinaryHeap.{IsUpperBound, heap_items, heap_len, heap_capacity, IsHeap};
+ghost use Rattle.std.specs.BinaryHeap.{heap_items, heap_len, heap_capacity, IsHeap};
 ghost use Rattle.sim_queue.specs.Times.{cleared, is_at, those_at, time_of};
 ghost use Rattle.sim_queue.specs.Entries.{Entry, entry, entry_cmp, is_live, HasLiveTop, IsTaking, NoneBefore, StandsBut};
 

@@ -1,6 +1,6 @@
 //! Sets of numbers below a bound.
 
-ghost use Rattle.std.specs.Prelude.{ℕ, ◌≡◌, ◌<◌, ◌≤◌, ◌↔◌, length, true, false, replicate, slice_index_or, slice_set, vec_capacity, IfOk, IsTrue, MatchOption};
+ghost use Rattle.std.specs.Prelude.{◌≡◌, ◌<◌, ◌≤◌, ◌↔◌, length, true, false, replicate, slice_set, vec_capacity, IfOk, IsTrue, MatchOption};
 ghost use Rattle.sim_queue.specs.Words.{IsNext, NoneFrom};
 ghost use Rattle.sim_queue.specs.Numbers.{is_in, members};
 

@@ -1,6 +1,6 @@
 //! For each driver the time of its next transaction, with the least time at hand.
 
-ghost use Rattle.std.specs.Prelude.{◌≡◌, ◌<◌, ◌⊎◌, ℕ, List, length, false, Option, None, Some, OnOk, OnErr, IfOk, replicate, slice_set};
+ghost use Rattle.std.specs.Prelude.{◌≡◌, ◌<◌, ◌⊎◌, ℕ, length, false, Option, None, Some, OnOk, OnErr, IfOk, replicate, slice_set};
 ghost use Rattle.std.specs.BinaryHeap.{heap_items, IsHeap};
 ghost use Rattle.sim_queue.specs.Times.{cleared, due_at, earliest, those_at};
 ghost use Rattle.sim_queue.specs.Entries.{entry_cmp, NoneBefore, StandsBut};

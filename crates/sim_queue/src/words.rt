@@ -1,6 +1,6 @@
 //! Numbers as bits, 64 in each word.
 
-ghost use Rattle.std.specs.Prelude.{ℕ, ◌≡◌, ◌≢◌, ◌<◌, ◌≤◌, ◌/◌, ◌^◌, length, true, false, slice_index, IfOk, MatchOption};
+ghost use Rattle.std.specs.Prelude.{ℕ, ◌≡◌, ◌≢◌, ◌<◌, ◌/◌, ◌^◌, length, true, false, slice_index, IfOk, MatchOption};
 ghost use Rattle.sim_queue.specs.Words.{has, has_bit, uses, AreTops, IsNext, NoneFrom};
 
 use std::alloc::{AllocError, Global};

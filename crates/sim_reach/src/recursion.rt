@@ -2,10 +2,10 @@
 //! few passes over all instances. If homes failed their check, one search for each block would tell it, slowly: so what is answered
 //! rests on the check alone, and not on how homes are found.
 
-ghost use Rattle.std.specs.Prelude.{◌≡◌, ◌<◌, ℕ, IfOk, get_or, length, false};
+ghost use Rattle.std.specs.Prelude.{◌≡◌, ◌<◌, ℕ, IfOk, length};
 ghost use Rattle.std.specs.List.{All};
 ghost use Rattle.sim_hierarchy.specs.Blocks.{IsBlock};
-ghost use Rattle.sim_reach.specs.Graph.{IsWhole, graph_of, leading, led};
+ghost use Rattle.sim_reach.specs.Graph.{IsWhole, graph_of, led};
 ghost use Rattle.sim_reach.specs.Homes.{shares};
 ghost use Rattle.sim_reach.specs.Least.{IsLeast, least_of};
 ghost use Rattle.sim_reach.specs.Recursion as spec;

@@ -24,8 +24,8 @@ use Rattle.sim_tree.specs.declared.unit.Concurrent.TheVariants as c
 use Rattle.sim_tree.specs.Input.{Input, kind, left}
 use Rattle.sim_tree.specs.Writing.{Mark, WordAt, mark, ◌▸◌, all_of, if_written, Fits}
 use Rattle.sim_tree.specs.Grammar as g
-use Rattle.sim_tree.specs.Grammar.{of_delay, of_waveforms, of_concurrent_assignment, of_sensitivity, of_variable, of_sequence, of_process, of_actual}
-use Rattle.sim_tree.specs.Grammar.{formally, is_named, of_association, of_associations, of_port_map, of_chosen, of_instantiated, of_instance}
+use Rattle.sim_tree.specs.Grammar.{of_concurrent_assignment, of_sensitivity, of_variable, of_sequence, of_process, of_actual}
+use Rattle.sim_tree.specs.Grammar.{formally, is_named, of_association, of_port_map, of_chosen, of_instantiated, of_instance}
 use Rattle.sim_tree.specs.Grammar.{of_concurrent}
 use Rattle.sim_tree.proofs.Writings.{◌&◌, split, only, none_read, never_fits, mark_at_read, mark_read, shorter, less, less_then, other}
 use Rattle.sim_tree.proofs.Tokens.{word_read, word_kind, literal_read, literal_kind, eat_read, eat_not, expect_read, written_read}

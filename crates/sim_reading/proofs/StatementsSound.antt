@@ -11,7 +11,7 @@ use Rattle.sim_tree.specs.declared.sequential.Branch.{Branch}
 use Rattle.sim_tree.specs.Input.{Input, Parser, kind, next}
 use Rattle.sim_tree.specs.Writing.{mark, separated_by, word_at, Fits}
 use Rattle.sim_tree.specs.Grammar as g
-use Rattle.sim_tree.specs.Grammar.{of_expression, of_signal_assignment, of_variable_assignment, of_statement, of_sequential, of_branch, of_otherwise}
+use Rattle.sim_tree.specs.Grammar.{of_signal_assignment, of_variable_assignment, of_statement, of_sequential, of_branch, of_otherwise}
 use Rattle.sim_tree.specs.Grammar.{of_sequence}
 use Rattle.sim_tree.proofs.Writings.{Gives, then_, done, refused, ◌&◌, none, marks, if_fits}
 use Rattle.sim_tree.proofs.Tokens.{word_gives, repeat_gives, eat_then, sees_then, expect_gives}

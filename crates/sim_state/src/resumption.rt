@@ -1,6 +1,6 @@
 //! Which processes a cycle resumes (IEEE 1076-2008, 14.7.5.3).
 
-ghost use Rattle.std.specs.Prelude.{ℕ, ◌≡◌, ◌<◌, ◌||◌, ◌&&◌, ◌==◌, not, false, [], List, length, slice_index_or, IfOk, OnOk};
+ghost use Rattle.std.specs.Prelude.{ℕ, ◌≡◌, ◌<◌, ◌||◌, ◌&&◌, ◌==◌, not, [], List, length, slice_index_or, IfOk, OnOk};
 ghost use Rattle.sim_logic.specs.Logic.{is_same};
 ghost use Rattle.sim_design.specs.Processes.{Process as process_value};
 ghost use Rattle.sim_state.specs.Contents.{views_of};

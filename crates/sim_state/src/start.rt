@@ -2,7 +2,6 @@
 
 ghost use Rattle.std.specs.Prelude.{ℕ, [], ◌≡◌, ◌+◌, ◌<◌, ◌≤◌, ◌==◌, ◌||◌, ◌&&◌, map, length, take, drop, slice_index_or, IfOk, OnOk};
 ghost use Rattle.std.specs.List.{All};
-ghost use Rattle.sim_wave.specs.Driver.{Waveform};
 ghost use Rattle.sim_state.specs.Drivers as spec;
 ghost use Rattle.sim_state.specs.Nets.{net_value};
 ghost use Rattle.sim_state.specs.Changes.{AreDriven, is_driven, is_driver};

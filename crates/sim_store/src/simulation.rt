@@ -1,12 +1,11 @@
 //! A simulation of a design, as far as it has come (IEEE 1076-2008, 14.7.5).
 
-ghost use Rattle.std.specs.Prelude.{ℕ, suc, ◌≡◌, ◌<◌, ◌≤◌, ◌^◌, ◌+◌, [], ◌∷◌, List, Some, None, Option, true, false, length, map, replicate, drop};
-ghost use Rattle.std.specs.Prelude.{slice_set, slice_index_or, MatchOption, MatchResult, IfSome, IfOk, IfErr, OnOk, OnErr, ◌↔◌, IsTrue};
+ghost use Rattle.std.specs.Prelude.{ℕ, suc, ◌≡◌, ◌<◌, ◌≤◌, ◌^◌, ◌+◌, Some, None, Option, true, false, length, replicate, drop};
+ghost use Rattle.std.specs.Prelude.{slice_set, MatchOption, MatchResult, IfSome, IfOk, IfErr, OnOk, OnErr, ◌↔◌, IsTrue};
 ghost use Rattle.std.specs.List.{All};
 ghost use Rattle.sim_design.specs.Processes.{IsProcess};
 ghost use Rattle.sim_state.specs.Cycles as cycles;
-ghost use Rattle.sim_exec.specs.Jobs.{IsReady, Job as job_value, result_of};
-ghost use Rattle.sim_exec.specs.State.{Owned, driver_values, net_at, owned_at};
+ghost use Rattle.sim_exec.specs.State.{driver_values, net_at, owned_at};
 ghost use Rattle.sim_logic.specs.Time.{largest_time};
 ghost use Rattle.sim_store.specs.Agreement.{total_of, value_by};
 ghost use Rattle.sim_store.specs.History.{IsNamed, event_count};
@@ -170,7 +169,7 @@ impl Model for Simulation {
 }
 
 impl Simulation {
-    ghost use Rattle.std.specs.Prelude.{ℕ, ◌≡◌, ◌↔◌, IsTrue, Some, true, false, length, replicate, slice_set};
+    ghost use Rattle.std.specs.Prelude.{◌≡◌, ◌↔◌, IsTrue, Some, false, length, replicate};
     ghost use Rattle.std.specs.Prelude.{IfErr, IfOk, IfSome, OnOk, OnErr, MatchOption, MatchResult};
 
     /// The simulation of a design at its start: the initialization is recorded, and each process is due. Where memory is refused, the design comes back.

@@ -1,6 +1,6 @@
 //! The store of a run (IEEE 1076-2008, 14.7.5).
 
-ghost use Rattle.std.specs.Prelude.{ℕ, ◌≡◌, ◌≢◌, ◌↔◌, ◌<◌, ◌≤◌, IsTrue, List, Ok, Err, Some, None, true, false, suc, drop, length, replicate, slice_set};
+ghost use Rattle.std.specs.Prelude.{◌≡◌, ◌<◌, ◌≤◌, Ok, Err, Some, None, suc, drop, length};
 ghost use Rattle.std.specs.Prelude.{MatchOption, MatchResult, IfSome, IfOk, IfErr, OnOk, OnErr};
 ghost use Rattle.sim_logic.specs.Time.{largest_time};
 ghost use Rattle.std.specs.List.{All};

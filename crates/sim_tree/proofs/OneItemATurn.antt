@@ -4,7 +4,6 @@
 use Rattle.std.proofs.Common.{◌≡◌, ℕ, ◌+◌, ◌-◌, ◌<◌, ◌≤◌, Bool, if◌then◌else◌, Ok, List, [], ◌∷◌, ◌++◌}
 use Rattle.sim_token.specs.declared.kind.Kind.{Kind}
 use Rattle.sim_tree.specs.Input.{Input, Outcome, Parser, ◌>>◌, take_token, same_kind, kind, next, sees, many_from, and_then}
-use Rattle.sim_tree.proofs.Turns.{IsLeft}
 use Rattle.sim_tree.proofs.Turns as turns
 
 -- At turn `at` of `n`, with those found, the items that this input goes on with give the whole.

@@ -1,6 +1,6 @@
 //! The editing of a projected output waveform by a signal assignment (IEEE 1076-2008, 10.5.2.2).
 
-ghost use Rattle.std.specs.Prelude.{ℕ, ◌≡◌, ◌≢◌, ◌+◌, ◌-◌, ◌<◌, ◌≤◌, ◌++◌, ◌↔◌, [], ◌∷◌, length, take, drop, All, IsTrue};
+ghost use Rattle.std.specs.Prelude.{ℕ, ◌≡◌, ◌≢◌, ◌+◌, ◌-◌, ◌<◌, ◌≤◌, ◌++◌, ◌↔◌, [], ◌∷◌, length, take, All, IsTrue};
 ghost use Rattle.std.specs.List.{remove_range};
 ghost use Rattle.sim_logic.specs.declared.logic.Logic as logic;
 ghost use Rattle.smallvec.specs.SmallVec.{small_vec_len, HasRoomFor};

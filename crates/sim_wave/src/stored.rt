@@ -1,8 +1,8 @@
 //! Pending transactions of any number.
 
-ghost use Rattle.std.specs.Prelude.{◌≡◌, ◌+◌, ◌-◌, ◌<◌, ◌≤◌, length, drop, slice_index_or, All, IfOk, IsOk, OnOk, OnErr};
+ghost use Rattle.std.specs.Prelude.{◌≡◌, ◌+◌, ◌-◌, ◌<◌, ◌≤◌, length, drop, All, IfOk, IsOk, OnOk, OnErr};
 ghost use Rattle.sim_logic.specs.declared.logic.Logic as logic;
-ghost use Rattle.sim_wave.specs.Driver.{RisesFrom, Transaction as transaction, transaction_at};
+ghost use Rattle.sim_wave.specs.Driver.{RisesFrom, Transaction as transaction};
 ghost use Rattle.sim_wave.specs.Edit.{edited, first_of, IsWithin};
 ghost use Rattle.sim_logic.specs.Time.{largest_time};
 
