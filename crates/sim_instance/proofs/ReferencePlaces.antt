@@ -5,7 +5,8 @@ use Rattle.sim_tree.specs.declared.declaration.PortDeclaration.{PortDeclaration}
 use Rattle.sim_tree.specs.declared.unit.Entity.{Entity}
 use Rattle.sim_tree.specs.declared.unit.Architecture.{Architecture}
 use Rattle.sim_region.specs.Ports.{Port}
-use Rattle.sim_instance.specs.Libraries.{Library, entities_at, architectures_at, first_entity, interfaces, declared_ports, ports_in, at_place, interface_of, entity_of}
+use Rattle.sim_instance.specs.Libraries.{Library, entities_at, architectures_at, first_entity, interfaces, declared_ports, ports_in, at_place}
+use Rattle.sim_instance.specs.Libraries.{interface_of, entity_of}
 use Rattle.sim_instance.specs.Places.{where_at, first_place, last_place}
 
 pub first_entity_at : (test : Entity → Bool) (at : ℕ) (es : List (Bor Entity))
