@@ -1,11 +1,12 @@
--- What a map from names to places says after an insertion.
-use Rattle.std.proofs.Common.{ℕ, ◌≡◌, ◌&&◌, List, [], ◌∷◌, map, Bool, true, false, cond, Option, Some, refl, ap, sym, ◌∙◌, Bor}
+-- What a map from names or numbers to places says after an insertion.
+use Rattle.std.proofs.Common.{ℕ, ◌≡◌, ◌==◌, ◌&&◌, List, [], ◌∷◌, map, Bool, true, false, cond, Option, Some, refl, ap, sym, ◌∙◌, Bor}
 use Rattle.std.specs.Str.{bytes_eq}
 use Rattle.std.specs.Map.{lookup}
 use Rattle.std.specs.Option.{option_or}
+use Rattle.std.proofs.lemmas.Bool.Decides.{Decides-eqb}
 use Rattle.std.proofs.lemmas.Slice.Eq.{bytes_eq-Decides}
 use Rattle.indexmap.specs.IndexMap.{insert_entry}
-use Rattle.sim_instance.specs.Places.{where_at, place_of, place_of_both}
+use Rattle.sim_instance.specs.Places.{where_at, place_of, place_of_both, place_of_number}
 
 -- ---- any keys
 
@@ -118,3 +119,39 @@ pair_put k place es more was made view n m =
     ∙ (inserted same_pair (is_pair n m) k place (pair_alike n m) (pair_alone n m) es
     ∙ (chosen (is_pair n m k) place (lookup (is_pair n m) es)
     ∙ ap (option_or (where_at (is_pair n m k) place)) (pair_found n m es ∙ ap (λ (x : List ((List ℕ × List ℕ) × ℕ)). place_of_both x n m) view))))
+
+-- ---- numbers
+
+abbrev pub same_number : ℕ → ℕ → Bool
+same_number a b = a == b
+
+number_alike : (n a b : ℕ) → (a == b) ≡ true → (n == a) ≡ (n == b)
+number_alike n a b h = ap (λ (x : ℕ). n == x) ((Decides-eqb a b).0 h)
+
+number_alone : (n a b : ℕ) → (n == a) ≡ true → (n == b) ≡ true → (a == b) ≡ true
+number_alone n a b h j = (Decides-eqb a b).1 (sym ((Decides-eqb n a).0 h) ∙ (Decides-eqb n b).0 j)
+
+either_way : (a b : Bool) → (a ≡ true → b ≡ true) → (b ≡ true → a ≡ true) → a ≡ b
+either_way true true f g = refl
+either_way true false f g = sym (f refl)
+either_way false true f g = g refl
+either_way false false f g = refl
+
+turned : (a b : ℕ) → (a == b) ≡ (b == a)
+turned a b = either_way (a == b) (b == a) (λ h. (Decides-eqb b a).1 (sym ((Decides-eqb a b).0 h))) (λ h. (Decides-eqb a b).1 (sym ((Decides-eqb b a).0 h)))
+
+pub number_found : (n : ℕ) (es : List (ℕ × ℕ)) → lookup (same_number n) es ≡ place_of_number es n
+unfolding place_of_number
+number_found n [] = refl
+number_found n (e ∷ es) = ap (cond (n == e.0) (Some e.1)) (number_found n es)
+
+-- a number that is put stands for its place, and the others for theirs
+pub number_put : (k place : ℕ) (es more was : List (ℕ × ℕ)) → more ≡ insert_entry same_number es k place → es ≡ was
+    → (n : ℕ) → place_of_number more n ≡ option_or (where_at (k == n) place) (place_of_number was n)
+number_put k place es more was made view n =
+    sym (number_found n more)
+    ∙ (ap (lookup (same_number n)) made
+    ∙ (inserted same_number (same_number n) k place (number_alike n) (number_alone n) es
+    ∙ (chosen (n == k) place (lookup (same_number n) es)
+    ∙ (ap (λ (b : Bool). option_or (where_at b place) (lookup (same_number n) es)) (turned n k)
+    ∙ ap (option_or (where_at (k == n) place)) (number_found n es ∙ ap (λ (x : List (ℕ × ℕ)). place_of_number x n) view)))))

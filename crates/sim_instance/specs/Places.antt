@@ -1,5 +1,5 @@
--- Places: of the first or the last item of a list that passes a test, and of names.
-use Rattle.std.specs.Prelude.{ℕ, ◌+◌, ◌&&◌, List, [], ◌∷◌, Bool, true, false, if◌then◌else◌, Option, Some, None}
+-- Places: of the first or the last item of a list that passes a test, of names and of numbers.
+use Rattle.std.specs.Prelude.{ℕ, ◌+◌, ◌==◌, ◌&&◌, List, [], ◌∷◌, Bool, true, false, if◌then◌else◌, Option, Some, None}
 use Rattle.std.specs.Option.{option_or}
 use Rattle.std.specs.Str.{bytes_eq}
 
@@ -27,3 +27,8 @@ place_of (e ∷ es) n = if bytes_eq n e.0 then Some e.1 else place_of es n
 unfoldable pub place_of_both : List ((List ℕ × List ℕ) × ℕ) → List ℕ → List ℕ → Option ℕ
 place_of_both [] n m = None
 place_of_both (e ∷ es) n m = if bytes_eq n e.0.0 && bytes_eq m e.0.1 then Some e.1 else place_of_both es n m
+
+-- the place for which a number stands
+unfoldable pub place_of_number : List (ℕ × ℕ) → ℕ → Option ℕ
+place_of_number [] n = None
+place_of_number (e ∷ es) n = if n == e.0 then Some e.1 else place_of_number es n

@@ -1,5 +1,6 @@
 -- Port maps and their faults (IEEE 1076-2008, 6.5.7 and 6.5.6.3).
-use Rattle.std.specs.Prelude.{ℕ, ◌+◌, ◌==◌, ◌&&◌, nat_lt, List, [], ◌∷◌, ◌++◌, length, slice_get, Bool, true, false, Option, Some, None}
+use Rattle.std.specs.Prelude.{ℕ, ◌+◌, ◌==◌, ◌&&◌, nat_lt, List, [], ◌∷◌, ◌++◌, length, slice_get, Bool, true, false}
+use Rattle.std.specs.Prelude.{if◌then◌else◌, Option, Some, None}
 use Rattle.std.specs.Option.{option_or}
 use Rattle.sim_tree.specs.Name.{Name}
 use Rattle.sim_tree.specs.declared.declaration.Mode.{Mode}
@@ -165,6 +166,15 @@ is_in Inout = false
 abbrev pub needs_actual : Port → Bool
 needs_actual p = is_in p.mode && has_none p.initial
 
+-- the place of a port that must have an actual
+abbrev pub required_place : ℕ → Port → List ℕ
+required_place place p = if needs_actual p then place ∷ [] else []
+
+-- the places of such ports, among ports from a place on, in order
+unfoldable pub required_from : ℕ → List Port → List ℕ
+required_from place [] = []
+required_from place (p ∷ ps) = required_place place p ++ required_from (place + 1) ps
+
 -- whether nothing is associated
 abbrev pub is_open : Option Actual → Bool
 is_open None = true
@@ -172,10 +182,14 @@ is_open (Some (actual.Open at)) = true
 is_open (Some (actual.Named n)) = false
 is_open (Some (actual.Literal v at)) = false
 
+-- whether the port at a place has no actual
+abbrev pub is_missed : PortMap → ℕ → Bool
+is_missed map place = is_open (associated map.ports map.associations place)
+
 -- the fault of the port at a place that must have an actual and has none, told at the label of the instance
 abbrev pub missing_fault : PortMap → ℕ → ℕ → Port → List Fault
 missing_fault map label place p =
-    where_ (needs_actual p && is_open (associated map.ports map.associations place)) (fault k.PortMissing label)
+    where_ (needs_actual p && is_missed map place) (fault k.PortMissing label)
 
 -- the faults of such ports, from a place on
 unfoldable pub missing_faults : PortMap → ℕ → ℕ → List Port → List Fault

@@ -4,6 +4,7 @@ ghost use Rattle.std.specs.Prelude.{◌≡◌, ◌++◌, IfOk, OnOk};
 ghost use Rattle.sim_region.specs.Ports.{ports_of};
 ghost use Rattle.sim_instance.specs.Interfaces as spec;
 ghost use Rattle.sim_instance.specs.Places.{place_of};
+ghost use Rattle.sim_instance.specs.PortMaps as maps;
 ghost use Rattle.std.specs.Prelude.{ℕ, List};
 
 use crate::places::Places;
@@ -18,6 +19,7 @@ use std::marker::Model;
 pub struct Interface<'a> {
     ports: Vec<Port<'a>>,
     places: Places<'a>,
+    required: Vec<usize>,
 }
 
 impl<'a> Model for Interface<'a> {
@@ -25,12 +27,14 @@ impl<'a> Model for Interface<'a> {
     ghost use Rattle.sim_region.specs.Ports.{Port};
     ghost use Rattle.sim_instance.specs.Interfaces.{port_place};
     ghost use Rattle.sim_instance.specs.Places.{place_of};
+    ghost use Rattle.sim_instance.specs.PortMaps.{required_from};
 
     ghost Value = { List Port };
 
     ghost view = { λ i. i.ports.items };
 
-    ghost invariant = { λ i. (n : List ℕ) → place_of i.places n ≡ port_place i.ports.items n };
+    ghost invariant = { λ i.
+        ((n : List ℕ) → place_of i.places n ≡ port_place i.ports.items n) × (i.required.items ≡ required_from 0 i.ports.items) };
 }
 
 /// The places of ports by their names, of which the first of each name counts.
@@ -44,10 +48,40 @@ fn places_of<'a>(alloc: Global, ports: &[Port<'a>]) -> Result<Places<'a>, AllocE
     Ok(places)
 }
 
+/// Whether a port must have an actual: it is of mode in and has no first value.
+fn needs_actual(port: &Port<'_>) -> bool
+    ensures { result ≡ maps.needs_actual port.now }
+{
+    matches!(port.mode(), Mode::In) && port.initial().is_none()
+}
+
+/// Puts the place of a port at the end, if it must have an actual.
+fn push_required(places: &mut Vec<usize>, place: usize, port: &Port<'_>) -> Result<(), AllocError>
+    ensures { OnOk result (places.new.items ≡ places.old.items ++ maps.required_place place port.now) }
+{
+    if needs_actual(port) {
+        places.push(place)?;
+    }
+    Ok(())
+}
+
+/// The places of the ports that must have an actual, in order.
+#[tactic(auto, unfolding(crate::specs::PortMaps::required_from))]
+fn required_places(alloc: Global, ports: &[Port<'_>]) -> Result<Vec<usize>, AllocError>
+    ensures { IfOk result (λ places. places.items ≡ maps.required_from 0 ports.now) }
+{
+    let mut places = Vec::new(alloc);
+    for (place, port) in ports.iter().enumerate() {
+        push_required(&mut places, place, port)?;
+    }
+    Ok(places)
+}
+
 impl<'a> Interface<'a> {
     ghost use Rattle.std.specs.Prelude.{◌≡◌, ◌<◌, length, IfOk, IfSome};
     ghost use Rattle.sim_region.specs.Ports.{ports_of};
     ghost use Rattle.sim_instance.specs.Interfaces as spec;
+    ghost use Rattle.sim_instance.specs.PortMaps.{required_from};
 
     /// The ports of these declarations.
     pub fn of(
@@ -58,7 +92,12 @@ impl<'a> Interface<'a> {
     {
         let ports = ports_of(alloc, declarations)?;
         let places = places_of(alloc, ports.as_slice())?;
-        Ok(Interface { ports, places })
+        let required = required_places(alloc, ports.as_slice())?;
+        Ok(Interface {
+            ports,
+            places,
+            required,
+        })
     }
 
     /// The ports, in order.
@@ -74,6 +113,13 @@ impl<'a> Interface<'a> {
         ensures within { IfSome result (λ place. place < length self.now) }
     {
         self.places.find(name)
+    }
+
+    /// The places of the ports that must have an actual, in order.
+    pub fn required(&self) -> &[usize]
+        ensures { result.now ≡ required_from 0 self.now }
+    {
+        self.required.as_slice()
     }
 
     /// Whether the ports of both are the same in name, mode and type mark.

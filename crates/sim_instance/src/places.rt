@@ -1,6 +1,6 @@
 //! Names, and the places for which they stand.
 
-ghost use Rattle.std.specs.Prelude.{◌≡◌, ◌&&◌, ℕ, List, [], OnOk};
+ghost use Rattle.std.specs.Prelude.{◌≡◌, ◌==◌, ◌&&◌, ℕ, List, [], OnOk};
 ghost use Rattle.std.specs.Option.{option_or};
 ghost use Rattle.std.specs.Str.{bytes_eq};
 ghost use Rattle.sim_instance.specs.Places as spec;
@@ -96,6 +96,58 @@ impl<'a> PairPlaces<'a> {
             ≡ option_or (spec.where_at (bytes_eq n first.now && bytes_eq m second.now) place) (spec.place_of_both self.old n m)) }
     {
         self.places.insert((first, second), place)?;
+        Ok(())
+    }
+}
+
+/// The place for which each number stands.
+#[derive(Drop)]
+pub struct NumberPlaces {
+    places: IndexMap<usize, usize>,
+}
+
+impl Model for NumberPlaces {
+    ghost use Rattle.std.specs.Prelude.{ℕ, List};
+
+    ghost Value = { List (ℕ × ℕ) };
+
+    ghost view = { λ s. s.places.entries };
+}
+
+impl NumberPlaces {
+    /// No numbers.
+    pub fn new(alloc: Global) -> NumberPlaces
+        ensures { result ≡ [] }
+    {
+        NumberPlaces {
+            places: IndexMap::new(alloc),
+        }
+    }
+
+    /// The place for which a number stands.
+    pub fn find(&self, number: usize) -> Option<usize>
+        ensures { result ≡ spec.place_of_number self.now number }
+    {
+        self.places.get(&number).copied()
+    }
+
+    /// Lets a number stand for a place, whatever it stood for.
+    fn put(&mut self, number: usize, place: usize) -> Result<(), AllocError>
+        ensures { OnOk result ((n : ℕ) → spec.place_of_number self.new n
+            ≡ option_or (spec.where_at (number == n) place) (spec.place_of_number self.old n)) }
+    {
+        self.places.insert(number, place)?;
+        Ok(())
+    }
+
+    /// Lets a number stand for a place, unless it stands for another one.
+    pub fn put_first(&mut self, number: usize, place: usize) -> Result<(), AllocError>
+        ensures { OnOk result ((n : ℕ) → spec.place_of_number self.new n
+            ≡ option_or (spec.place_of_number self.old n) (spec.where_at (number == n) place)) }
+    {
+        if self.find(number).is_none() {
+            self.put(number, place)?;
+        }
         Ok(())
     }
 }

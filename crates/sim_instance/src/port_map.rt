@@ -1,13 +1,14 @@
 //! Port maps: what each port is associated with, and the faults (IEEE 1076-2008, 6.5.7).
 
-ghost use Rattle.std.specs.Prelude.{◌≡◌, ◌==◌, ◌<◌, ℕ, length, None, IfOk, IfSome, slice_get, get_or, replicate};
+ghost use Rattle.std.specs.Prelude.{◌≡◌, ◌<◌, ℕ, length, IfOk, OnOk, IfSome, slice_get};
 ghost use Rattle.std.specs.Option.{option_copied, option_or};
 ghost use Rattle.sim_scope.specs.Faults.{first_of};
 ghost use Rattle.sim_scope.specs.Scopes.{means};
 ghost use Rattle.sim_instance.specs.PortMaps as spec;
-ghost use Rattle.sim_instance.specs.Places.{where_at};
+ghost use Rattle.sim_instance.specs.Places.{where_at, place_of_number};
 
 use crate::interface::Interface;
+use crate::places::NumberPlaces;
 use sim_region::Port;
 use sim_scope::fault::note;
 use sim_scope::scope::look_up;
@@ -18,9 +19,11 @@ use sim_tree::unit::{Actual, Association};
 use std::alloc::{AllocError, Global};
 use std::marker::Model;
 
-/// The port, by its place, of an association at a place of its map.
+/// The port, by its place, of the association at a place of a port map (IEEE 1076-2008, 6.5.7): a positional association, which has no
+/// formal, is of the port at its own place; a named one is of the first port of the name that is its formal. `None` where there is no
+/// such port.
 #[tactic(auto, unfolding(crate::specs::PortMaps::port_of))]
-fn port_of(ports: &Interface<'_>, at: usize, formal: &Option<Name>) -> Option<usize>
+pub fn port_of(ports: &Interface<'_>, at: usize, formal: &Option<Name>) -> Option<usize>
     ensures port { result ≡ spec.port_of ports.now at formal.now }
     ensures within { IfSome result (λ place. place < length ports.now) }
 {
@@ -36,48 +39,27 @@ fn port_of(ports: &Interface<'_>, at: usize, formal: &Option<Name>) -> Option<us
     }
 }
 
-/// Notes the first association of the port at a place.
-fn note_first_at(firsts: &mut Vec<Option<usize>>, place: usize, at: usize)
-    requires { place < length firsts.old.items }
-    ensures length { length firsts.new.items ≡ length firsts.old.items }
-    ensures firsts { (p : ℕ) → get_or firsts.new.items p None ≡ option_or (get_or firsts.old.items p None) (where_at (place == p) at) }
-{
-    if firsts[place].is_none() {
-        firsts[place] = Some(at);
-    }
-}
-
 /// Notes an association of a port, where it is the first one.
-fn note_first(firsts: &mut Vec<Option<usize>>, port: Option<usize>, at: usize)
-    requires { IfSome port (λ place. place < length firsts.old.items) }
-    ensures length { length firsts.new.items ≡ length firsts.old.items }
-    ensures firsts { (p : ℕ) → get_or firsts.new.items p None ≡ option_or (get_or firsts.old.items p None) (where_at (spec.is_port port p) at) }
+fn note_first(firsts: &mut NumberPlaces, port: Option<usize>, at: usize) -> Result<(), AllocError>
+    ensures { OnOk result ((p : ℕ) → place_of_number firsts.new p ≡ option_or (place_of_number firsts.old p) (where_at (spec.is_port port p) at)) }
 {
     if let Some(place) = port {
-        note_first_at(firsts, place, at);
+        firsts.put_first(place, at)?;
     }
+    Ok(())
 }
 
-/// A list of as many ports without an association.
-fn without_any(alloc: Global, count: usize) -> Result<Vec<Option<usize>>, AllocError>
-    ensures { IfOk result (λ firsts. firsts.items ≡ replicate count None) }
-{
-    let mut firsts = Vec::new(alloc);
-    firsts.resize(count, None)?;
-    Ok(firsts)
-}
-
-/// The place in the map of the first association of each port.
+/// The place in the map of the first association of each port that has one.
 fn first_associations(
     alloc: Global,
     ports: &Interface<'_>,
     associations: &[Association],
-) -> Result<Vec<Option<usize>>, AllocError>
-    ensures { IfOk result (λ firsts. (p : ℕ) → get_or firsts.items p None ≡ spec.first_of_port ports.now p 0 associations.now) }
+) -> Result<NumberPlaces, AllocError>
+    ensures { IfOk result (λ firsts. (p : ℕ) → place_of_number firsts p ≡ spec.first_of_port ports.now p 0 associations.now) }
 {
-    let mut firsts = without_any(alloc, ports.ports().len())?;
+    let mut firsts = NumberPlaces::new(alloc);
     for (at, association) in associations.iter().enumerate() {
-        note_first(&mut firsts, port_of(ports, at, &association.formal), at);
+        note_first(&mut firsts, port_of(ports, at, &association.formal), at)?;
     }
     Ok(firsts)
 }
@@ -97,22 +79,24 @@ fn actual_at(associations: &[Association], at: usize) -> Option<&Actual>
 pub struct PortMap<'m, 'a> {
     ports: &'m Interface<'a>,
     associations: &'m [Association],
-    firsts: Vec<Option<usize>>,
+    firsts: NumberPlaces,
 }
 
 impl<'m, 'a> Model for PortMap<'m, 'a> {
-    ghost use Rattle.std.specs.Prelude.{◌≡◌, ℕ, None, get_or};
+    ghost use Rattle.std.specs.Prelude.{◌≡◌, ℕ};
+    ghost use Rattle.sim_instance.specs.Places.{place_of_number};
     ghost use Rattle.sim_instance.specs.PortMaps as spec;
 
     ghost Value = { spec.PortMap };
 
     ghost view = { λ m. record { ports = m.ports.now; associations = m.associations.now } };
 
-    ghost invariant = { λ m. (p : ℕ) → get_or m.firsts.items p None ≡ spec.first_of_port m.ports.now p 0 m.associations.now };
+    ghost invariant = { λ m. (p : ℕ) → place_of_number m.firsts p ≡ spec.first_of_port m.ports.now p 0 m.associations.now };
 }
 
 impl<'m, 'a> PortMap<'m, 'a> {
-    ghost use Rattle.std.specs.Prelude.{◌≡◌, ℕ, None, get_or, IfOk};
+    ghost use Rattle.std.specs.Prelude.{◌≡◌, IfOk};
+    ghost use Rattle.std.specs.List.{list_any};
     ghost use Rattle.std.specs.Option.{option_copied};
     ghost use Rattle.sim_scope.specs.Faults.{first_of};
     ghost use Rattle.sim_scope.specs.Scopes.{means};
@@ -138,15 +122,12 @@ impl<'m, 'a> PortMap<'m, 'a> {
     fn first(&self, place: usize) -> Option<usize>
         ensures { result ≡ spec.first_of_port self.now.ports place 0 self.now.associations }
     {
-        match self.firsts.get(place) {
-            None => None,
-            Some(first) => *first,
-        }
+        self.firsts.find(place)
     }
 
     /// What the port at a place is associated with: its first association counts.
     #[tactic(auto, unfolding(crate::specs::PortMaps::associated))]
-    pub fn associated(&self, place: usize) -> Option<&'m Actual>
+    fn associated(&self, place: usize) -> Option<&'m Actual>
         ensures { option_copied result ≡ spec.associated self.now.ports self.now.associations place }
     {
         match self.first(place) {
@@ -200,28 +181,25 @@ impl<'m, 'a> PortMap<'m, 'a> {
         }
     }
 
-    /// Notes a port that must have an actual and has none.
-    #[tactic(auto, unfolding(sim_scope::specs::Faults::first_of))]
-    fn check_missing_port(
-        &self,
-        label: usize,
-        place: usize,
-        port: &Port<'_>,
-        first: &mut Option<Fault>,
-    )
-        ensures { first.new ≡ first_of first.old (spec.missing_fault self.now label place port.now) }
+    /// Whether a port that must have an actual has none.
+    fn misses_one(&self) -> bool
+        ensures { result ≡ list_any (spec.is_missed self.now) (spec.required_from 0 self.now.ports) }
     {
-        if needs_actual(port) && is_open(self.associated(place)) {
-            note(first, Kind::PortMissing, label);
+        let places = self.ports.required();
+        for place in places {
+            if is_open(self.associated(*place)) {
+                return true;
+            }
         }
+        false
     }
 
-    /// Notes ports that must have an actual and have none, at the label of the instance.
+    /// Notes ports that must have an actual and have none, at the label of the instance: all of them are one fault.
     fn check_missing(&self, label: usize, first: &mut Option<Fault>)
         ensures { first.new ≡ first_of first.old (spec.missing_faults self.now label 0 self.now.ports) }
     {
-        for (place, port) in self.ports.ports().iter().enumerate() {
-            self.check_missing_port(label, place, port, first);
+        if self.misses_one() {
+            note(first, Kind::PortMissing, label);
         }
     }
 
@@ -239,13 +217,6 @@ impl<'m, 'a> PortMap<'m, 'a> {
         self.check_associations(inner, outer, first);
         self.check_missing(label.at(), first);
     }
-}
-
-/// Whether a port must have an actual: it is of mode in and has no first value.
-fn needs_actual(port: &Port<'_>) -> bool
-    ensures { result ≡ spec.needs_actual port.now }
-{
-    matches!(port.mode(), Mode::In) && port.initial().is_none()
 }
 
 /// Whether nothing is associated.

@@ -6,4 +6,4 @@ use Rattle.sim_instance.proofs.interface.Interface.place.Goals as goal
 
 pub returns-clause-within : goal.returns-clause-within
 returns-clause-within c = place_within c.find.result c.args.self.now c.args.name.now
-    (c.find.ensures ∙ (c.self.invariant c.args.name.now ∙ ap (λ (ports : List Port). port_place ports c.args.name.now) c.self.view_is))
+    (c.find.ensures ∙ (c.self.invariant.0 c.args.name.now ∙ ap (λ (ports : List Port). port_place ports c.args.name.now) c.self.view_is))
