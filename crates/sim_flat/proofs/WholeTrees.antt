@@ -5,7 +5,7 @@ use Rattle.std.proofs.Common.{Bool, true, false, map, slice_index_or, refl, ap, 
 use Rattle.std.specs.List.{list_any}
 use Rattle.sim_logic.specs.Sources.{SourceTree, leaves}
 use Rattle.sim_design.specs.Designs.{Design}
-use Rattle.sim_hierarchy.specs.declared.blocks.Link.{Link}
+use Rattle.sim_hierarchy.specs.declared.links.Link.{Link}
 use Rattle.sim_hierarchy.specs.declared.blocks.Object.{Object}
 use Rattle.sim_hierarchy.specs.declared.blocks.Port.{Port}
 use Rattle.sim_hierarchy.specs.declared.blocks.Instance.{Instance}

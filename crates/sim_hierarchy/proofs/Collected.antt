@@ -12,7 +12,7 @@ use Rattle.sim_design.specs.declared.design.Source.{Source}
 use Rattle.sim_design.specs.declared.design.Source.TheVariants as source
 use Rattle.sim_design.specs.Processes.{Process}
 use Rattle.sim_hierarchy.specs.declared.blocks.Object.{Object}
-use Rattle.sim_hierarchy.specs.declared.blocks.Link.{Link}
+use Rattle.sim_hierarchy.specs.declared.links.Link.{Link}
 use Rattle.sim_hierarchy.specs.declared.blocks.Template.{Template}
 use Rattle.sim_hierarchy.specs.declared.blocks.Block.{Block}
 use Rattle.sim_hierarchy.specs.declared.processes.Sketch.{Sketch}

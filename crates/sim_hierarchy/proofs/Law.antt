@@ -7,7 +7,7 @@ use Rattle.sim_design.specs.declared.design.DriverOf.{DriverOf}
 use Rattle.sim_design.specs.declared.design.Source.{Source}
 use Rattle.sim_design.specs.Designs.{Net, Design}
 use Rattle.sim_design.specs.Processes.{Process}
-use Rattle.sim_hierarchy.specs.declared.blocks.Link.{Link}
+use Rattle.sim_hierarchy.specs.declared.links.Link.{Link}
 use Rattle.sim_hierarchy.specs.declared.blocks.Port.{Port}
 use Rattle.sim_hierarchy.specs.declared.blocks.Template.{Template}
 use Rattle.sim_hierarchy.specs.declared.blocks.Instance.{Instance}

@@ -1,5 +1,7 @@
 pub mod Rises
 pub mod Added
+pub mod ByPlace
+pub mod PutLinks
 pub mod Made
 pub mod Sound
 pub mod Whole

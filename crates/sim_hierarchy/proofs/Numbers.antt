@@ -2,8 +2,8 @@
 use Rattle.std.proofs.Common.{◌≡◌, ℕ, zero, suc, ◌+◌, ◌<◌, List, [], ◌∷◌, ◌++◌, true, false, length, get_or, refl, ap, sym, ◌∙◌, subst, arith}
 use Rattle.std.proofs.Common.{append-nil, append_assoc, length-append}
 use Rattle.sim_token.proofs.Tests.{by_cases}
-use Rattle.sim_hierarchy.specs.declared.blocks.Link.{Link}
-use Rattle.sim_hierarchy.specs.declared.blocks.Link.TheVariants.{To, Constant, Open}
+use Rattle.sim_hierarchy.specs.declared.links.Link.{Link}
+use Rattle.sim_hierarchy.specs.declared.links.Link.TheVariants.{To, Constant, Open}
 use Rattle.sim_hierarchy.specs.declared.blocks.Object.{Object}
 use Rattle.sim_hierarchy.specs.Blocks.{link_at, LeadsBelow}
 use Rattle.sim_hierarchy.specs.Hierarchy.{Step, Path, Scene, Named, home, led, link_of, is_own, own_before, own_from, before, net_count, net_number}

@@ -7,8 +7,8 @@ use Rattle.sim_token.proofs.Tests.{by_cases}
 use Rattle.sim_logic.specs.Sources.{SourceTree}
 use Rattle.sim_design.specs.declared.design.Source.{Source}
 use Rattle.sim_design.specs.Designs.{Net}
-use Rattle.sim_hierarchy.specs.declared.blocks.Link.{Link}
-use Rattle.sim_hierarchy.specs.declared.blocks.Link.TheVariants.{To, Constant, Open}
+use Rattle.sim_hierarchy.specs.declared.links.Link.{Link}
+use Rattle.sim_hierarchy.specs.declared.links.Link.TheVariants.{To, Constant, Open}
 use Rattle.sim_hierarchy.specs.declared.blocks.Object.{Object}
 use Rattle.sim_hierarchy.specs.declared.blocks.Port.{Port}
 use Rattle.sim_hierarchy.specs.declared.blocks.Block.{Block}

@@ -10,8 +10,9 @@ use Rattle.sim_design.specs.declared.design.Source.{Source}
 use Rattle.sim_design.specs.declared.design.Source.TheVariants as source
 use Rattle.sim_design.specs.Designs.{Net, IsSource, IsNet, IsPlaced, IsDriverOf, AreOwned}
 use Rattle.sim_design.specs.Processes.{Process, rising, with_number, nets_of}
-use Rattle.sim_hierarchy.specs.declared.blocks.Link.{Link}
-use Rattle.sim_hierarchy.specs.declared.blocks.Link.TheVariants.{To, Constant, Open}
+use Rattle.sim_hierarchy.specs.declared.links.Link.{Link}
+use Rattle.sim_hierarchy.specs.declared.links.Link.TheVariants.{To, Constant, Open}
+use Rattle.sim_hierarchy.specs.Links.{own}
 use Rattle.sim_hierarchy.specs.declared.blocks.Object.{Object}
 use Rattle.sim_hierarchy.specs.declared.blocks.Port.{Port}
 use Rattle.sim_hierarchy.specs.declared.blocks.Template.{Template}
@@ -60,11 +61,6 @@ below_more : (n k : ℕ) (xs : List ℕ) → n ≤ k → Below n xs → Below k 
 below_more n k xs le h = each_map (λ (m : ℕ). m < n) (λ (m : ℕ). m < k) (λ m lt. omega arith) xs h
 
 -- ---- how many objects are nets
-abbrev pub own : Link → ℕ
-own (To m) = 0
-own (Constant value) = 1
-own Open = 1
-
 pub fresh : List Link → ℕ → ℕ → ℕ
 fresh links i zero = 0
 fresh links i (suc k) = own (link_at links i) + fresh links (i + 1) k

@@ -5,18 +5,19 @@ use Rattle.std.proofs.Math.Seq.{get_or-append_seam}
 use Rattle.std.proofs.lemmas.List.{length-map, get_or_past, get_or_read}
 use Rattle.sim_hierarchy.specs.declared.counts.Kind.{Kind}
 use Rattle.sim_hierarchy.specs.declared.counts.Kind.TheVariants.{Nets, Processes, Drivers, Instances}
-use Rattle.sim_hierarchy.specs.declared.blocks.Link.{Link}
-use Rattle.sim_hierarchy.specs.declared.blocks.Link.TheVariants.{To, Constant, Open}
+use Rattle.sim_hierarchy.specs.declared.links.Link.{Link}
+use Rattle.sim_hierarchy.specs.declared.links.Link.TheVariants.{To, Constant, Open}
 use Rattle.sim_hierarchy.specs.declared.blocks.Object.{Object}
 use Rattle.sim_hierarchy.specs.declared.blocks.Port.{Port}
 use Rattle.sim_hierarchy.specs.declared.blocks.Template.{Template}
 use Rattle.sim_hierarchy.specs.declared.blocks.Instance.{Instance}
 use Rattle.sim_hierarchy.specs.declared.blocks.Block.{Block}
 use Rattle.sim_hierarchy.specs.Blocks.{IsBlock, IsInstance, block_of, no_block, link_at, objects, size}
+use Rattle.sim_hierarchy.specs.Links.{unlinked}
 use Rattle.sim_hierarchy.specs.Hierarchy.{Step, Path, Scene, link_of, is_own, Own, own_from, inner, scenes, targets_of, net_count, process_count}
 use Rattle.sim_hierarchy.specs.Hierarchy.{driver_count, before}
 use Rattle.sim_hierarchy.specs.Flat.{homes_from, net, nets_at, processes_at, drivers_at, scenes_of, flat}
-use Rattle.sim_hierarchy.specs.Counts.{number, capped, sum, unlinked, own_number, step_number, unlinked_counted, targets_counted}
+use Rattle.sim_hierarchy.specs.Counts.{number, capped, sum, own_number, step_number, targets_counted}
 use Rattle.sim_hierarchy.specs.Counts.{own_counted, step_counted, instances_counted, first_table, next_table, table_at, top_added, top_counted}
 use Rattle.sim_hierarchy.proofs.Sound.{Each, each_of}
 use Rattle.sim_hierarchy.proofs.Scenes.{counted, counted_append}
@@ -26,17 +27,6 @@ use Rattle.sim_hierarchy.proofs.Law.{gathered, processes_count, drivers_count}
 -- ---- the cap
 sum_capped : (a b : ℕ) → sum (capped a) b ≡ capped (a + b)
 sum_capped a b = omega arith
-
-unlinked_is : (ls : List Link) (n : ℕ) → unlinked_counted ls (capped n) ≡ capped (n + unlinked ls)
-unfolding unlinked_counted unlinked
-unlinked_is [] n = let e : n ≡ n + 0 = omega arith in ap capped e
-unlinked_is (To m ∷ ls) n = unlinked_is ls n
-unlinked_is (Constant v ∷ ls) n =
-    let e : n + 1 + unlinked ls ≡ n + (1 + unlinked ls) = omega arith in
-    ap (unlinked_counted ls) (sum_capped n 1) ∙ (unlinked_is ls (n + 1) ∙ ap capped e)
-unlinked_is (Open ∷ ls) n =
-    let e : n + 1 + unlinked ls ≡ n + (1 + unlinked ls) = omega arith in
-    ap (unlinked_counted ls) (sum_capped n 1) ∙ (unlinked_is ls (n + 1) ∙ ap capped e)
 
 targets_are : (ts : List Template) (n : ℕ) → targets_counted ts (capped n) ≡ capped (n + length (targets_of ts))
 unfolding targets_counted targets_of
@@ -53,7 +43,7 @@ own_is Drivers b = targets_are b.processes 0 ∙ (let e : 0 + length (targets_of
 own_is Instances b = refl
 
 step_is : (kind : Kind) (i : Instance) → step_counted kind i ≡ capped (step_number kind i)
-step_is Nets i = unlinked_is i.links 0 ∙ (let e : 0 + unlinked i.links ≡ unlinked i.links = omega arith in ap capped e)
+step_is Nets i = refl
 step_is Processes i = refl
 step_is Drivers i = refl
 step_is Instances i = refl
@@ -125,7 +115,9 @@ measure Instances = λ s. 1
 one_port : (c : Path) (n : ℕ) (o : Object) (os : List Object) (l : Link) (ls : List Link) → link_of c n ≡ l
     → length (own_from c (n + 1) os) ≡ unlinked ls → length (own_from c n (o ∷ os)) ≡ unlinked (l ∷ ls)
 unfolding unlinked
-one_port c n o os (To m) ls at more = ap (λ (xs : List Own). length xs) (own_more c n o os (To m) at) ∙ more
+one_port c n o os (To m) ls at more =
+    let k : length (own_from c (n + 1) os) ≡ 0 + unlinked ls = omega arith in
+    ap (λ (xs : List Own). length xs) (own_more c n o os (To m) at) ∙ k
 one_port c n o os (Constant v) ls at more =
     let k : suc (length (own_from c (n + 1) os)) ≡ 1 + unlinked ls = omega arith in
     ap (λ (xs : List Own). length xs) (own_more c n o os (Constant v) at) ∙ k

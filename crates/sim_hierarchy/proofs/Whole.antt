@@ -4,6 +4,7 @@ use Rattle.std.proofs.lemmas.List.{get_or_read}
 use Rattle.sim_design.specs.declared.design.DriverOf.{DriverOf}
 use Rattle.sim_design.specs.Designs.{Net, Design, IsDesign, IsNet, IsPlaced}
 use Rattle.sim_design.specs.Processes.{Process}
+use Rattle.sim_hierarchy.specs.declared.links.Link.{Link}
 use Rattle.sim_hierarchy.specs.declared.blocks.Block.{Block}
 use Rattle.sim_hierarchy.specs.declared.processes.Sketch.{Sketch}
 use Rattle.sim_hierarchy.specs.Blocks.{IsBlock, IsWithinLimits, no_block, levels}
@@ -53,10 +54,13 @@ expanded_is_design blocks top known lt small =
     }
 
 -- the same of the flat design of the hierarchy
-pub is_flat : (blocks : List Block) (top : ℕ) (b : Block) (ps : List Process) (ds : List DriverOf) (x : Made) → All (IsBlock blocks) blocks
-    → top < length blocks → b ≡ get_or blocks top b → ps ≡ [] → ds ≡ []
-    → x ≡ laid blocks 33 [] [] [] b [] (record { nets = 0; processes = ps; drivers = ds }) → design x ≡ flat blocks top
-is_flat blocks top b ps ds x known lt eb ep ed e = is_expanded blocks top b ps ds x lt eb ep ed e ∙ expanded_is_flat blocks top known lt
+pub is_flat : (blocks : List Block) (top : ℕ) (b : Block) (links : List Link) (ps : List Process) (ds : List DriverOf) (x : Made)
+    → All (IsBlock blocks) blocks → top < length blocks → b ≡ get_or blocks top b → links ≡ [] → ps ≡ [] → ds ≡ []
+    → x ≡ laid blocks 33 [] links [] b [] (record { nets = 0; processes = ps; drivers = ds }) → design x ≡ flat blocks top
+is_flat blocks top b links ps ds x known lt eb el ep ed e =
+    is_expanded blocks top b ps ds x lt eb ep ed
+    (e ∙ ap (λ (ls : List Link). laid blocks 33 [] ls [] b [] (record { nets = 0; processes = ps; drivers = ds })) el)
+    ∙ expanded_is_flat blocks top known lt
 
 pub flat_is_design : (blocks : List Block) (top : ℕ) → All (IsBlock blocks) blocks → top < length blocks → IsWithinLimits (flat blocks top)
     → IsDesign (flat blocks top)

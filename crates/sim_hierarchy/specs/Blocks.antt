@@ -7,8 +7,8 @@ use Rattle.sim_design.specs.Bodies.{objects_of}
 use Rattle.sim_design.specs.Designs.{Design, most}
 use Rattle.sim_design.specs.declared.design.DriverOf.{DriverOf}
 use Rattle.sim_design.specs.Processes.{Process, rising, nets_of}
-use Rattle.sim_hierarchy.specs.declared.blocks.Link.{Link}
-use Rattle.sim_hierarchy.specs.declared.blocks.Link.TheVariants.{To, Constant, Open}
+use Rattle.sim_hierarchy.specs.declared.links.Link.{Link}
+use Rattle.sim_hierarchy.specs.declared.links.Link.TheVariants.{To, Constant, Open}
 use Rattle.sim_hierarchy.specs.declared.blocks.Object.{Object}
 use Rattle.sim_hierarchy.specs.declared.blocks.Port.{Port}
 use Rattle.sim_hierarchy.specs.declared.blocks.Template.{Template}

@@ -3,11 +3,10 @@ use Rattle.std.specs.Prelude.{ℕ, zero, suc, ◌+◌, ◌-◌, min, List, [], �
 use Rattle.sim_design.specs.Designs.{most}
 use Rattle.sim_hierarchy.specs.declared.counts.Kind.{Kind}
 use Rattle.sim_hierarchy.specs.declared.counts.Kind.TheVariants.{Nets, Processes, Drivers, Instances}
-use Rattle.sim_hierarchy.specs.declared.blocks.Link.{Link}
-use Rattle.sim_hierarchy.specs.declared.blocks.Link.TheVariants.{To, Constant, Open}
 use Rattle.sim_hierarchy.specs.declared.blocks.Template.{Template}
 use Rattle.sim_hierarchy.specs.declared.blocks.Instance.{Instance}
 use Rattle.sim_hierarchy.specs.declared.blocks.Block.{Block}
+use Rattle.sim_hierarchy.specs.Links.{unlinked}
 use Rattle.sim_hierarchy.specs.Hierarchy.{targets_of}
 use Rattle.sim_hierarchy.specs.Flat.{scenes_of, flat}
 
@@ -24,13 +23,6 @@ capped n = min n (most + 1)
 
 abbrev pub sum : ℕ → ℕ → ℕ
 sum a b = capped (capped a + capped b)
-
--- how many ports are associated with nothing that has a net
-unfoldable pub unlinked : List Link → ℕ
-unlinked [] = 0
-unlinked (To m ∷ ls) = unlinked ls
-unlinked (Constant value ∷ ls) = 1 + unlinked ls
-unlinked (Open ∷ ls) = 1 + unlinked ls
 
 -- what a block has by itself, its ports aside
 abbrev pub own_number : Kind → Block → ℕ
@@ -54,15 +46,6 @@ top_added Drivers b = 0
 top_added Instances b = 0
 
 -- ---- as it is counted: a table with the number of each block, level by level
-abbrev pub more_unlinked : Link → ℕ → ℕ
-more_unlinked (To m) n = n
-more_unlinked (Constant value) n = sum n 1
-more_unlinked Open n = sum n 1
-
-unfoldable pub unlinked_counted : List Link → ℕ → ℕ
-unlinked_counted [] n = n
-unlinked_counted (l ∷ ls) n = unlinked_counted ls (more_unlinked l n)
-
 unfoldable pub targets_counted : List Template → ℕ → ℕ
 targets_counted [] n = n
 targets_counted (t ∷ ts) n = targets_counted ts (sum n (length t.targets))
@@ -74,7 +57,7 @@ own_counted Drivers b = targets_counted b.processes 0
 own_counted Instances b = 0
 
 abbrev pub step_counted : Kind → Instance → ℕ
-step_counted Nets i = unlinked_counted i.links 0
+step_counted Nets i = capped (unlinked i.links)
 step_counted Processes i = 0
 step_counted Drivers i = 0
 step_counted Instances i = 1

@@ -1,8 +1,8 @@
 -- Paths through the hierarchy, what stands where they lead, and the home of each port and signal (IEEE 1076-2008, 14.7).
 use Rattle.std.specs.Prelude.{ℕ, zero, suc, ◌+◌, List, [], ◌∷◌, ◌++◌, Bool, true, false, if◌then◌else◌, map, length}
 use Rattle.std.specs.Str.{bytes_eq}
-use Rattle.sim_hierarchy.specs.declared.blocks.Link.{Link}
-use Rattle.sim_hierarchy.specs.declared.blocks.Link.TheVariants.{To, Constant, Open}
+use Rattle.sim_hierarchy.specs.declared.links.Link.{Link}
+use Rattle.sim_hierarchy.specs.declared.links.Link.TheVariants.{To, Constant, Open}
 use Rattle.sim_hierarchy.specs.declared.blocks.Object.{Object}
 use Rattle.sim_hierarchy.specs.declared.blocks.Template.{Template}
 use Rattle.sim_hierarchy.specs.declared.blocks.Instance.{Instance}

@@ -5,8 +5,8 @@ use Rattle.sim_design.specs.declared.design.DriverOf.{DriverOf}
 use Rattle.sim_design.specs.declared.design.Source.{Source}
 use Rattle.sim_design.specs.declared.design.Source.TheVariants as source
 use Rattle.sim_design.specs.Designs.{Net, Design}
-use Rattle.sim_hierarchy.specs.declared.blocks.Link.{Link}
-use Rattle.sim_hierarchy.specs.declared.blocks.Link.TheVariants.{To, Constant, Open}
+use Rattle.sim_hierarchy.specs.declared.links.Link.{Link}
+use Rattle.sim_hierarchy.specs.declared.links.Link.TheVariants.{To, Constant, Open}
 use Rattle.sim_hierarchy.specs.declared.blocks.Object.{Object}
 use Rattle.sim_hierarchy.specs.declared.blocks.Port.{Port}
 use Rattle.sim_hierarchy.specs.declared.blocks.Template.{Template}

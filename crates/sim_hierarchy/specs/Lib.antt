@@ -5,3 +5,4 @@ pub mod Flat
 pub mod Hierarchy
 pub mod Laid
 pub mod Limits
+pub mod Links

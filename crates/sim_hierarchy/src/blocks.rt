@@ -1,5 +1,6 @@
 //! Architectures whose names are places: a port or signal is known by its place, the ports first.
 
+use crate::links::Links;
 use sim_design::Body;
 use sim_logic::Logic;
 use sim_tree::name::Name;
@@ -7,15 +8,6 @@ use sqlite_items::Items;
 use std::alloc::{AllocError, Global};
 use std::marker::Model;
 use std::sync::Arc;
-
-/// What a port of an instance is associated with (IEEE 1076-2008, 6.5.6.3).
-#[derive(Clone, Copy, Debug)]
-pub enum Link {
-    /// A port or signal of the architecture in which the instance stands.
-    To(usize),
-    Constant(Logic),
-    Open,
-}
 
 /// A port or signal.
 #[derive(Drop)]
@@ -94,7 +86,7 @@ pub struct Instance {
     pub at: usize,
     pub block: usize,
     /// One for each port of that block.
-    pub links: Items<Link>,
+    pub links: Links,
 }
 
 /// An architecture with its entity.

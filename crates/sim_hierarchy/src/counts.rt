@@ -5,7 +5,7 @@ ghost use Rattle.std.specs.List.{All};
 ghost use Rattle.sim_hierarchy.specs.Blocks.{IsBlock};
 ghost use Rattle.sim_hierarchy.specs.Counts as spec;
 
-use crate::blocks::{Block, Instance, Link, Template};
+use crate::blocks::{Block, Instance, Template};
 use crate::homes::net_at;
 use sqlite_items::Items;
 use std::alloc::{AllocError, Global};
@@ -39,27 +39,6 @@ fn sum(left: usize, right: usize) -> usize
     capped(capped(left) + capped(right))
 }
 
-/// How many ports are associated with nothing that has a net.
-#[tactic(auto, unfolding(crate::specs::Counts::unlinked_counted))]
-fn unlinked(links: &[Link]) -> usize
-    ensures { result ≡ spec.unlinked_counted links.now 0 }
-{
-    let mut number = 0;
-    for link in links {
-        number = more_unlinked(*link, number);
-    }
-    number
-}
-
-fn more_unlinked(link: Link, number: usize) -> usize
-    ensures { result ≡ spec.more_unlinked link number }
-{
-    match link {
-        Link::To(_) => number,
-        Link::Constant(_) | Link::Open => sum(number, 1),
-    }
-}
-
 #[tactic(auto, unfolding(crate::specs::Counts::targets_counted))]
 fn targets(templates: &[Template]) -> usize
     ensures { result ≡ spec.targets_counted templates.now 0 }
@@ -88,7 +67,7 @@ fn step(kind: Kind, instance: &Instance) -> usize
     ensures { result ≡ spec.step_counted kind instance.now }
 {
     match kind {
-        Kind::Nets => unlinked(instance.links.as_slice()),
+        Kind::Nets => capped(instance.links.unlinked()),
         Kind::Processes | Kind::Drivers => 0,
         Kind::Instances => 1,
     }

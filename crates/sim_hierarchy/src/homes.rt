@@ -2,9 +2,10 @@
 
 ghost use Rattle.std.specs.Prelude.{◌≡◌, ◌+◌, [], IfOk, slice_index_or, length};
 ghost use Rattle.sim_hierarchy.specs.Laid as spec;
-ghost use Rattle.sim_hierarchy.specs.Blocks.{link_at, size};
+ghost use Rattle.sim_hierarchy.specs.Blocks.{size};
 
-use crate::blocks::{Block, Link};
+use crate::blocks::Block;
+use crate::links::{Link, Links};
 use crate::processes::Sketch;
 use sim_design::process::Homes;
 use sqlite_items::Items;
@@ -17,16 +18,6 @@ pub fn net_at(homes: &[usize], object: usize) -> usize
     match homes.get(object) {
         Some(number) => *number,
         None => 0,
-    }
-}
-
-/// What the port at this place is associated with.
-pub fn linked(links: &[Link], at: usize) -> Link
-    ensures { result ≡ link_at links.now at }
-{
-    match links.get(at) {
-        Some(link) => *link,
-        None => Link::Open,
     }
 }
 
@@ -56,7 +47,7 @@ fn home(outer: &[usize], link: Link, nets: usize) -> Result<(usize, usize), Allo
 fn homes(
     alloc: Global,
     outer: &[usize],
-    links: &[Link],
+    links: &Links,
     at: &Block,
     nets: usize,
 ) -> Result<(Items<usize>, usize), AllocError>
@@ -67,7 +58,7 @@ fn homes(
     let mut homes = Items::from_vec(Vec::with_capacity(alloc, count)?);
     let mut total = nets;
     for _turn in 0..count {
-        let (number, after) = home(outer, linked(links, homes.len()), total)?;
+        let (number, after) = home(outer, links.get(homes.len()), total)?;
         homes.push(number)?;
         total = after;
     }
@@ -79,7 +70,7 @@ fn homes(
 pub fn housed(
     alloc: Global,
     outer: &[usize],
-    links: &[Link],
+    links: &Links,
     at: &Block,
     flat: &mut Sketch,
 ) -> Result<Homes, AllocError>

@@ -4,8 +4,9 @@ ghost use Rattle.std.specs.Prelude.{ℕ, ◌≡◌, ◌+◌, ◌++◌, ◌∷◌
 ghost use Rattle.sim_hierarchy.specs.Blocks.{constant_at};
 ghost use Rattle.sim_hierarchy.specs.Laid as spec;
 
-use crate::blocks::{Block, Link, Object, Port};
-use crate::homes::{linked, next};
+use crate::blocks::{Block, Object, Port};
+use crate::homes::next;
+use crate::links::{Link, Links};
 use crate::names::joined;
 use sim_design::{Net, Source};
 use sim_logic::Logic;
@@ -134,7 +135,7 @@ fn settle(
 fn ports(
     alloc: Global,
     prefix: &str,
-    links: &[Link],
+    links: &Links,
     own: &mut [Items<Source>],
     ports: &[Port],
     outer: &mut [Items<Source>],
@@ -145,8 +146,7 @@ fn ports(
     let mut nets = Items::new(alloc);
     for (at, port) in ports.iter().enumerate() {
         let leaves = taken(alloc, own, at);
-        let link = linked(links, at);
-        settle(alloc, prefix, link, port, leaves, &mut nets, outer)?;
+        settle(alloc, prefix, links.get(at), port, leaves, &mut nets, outer)?;
     }
     Ok(nets)
 }
@@ -176,7 +176,7 @@ fn signals(
 pub fn settled(
     alloc: Global,
     prefix: &str,
-    links: &[Link],
+    links: &Links,
     own: &mut [Items<Source>],
     at: &Block,
     outer: &mut [Items<Source>],

@@ -7,10 +7,12 @@ pub mod depth;
 mod homes;
 mod leaves;
 pub mod limits;
+pub mod links;
 mod names;
 mod processes;
 pub mod rising;
 mod walk;
 
-pub use blocks::{Block, Instance, Link, Object, Port, Ports, Template};
+pub use blocks::{Block, Instance, Object, Port, Ports, Template};
+pub use links::{Link, Links};
 pub use walk::expand;

@@ -6,9 +6,10 @@ ghost use Rattle.sim_hierarchy.specs.Blocks.{IsBlock, IsInstance, IsWithinLimits
 ghost use Rattle.sim_hierarchy.specs.Flat.{flat};
 ghost use Rattle.sim_hierarchy.specs.Laid as spec;
 
-use crate::blocks::{Block, Instance, Link};
+use crate::blocks::{Block, Instance};
 use crate::homes::housed;
 use crate::leaves::{none, settled};
+use crate::links::Links;
 use crate::names::below;
 use crate::processes::{Sketch, processes};
 use sim_design::process::Homes;
@@ -27,7 +28,7 @@ fn block(
     blocks: &[Block],
     levels: usize,
     prefix: &str,
-    links: &[Link],
+    links: &Links,
     outer: &[usize],
     at: &Block,
     around: &mut [Items<Source>],
@@ -63,7 +64,7 @@ fn inside(
     blocks: &[Block],
     levels: usize,
     prefix: &str,
-    links: &[Link],
+    links: &Links,
     homes: &Homes,
     at: &Block,
     around: &mut [Items<Source>],
@@ -152,7 +153,7 @@ fn instance(
         blocks,
         levels,
         prefix.as_str(),
-        each.links.as_slice(),
+        &each.links,
         homes,
         &blocks[each.block],
         own,
@@ -167,6 +168,7 @@ pub fn expand(alloc: Global, blocks: &[Block], top: usize) -> Result<Design, All
     requires bounds { IsWithinLimits (flat blocks.now top) }
     ensures { IfOk result (λ d. d ≡ flat blocks.now top) }
 {
+    let nothing = Links::open(alloc, 0, 0)?;
     let mut flat = Sketch {
         nets: 0,
         processes: Items::new(alloc),
@@ -177,7 +179,7 @@ pub fn expand(alloc: Global, blocks: &[Block], top: usize) -> Result<Design, All
         blocks,
         LEVELS,
         "",
-        &[],
+        &nothing,
         &[],
         &blocks[top],
         &mut [],

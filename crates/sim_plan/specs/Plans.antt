@@ -1,5 +1,5 @@
 -- The blocks of a design file: each architecture with its entity, its names as places (IEEE 1076-2008, 3, 6.5.7, 11.7).
-use Rattle.std.specs.Prelude.{ℕ, Bool, true, false, List, [], ◌∷◌, ◌++◌, map, length, Option, Some, None}
+use Rattle.std.specs.Prelude.{ℕ, Bool, true, false, List, [], ◌∷◌, ◌++◌, map, length, slice_set, Option, Some, None}
 use Rattle.std.specs.List.{range_with_len}
 use Rattle.sim_logic.specs.declared.logic.Logic.{Logic}
 use Rattle.sim_logic.specs.declared.logic.Logic.TheVariants.{U}
@@ -29,8 +29,8 @@ use Rattle.sim_instance.specs.Libraries.{Library, declared_ports, entity_of, int
 use Rattle.sim_instance.specs.PortMaps.{associated}
 use Rattle.sim_template.specs.Below.{object_count}
 use Rattle.sim_template.specs.Templates.{assignment_template, process_template}
-use Rattle.sim_hierarchy.specs.declared.blocks.Link.{Link}
-use Rattle.sim_hierarchy.specs.declared.blocks.Link.TheVariants as link
+use Rattle.sim_hierarchy.specs.declared.links.Link.{Link}
+use Rattle.sim_hierarchy.specs.declared.links.Link.TheVariants as link
 use Rattle.sim_hierarchy.specs.declared.blocks.Object.{Object}
 use Rattle.sim_hierarchy.specs.declared.blocks.Port as block_port
 use Rattle.sim_hierarchy.specs.declared.blocks.Template.{Template}
@@ -116,6 +116,11 @@ link_of look (Some (actual.Named n)) = link_to (look n.text)
 link_of look (Some (actual.Literal value at)) = link.Constant value
 link_of look (Some (actual.Open at)) = link.Open
 link_of look None = link.Open
+
+-- links with one more, at the place of a port if there is one
+abbrev pub put_at : Option ℕ → Link → List Link → List Link
+put_at None l links = links
+put_at (Some place) l links = slice_set links place l
 
 -- what each of these ports is associated with, by place
 unfoldable pub links_of : Look → List Port → List Association → List Link

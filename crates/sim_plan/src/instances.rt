@@ -1,15 +1,14 @@
 //! The instances of an architecture (IEEE 1076-2008, 6.5.7, 11.7).
 
-ghost use Rattle.std.specs.Prelude.{◌≡◌, ◌++◌, IfOk, OnOk, map};
-ghost use Rattle.std.specs.List.{range_with_len};
-ghost use Rattle.std.specs.Option.{option_copied};
-ghost use Rattle.sim_instance.specs.PortMaps.{associated};
+ghost use Rattle.std.specs.Prelude.{◌≡◌, ◌++◌, Some, IfOk, OnOk};
+ghost use Rattle.sim_instance.specs.PortMaps.{port_of};
 ghost use Rattle.sim_plan.specs.Plans as spec;
 
 use crate::names::meaning;
-use sim_hierarchy::{Instance as BlockInstance, Link};
+use sim_hierarchy::{Instance as BlockInstance, Link, Links};
 use sim_instance::instance::{architecture_place, entity_name};
-use sim_instance::{Interface, Library, PortMap};
+use sim_instance::port_map::port_of;
+use sim_instance::{Interface, Library};
 use sim_scope::{Meaning, Scope};
 use sim_tree::unit::{Actual, Association, Concurrent, Instance};
 use sqlite_items::Items;
@@ -29,46 +28,47 @@ fn link_to(meaning: Option<Meaning>) -> Link
 
 /// What a port with this actual is associated with.
 #[tactic(auto, unfolding(crate::specs::Plans::link_of))]
-fn link(region: &Scope<'_>, actual: Option<&Actual>) -> Link
-    ensures { result ≡ spec.link_of (spec.seen region.now) (option_copied actual.entry) }
+fn link(region: &Scope<'_>, actual: &Actual) -> Link
+    ensures { result ≡ spec.link_of (spec.seen region.now) (Some actual.now) }
 {
     match actual {
-        Some(Actual::Named(name)) => link_to(meaning(region, name.text())),
-        Some(Actual::Literal { value, .. }) => Link::Constant(*value),
-        Some(Actual::Open { .. }) | None => Link::Open,
+        Actual::Named(name) => link_to(meaning(region, name.text())),
+        Actual::Literal { value, .. } => Link::Constant(*value),
+        Actual::Open { .. } => Link::Open,
     }
 }
 
-/// What each of this many ports is associated with, by place.
-fn each_link(
-    alloc: Global,
+/// Associates the port of an association with its actual.
+fn put_link(
     region: &Scope<'_>,
-    port_map: &PortMap<'_, '_>,
-    count: usize,
-) -> Result<Items<Link>, AllocError>
-    ensures { IfOk result (λ r. r
-        ≡ map (λ place. spec.link_of (spec.seen region.now) (associated port_map.now.ports port_map.now.associations place)) (range_with_len 0 count)) }
+    ports: &Interface<'_>,
+    at: usize,
+    association: &Association,
+    links: &mut Links,
+) -> Result<(), AllocError>
+    ensures { OnOk result (links.new
+        ≡ spec.put_at (port_of ports.now at association.now.formal) (spec.link_of (spec.seen region.now) (Some association.now.actual)) links.old) }
 {
-    let mut found = Vec::with_capacity(alloc, count)?;
-    for place in 0..count {
-        found.push(link(region, port_map.associated(place)))?;
+    match port_of(ports, at, &association.formal) {
+        None => Ok(()),
+        Some(place) => links.put(place, link(region, &association.actual)),
     }
-    Ok(Items::from_vec(found))
 }
 
-/// What each of these ports is associated with, by place.
-#[tactic(auto, unfolding(crate::specs::Plans::links_of))]
+/// What each of these ports is associated with, by place: the first association of a port counts, and so it is put last.
 fn links(
     alloc: Global,
     region: &Scope<'_>,
     ports: &Interface<'_>,
     associations: &[Association],
-) -> Result<Items<Link>, AllocError>
+) -> Result<Links, AllocError>
     ensures { IfOk result (λ r. r ≡ spec.links_of (spec.seen region.now) ports.now associations.now) }
 {
-    let map = PortMap::new(alloc, ports, associations)?;
-    let found = each_link(alloc, region, &map, ports.ports().len())?;
-    Ok(found)
+    let mut links = Links::open(alloc, ports.ports().len(), associations.len())?;
+    for at in (0..associations.len()).rev() {
+        put_link(region, ports, at, &associations[at], &mut links)?;
+    }
+    Ok(links)
 }
 
 /// What the ports of an instance of the architecture at a place are associated with.
@@ -79,14 +79,14 @@ fn links_at(
     region: &Scope<'_>,
     place: Option<usize>,
     instance: &Instance,
-) -> Result<Items<Link>, AllocError>
+) -> Result<Links, AllocError>
     ensures { IfOk result (λ r. r ≡ spec.links_at library.now (spec.seen region.now) place instance.now) }
 {
     if place.is_none() {
-        return Ok(Items::new(alloc));
+        return Links::open(alloc, 0, 0);
     }
     match library.interface(entity_name(&instance.unit).text()) {
-        None => Ok(Items::new(alloc)),
+        None => Links::open(alloc, 0, 0),
         Some(ports) => {
             let links = links(alloc, region, ports, instance.associations.as_slice())?;
             Ok(links)

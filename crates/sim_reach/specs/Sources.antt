@@ -1,8 +1,8 @@
 -- Signals and ports with more sources than one that are not resolved (IEEE 1076-2008, 6.4.2.3).
 use Rattle.std.specs.Prelude.{ℕ, ◌≡◌, ◌+◌, ◌==◌, ◌<◌, nat_lt, min, List, [], ◌∷◌, ◌++◌, Bool, true, false, if◌then◌else◌, Option, Some, slice_get}
 use Rattle.std.specs.Prelude.{slice_set, get_or}
-use Rattle.sim_hierarchy.specs.declared.blocks.Link.{Link}
-use Rattle.sim_hierarchy.specs.declared.blocks.Link.TheVariants.{To, Constant, Open}
+use Rattle.sim_hierarchy.specs.declared.links.Link.{Link}
+use Rattle.sim_hierarchy.specs.declared.links.Link.TheVariants.{To, Constant, Open}
 use Rattle.sim_hierarchy.specs.declared.blocks.Object.{Object}
 use Rattle.sim_hierarchy.specs.declared.blocks.Port.{Port}
 use Rattle.sim_hierarchy.specs.declared.blocks.Instance.{Instance}

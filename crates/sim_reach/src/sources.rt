@@ -2,7 +2,7 @@
 
 ghost use Rattle.std.specs.Prelude.{◌≡◌, ◌+◌, ◌≤◌, ◌<◌, ℕ, IfOk, get_or, length, map, min};
 ghost use Rattle.std.specs.List.{All};
-ghost use Rattle.sim_hierarchy.specs.Blocks.{IsBlock, block_of, link_at, size};
+ghost use Rattle.sim_hierarchy.specs.Blocks.{IsBlock, block_of, size};
 ghost use Rattle.sim_hierarchy.specs.Hierarchy.{targets_of};
 ghost use Rattle.sim_reach.specs.Least.{IsLeast, least_of};
 ghost use Rattle.sim_reach.specs.Sources as spec;
@@ -10,7 +10,8 @@ ghost use Rattle.sim_reach.specs.Sources as spec;
 use crate::graph::graph_of;
 use crate::least::lesser;
 use crate::search::{is_marked, reached};
-use sim_hierarchy::blocks::{Block, Instance, Link, Object, Port, Template};
+use sim_hierarchy::blocks::{Block, Instance, Object, Port, Template};
+use sim_hierarchy::{Link, Links};
 use std::alloc::{AllocError, Global};
 
 /// A count for each port and signal of a block.
@@ -58,16 +59,6 @@ fn note_drivers(counts: &mut Vec<usize>, processes: &[Template])
     }
 }
 
-/// What the port at a place is associated with.
-fn link_at(links: &[Link], at: usize) -> Link
-    ensures { result ≡ link_at links.now at }
-{
-    match links.get(at) {
-        None => Link::Open,
-        Some(link) => *link,
-    }
-}
-
 /// Notes a port, if it is a source of what it is associated with.
 #[tactic(auto, unfolding(crate::specs::Sources::all_noted))]
 fn note_port(counts: &mut Vec<usize>, port: &Port, link: Link)
@@ -85,11 +76,11 @@ fn note_port(counts: &mut Vec<usize>, port: &Port, link: Link)
 
 /// Notes the ports of an instance.
 #[tactic(auto, using(crate::proofs::Noted::noted_both), unfolding(crate::specs::Sources::all_noted, crate::specs::Sources::driven_by_ports))]
-fn note_ports(counts: &mut Vec<usize>, links: &[Link], ports: &[Port])
+fn note_ports(counts: &mut Vec<usize>, links: &Links, ports: &[Port])
     ensures { counts.new.items ≡ spec.all_noted counts.old.items (spec.driven_by_ports links.now 0 ports.now) }
 {
     for (at, port) in ports.iter().enumerate() {
-        note_port(counts, port, link_at(links, at));
+        note_port(counts, port, links.get(at));
     }
 }
 
@@ -99,7 +90,7 @@ fn note_instance(counts: &mut Vec<usize>, blocks: &[Block], instance: &Instance)
     ensures { counts.new.items ≡ spec.all_noted counts.old.items (spec.driven_by_ports instance.now.links 0 (block_of blocks.now instance.now).ports) }
 {
     if let Some(block) = blocks.get(instance.block) {
-        note_ports(counts, instance.links.as_slice(), block.ports.as_slice());
+        note_ports(counts, &instance.links, block.ports.as_slice());
     }
 }
 
