@@ -7,7 +7,7 @@ use Rattle.sim_scope.specs.declared.fault.Fault.{Fault}
 use Rattle.sim_scope.specs.Faults.{fault, where_}
 use Rattle.sim_region.specs.Regions.{architecture_region}
 use Rattle.sim_region.specs.DeclarationFaults as declarations
-use Rattle.sim_instance.specs.Interfaces.{components}
+use Rattle.sim_instance.specs.Components.{components}
 use Rattle.sim_instance.specs.Libraries.{Library, entity_of, first_entity, ports_in}
 use Rattle.sim_analysis.specs.BodyNames.{BodyNames, is_known, with_name}
 use Rattle.sim_analysis.specs.Statements.{statements_faults}
@@ -37,7 +37,7 @@ unfoldable pub body_faults : Library → List PortDeclaration → Architecture �
 body_faults l ps a =
     let region = architecture_region ps a.declarations a.statements in
     declarations.architecture_faults region ps a.declarations a.statements
-    ++ statements_faults l region (components a.declarations) a.statements
+    ++ statements_faults l region (components l a.declarations) a.statements
 
 -- the same where the entity is there: of an architecture of no entity nothing is asked
 abbrev pub body_of : Library → Option (List PortDeclaration) → Architecture → List Fault

@@ -5,10 +5,10 @@ use Rattle.sim_tree.specs.declared.unit.Concurrent.{Concurrent}
 use Rattle.sim_tree.specs.declared.unit.Concurrent.TheVariants as concurrent
 use Rattle.sim_scope.specs.declared.fault.Fault.{Fault}
 use Rattle.sim_scope.specs.Scopes.{Region, Look, means}
-use Rattle.sim_region.specs.Ports.{Port}
 use Rattle.sim_region.specs.Regions.{process_region}
 use Rattle.sim_region.specs.DeclarationFaults.{process_faults}
 use Rattle.sim_typing.specs.Statements.{concurrent_assignment_faults, sensitivity_faults, sequence_faults}
+use Rattle.sim_instance.specs.declared.component.Component.{Component}
 use Rattle.sim_instance.specs.Libraries.{Library}
 use Rattle.sim_instance.specs.Instances.{instance_faults}
 
@@ -23,12 +23,12 @@ process_statement_faults region p =
     process_faults own region p ++ execution_faults (means own region) p
 
 -- the faults of a statement in the region of an architecture with these components
-unfoldable pub statement_faults : Library → Region → List (List Port) → Concurrent → List Fault
+unfoldable pub statement_faults : Library → Region → List Component → Concurrent → List Fault
 statement_faults l region components (concurrent.Assignment a) = concurrent_assignment_faults (means region []) a
 statement_faults l region components (concurrent.Process p) = process_statement_faults region p
 statement_faults l region components (concurrent.Instance i) = instance_faults l (means region []) components i
 
 -- those of each statement
-unfoldable pub statements_faults : Library → Region → List (List Port) → List Concurrent → List Fault
+unfoldable pub statements_faults : Library → Region → List Component → List Concurrent → List Fault
 statements_faults l region components [] = []
 statements_faults l region components (c ∷ cs) = statement_faults l region components c ++ statements_faults l region components cs

@@ -9,7 +9,7 @@ ghost use Rattle.sim_analysis.specs.Architectures as spec;
 use crate::body_names::BodyNames;
 use crate::statements::check_statements;
 use sim_instance::Library;
-use sim_instance::interface::components;
+use sim_instance::component::components;
 use sim_region::check::{check_architecture, check_predefined};
 use sim_region::{EntityPorts, region};
 use sim_scope::fault::note;
@@ -86,7 +86,7 @@ fn check_body<'a>(
     let declarations = architecture.declarations.as_slice();
     let statements = architecture.statements.as_slice();
     let region = region::architecture(alloc, ports, declarations, statements)?;
-    let components = components(alloc, declarations)?;
+    let components = components(alloc, library, declarations)?;
     check_architecture(alloc, &region, ports, declarations, statements, first)?;
     check_statements(
         alloc,

@@ -5,7 +5,7 @@ ghost use Rattle.sim_scope.specs.Faults.{first_of};
 ghost use Rattle.sim_scope.specs.Scopes.{means};
 ghost use Rattle.sim_analysis.specs.Statements as spec;
 
-use sim_instance::{Interface, Library, check_instance};
+use sim_instance::{Component, Library, check_instance};
 use sim_region::check::check_process;
 use sim_region::region;
 use sim_scope::{Fault, Scope};
@@ -49,7 +49,7 @@ fn check_statement(
     alloc: Global,
     library: &Library<'_>,
     region: &Scope<'_>,
-    components: &[Interface<'_>],
+    components: &[Component],
     statement: &Concurrent,
     first: &mut Option<Fault>,
 ) -> Result<(), AllocError>
@@ -80,7 +80,7 @@ pub fn check_statements(
     alloc: Global,
     library: &Library<'_>,
     region: &Scope<'_>,
-    components: &[Interface<'_>],
+    components: &[Component],
     statements: &[Concurrent],
     first: &mut Option<Fault>,
 ) -> Result<(), AllocError>

@@ -21,7 +21,7 @@ use Rattle.sim_scope.specs.declared.fault.Fault.{Fault}
 use Rattle.sim_scope.specs.declared.fault.Kind.TheVariants as k
 use Rattle.sim_scope.specs.Faults.{where_}
 use Rattle.sim_scope.specs.Scopes.{Look}
-use Rattle.sim_instance.specs.Interfaces.{are_alike}
+use Rattle.sim_instance.specs.declared.component.Component.{Component}
 use Rattle.sim_instance.specs.Places.{where_at}
 use Rattle.sim_instance.specs.Libraries.{Library, interface_of}
 use Rattle.sim_instance.specs.PortMaps as PortMaps
@@ -202,16 +202,16 @@ alike : (b : Bool) (l : Library) (c : Name) → cond b (Instances.architecture_f
 alike true l c h = there (place_of l c None) c h
 alike false l c h = cc
 
-bound : (l : Library) (c : Name) (ports : List Port) (o : Option (List Port)) → bound_fault l c ports o ≡ None
+bound : (l : Library) (c : Name) (component : Component) (o : Option (List Port)) → bound_fault l c component o ≡ None
     → (is_some o ≡ true) × (is_some (place_of l c None) ≡ true)
-bound l c ports None h = cc
-bound l c ports (Some entity) h = (refl, alike (are_alike ports entity) l c h)
+bound l c component None h = cc
+bound l c component (Some ports) h = (refl, alike component.is_like_entity l c h)
 
-declared : (l : Library) (c : Name) (o : Option (List Port)) → declared_fault l c o ≡ None → IsThere l c None
+declared : (l : Library) (c : Name) (o : Option Component) → declared_fault l c o ≡ None → IsThere l c None
 declared l c None h = cc
-declared l c (Some ports) h = bound l c ports (interface_of l c.text) h
+declared l c (Some component) h = bound l c component (interface_of l c.text) h
 
-component : (l : Library) (components : List (List Port)) (c : Name) (o : Option Meaning) → component_fault l components c o ≡ None → IsThere l c None
+component : (l : Library) (components : List Component) (c : Name) (o : Option Meaning) → component_fault l components c o ≡ None → IsThere l c None
 unfolding component_fault
 component l components c None h = cc
 component l components c (Some (m.Component place)) h = declared l c (slice_get components place) h
@@ -224,7 +224,7 @@ component l components c (Some m.BooleanMark) h = cc
 component l components c (Some (m.Truth v)) h = cc
 component l components c (Some (m.Edge rising)) h = cc
 
-unit_there : (l : Library) (look : Look) (components : List (List Port)) (u : Instantiated) → unit_fault l look components u ≡ None
+unit_there : (l : Library) (look : Look) (components : List Component) (u : Instantiated) → unit_fault l look components u ≡ None
     → (is_some (interface_of l (entity_name u).text) ≡ true) × (is_some (architecture_place l u) ≡ true)
 unfolding unit_fault
 unit_there l look components (of.Component word c) h = component l components c (look c.text) h
@@ -245,7 +245,7 @@ with_ports l look i (Some ports) is some architecture none =
       sound = sound look (record { ports = ports; associations = i.associations }) i.label.at none;
     }
 
-pub is_bound : (l : Library) (look : Look) (components : List (List Port)) (i : Instance) → instance_faults l look components i ≡ [] → IsBound l look i
+pub is_bound : (l : Library) (look : Look) (components : List Component) (i : Instance) → instance_faults l look components i ≡ [] → IsBound l look i
 unfolding instance_faults
 is_bound l look components i h =
     let parts : (unit_fault l look components i.unit ≡ None) × (map_faults_of look (interface_of l (entity_name i.unit).text) i ≡ []) =

@@ -12,7 +12,7 @@ use Rattle.sim_scope.specs.declared.fault.Kind.{Kind}
 use Rattle.sim_scope.specs.declared.fault.Kind.TheVariants as k
 use Rattle.sim_scope.specs.declared.fault.Fault.{Fault}
 use Rattle.sim_scope.specs.Scopes.{Look}
-use Rattle.sim_instance.specs.Interfaces.{are_alike}
+use Rattle.sim_instance.specs.declared.component.Component.{Component}
 use Rattle.sim_instance.specs.Libraries.{Library, interface_of, last_architecture, last_named}
 use Rattle.sim_instance.specs.PortMaps.{port_map_faults}
 
@@ -63,22 +63,22 @@ abbrev pub entity_fault : Library → Name → Name → Option Name → Option F
 entity_fault l library e a =
     if bytes_eq library.text (codes "work") then known_fault l (interface_of l e.text) e a else fault_at k.Unknown library
 
--- the fault of an instance of a component with these ports, where its entity has those, if it is there at all
-abbrev pub bound_fault : Library → Name → List Port → Option (List Port) → Option Fault
-bound_fault l c ports None = fault_at k.Unknown c
-bound_fault l c ports (Some entity) = if are_alike ports entity then architecture_fault l c None else fault_at k.ComponentDiffers c
+-- the fault of an instance of a component that is named, whose entity has these ports, if it is there at all
+abbrev pub bound_fault : Library → Name → Component → Option (List Port) → Option Fault
+bound_fault l c component None = fault_at k.Unknown c
+bound_fault l c component (Some ports) = if component.is_like_entity then architecture_fault l c None else fault_at k.ComponentDiffers c
 
--- the fault of an instance of a component with these ports
-abbrev pub binding_fault : Library → Name → List Port → Option Fault
-binding_fault l c ports = bound_fault l c ports (interface_of l c.text)
+-- the fault of an instance of a component that is named
+abbrev pub binding_fault : Library → Name → Component → Option Fault
+binding_fault l c component = bound_fault l c component (interface_of l c.text)
 
 -- the same of a component of the architecture, if it is there
-abbrev pub declared_fault : Library → Name → Option (List Port) → Option Fault
+abbrev pub declared_fault : Library → Name → Option Component → Option Fault
 declared_fault l c None = fault_at k.WrongKind c
-declared_fault l c (Some ports) = binding_fault l c ports
+declared_fault l c (Some component) = binding_fault l c component
 
 -- the fault of an instance of what a name means, which has to be a component
-unfoldable pub component_fault : Library → List (List Port) → Name → Option Meaning → Option Fault
+unfoldable pub component_fault : Library → List Component → Name → Option Meaning → Option Fault
 component_fault l components c None = fault_at k.Unknown c
 component_fault l components c (Some (m.Component place)) = declared_fault l c (slice_get components place)
 component_fault l components c (Some (m.Port object mode type)) = fault_at k.WrongKind c
@@ -91,7 +91,7 @@ component_fault l components c (Some (m.Truth v)) = fault_at k.WrongKind c
 component_fault l components c (Some (m.Edge rising)) = fault_at k.WrongKind c
 
 -- the fault of the names that say what an instance is of, in an architecture with these components
-unfoldable pub unit_fault : Library → Look → List (List Port) → Instantiated → Option Fault
+unfoldable pub unit_fault : Library → Look → List Component → Instantiated → Option Fault
 unit_fault l look components (of.Component word c) = component_fault l components c (look c.text)
 unit_fault l look components (of.Entity library e a) = entity_fault l library e a
 
@@ -112,5 +112,5 @@ alone None faults = faults
 alone (Some fault) faults = fault ∷ []
 
 -- the faults of an instance: of one that is of nothing known the port map is not looked at
-unfoldable pub instance_faults : Library → Look → List (List Port) → Instance → List Fault
+unfoldable pub instance_faults : Library → Look → List Component → Instance → List Fault
 instance_faults l look components i = alone (unit_fault l look components i.unit) (map_faults l look i)

@@ -1,11 +1,9 @@
 -- The ports of an entity or a component: their places, and whether those of two are alike (IEEE 1076-2008, 6.5.6.3, 6.8).
-use Rattle.std.specs.Prelude.{ℕ, ◌&&◌, List, [], ◌∷◌, ◌++◌, Bool, true, false, Option}
+use Rattle.std.specs.Prelude.{ℕ, ◌&&◌, List, [], ◌∷◌, Bool, true, false, Option}
 use Rattle.std.specs.Str.{bytes_eq}
 use Rattle.sim_tree.specs.declared.declaration.Mode.{Mode}
 use Rattle.sim_tree.specs.declared.declaration.Mode.TheVariants.{In, Out, Inout}
-use Rattle.sim_tree.specs.declared.declaration.Declaration.{Declaration}
-use Rattle.sim_tree.specs.declared.declaration.Declaration.TheVariants as declaration
-use Rattle.sim_region.specs.Ports.{Port, ports_of}
+use Rattle.sim_region.specs.Ports.{Port}
 use Rattle.sim_instance.specs.Places.{first_place}
 
 -- whether a port has this name
@@ -33,13 +31,3 @@ are_alike [] [] = true
 are_alike [] (q ∷ qs) = false
 are_alike (p ∷ ps) [] = false
 are_alike (p ∷ ps) (q ∷ qs) = is_like p q && are_alike ps qs
-
--- the ports of a component
-unfoldable pub ports_in : Declaration → List (List Port)
-ports_in (declaration.Signal o) = []
-ports_in (declaration.Component c) = ports_of c.ports ∷ []
-
--- the ports of each component of an architecture, by its place
-unfoldable pub components : List Declaration → List (List Port)
-components [] = []
-components (d ∷ ds) = ports_in d ++ components ds

@@ -1,3 +1,4 @@
+pub mod Components
 pub mod Instances
 pub mod Interfaces
 pub mod Laws

@@ -5,7 +5,7 @@ ghost use Rattle.sim_scope.specs.Faults.{first_of};
 ghost use Rattle.sim_scope.specs.Scopes.{means};
 ghost use Rattle.sim_instance.specs.Instances as spec;
 
-use crate::interface::Interface;
+use crate::component::Component;
 use crate::library::Library;
 use crate::port_map::PortMap;
 use sim_scope::fault::note;
@@ -94,26 +94,23 @@ fn entity_fault(
     architecture_fault(library, entity, architecture)
 }
 
-/// The fault of an instance of a component with these ports.
-fn binding_fault(library: &Library<'_>, component: &Name, ports: &Interface<'_>) -> Option<Fault>
-    ensures { result ≡ spec.binding_fault library.now component.now ports.now }
+/// The fault of an instance of a component that is named.
+fn binding_fault(library: &Library<'_>, name: &Name, component: Component) -> Option<Fault>
+    ensures { result ≡ spec.binding_fault library.now name.now component }
 {
-    match library.interface(component.text()) {
-        None => fault_at(Kind::Unknown, component),
-        Some(entity) => {
-            if ports.is_like(entity) {
-                architecture_fault(library, component, &None)
-            } else {
-                fault_at(Kind::ComponentDiffers, component)
-            }
-        }
+    if library.interface(name.text()).is_none() {
+        return fault_at(Kind::Unknown, name);
     }
+    if component.is_like_entity {
+        return architecture_fault(library, name, &None);
+    }
+    fault_at(Kind::ComponentDiffers, name)
 }
 
 /// The fault of an instance of the component at a place.
 fn declared_fault(
     library: &Library<'_>,
-    components: &[Interface<'_>],
+    components: &[Component],
     name: &Name,
     place: usize,
 ) -> Option<Fault>
@@ -121,7 +118,7 @@ fn declared_fault(
 {
     match components.get(place) {
         None => fault_at(Kind::WrongKind, name),
-        Some(ports) => binding_fault(library, name, ports),
+        Some(component) => binding_fault(library, name, *component),
     }
 }
 
@@ -129,7 +126,7 @@ fn declared_fault(
 #[tactic(auto, unfolding(crate::specs::Instances::component_fault))]
 fn component_fault(
     library: &Library<'_>,
-    components: &[Interface<'_>],
+    components: &[Component],
     name: &Name,
     meaning: Option<Meaning>,
 ) -> Option<Fault>
@@ -148,7 +145,7 @@ fn unit_fault(
     library: &Library<'_>,
     inner: &Scope<'_>,
     outer: &Scope<'_>,
-    components: &[Interface<'_>],
+    components: &[Component],
     unit: &Instantiated,
 ) -> Option<Fault>
     ensures { result ≡ spec.unit_fault library.now (means inner.now outer.now) components.now unit.now }
@@ -195,7 +192,7 @@ pub fn check_instance(
     library: &Library<'_>,
     inner: &Scope<'_>,
     outer: &Scope<'_>,
-    components: &[Interface<'_>],
+    components: &[Component],
     instance: &Instance,
     first: &mut Option<Fault>,
 ) -> Result<(), AllocError>

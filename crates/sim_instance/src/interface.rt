@@ -10,7 +10,7 @@ ghost use Rattle.std.specs.Prelude.{ℕ, List};
 use crate::places::Places;
 use sim_region::Port;
 use sim_region::port::ports_of;
-use sim_tree::declaration::{Declaration, Mode, PortDeclaration};
+use sim_tree::declaration::{Mode, PortDeclaration};
 use std::alloc::{AllocError, Global};
 use std::marker::Model;
 
@@ -164,37 +164,4 @@ fn same_ports(first: &[Port<'_>], second: &[Port<'_>]) -> bool
         }
     }
     true
-}
-
-/// Puts the ports of a component at the end.
-#[tactic(auto, unfolding(crate::specs::Interfaces::ports_in))]
-fn push_component<'a>(
-    alloc: Global,
-    components: &mut Vec<Interface<'a>>,
-    declaration: &'a Declaration,
-) -> Result<(), AllocError>
-    ensures { OnOk result (components.new.items ≡ components.old.items ++ spec.ports_in declaration.now) }
-{
-    match declaration {
-        Declaration::Signal(_) => Ok(()),
-        Declaration::Component(component) => {
-            components.push(Interface::of(alloc, component.ports.as_slice())?)?;
-            Ok(())
-        }
-    }
-}
-
-/// The ports of each component of an architecture, by its place.
-#[tactic(auto, unfolding(crate::specs::Interfaces::components))]
-pub fn components<'a>(
-    alloc: Global,
-    declarations: &'a [Declaration],
-) -> Result<Vec<Interface<'a>>, AllocError>
-    ensures { IfOk result (λ components. components.items ≡ spec.components declarations.now) }
-{
-    let mut components = Vec::new(alloc);
-    for declaration in declarations {
-        push_component(alloc, &mut components, declaration)?;
-    }
-    Ok(components)
 }

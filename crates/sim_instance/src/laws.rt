@@ -2,7 +2,7 @@
 
 ghost use Rattle.std.specs.Prelude.{◌≡◌, List, []};
 ghost use Rattle.sim_tree.specs.declared.unit.Instance.{Instance};
-ghost use Rattle.sim_region.specs.Ports.{Port};
+ghost use Rattle.sim_instance.specs.declared.component.Component.{Component};
 ghost use Rattle.sim_scope.specs.Scopes.{Look};
 ghost use Rattle.sim_instance.specs.Libraries.{Library};
 ghost use Rattle.sim_instance.specs.Instances.{instance_faults};
@@ -11,6 +11,6 @@ ghost use Rattle.sim_instance.specs.Laws.{IsBound};
 /// An instance without faults is of an architecture that is there; each port of mode in without a first value has an actual, and
 /// each actual fits its port.
 pub fn an_instance_without_faults_is_bound()
-    ensures { (l : Library) (look : Look) (components : List (List Port)) (i : Instance) →
+    ensures { (l : Library) (look : Look) (components : List Component) (i : Instance) →
         instance_faults l look components i ≡ [] → IsBound l look i }
 {}

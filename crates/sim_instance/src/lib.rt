@@ -1,6 +1,7 @@
 //! The faults of instances: what an instance is of, and its port map.
 #![tactic(auto)]
 
+pub mod component;
 pub mod instance;
 pub mod interface;
 pub mod laws;
@@ -8,6 +9,7 @@ pub mod library;
 mod places;
 pub mod port_map;
 
+pub use component::Component;
 pub use instance::check_instance;
 pub use interface::Interface;
 pub use library::Library;
