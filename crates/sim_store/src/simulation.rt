@@ -1,10 +1,11 @@
 //! A simulation of a design, as far as it has come (IEEE 1076-2008, 14.7.5).
 
-ghost use Rattle.std.specs.Prelude.{ℕ, suc, ◌≡◌, ◌<◌, ◌≤◌, ◌^◌, ◌+◌, Some, None, Option, true, false, length, replicate, drop};
+ghost use Rattle.std.specs.Prelude.{ℕ, suc, ◌≡◌, ◌<◌, ◌≤◌, ◌^◌, ◌+◌, Some, None, Option, true, false, [], ◌∷◌, length, replicate, drop};
 ghost use Rattle.std.specs.Prelude.{slice_set, MatchOption, MatchResult, IfSome, IfOk, IfErr, OnOk, OnErr, ◌↔◌, IsTrue};
 ghost use Rattle.std.specs.List.{All};
 ghost use Rattle.sim_design.specs.Processes.{IsProcess};
 ghost use Rattle.sim_state.specs.Cycles as cycles;
+ghost use Rattle.sim_state.specs.Records.{values_of};
 ghost use Rattle.sim_exec.specs.State.{driver_values, net_at, owned_at};
 ghost use Rattle.sim_logic.specs.Time.{largest_time};
 ghost use Rattle.sim_store.specs.Agreement.{total_of, value_by};
@@ -81,26 +82,53 @@ struct Made {
     totals: Vec<u64>,
 }
 
+/// The record of a first state, whose design has this number of nets.
+fn first_log(alloc: Global, state: &FlatState, nets: usize) -> Result<Log, AllocError>
+    requires few { nets < 2 ^ 32 }
+    requires nets { length state.now.nets ≡ nets }
+    ensures { IfOk result (λ l. l.records ≡ record { time = 0; delta = 0; changes = values_of state.now.nets } ∷ []) }
+{
+    let mut log = Log::new(alloc);
+    log.reserve(nets)?;
+    state.record_all(&mut log, 0, 0);
+    Ok(log)
+}
+
+/// That each of these processes is to be executed, none has been, and none of these nets had an event.
+fn marks(
+    alloc: Global,
+    processes: usize,
+    nets: usize,
+) -> Result<(Due, NumberSet, Vec<u64>), AllocError>
+    ensures due { IfOk result (λ m. m.0 ≡ replicate processes true) }
+    ensures deposited { IfOk result (λ m. m.1 ≡ replicate processes false) }
+    ensures totals { IfOk result (λ m. m.2.items ≡ replicate nets 0) }
+{
+    let due = Due::all(alloc, processes)?;
+    let deposited = NumberSet::new(alloc, processes)?;
+    let totals = none(alloc, nets)?;
+    Ok((due, deposited, totals))
+}
+
 /// What is made of a design: the flat lists of its nets, its first state with its record, that each process is to be executed, and that no net had an event.
 fn prepared(alloc: Global, design: &Design) -> Result<Made, AllocError>
     ensures start { IfOk result (λ m. (m.time ≡ 0) × (m.delta ≡ 0)) }
     ensures lists { IfOk result (λ m. spec.IsMade design.now m.wakes m.state m.log.records m.due m.deposited m.totals.items) }
 {
     let nets = design.nets().len();
-    let processes = design.processes().len();
+    let (due, deposited, totals) = marks(alloc, design.processes().len(), nets)?;
+    let wakes = wakes(alloc, design)?;
     let state = FlatState::first(alloc, design)?;
-    let mut log = Log::new(alloc);
-    log.reserve(nets)?;
-    state.record_all(&mut log, 0, 0);
+    let log = first_log(alloc, &state, nets)?;
     Ok(Made {
         time: 0,
         delta: 0,
-        wakes: wakes(alloc, design)?,
+        wakes,
         state,
         log,
-        due: Due::all(alloc, processes)?,
-        deposited: NumberSet::new(alloc, processes)?,
-        totals: none(alloc, nets)?,
+        due,
+        deposited,
+        totals,
     })
 }
 
