@@ -1,21 +1,23 @@
 //! Expressions (IEEE 1076-2008, 9.1).
 
 ghost use Rattle.std.specs.Prelude.{◌≡◌, ◌∷◌, [], true};
-ghost use Rattle.sim_expression.specs.Expressions as spec;
+ghost use Rattle.sim_reading.specs.Expressions as spec;
 ghost use Rattle.sim_tree.specs.Grammar.{is_repeatable, logical_kind};
-ghost use Rattle.sim_tree.specs.Input.{Reads, view};
+ghost use Rattle.sim_reading.specs.Readers.{Reads};
+ghost use Rattle.sim_expression.specs.Cursors.{view};
 
+use crate::cursor::Cursor;
+use sim_reading::ParseError;
 use sim_token::Kind;
 use sim_tree::expression::{Expression, Logical, Operand, Relational};
 use sim_tree::list::{fitted, one};
-use sim_tree::{Cursor, ParseError};
 use sqlite_items::{Boxed, Items};
 use std::alloc::Global;
 
 /// How many parentheses of one expression may be open.
 const MOST_PARENTHESES: usize = 64;
 
-#[tactic(auto, unfolding(crate::specs::Expressions::named))]
+#[tactic(auto, unfolding(sim_reading::specs::Expressions::named))]
 fn named(tokens: &mut Cursor) -> Result<Expression, ParseError>
     ensures { Reads (spec.named (view tokens.old)) result (view tokens.new) }
 {
@@ -40,7 +42,7 @@ fn named(tokens: &mut Cursor) -> Result<Expression, ParseError>
 }
 
 #[cycle(expression)]
-#[tactic(auto, unfolding(crate::specs::Expressions::primary))]
+#[tactic(auto, unfolding(sim_reading::specs::Expressions::primary))]
 fn primary(alloc: Global, tokens: &mut Cursor, depth: usize) -> Result<Expression, ParseError>
     ensures { Reads (spec.primary (spec.nested depth) (view tokens.old)) result (view tokens.new) }
 {
@@ -55,7 +57,7 @@ fn primary(alloc: Global, tokens: &mut Cursor, depth: usize) -> Result<Expressio
 }
 
 #[cycle(expression)]
-#[tactic(auto, unfolding(crate::specs::Expressions::factor))]
+#[tactic(auto, unfolding(sim_reading::specs::Expressions::factor))]
 fn factor(alloc: Global, tokens: &mut Cursor, depth: usize) -> Result<Expression, ParseError>
     ensures { Reads (spec.factor (spec.nested depth) (view tokens.old)) result (view tokens.new) }
 {
@@ -94,7 +96,7 @@ fn comparison(
 }
 
 #[cycle(expression)]
-#[tactic(auto, unfolding(crate::specs::Expressions::relation))]
+#[tactic(auto, unfolding(sim_reading::specs::Expressions::relation))]
 fn relation(alloc: Global, tokens: &mut Cursor, depth: usize) -> Result<Expression, ParseError>
     ensures { Reads (spec.relation (spec.nested depth) (view tokens.old)) result (view tokens.new) }
 {
@@ -107,7 +109,7 @@ fn relation(alloc: Global, tokens: &mut Cursor, depth: usize) -> Result<Expressi
 }
 
 #[cycle(expression)]
-#[tactic(auto, unfolding(crate::specs::Expressions::operand))]
+#[tactic(auto, unfolding(sim_reading::specs::Expressions::operand))]
 fn operand(alloc: Global, tokens: &mut Cursor, depth: usize) -> Result<Operand, ParseError>
     ensures { Reads (spec.operand (spec.nested depth) (view tokens.old)) result (view tokens.new) }
 {
@@ -156,7 +158,7 @@ fn is_repeatable(operator: Logical) -> bool
 
 /// Reads further operands of the operator.
 #[cycle(expression)]
-#[tactic(auto, unfolding(sim_tree::specs::Input::sees, sim_tree::specs::Input::left))]
+#[tactic(auto, unfolding(sim_reading::specs::Readers::sees, sim_reading::specs::Readers::left))]
 fn more_operands(
     alloc: Global,
     tokens: &mut Cursor,
@@ -177,7 +179,7 @@ fn more_operands(
 }
 
 #[cycle(expression)]
-#[tactic(auto, unfolding(crate::specs::Expressions::operands))]
+#[tactic(auto, unfolding(sim_reading::specs::Expressions::operands))]
 fn operands(
     alloc: Global,
     tokens: &mut Cursor,
@@ -215,7 +217,7 @@ fn chain(
 }
 
 #[cycle(expression)]
-#[tactic(auto, unfolding(crate::specs::Expressions::expression_in))]
+#[tactic(auto, unfolding(sim_reading::specs::Expressions::expression_in))]
 fn expression_in(alloc: Global, tokens: &mut Cursor, depth: usize) -> Result<Expression, ParseError>
     ensures { Reads (spec.expression_in (spec.nested depth) (view tokens.old)) result (view tokens.new) }
 {
@@ -227,7 +229,7 @@ fn expression_in(alloc: Global, tokens: &mut Cursor, depth: usize) -> Result<Exp
 }
 
 #[cycle(expression)]
-#[tactic(auto, unfolding(crate::specs::Expressions::nested, sim_tree::specs::Input::left))]
+#[tactic(auto, unfolding(sim_reading::specs::Expressions::nested, sim_reading::specs::Readers::left))]
 fn nested(alloc: Global, tokens: &mut Cursor, depth: usize) -> Result<Expression, ParseError>
     ensures { Reads (spec.nested depth (view tokens.old)) result (view tokens.new) }
 {
@@ -243,7 +245,7 @@ fn nested(alloc: Global, tokens: &mut Cursor, depth: usize) -> Result<Expression
 
 /// Reads an expression (IEEE 1076-2008, 9.1). `Syntax` comes at the first token with which none goes on, `TooDeep` at a
 /// parenthesis inside 64 others.
-#[tactic(auto, unfolding(crate::specs::Expressions::expression))]
+#[tactic(auto, unfolding(sim_reading::specs::Expressions::expression))]
 pub fn expression(alloc: Global, tokens: &mut Cursor) -> Result<Expression, ParseError>
     ensures { Reads (spec.expression (view tokens.old)) result (view tokens.new) }
 {

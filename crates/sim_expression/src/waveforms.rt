@@ -1,9 +1,12 @@
 //! Waveforms and delays (IEEE 1076-2008, 10.5).
 
-ghost use Rattle.sim_expression.specs.Waveforms as spec;
-ghost use Rattle.sim_tree.specs.Input.{Reads, view};
+ghost use Rattle.sim_reading.specs.Waveforms as spec;
+ghost use Rattle.sim_reading.specs.Readers.{Reads};
+ghost use Rattle.sim_expression.specs.Cursors.{view};
 
+use crate::cursor::Cursor;
 use crate::expressions::expression;
+use sim_reading::ParseError;
 use sim_token::Kind;
 use sim_tree::list::{Several, fitted};
 use sim_tree::name::Name;
@@ -12,10 +15,9 @@ use sim_tree::waveform::{
     ConcurrentSignalAssignment, ConditionalWaveform, ConditionalWaveforms, DelayMechanism, Element,
     Waveform,
 };
-use sim_tree::{Cursor, ParseError};
 use std::alloc::Global;
 
-#[tactic(auto, unfolding(crate::specs::Waveforms::time_from, sim_tree::specs::Times::is_time))]
+#[tactic(auto, unfolding(sim_reading::specs::Waveforms::time_from, sim_tree::specs::Times::is_time))]
 fn time_from(tokens: &mut Cursor, left: usize) -> Result<TimeLiteral, ParseError>
     ensures { Reads (spec.time_from left (view tokens.old)) result (view tokens.new) }
 {
@@ -29,7 +31,7 @@ fn time_from(tokens: &mut Cursor, left: usize) -> Result<TimeLiteral, ParseError
 
 /// Reads a time: a number and a unit (IEEE 1076-2008, 5.2.4). `TimeRange` comes at the number, where the time is larger
 /// than the largest.
-#[tactic(auto, unfolding(crate::specs::Waveforms::time))]
+#[tactic(auto, unfolding(sim_reading::specs::Waveforms::time))]
 pub fn time(tokens: &mut Cursor) -> Result<TimeLiteral, ParseError>
     ensures { Reads (spec.time (view tokens.old)) result (view tokens.new) }
 {
@@ -37,7 +39,7 @@ pub fn time(tokens: &mut Cursor) -> Result<TimeLiteral, ParseError>
     time_from(tokens, left)
 }
 
-#[tactic(auto, unfolding(crate::specs::Waveforms::element))]
+#[tactic(auto, unfolding(sim_reading::specs::Waveforms::element))]
 fn element(alloc: Global, tokens: &mut Cursor) -> Result<Element, ParseError>
     ensures { Reads (spec.element (view tokens.old)) result (view tokens.new) }
 {
@@ -54,7 +56,7 @@ fn element(alloc: Global, tokens: &mut Cursor) -> Result<Element, ParseError>
 }
 
 /// Reads a waveform (IEEE 1076-2008, 10.5.2.1).
-#[tactic(auto, unfolding(crate::specs::Waveforms::waveform, sim_tree::specs::Input::separated, sim_tree::specs::Input::sees))]
+#[tactic(auto, unfolding(sim_reading::specs::Waveforms::waveform, sim_reading::specs::Readers::separated, sim_reading::specs::Readers::sees))]
 pub fn waveform(alloc: Global, tokens: &mut Cursor) -> Result<Waveform, ParseError>
     ensures { Reads (spec.waveform (view tokens.old)) result (view tokens.new) }
 {
@@ -70,7 +72,7 @@ pub fn waveform(alloc: Global, tokens: &mut Cursor) -> Result<Waveform, ParseErr
 }
 
 /// Reads a delay mechanism, where one is written (IEEE 1076-2008, 10.5.2.1).
-#[tactic(auto, unfolding(crate::specs::Waveforms::delay))]
+#[tactic(auto, unfolding(sim_reading::specs::Waveforms::delay))]
 pub fn delay(tokens: &mut Cursor) -> Result<DelayMechanism, ParseError>
     ensures { Reads (spec.delay (view tokens.old)) result (view tokens.new) }
 {
@@ -94,7 +96,7 @@ pub fn delay(tokens: &mut Cursor) -> Result<DelayMechanism, ParseError>
 }
 
 /// Reads the condition of a waveform.
-#[tactic(auto, unfolding(crate::specs::Waveforms::condition))]
+#[tactic(auto, unfolding(sim_reading::specs::Waveforms::condition))]
 fn condition(
     alloc: Global,
     tokens: &mut Cursor,
@@ -109,7 +111,7 @@ fn condition(
     })
 }
 
-#[tactic(auto, unfolding(crate::specs::Waveforms::waveforms, sim_tree::specs::Input::left))]
+#[tactic(auto, unfolding(sim_reading::specs::Waveforms::waveforms, sim_reading::specs::Readers::left))]
 fn waveforms(alloc: Global, tokens: &mut Cursor) -> Result<ConditionalWaveforms, ParseError>
     ensures { Reads (spec.waveforms (view tokens.old)) result (view tokens.new) }
 {
@@ -134,7 +136,7 @@ fn waveforms(alloc: Global, tokens: &mut Cursor) -> Result<ConditionalWaveforms,
 }
 
 /// Reads what stands after the target of a concurrent assignment, with its semicolon (IEEE 1076-2008, 11.6).
-#[tactic(auto, unfolding(crate::specs::Waveforms::assigned))]
+#[tactic(auto, unfolding(sim_reading::specs::Waveforms::assigned))]
 pub fn assigned(
     alloc: Global,
     tokens: &mut Cursor,

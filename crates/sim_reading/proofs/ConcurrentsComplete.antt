@@ -21,16 +21,17 @@ use Rattle.sim_tree.specs.declared.unit.Instantiated.TheVariants as made
 use Rattle.sim_tree.specs.declared.unit.Instance.{Instance}
 use Rattle.sim_tree.specs.declared.unit.Concurrent.{Concurrent}
 use Rattle.sim_tree.specs.declared.unit.Concurrent.TheVariants as c
-use Rattle.sim_tree.specs.Input.{Input, kind, left}
+use Rattle.sim_tree.specs.Input.{Input, kind}
+use Rattle.sim_reading.specs.Readers.{left}
 use Rattle.sim_tree.specs.Writing.{Mark, WordAt, mark, ◌▸◌, all_of, if_written, Fits}
 use Rattle.sim_tree.specs.Grammar as g
 use Rattle.sim_tree.specs.Grammar.{of_concurrent_assignment, of_sensitivity, of_variable, of_sequence, of_process, of_actual}
 use Rattle.sim_tree.specs.Grammar.{formally, is_named, of_association, of_port_map, of_chosen, of_instantiated, of_instance}
 use Rattle.sim_tree.specs.Grammar.{of_concurrent}
-use Rattle.sim_tree.proofs.Writings.{◌&◌, split, only, none_read, never_fits, mark_at_read, mark_read, shorter, less, less_then, other}
-use Rattle.sim_tree.proofs.Tokens.{word_read, word_kind, literal_read, literal_kind, eat_read, eat_not, expect_read, written_read}
-use Rattle.sim_tree.proofs.Lists.{many_all_again, all_begin}
-use Rattle.sim_expression.proofs.WaveformsComplete as waves
+use Rattle.sim_tree.proofs.Writings.{◌&◌, split, only, none_read, never_fits, mark_at_read, mark_read, shorter, less, less_then}
+use Rattle.sim_reading.proofs.Tokens.{other, word_read, word_kind, literal_read, literal_kind, eat_read, eat_not, expect_read, written_read}
+use Rattle.sim_reading.proofs.Lists.{many_all_again, all_begin}
+use Rattle.sim_reading.proofs.WaveformsComplete as waves
 use Rattle.sim_reading.specs.Concurrents.{sensitivity, process_body, process, actual, associated, named_association, free_association, association}
 use Rattle.sim_reading.specs.Concurrents.{associations_from, associations, port_map, instance, chosen, entity_named, concurrent_assigned}
 use Rattle.sim_reading.specs.Concurrents.{concurrent_process, target_by, labelled, first_by, concurrent, begins_concurrent, concurrents}

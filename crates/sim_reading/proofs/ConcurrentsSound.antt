@@ -10,15 +10,17 @@ use Rattle.sim_tree.specs.declared.unit.Sensitivity.{Sensitivity}
 use Rattle.sim_tree.specs.declared.unit.Association.{Association}
 use Rattle.sim_tree.specs.declared.unit.Instantiated.{Instantiated}
 use Rattle.sim_tree.specs.declared.unit.Instantiated.TheVariants as made
-use Rattle.sim_tree.specs.Input.{Input, kind, next, left}
+use Rattle.sim_tree.specs.Input.{Input, kind, next}
+use Rattle.sim_reading.specs.Readers.{left}
 use Rattle.sim_tree.specs.Writing.{Writing, mark, never, ◌▸◌, all_of, if_written, word_at, Fits}
 use Rattle.sim_tree.specs.Grammar as g
 use Rattle.sim_tree.specs.Grammar.{of_sensitivity, of_variable, of_process, of_actual, formally, is_named, of_association, of_associations}
 use Rattle.sim_tree.specs.Grammar.{of_port_map, of_chosen, of_instantiated, of_instance, of_concurrent}
-use Rattle.sim_tree.proofs.Writings.{Gives, then_, map_, done, refused, ◌&◌, split, none, never_fits, mark_at, marks}
-use Rattle.sim_tree.proofs.Tokens.{word_gives, literal_gives, eat_gives, eat_then, eaten_written, expect_gives}
-use Rattle.sim_tree.proofs.Lists.{many_all_gives}
-use Rattle.sim_expression.proofs.WaveformsSound as waves
+use Rattle.sim_tree.proofs.Writings.{◌&◌, split, none, never_fits, mark_at, marks}
+use Rattle.sim_reading.proofs.Gives.{Gives, then_, map_, done, refused}
+use Rattle.sim_reading.proofs.Tokens.{word_gives, literal_gives, eat_gives, eat_then, eaten_written, expect_gives}
+use Rattle.sim_reading.proofs.Lists.{many_all_gives}
+use Rattle.sim_reading.proofs.WaveformsSound as waves
 use Rattle.sim_reading.specs.Concurrents.{sensitivity, process_body, process, actual, actual_by, associated, named_association, free_association}
 use Rattle.sim_reading.specs.Concurrents.{free_by, association, associations_from, associations, port_map, instance, chosen, entity_named}
 use Rattle.sim_reading.specs.Concurrents.{concurrent_assigned, concurrent_process, target_by, labelled, labelled_by, first_by, concurrent}

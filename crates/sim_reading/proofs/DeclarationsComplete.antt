@@ -14,13 +14,14 @@ use Rattle.sim_tree.specs.declared.declaration.ObjectDeclaration.{ObjectDeclarat
 use Rattle.sim_tree.specs.declared.declaration.ComponentDeclaration.{ComponentDeclaration}
 use Rattle.sim_tree.specs.declared.declaration.Declaration.{Declaration}
 use Rattle.sim_tree.specs.declared.declaration.Declaration.TheVariants as declared
-use Rattle.sim_tree.specs.Input.{Input, ◌>>◌, take_token, kind, word, same_kind}
+use Rattle.sim_tree.specs.Input.{Input, kind}
+use Rattle.sim_reading.specs.Readers.{◌>>◌, take_token, word, same_kind}
 use Rattle.sim_tree.specs.Writing.{Mark, This, just, all_of, separated_by, if_written, word_at, Fits}
 use Rattle.sim_tree.specs.Grammar.{of_names, of_initial, of_mode, of_port, of_ports, of_object, of_variable, of_component, of_declaration}
-use Rattle.sim_tree.proofs.Writings.{split, none_read, never_fits, mark_read, less, other}
-use Rattle.sim_tree.proofs.Tokens.{is_same, not_same, word_read, word_kind, literal_read, literal_kind, repeat_read, this_kind, is_seen, not_seen}
-use Rattle.sim_tree.proofs.Tokens.{eat_read, eat_not, expect_read, written_read}
-use Rattle.sim_tree.proofs.Lists.{separated_again, many_all_again}
+use Rattle.sim_tree.proofs.Writings.{split, none_read, never_fits, mark_read, less}
+use Rattle.sim_reading.proofs.Tokens.{other, is_same, not_same, word_read, word_kind, literal_read, literal_kind, repeat_read, this_kind, is_seen, not_seen}
+use Rattle.sim_reading.proofs.Tokens.{eat_read, eat_not, expect_read, written_read}
+use Rattle.sim_reading.proofs.Lists.{separated_again, many_all_again}
 use Rattle.sim_reading.specs.Declarations.{names, repeated, initial, mode, port_of, port, port_list, ports, object, variables, component_end}
 use Rattle.sim_reading.specs.Declarations.{component, begins_declaration, declaration, declarations}
 

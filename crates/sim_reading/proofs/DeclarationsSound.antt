@@ -6,12 +6,14 @@ use Rattle.sim_token.specs.declared.kind.Kind.{Kind}
 use Rattle.sim_token.specs.declared.kind.Kind.TheVariants as k
 use Rattle.sim_tree.specs.Name.{Name}
 use Rattle.sim_tree.specs.declared.declaration.PortDeclaration.{PortDeclaration}
-use Rattle.sim_tree.specs.Input.{Input, ◌>>◌, take_token, kind, next, word, same_kind}
+use Rattle.sim_tree.specs.Input.{Input, kind, next}
+use Rattle.sim_reading.specs.Readers.{◌>>◌, take_token, word, same_kind}
 use Rattle.sim_tree.specs.Writing.{This, just, mark, all_of, separated_by, if_written, word_at, Fits}
 use Rattle.sim_tree.specs.Grammar.{of_names, of_initial, of_mode, of_port, of_ports, of_object, of_variable, of_component, of_declaration}
-use Rattle.sim_tree.proofs.Writings.{Gives, then_, map_, done, ◌&◌, none, never_fits, marks}
-use Rattle.sim_tree.proofs.Tokens.{same_is, word_gives, literal_gives, repeat_gives, eat_gives, eat_then, sees_then, eaten_written, expect_gives}
-use Rattle.sim_tree.proofs.Lists.{separated_gives, many_all_gives}
+use Rattle.sim_tree.proofs.Writings.{◌&◌, none, never_fits, marks}
+use Rattle.sim_reading.proofs.Gives.{Gives, then_, map_, done}
+use Rattle.sim_reading.proofs.Tokens.{same_is, word_gives, literal_gives, repeat_gives, eat_gives, eat_then, sees_then, eaten_written, expect_gives}
+use Rattle.sim_reading.proofs.Lists.{separated_gives, many_all_gives}
 use Rattle.sim_reading.specs.Declarations.{names, repeated, initial, initial_by, mode, mode_by, port_of, port, port_list, ports, object, variables}
 use Rattle.sim_reading.specs.Declarations.{component_end, component, begins_declaration, declaration, declaration_by, declarations}
 

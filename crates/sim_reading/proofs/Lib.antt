@@ -1,3 +1,13 @@
+pub mod Gives
+pub mod Tokens
+pub mod Lists
+pub mod OneItemATurn
+pub mod FaultPlaces
+pub mod ExpressionsSound
+pub mod ExpressionsComplete
+pub mod ExpressionFaults
+pub mod WaveformsSound
+pub mod WaveformsComplete
 pub mod DeclarationsSound
 pub mod DeclarationsComplete
 pub mod StatementsSound
@@ -6,5 +16,5 @@ pub mod ConcurrentsSound
 pub mod ConcurrentsComplete
 pub mod UnitsSound
 pub mod UnitsComplete
+pub mod FileFaults
 pub mod WholeFiles
-pub mod FaultPlaces

@@ -12,17 +12,18 @@ use Rattle.sim_tree.specs.declared.sequential.Statement.{Statement}
 use Rattle.sim_tree.specs.declared.sequential.Statement.TheVariants as s
 use Rattle.sim_tree.specs.declared.sequential.Sequential.{Sequential, roll-Sequential}
 use Rattle.sim_tree.specs.declared.sequential.Branch.{Branch, roll-Branch}
-use Rattle.sim_tree.specs.Input.{Input, Parser, kind}
+use Rattle.sim_tree.specs.Input.{Input, kind}
+use Rattle.sim_reading.specs.Readers.{Parser}
 use Rattle.sim_tree.specs.Writing.{Piece, Mark, WordAt, Writing, just, mark, ◌▸◌, in_if, separated_by, Fits}
 use Rattle.sim_tree.specs.Grammar as g
 use Rattle.sim_tree.specs.Grammar.{of_expression, of_delay, of_waveform, of_signal_assignment, of_variable_assignment, of_statement, of_sequential}
 use Rattle.sim_tree.specs.Grammar.{of_branch, of_otherwise, of_sequence}
-use Rattle.sim_tree.proofs.Writings.{split, only, none_read, never_fits, mark_read, less, then_less, other, if_read, if_none}
-use Rattle.sim_tree.proofs.Tokens.{word_read, word_kind, repeat_read, this_kind, is_seen, not_seen, eat_read, eat_not, expect_read}
-use Rattle.sim_tree.proofs.Lists.{separated_again, many_all_again}
+use Rattle.sim_tree.proofs.Writings.{split, only, none_read, never_fits, mark_read, less, then_less, if_read, if_none}
+use Rattle.sim_reading.proofs.Tokens.{other, word_read, word_kind, repeat_read, this_kind, is_seen, not_seen, eat_read, eat_not, expect_read}
+use Rattle.sim_reading.proofs.Lists.{separated_again, many_all_again}
 use Rattle.sim_tree.proofs.SequentialRules.{signal_is, variable_is, if_is, null_is, branch_is, sequential_is, cases_statement, cases_branch, cases_sequential}
-use Rattle.sim_expression.proofs.ExpressionsComplete.{expression_again}
-use Rattle.sim_expression.proofs.WaveformsComplete.{closed_ends, waveform_again, waveform_opens, delay_again, opens_no_delay}
+use Rattle.sim_reading.proofs.ExpressionsComplete.{expression_again}
+use Rattle.sim_reading.proofs.WaveformsComplete.{closed_ends, waveform_again, waveform_opens, delay_again, opens_no_delay}
 use Rattle.sim_reading.specs.Statements.{label_again, variable_assigned, signal_assigned, assigned, null, begins_statement, labelled, statement}
 use Rattle.sim_reading.specs.Statements.{sequence, branch, branches, otherwise, if_end, if_statement, statements}
 

@@ -8,17 +8,19 @@ use Rattle.sim_tree.specs.Name.{Name}
 use Rattle.sim_tree.specs.declared.sequential.Statement.{Statement}
 use Rattle.sim_tree.specs.declared.sequential.Sequential.{Sequential}
 use Rattle.sim_tree.specs.declared.sequential.Branch.{Branch}
-use Rattle.sim_tree.specs.Input.{Input, Parser, kind, next}
+use Rattle.sim_tree.specs.Input.{Input, kind, next}
+use Rattle.sim_reading.specs.Readers.{Parser}
 use Rattle.sim_tree.specs.Writing.{mark, separated_by, word_at, Fits}
 use Rattle.sim_tree.specs.Grammar as g
 use Rattle.sim_tree.specs.Grammar.{of_signal_assignment, of_variable_assignment, of_statement, of_sequential, of_branch, of_otherwise}
 use Rattle.sim_tree.specs.Grammar.{of_sequence}
-use Rattle.sim_tree.proofs.Writings.{Gives, then_, done, refused, ◌&◌, none, marks, if_fits}
-use Rattle.sim_tree.proofs.Tokens.{word_gives, repeat_gives, eat_then, sees_then, expect_gives}
-use Rattle.sim_tree.proofs.Lists.{separated_gives, many_all_gives}
+use Rattle.sim_tree.proofs.Writings.{◌&◌, none, marks, if_fits}
+use Rattle.sim_reading.proofs.Gives.{Gives, then_, done, refused}
+use Rattle.sim_reading.proofs.Tokens.{word_gives, repeat_gives, eat_then, sees_then, expect_gives}
+use Rattle.sim_reading.proofs.Lists.{separated_gives, many_all_gives}
 use Rattle.sim_tree.proofs.SequentialRules.{signal_is, variable_is, if_is, null_is, branch_is, sequential_is}
-use Rattle.sim_expression.proofs.ExpressionsSound.{expression_gives}
-use Rattle.sim_expression.proofs.WaveformsSound.{delay_gives, waveform_gives}
+use Rattle.sim_reading.proofs.ExpressionsSound.{expression_gives}
+use Rattle.sim_reading.proofs.WaveformsSound.{delay_gives, waveform_gives}
 use Rattle.sim_reading.specs.Statements.{label_again, label_by, variable_assigned, signal_assigned, assigned, assigned_by, null, with_label}
 use Rattle.sim_reading.specs.Statements.{begins_statement, labelled, labelled_by, statement, statement_by, sequence, branch, branches, otherwise}
 use Rattle.sim_reading.specs.Statements.{if_end, if_statement, statements}

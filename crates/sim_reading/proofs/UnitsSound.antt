@@ -7,13 +7,15 @@ use Rattle.sim_token.specs.declared.kind.Kind.{Kind}
 use Rattle.sim_token.specs.declared.kind.Kind.TheVariants as k
 use Rattle.sim_tree.specs.Name.{Name}
 use Rattle.sim_tree.specs.declared.declaration.Declaration.{Declaration}
-use Rattle.sim_tree.specs.Input.{Input, kind, next, left}
+use Rattle.sim_tree.specs.Input.{Input, kind, next}
+use Rattle.sim_reading.specs.Readers.{left}
 use Rattle.sim_tree.specs.Writing.{mark, all_of, separated_by, some_of, word_at, Fits}
 use Rattle.sim_tree.specs.Grammar.{of_declaration, of_suffixes, of_selection, of_selected, of_context_item, of_entity, of_architecture}
 use Rattle.sim_tree.specs.Grammar.{of_library_unit, of_unit, of_units, IsFile}
-use Rattle.sim_tree.proofs.Writings.{Gives, then_, map_, done, refused, ◌&◌, none, marks}
-use Rattle.sim_tree.proofs.Tokens.{word_gives, eat_gives, eat_then, sees_then, eaten_written, expect_gives}
-use Rattle.sim_tree.proofs.Lists.{many_gives, many_all_gives, separated_gives}
+use Rattle.sim_tree.proofs.Writings.{◌&◌, none, marks}
+use Rattle.sim_reading.proofs.Gives.{Gives, then_, map_, done, refused}
+use Rattle.sim_reading.proofs.Tokens.{word_gives, eat_gives, eat_then, sees_then, eaten_written, expect_gives}
+use Rattle.sim_reading.proofs.Lists.{many_gives, many_all_gives, separated_gives}
 use Rattle.sim_reading.specs.Units.{suffixes_from, suffixes, selected, selected_names, context_item, item_by, begins_context, context, entity}
 use Rattle.sim_reading.specs.Units.{architecture_body, architecture, library_unit, library_by, unit, goes_on, units_of, finish, finish_by, file}
 use Rattle.sim_reading.proofs.DeclarationsSound.{names_give, repeated_gives, ports_give, declarations_give}

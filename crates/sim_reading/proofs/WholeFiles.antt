@@ -1,16 +1,17 @@
 -- The laws of a whole text, from its four halves. What is read as a file is written so (UnitsSound), and what is written so is read (UnitsComplete). As
 -- a reader has one answer, no tokens are two files, and tokens that are refused are none; where a fault stands is in FaultPlaces.
 use Rattle.std.proofs.Common.{◌≡◌, ℕ, List, [], Ok, Err, refl, sym, ap, subst, ◌∙◌}
-use Rattle.sim_tree.specs.declared.error.ParseError.{ParseError}
-use Rattle.sim_tree.specs.declared.error.ParseError.TheVariants.{TimeRange, TooDeep}
-use Rattle.sim_tree.specs.Faults.{IsTooLarge, IsOpening}
-use Rattle.sim_tree.proofs.FaultPlaces.{Blame}
-use Rattle.sim_reading.proofs.FaultPlaces.{file_blames}
+use Rattle.sim_reading.specs.declared.error.ParseError.{ParseError}
+use Rattle.sim_reading.specs.declared.error.ParseError.TheVariants.{TimeRange, TooDeep}
+use Rattle.sim_reading.specs.Faults.{IsTooLarge, IsOpening}
+use Rattle.sim_reading.proofs.FaultPlaces.{Blame}
+use Rattle.sim_reading.proofs.FileFaults.{file_blames}
 use Rattle.sim_tree.specs.DesignFile.{DesignFile}
 use Rattle.sim_tree.specs.declared.unit.DesignUnit.{DesignUnit}
-use Rattle.sim_tree.specs.Input.{Input, Outcome}
+use Rattle.sim_tree.specs.Input.{Input}
+use Rattle.sim_reading.specs.Readers.{Outcome}
 use Rattle.sim_tree.specs.Grammar.{AreUnits, IsFile}
-use Rattle.sim_tree.proofs.Writings.{Hits}
+use Rattle.sim_reading.proofs.Gives.{Hits}
 use Rattle.sim_reading.specs.Units.{file, units_of, finish}
 use Rattle.sim_reading.proofs.UnitsSound.{file_gives}
 use Rattle.sim_reading.proofs.UnitsComplete.{file_again}

@@ -15,8 +15,8 @@ use Rattle.sim_tree.specs.declared.unit.Instantiated.TheVariants as made
 use Rattle.sim_tree.specs.declared.unit.Concurrent.{Concurrent}
 use Rattle.sim_tree.specs.declared.unit.Concurrent.TheVariants as c
 use Rattle.sim_tree.specs.Grammar.{is_named}
-use Rattle.sim_tree.specs.Input.{Parser, ◌>>=◌, ◌>>◌, pure, refuse, peek, take_token, word, literal, eat, expect, many, left}
-use Rattle.sim_expression.specs.Waveforms.{assigned}
+use Rattle.sim_reading.specs.Readers.{Parser, ◌>>=◌, ◌>>◌, pure, refuse, peek, take_token, word, literal, eat, expect, many, left}
+use Rattle.sim_reading.specs.Waveforms.{assigned}
 use Rattle.sim_reading.specs.Declarations.{names, variables}
 use Rattle.sim_reading.specs.Statements.{label_again, statements}
 

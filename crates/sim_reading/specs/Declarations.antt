@@ -12,7 +12,8 @@ use Rattle.sim_tree.specs.declared.declaration.ObjectDeclaration.{ObjectDeclarat
 use Rattle.sim_tree.specs.declared.declaration.ComponentDeclaration.{ComponentDeclaration}
 use Rattle.sim_tree.specs.declared.declaration.Declaration.{Declaration}
 use Rattle.sim_tree.specs.declared.declaration.Declaration.TheVariants as declared
-use Rattle.sim_tree.specs.Input.{Parser, ◌>>=◌, ◌>>◌, pure, peek, take_token, word, literal, repeat, sees, eat, expect, many, separated, same_kind}
+use Rattle.sim_reading.specs.Readers.{Parser, ◌>>=◌, ◌>>◌, pure, peek, take_token, word, literal, repeat, sees, eat, expect, many, separated}
+use Rattle.sim_reading.specs.Readers.{same_kind}
 
 -- one name, or several
 unfoldable pub names : Parser (List Name)

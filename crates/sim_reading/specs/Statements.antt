@@ -2,16 +2,17 @@
 use Rattle.std.specs.Prelude.{ℕ, zero, suc, Bool, true, false, if◌then◌else◌, List, Option, Some, None, Ok, Err}
 use Rattle.sim_token.specs.declared.kind.Kind.{Kind}
 use Rattle.sim_token.specs.declared.kind.Kind.TheVariants as k
-use Rattle.sim_tree.specs.declared.error.ParseError.TheVariants.{TooDeep}
+use Rattle.sim_reading.specs.declared.error.ParseError.TheVariants.{TooDeep}
 use Rattle.sim_tree.specs.Name.{Name}
+use Rattle.sim_tree.specs.declared.expression.Expression.{Expression}
 use Rattle.sim_tree.specs.declared.sequential.Statement.{Statement}
 use Rattle.sim_tree.specs.declared.sequential.Statement.TheVariants as s
 use Rattle.sim_tree.specs.declared.sequential.Sequential.{Sequential, roll-Sequential}
 use Rattle.sim_tree.specs.declared.sequential.Branch.{Branch, roll-Branch}
 use Rattle.sim_tree.specs.Limits.{most_ifs}
-use Rattle.sim_tree.specs.Input.{Parser, ◌>>=◌, ◌>>◌, pure, refuse, peek, take_token, word, repeat, sees, eat, expect, many, separated, left}
-use Rattle.sim_expression.specs.Expressions.{expression}
-use Rattle.sim_expression.specs.Waveforms.{delay, waveform}
+use Rattle.sim_reading.specs.Readers.{Parser, ◌>>=◌, ◌>>◌, pure, refuse, peek, take_token, word, repeat, sees, eat, expect, many, separated, left}
+use Rattle.sim_reading.specs.Expressions.{expression}
+use Rattle.sim_reading.specs.Waveforms.{delay, waveform}
 
 -- the label again, which only a labelled statement has
 abbrev pub label_by : Option Name → Parser Bool
@@ -60,6 +61,13 @@ abbrev pub with_label : Option Name → Parser Statement → Parser Sequential
 with_label label reader = do
   x ← reader
   pure (roll-Sequential (record { label = label; statement = x }))
+
+-- a condition and the `then` after it
+unfoldable pub condition : Parser Expression
+condition = do
+  found ← expression
+  expect k.Then
+  pure found
 
 -- whether a token of this kind begins a sequential statement
 abbrev pub begins_statement : Kind → Bool

@@ -2,7 +2,7 @@
 use Rattle.std.specs.Prelude.{ℕ, zero, suc, Bool, true, false, not, if◌then◌else◌, List, [], ◌∷◌, ◌++◌, Ok, Err}
 use Rattle.sim_token.specs.declared.kind.Kind.{Kind}
 use Rattle.sim_token.specs.declared.kind.Kind.TheVariants as k
-use Rattle.sim_tree.specs.declared.error.ParseError.TheVariants.{Syntax}
+use Rattle.sim_reading.specs.declared.error.ParseError.TheVariants.{Syntax}
 use Rattle.sim_tree.specs.Name.{Name}
 use Rattle.sim_tree.specs.declared.declaration.Declaration.{Declaration}
 use Rattle.sim_tree.specs.declared.unit.SelectedName.{SelectedName}
@@ -14,8 +14,9 @@ use Rattle.sim_tree.specs.declared.unit.LibraryUnit.{LibraryUnit}
 use Rattle.sim_tree.specs.declared.unit.LibraryUnit.TheVariants as units
 use Rattle.sim_tree.specs.declared.unit.DesignUnit.{DesignUnit}
 use Rattle.sim_tree.specs.DesignFile.{DesignFile}
-use Rattle.sim_tree.specs.Input.{Input, Outcome, Parser, ◌>>=◌, ◌>>◌, pure, refuse, peek, take_token, word, sees, eat, expect, many, many_from}
-use Rattle.sim_tree.specs.Input.{separated, same_kind, left}
+use Rattle.sim_tree.specs.Input.{Input}
+use Rattle.sim_reading.specs.Readers.{Outcome, Parser, ◌>>=◌, ◌>>◌, pure, refuse, peek, take_token, word, sees, eat, expect, many, many_from}
+use Rattle.sim_reading.specs.Readers.{separated, same_kind, left}
 use Rattle.sim_reading.specs.Declarations.{names, ports, repeated, declarations}
 use Rattle.sim_reading.specs.Concurrents.{concurrents}
 

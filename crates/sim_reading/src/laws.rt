@@ -2,11 +2,11 @@
 
 ghost use Rattle.std.specs.Prelude.{◌≡◌, ℕ, List, [], Ok, Err};
 ghost use Rattle.sim_token.specs.Token.{Token};
-ghost use Rattle.sim_tree.specs.declared.error.ParseError.{ParseError};
-ghost use Rattle.sim_tree.specs.declared.error.ParseError.TheVariants.{TimeRange, TooDeep};
+ghost use Rattle.sim_reading.specs.declared.error.ParseError.{ParseError};
+ghost use Rattle.sim_reading.specs.declared.error.ParseError.TheVariants.{TimeRange, TooDeep};
 ghost use Rattle.sim_tree.specs.DesignFile.{DesignFile};
 ghost use Rattle.sim_tree.specs.Grammar.{IsFile};
-ghost use Rattle.sim_tree.specs.Faults.{IsTooLarge, IsOpening};
+ghost use Rattle.sim_reading.specs.Faults.{IsTooLarge, IsOpening};
 ghost use Rattle.sim_reading.specs.Units as spec;
 
 /// A file that is read from tokens is written with them, within the limits.

@@ -2,17 +2,19 @@
 
 ghost use Rattle.std.specs.Prelude.{◌≡◌};
 ghost use Rattle.sim_reading.specs.Statements as spec;
-ghost use Rattle.sim_statement.specs.Conditions.{condition};
-ghost use Rattle.sim_tree.specs.Input.{Reads, view};
+ghost use Rattle.sim_reading.specs.Statements.{condition};
+ghost use Rattle.sim_reading.specs.Readers.{Reads};
+ghost use Rattle.sim_expression.specs.Cursors.{view};
 
+use sim_expression::Cursor;
 use sim_expression::expressions::expression;
 use sim_expression::waveforms::{delay, waveform};
+use sim_reading::ParseError;
 use sim_token::Kind;
 use sim_tree::expression::Expression;
 use sim_tree::list::{fitted, one};
 use sim_tree::name::Name;
 use sim_tree::sequential::{Branch, Sequential, SignalAssignment, Statement, VariableAssignment};
-use sim_tree::{Cursor, ParseError};
 use sqlite_items::Items;
 use std::alloc::Global;
 
@@ -21,7 +23,7 @@ const MOST_IFS: usize = 64;
 
 /// Reads the label written again, where a word stands, and says whether one does. `Syntax` comes at another word, and at any
 /// where there is no label.
-#[tactic(auto, unfolding(sim_reading::specs::Statements::label_again, sim_tree::specs::Input::left))]
+#[tactic(auto, unfolding(sim_reading::specs::Statements::label_again, sim_reading::specs::Readers::left))]
 pub fn label_again(tokens: &mut Cursor, label: &Option<Name>) -> Result<bool, ParseError>
     ensures { Reads (spec.label_again label.now (view tokens.old)) result (view tokens.new) }
 {
@@ -167,7 +169,7 @@ fn statement(alloc: Global, tokens: &mut Cursor, depth: usize) -> Result<Sequent
 }
 
 #[cycle(statement)]
-#[tactic(auto, unfolding(sim_reading::specs::Statements::sequence, sim_tree::specs::Input::many))]
+#[tactic(auto, unfolding(sim_reading::specs::Statements::sequence, sim_reading::specs::Readers::many))]
 fn sequence(
     alloc: Global,
     tokens: &mut Cursor,
@@ -185,7 +187,7 @@ fn sequence(
     Ok(fitted(found))
 }
 
-#[tactic(auto, unfolding(crate::specs::Conditions::condition))]
+#[tactic(auto, unfolding(sim_reading::specs::Statements::condition))]
 fn condition(alloc: Global, tokens: &mut Cursor) -> Result<Expression, ParseError>
     ensures { Reads (condition (view tokens.old)) result (view tokens.new) }
 {
@@ -195,7 +197,7 @@ fn condition(alloc: Global, tokens: &mut Cursor) -> Result<Expression, ParseErro
 }
 
 #[cycle(statement)]
-#[tactic(auto, unfolding(sim_reading::specs::Statements::branch, crate::specs::Conditions::condition))]
+#[tactic(auto, unfolding(sim_reading::specs::Statements::branch, sim_reading::specs::Statements::condition))]
 fn branch(alloc: Global, tokens: &mut Cursor, depth: usize) -> Result<Branch, ParseError>
     ensures { Reads (spec.branch (spec.if_statement depth) (view tokens.old)) result (view tokens.new) }
 {
@@ -208,7 +210,7 @@ fn branch(alloc: Global, tokens: &mut Cursor, depth: usize) -> Result<Branch, Pa
 }
 
 #[cycle(statement)]
-#[tactic(auto, unfolding(sim_reading::specs::Statements::branches, sim_tree::specs::Input::separated))]
+#[tactic(auto, unfolding(sim_reading::specs::Statements::branches, sim_reading::specs::Readers::separated))]
 fn branches(alloc: Global, tokens: &mut Cursor, depth: usize) -> Result<Items<Branch>, ParseError>
     ensures { Reads (spec.branches (spec.if_statement depth) (view tokens.old)) result (view tokens.new) }
 {
@@ -260,7 +262,7 @@ fn if_end(
 }
 
 #[cycle(statement)]
-#[tactic(auto, unfolding(sim_reading::specs::Statements::if_statement, sim_tree::specs::Input::left))]
+#[tactic(auto, unfolding(sim_reading::specs::Statements::if_statement, sim_reading::specs::Readers::left))]
 fn if_statement(
     alloc: Global,
     tokens: &mut Cursor,

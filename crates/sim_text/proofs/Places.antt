@@ -6,10 +6,11 @@ use Rattle.std.proofs.lemmas.List.Elements.{Contains-get_or, Contains-append_rig
 use Rattle.std.proofs.lemmas.Option.{slice_get_read, slice_get_cases}
 use Rattle.std.proofs.Math.Seq.{get_or-append_seam}
 use Rattle.sim_token.specs.Token.{Token}
-use Rattle.sim_tree.specs.declared.error.ParseError.{ParseError}
-use Rattle.sim_tree.specs.declared.error.ParseError.TheVariants as error
-use Rattle.sim_tree.specs.Input.{Input, Reads}
-use Rattle.sim_tree.specs.Faults.{IsTooLarge, IsOpening}
+use Rattle.sim_reading.specs.declared.error.ParseError.{ParseError}
+use Rattle.sim_reading.specs.declared.error.ParseError.TheVariants as error
+use Rattle.sim_tree.specs.Input.{Input}
+use Rattle.sim_reading.specs.Readers.{Reads}
+use Rattle.sim_reading.specs.Faults.{IsTooLarge, IsOpening}
 use Rattle.sim_reading.specs.Units.{file}
 use Rattle.sim_reading.proofs.WholeFiles.{is_found, is_only, is_refused, large_time, deep_opening}
 use Rattle.sim_tree.specs.DesignFile.{DesignFile}

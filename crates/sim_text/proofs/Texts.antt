@@ -6,8 +6,8 @@ use Rattle.sim_token.specs.Cutting.{AreTokens}
 use Rattle.sim_token.proofs.Cuts.{one_cutting}
 use Rattle.sim_tree.specs.DesignFile.{DesignFile}
 use Rattle.sim_tree.specs.Grammar.{IsFile}
-use Rattle.sim_tree.specs.declared.error.ParseError.{ParseError}
-use Rattle.sim_tree.specs.declared.error.ParseError.TheVariants as error
+use Rattle.sim_reading.specs.declared.error.ParseError.{ParseError}
+use Rattle.sim_reading.specs.declared.error.ParseError.TheVariants as error
 use Rattle.sim_text.specs.Faults.{IsFaultOf, fault_of}
 use Rattle.sim_text.specs.Texts.{HasTokens, IsText, IsFault}
 

@@ -6,8 +6,8 @@ use Rattle.sim_token.specs.declared.kind.Kind.TheVariants as k
 use Rattle.sim_token.specs.Token.{Token}
 use Rattle.sim_token.specs.declared.error.TextError.{TextError}
 use Rattle.sim_token.specs.declared.error.TextError.TheVariants as fault
-use Rattle.sim_tree.specs.declared.error.ParseError.{ParseError}
-use Rattle.sim_tree.specs.declared.error.ParseError.TheVariants as error
+use Rattle.sim_reading.specs.declared.error.ParseError.{ParseError}
+use Rattle.sim_reading.specs.declared.error.ParseError.TheVariants as error
 use Rattle.sim_tree.specs.DesignFile.{DesignFile}
 use Rattle.sim_tree.specs.Grammar.{IsFile}
 use Rattle.sim_tree.specs.Times.{time_of}

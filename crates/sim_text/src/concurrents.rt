@@ -3,10 +3,14 @@
 ghost use Rattle.std.specs.Prelude.{◌≡◌};
 ghost use Rattle.sim_reading.specs.Concurrents as spec;
 ghost use Rattle.sim_tree.specs.Grammar.{is_named};
-ghost use Rattle.sim_tree.specs.Input.{Reads, kind, view};
+ghost use Rattle.sim_tree.specs.Input.{kind};
+ghost use Rattle.sim_reading.specs.Readers.{Reads};
+ghost use Rattle.sim_expression.specs.Cursors.{view};
 
-use sim_declaration::declarations::{names, variables};
+use crate::declarations::{names, variables};
+use sim_expression::Cursor;
 use sim_expression::waveforms::assigned;
+use sim_reading::ParseError;
 use sim_statement::statements::{label_again, statements};
 use sim_token::Kind;
 use sim_tree::declaration::ObjectDeclaration;
@@ -15,7 +19,6 @@ use sim_tree::name::Name;
 use sim_tree::unit::{
     Actual, Association, Concurrent, Instance, Instantiated, Process, Sensitivity,
 };
-use sim_tree::{Cursor, ParseError};
 use sqlite_items::Items;
 use std::alloc::Global;
 
@@ -338,7 +341,7 @@ fn begins_concurrent(kind: Kind) -> bool
 }
 
 /// Reads the statements of an architecture (IEEE 1076-2008, 11.1).
-#[tactic(auto, unfolding(sim_reading::specs::Concurrents::concurrents, sim_tree::specs::Input::many))]
+#[tactic(auto, unfolding(sim_reading::specs::Concurrents::concurrents, sim_reading::specs::Readers::many))]
 pub fn concurrents(alloc: Global, tokens: &mut Cursor) -> Result<Items<Concurrent>, ParseError>
     ensures { Reads (spec.concurrents (view tokens.old)) result (view tokens.new) }
 {

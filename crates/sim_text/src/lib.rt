@@ -2,6 +2,7 @@
 #![tactic(auto)]
 
 mod concurrents;
+pub mod declarations;
 mod text;
 mod units;
 

@@ -9,8 +9,10 @@ ghost use Rattle.sim_text.specs.Faults.{place_of, fault_of, IsFaultOf};
 ghost use Rattle.sim_text.specs.Texts.{HasTokens, IsText, IsFault};
 
 use crate::units::file;
+use sim_expression::Cursor;
+use sim_reading::ParseError;
 use sim_token::{TextError, Token, tokens};
-use sim_tree::{Cursor, DesignFile, ParseError};
+use sim_tree::DesignFile;
 use std::alloc::Global;
 
 /// Where the token starts that has this many from it on; after the last one the text ends.

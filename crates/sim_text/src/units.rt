@@ -2,20 +2,23 @@
 
 ghost use Rattle.std.specs.Prelude.{◌≡◌};
 ghost use Rattle.sim_reading.specs.Units as spec;
-ghost use Rattle.sim_tree.specs.Input.{Reads, view};
+ghost use Rattle.sim_reading.specs.Readers.{Reads};
+ghost use Rattle.sim_expression.specs.Cursors.{view};
 
 use crate::concurrents::concurrents;
-use sim_declaration::declarations::{declarations, names, ports, repeated};
+use crate::declarations::{declarations, names, ports, repeated};
+use sim_expression::Cursor;
+use sim_reading::ParseError;
 use sim_token::Kind;
+use sim_tree::DesignFile;
 use sim_tree::declaration::Declaration;
 use sim_tree::list::{Several, fitted};
 use sim_tree::name::Name;
 use sim_tree::unit::{Architecture, ContextItem, DesignUnit, Entity, LibraryUnit, SelectedName};
-use sim_tree::{Cursor, DesignFile, ParseError};
 use sqlite_items::Items;
 use std::alloc::Global;
 
-#[tactic(auto, unfolding(sim_reading::specs::Units::suffixes, sim_tree::specs::Input::left))]
+#[tactic(auto, unfolding(sim_reading::specs::Units::suffixes, sim_reading::specs::Readers::left))]
 fn suffixes(alloc: Global, tokens: &mut Cursor) -> Result<(Items<Name>, bool), ParseError>
     ensures { Reads (spec.suffixes (view tokens.old)) result (view tokens.new) }
 {
@@ -46,7 +49,7 @@ fn selected(alloc: Global, tokens: &mut Cursor) -> Result<SelectedName, ParseErr
     })
 }
 
-#[tactic(auto, unfolding(sim_reading::specs::Units::selected_names, sim_tree::specs::Input::separated))]
+#[tactic(auto, unfolding(sim_reading::specs::Units::selected_names, sim_reading::specs::Readers::separated))]
 fn selected_names(alloc: Global, tokens: &mut Cursor) -> Result<Several<SelectedName>, ParseError>
     ensures { Reads (spec.selected_names (view tokens.old)) result (view tokens.new) }
 {
@@ -87,7 +90,7 @@ fn begins_context(kind: Kind) -> bool
     matches!(kind, Kind::Library | Kind::Use)
 }
 
-#[tactic(auto, unfolding(sim_reading::specs::Units::context, sim_tree::specs::Input::many))]
+#[tactic(auto, unfolding(sim_reading::specs::Units::context, sim_reading::specs::Readers::many))]
 fn context(alloc: Global, tokens: &mut Cursor) -> Result<Items<ContextItem>, ParseError>
     ensures { Reads (spec.context (view tokens.old)) result (view tokens.new) }
 {
@@ -196,7 +199,7 @@ fn units_of(alloc: Global, tokens: &mut Cursor) -> Result<Several<DesignUnit>, P
     Ok(found.fitted())
 }
 
-#[tactic(auto, unfolding(sim_reading::specs::Units::finish, sim_tree::specs::Input::left))]
+#[tactic(auto, unfolding(sim_reading::specs::Units::finish, sim_reading::specs::Readers::left))]
 fn finish(tokens: &mut Cursor) -> Result<(), ParseError>
     ensures { Reads (spec.finish (view tokens.old)) result (view tokens.new) }
 {

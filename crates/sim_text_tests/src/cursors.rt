@@ -1,9 +1,10 @@
 //! The cursor over tokens.
 
 use crate::written::{put_ascii, put_at, put_name};
+use sim_expression::Cursor;
 use sim_logic::{Logic, Unit};
+use sim_reading::ParseError;
 use sim_text::{Kind, tokens};
-use sim_tree::{Cursor, ParseError};
 use std::alloc::Global;
 use std::test::Fail;
 

@@ -14,8 +14,7 @@ use Rattle.sim_tree.specs.Input.{Input, place}
 use Rattle.sim_tree.specs.Writing.{Fits}
 use Rattle.sim_tree.specs.Grammar.{of_expression, of_primary, of_relation, of_factor}
 use Rattle.sim_tree.specs.Starts.{expression_start, operand_start, start_of}
-use Rattle.sim_tree.proofs.Writings.{split, mark_at_read}
-use Rattle.sim_tree.proofs.Tokens.{word_place, literal_place}
+use Rattle.sim_tree.proofs.Writings.{split, mark_at_read, word_place, literal_place}
 use Rattle.sim_tree.proofs.ExpressionLevels.{A_literal, A_name, An_event, A_call, In_parentheses, primary_cases, factor_cases, relation_cases, expression_cases}
 
 pub literal_start : (v : Logic) (at : ℕ) → start_of (e.Literal v at) ≡ at

@@ -1,12 +1,8 @@
 pub mod Turns
-pub mod OneItemATurn
-pub mod Names
-pub mod Digits
+mod Names
+mod Digits
 pub mod Writings
-pub mod Tokens
-pub mod Lists
 pub mod ExpressionRules
 pub mod ExpressionLevels
 pub mod ExpressionStarts
 pub mod SequentialRules
-pub mod FaultPlaces

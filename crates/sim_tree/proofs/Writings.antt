@@ -1,13 +1,12 @@
--- Writings one after the other, and what a reader gives. `Fits p n w i j` says that the tokens from i up to j are the writing w, with at most p
--- parentheses and n ifs open; writings in a row are put together by `◌&◌` and taken apart by `split`. `Gives q (r i)` says that q holds of what the
--- reader r reads and of what is left, if it reads anything; a reader made of readers is gone through by `then_`, each step with what the one before it
--- has shown.
-use Rattle.std.proofs.Common.{◌≡◌, ℕ, suc, ◌≤◌, List, [], ◌∷◌, ◌++◌, length, ◌+◌, Ok, Err, refl, sym, subst, ◌∙◌, arith}
+-- Writings one after the other. `Fits p n w i j` says that the tokens from i up to j are the writing w, with at most p parentheses and n ifs open;
+-- writings in a row are put together by `◌&◌` and taken apart by `split`.
+use Rattle.std.proofs.Common.{◌≡◌, ℕ, suc, ◌≤◌, List, [], ◌∷◌, ◌++◌, length, ◌+◌, refl, sym, subst, arith}
+use Rattle.sim_logic.specs.declared.logic.Logic.{Logic}
 use Rattle.sim_token.specs.declared.kind.Kind.{Kind}
 use Rattle.sim_token.specs.declared.kind.Kind.TheVariants as k
-use Rattle.sim_tree.specs.declared.error.ParseError.{ParseError}
-use Rattle.sim_tree.specs.Input.{Input, Outcome, Parser, and_then, kind, place, next}
-use Rattle.sim_tree.specs.Writing.{Piece, Mark, MarkAt, Takes, Writing, nothing, just, mark, never, ◌▸◌, in_parentheses, in_if, Fits}
+use Rattle.sim_tree.specs.Name.{Name}
+use Rattle.sim_tree.specs.Input.{Input, kind, place, next}
+use Rattle.sim_tree.specs.Writing.{Piece, Mark, MarkAt, LiteralAt, Takes, Writing, nothing, just, mark, never, ◌▸◌, in_parentheses, in_if, word_at, Fits}
 
 pub takes_append : (ps qs : List Piece) (i j m : Input) → Takes ps i j → Takes qs j m → Takes (ps ++ qs) i m
 takes_append [] qs i j m h t = subst (λ (x : Input). Takes qs x m) (sym h) t
@@ -137,38 +136,12 @@ unfolding kind next
 mark_read [] j x h = absurd h.takes
 mark_read (c ∷ cs) j x h = (h.takes.0, h.takes.1)
 
--- ---- what a parser gives
+pub word_place : {p n : ℕ} (i j : Input) (x : Name) → Fits p n (word_at x) i j → place i ≡ x.at
+unfolding place
+word_place [] j x h = absurd h.takes
+word_place (c ∷ cs) j x h = h.takes.0.2
 
--- What it reads is so, with what is left.
-abbrev pub Hits : {A : Type 0} → (A → Input → Type 0) → Outcome A → Type 0
-Hits q (Ok r) = q r.0 r.1
-Hits q (Err e) = Unit {0}
-
-pub record Gives {A : Type 0} (q : A → Input → Type 0) (o : Outcome A) : Type 0 where
-  pub gives : Hits q o
-
-then_by : {A B : Type 0} (p : A → Input → Type 0) (q : B → Input → Type 0) (o : Outcome A) (f : A → Parser B) → Hits p o
-    → ((a : A) (j : Input) → p a j → Gives q (f a j)) → Gives q (and_then o f)
-then_by p q (Ok r) f h g = g r.0 r.1 h
-then_by p q (Err e) f h g = record { gives = tt }
-
-pub then_ : {A B : Type 0} {p : A → Input → Type 0} {q : B → Input → Type 0} {o : Outcome A} {f : A → Parser B} → Gives p o
-    → ((a : A) (j : Input) → p a j → Gives q (f a j)) → Gives q (and_then o f)
-then_ {A} {B} {p} {q} {o} {f} h g = then_by p q o f h.gives g
-
-map_by : {A : Type 0} (p q : A → Input → Type 0) (o : Outcome A) → Hits p o → ((a : A) (j : Input) → p a j → q a j) → Hits q o
-map_by p q (Ok r) h g = g r.0 r.1 h
-map_by p q (Err e) h g = tt
-
-pub map_ : {A : Type 0} {p q : A → Input → Type 0} {o : Outcome A} → Gives p o → ((a : A) (j : Input) → p a j → q a j) → Gives q o
-map_ {A} {p} {q} {o} h g = record { gives = map_by p q o h.gives g }
-
-pub done : {A : Type 0} {q : A → Input → Type 0} {a : A} {j : Input} → q a j → Gives q (Ok (a, j))
-done h = record { gives = h }
-
-pub refused : {A : Type 0} {q : A → Input → Type 0} {e : ParseError} → Gives q (Err e)
-refused = record { gives = tt }
-
--- a kind is one alone
-pub other : {z x y : Kind} → z ≡ x → (x ≡ y → ⊥) → z ≡ y → ⊥
-other e f g = f (sym e ∙ g)
+pub literal_place : {p n : ℕ} (i j : Input) (v : Logic) (at : ℕ) → Fits p n (just (LiteralAt v at)) i j → place i ≡ at
+unfolding place
+literal_place [] j v at h = absurd h.takes
+literal_place (c ∷ cs) j v at h = h.takes.0.2

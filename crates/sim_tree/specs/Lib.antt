@@ -1,7 +1,6 @@
 pub mod DesignFile
 pub mod Grammar
 pub mod Input
-pub mod Faults
 pub mod Limits
 pub mod Name
 pub mod Starts

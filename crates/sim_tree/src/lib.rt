@@ -1,9 +1,7 @@
-//! The syntax tree of a text, and the cursor from which a parser reads it.
+//! The syntax tree of a text, and how it is written.
 #![tactic(auto)]
 
-pub mod cursor;
 pub mod declaration;
-pub mod error;
 pub mod expression;
 pub mod file;
 pub mod laws;
@@ -14,6 +12,4 @@ pub mod time;
 pub mod unit;
 pub mod waveform;
 
-pub use cursor::Cursor;
-pub use error::ParseError;
 pub use file::DesignFile;

@@ -1,9 +1,10 @@
 use Rattle.std.proofs.Common.{rules, arith}
 use Rattle.std.proofs.lemmas.Grind.{common_steps}
-use Rattle.sim_tree.specs.Input.{view, sees}
+use Rattle.sim_reading.specs.Readers.{sees}
+use Rattle.sim_expression.specs.Cursors.{view}
 use Rattle.sim_tree.proofs.Turns.{deeper}
-use Rattle.sim_tree.proofs.OneItemATurn.{one_more, no_more}
-use Rattle.sim_expression.specs.Expressions.{nested}
+use Rattle.sim_reading.proofs.OneItemATurn.{one_more, no_more}
+use Rattle.sim_reading.specs.Expressions.{nested}
 use Rattle.sim_expression.proofs.expressions.+expression.Goals as goal
 
 pub more_operands-returns-then-not-sees : goal.more_operands-returns-then-not-sees

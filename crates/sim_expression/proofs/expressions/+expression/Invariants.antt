@@ -1,7 +1,7 @@
 use Rattle.std.proofs.Common.{true, [], ◌∷◌, ◌+◌, ◌*◌}
-use Rattle.sim_tree.specs.Input.{view}
-use Rattle.sim_tree.proofs.OneItemATurn.{AsManyAsCome}
-use Rattle.sim_expression.specs.Expressions.{nested, more_operands, operand, goes_on}
+use Rattle.sim_expression.specs.Cursors.{view}
+use Rattle.sim_reading.proofs.OneItemATurn.{AsManyAsCome}
+use Rattle.sim_reading.specs.Expressions.{nested, more_operands, operand, goes_on}
 use Rattle.sim_expression.proofs.expressions.+expression.Given as goal
 
 abbrev pub decreases-nested : goal.decreases-nested

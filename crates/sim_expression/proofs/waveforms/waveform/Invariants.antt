@@ -1,7 +1,7 @@
 use Rattle.sim_token.specs.declared.kind.Kind.TheVariants as k
-use Rattle.sim_tree.specs.Input.{view}
-use Rattle.sim_tree.proofs.OneItemATurn.{AfterEach}
-use Rattle.sim_expression.specs.Waveforms.{waveform, element}
+use Rattle.sim_expression.specs.Cursors.{view}
+use Rattle.sim_reading.proofs.OneItemATurn.{AfterEach}
+use Rattle.sim_reading.specs.Waveforms.{waveform, element}
 use Rattle.sim_expression.proofs.waveforms.waveform.Given as goal
 
 abbrev pub invariant-loop-turn : goal.invariant-loop-turn

@@ -1,6 +1,6 @@
 use Rattle.std.proofs.Common.{rules}
-use Rattle.sim_tree.specs.Input.{left}
-use Rattle.sim_expression.specs.Waveforms.{alternatives_from}
+use Rattle.sim_reading.specs.Readers.{left}
+use Rattle.sim_reading.specs.Waveforms.{alternatives_from}
 use Rattle.sim_tree.proofs.Turns.{one_more, no_more}
 use Rattle.sim_expression.proofs.waveforms.waveforms.Goals as goal
 

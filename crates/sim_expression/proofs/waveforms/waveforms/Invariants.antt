@@ -1,6 +1,6 @@
-use Rattle.sim_tree.specs.Input.{view}
+use Rattle.sim_expression.specs.Cursors.{view}
 use Rattle.sim_tree.proofs.Turns.{IsLeft}
-use Rattle.sim_expression.specs.Waveforms.{waveforms, alternatives_from}
+use Rattle.sim_reading.specs.Waveforms.{waveforms, alternatives_from}
 use Rattle.sim_expression.proofs.waveforms.waveforms.Given as goal
 
 abbrev pub invariant-loop-turn : goal.invariant-loop-turn

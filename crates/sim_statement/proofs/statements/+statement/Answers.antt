@@ -1,8 +1,8 @@
 use Rattle.std.proofs.Common.{rules, arith}
 use Rattle.std.proofs.lemmas.Grind.{common_steps}
 use Rattle.sim_tree.proofs.Turns.{deeper}
-use Rattle.sim_tree.proofs.OneItemATurn.{one_more, no_more, one_after, none_after}
-use Rattle.sim_tree.specs.Input.{view}
+use Rattle.sim_reading.proofs.OneItemATurn.{one_more, no_more, one_after, none_after}
+use Rattle.sim_expression.specs.Cursors.{view}
 use Rattle.sim_reading.specs.Statements.{if_statement}
 use Rattle.sim_statement.proofs.statements.+statement.Goals as goal
 

@@ -1,7 +1,7 @@
 use Rattle.std.proofs.Common.{◌+◌, ◌*◌}
 use Rattle.sim_token.specs.declared.kind.Kind.TheVariants as k
-use Rattle.sim_tree.specs.Input.{view}
-use Rattle.sim_tree.proofs.OneItemATurn.{AsManyAsCome, AfterEach}
+use Rattle.sim_expression.specs.Cursors.{view}
+use Rattle.sim_reading.proofs.OneItemATurn.{AsManyAsCome, AfterEach}
 use Rattle.sim_reading.specs.Statements.{if_statement, sequence, statement, begins_statement, branches, branch}
 use Rattle.sim_statement.proofs.statements.+statement.Given as goal
 

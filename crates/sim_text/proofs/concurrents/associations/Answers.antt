@@ -1,5 +1,5 @@
 use Rattle.std.proofs.Common.{rules}
-use Rattle.sim_tree.specs.Input.{left}
+use Rattle.sim_reading.specs.Readers.{left}
 use Rattle.sim_reading.specs.Concurrents.{associations_from}
 use Rattle.sim_tree.proofs.Turns.{one_more, no_more}
 use Rattle.sim_text.proofs.concurrents.associations.Goals as goal

@@ -1,4 +1,4 @@
-use Rattle.sim_tree.specs.Input.{view}
+use Rattle.sim_expression.specs.Cursors.{view}
 use Rattle.sim_tree.proofs.Turns.{IsLeft}
 use Rattle.sim_reading.specs.Concurrents.{associations, associations_from}
 use Rattle.sim_text.proofs.concurrents.associations.Given as goal

@@ -1,5 +1,5 @@
-use Rattle.sim_tree.specs.Input.{view}
-use Rattle.sim_tree.proofs.OneItemATurn.{AsManyAsCome}
+use Rattle.sim_expression.specs.Cursors.{view}
+use Rattle.sim_reading.proofs.OneItemATurn.{AsManyAsCome}
 use Rattle.sim_reading.specs.Units.{context, begins_context, context_item}
 use Rattle.sim_text.proofs.units.context.Given as goal
 

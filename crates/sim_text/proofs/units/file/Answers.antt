@@ -1,4 +1,4 @@
-use Rattle.sim_tree.specs.Input.{view}
+use Rattle.sim_expression.specs.Cursors.{view}
 use Rattle.sim_reading.proofs.WholeFiles.{units_read}
 use Rattle.sim_text.proofs.units.file.Goals as goal
 

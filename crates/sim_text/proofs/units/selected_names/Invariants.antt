@@ -1,6 +1,6 @@
 use Rattle.sim_token.specs.declared.kind.Kind.TheVariants as k
-use Rattle.sim_tree.specs.Input.{view}
-use Rattle.sim_tree.proofs.OneItemATurn.{AfterEach}
+use Rattle.sim_expression.specs.Cursors.{view}
+use Rattle.sim_reading.proofs.OneItemATurn.{AfterEach}
 use Rattle.sim_reading.specs.Units.{selected_names, selected}
 use Rattle.sim_text.proofs.units.selected_names.Given as goal
 

@@ -1,5 +1,5 @@
 use Rattle.std.proofs.Common.{rules}
-use Rattle.sim_tree.specs.Input.{left}
+use Rattle.sim_reading.specs.Readers.{left}
 use Rattle.sim_reading.specs.Units.{suffixes_from}
 use Rattle.sim_tree.proofs.Turns.{one_more, no_more}
 use Rattle.sim_text.proofs.units.suffixes.Goals as goal

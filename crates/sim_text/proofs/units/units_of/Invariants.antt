@@ -1,5 +1,5 @@
-use Rattle.sim_tree.specs.Input.{view}
-use Rattle.sim_tree.proofs.OneItemATurn.{AsManyAsCome}
+use Rattle.sim_expression.specs.Cursors.{view}
+use Rattle.sim_reading.proofs.OneItemATurn.{AsManyAsCome}
 use Rattle.sim_reading.specs.Units.{units_of, unit, goes_on}
 use Rattle.sim_text.proofs.units.units_of.Given as goal
 

@@ -1,7 +1,0 @@
-use Rattle.sim_tree.specs.Input.{view}
-use Rattle.sim_tree.proofs.OneItemATurn.{AsManyAsCome}
-use Rattle.sim_reading.specs.Declarations.{declarations, declaration, begins_declaration}
-use Rattle.sim_declaration.proofs.declarations.declarations.Given as goal
-
-abbrev pub invariant-loop-turn : goal.invariant-loop-turn
-invariant-loop-turn l = AsManyAsCome (declarations (view l.fn.tokens)) begins_declaration declaration l._turn-end l._turn l.found.items (view l.tokens)

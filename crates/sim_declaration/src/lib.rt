@@ -1,4 +1,0 @@
-//! Declarations, read from tokens.
-#![tactic(auto)]
-
-pub mod declarations;

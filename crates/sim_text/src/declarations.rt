@@ -1,0 +1,241 @@
+//! Declarations (IEEE 1076-2008, 6).
+
+ghost use Rattle.std.specs.Prelude.{◌≡◌, Ok};
+ghost use Rattle.sim_reading.specs.Declarations as spec;
+ghost use Rattle.sim_reading.specs.Readers.{Reads};
+ghost use Rattle.sim_expression.specs.Cursors.{view};
+
+use sim_expression::Cursor;
+use sim_reading::ParseError;
+use sim_token::Kind;
+use sim_tree::declaration::{
+    ComponentDeclaration, Declaration, Initial, Mode, ObjectDeclaration, PortDeclaration,
+};
+use sim_tree::list::{Several, fitted, one};
+use sim_tree::name::Name;
+use sqlite_items::Items;
+use std::alloc::Global;
+
+/// Reads one name, or several with commas between them.
+#[tactic(auto, unfolding(sim_reading::specs::Declarations::names, sim_reading::specs::Readers::separated))]
+pub fn names(alloc: Global, tokens: &mut Cursor) -> Result<Several<Name>, ParseError>
+    ensures { Reads (spec.names (view tokens.old)) result (view tokens.new) }
+{
+    let mut found = Several::new(alloc, tokens.word()?)?;
+    for _turn in 0..tokens.left() {
+        if !tokens.sees(Kind::Comma) {
+            return Ok(found.fitted());
+        }
+        tokens.take();
+        found.push(tokens.word()?)?;
+    }
+    Ok(found.fitted())
+}
+
+/// Reads the name written again, where a word stands, and says whether one does. `Syntax` comes at another word.
+#[tactic(auto, unfolding(sim_reading::specs::Declarations::repeated))]
+pub fn repeated(tokens: &mut Cursor, text: &[u8]) -> Result<bool, ParseError>
+    ensures { Reads (spec.repeated text.now (view tokens.old)) result (view tokens.new) }
+{
+    if tokens.sees(Kind::Word) {
+        tokens.repeat(text)?;
+        Ok(true)
+    } else {
+        Ok(false)
+    }
+}
+
+#[tactic(auto, unfolding(sim_reading::specs::Declarations::initial))]
+fn initial(tokens: &mut Cursor) -> Result<Option<Initial>, ParseError>
+    ensures { Reads (spec.initial (view tokens.old)) result (view tokens.new) }
+{
+    if !tokens.eat(Kind::VariableAssign) {
+        return Ok(None);
+    }
+    match tokens.peek() {
+        Kind::Literal => {
+            let (value, at) = tokens.literal()?;
+            Ok(Some(Initial::Literal { value, at }))
+        }
+        _ => Ok(Some(Initial::Named(tokens.word()?))),
+    }
+}
+
+#[tactic(auto, unfolding(sim_reading::specs::Declarations::mode))]
+fn mode(tokens: &mut Cursor) -> Option<Mode>
+    ensures { spec.mode (view tokens.old) ≡ Ok (result, view tokens.new) }
+{
+    match tokens.peek() {
+        Kind::In => {
+            tokens.take();
+            Some(Mode::In)
+        }
+        Kind::Out => {
+            tokens.take();
+            Some(Mode::Out)
+        }
+        Kind::Inout => {
+            tokens.take();
+            Some(Mode::Inout)
+        }
+        _ => None,
+    }
+}
+
+#[tactic(auto, unfolding(sim_reading::specs::Declarations::port_of))]
+fn port_of(
+    tokens: &mut Cursor,
+    signal: bool,
+    names: Several<Name>,
+) -> Result<PortDeclaration, ParseError>
+    ensures { Reads (spec.port_of signal names (view tokens.old)) result (view tokens.new) }
+{
+    tokens.expect(Kind::Colon)?;
+    let mode = mode(tokens);
+    let mark = tokens.word()?;
+    let initial = initial(tokens)?;
+    Ok(PortDeclaration {
+        signal,
+        names,
+        mode,
+        mark,
+        initial,
+    })
+}
+
+#[tactic(auto, unfolding(sim_reading::specs::Declarations::port))]
+fn port(alloc: Global, tokens: &mut Cursor) -> Result<PortDeclaration, ParseError>
+    ensures { Reads (spec.port (view tokens.old)) result (view tokens.new) }
+{
+    let signal = tokens.eat(Kind::Signal);
+    let names = names(alloc, tokens)?;
+    port_of(tokens, signal, names)
+}
+
+#[tactic(auto, unfolding(sim_reading::specs::Declarations::port_list, sim_reading::specs::Readers::separated))]
+fn port_list(alloc: Global, tokens: &mut Cursor) -> Result<Items<PortDeclaration>, ParseError>
+    ensures { Reads (spec.port_list (view tokens.old)) result (view tokens.new) }
+{
+    let mut found = one(alloc, port(alloc, tokens)?)?;
+    for _turn in 0..tokens.left() {
+        if !tokens.sees(Kind::Semicolon) {
+            return Ok(fitted(found));
+        }
+        tokens.take();
+        found.push(port(alloc, tokens)?)?;
+    }
+    Ok(fitted(found))
+}
+
+/// Reads a port clause, where one is written (IEEE 1076-2008, 6.5.6.3). Where none is, there are no ports.
+#[tactic(auto, unfolding(sim_reading::specs::Declarations::ports))]
+pub fn ports(alloc: Global, tokens: &mut Cursor) -> Result<Items<PortDeclaration>, ParseError>
+    ensures { Reads (spec.ports (view tokens.old)) result (view tokens.new) }
+{
+    if !tokens.eat(Kind::Port) {
+        return Ok(Items::new(alloc));
+    }
+    tokens.expect(Kind::LeftParen)?;
+    let found = port_list(alloc, tokens)?;
+    tokens.expect(Kind::RightParen)?;
+    tokens.expect(Kind::Semicolon)?;
+    Ok(found)
+}
+
+#[tactic(auto, unfolding(sim_reading::specs::Declarations::object))]
+fn object(alloc: Global, tokens: &mut Cursor) -> Result<ObjectDeclaration, ParseError>
+    ensures { Reads (spec.object (view tokens.old)) result (view tokens.new) }
+{
+    let names = names(alloc, tokens)?;
+    tokens.expect(Kind::Colon)?;
+    let mark = tokens.word()?;
+    let initial = initial(tokens)?;
+    tokens.expect(Kind::Semicolon)?;
+    Ok(ObjectDeclaration {
+        names,
+        mark,
+        initial,
+    })
+}
+
+/// Reads the variable declarations of a process (IEEE 1076-2008, 6.4.2.4).
+#[tactic(auto, unfolding(sim_reading::specs::Declarations::variables, sim_reading::specs::Readers::many))]
+pub fn variables(alloc: Global, tokens: &mut Cursor) -> Result<Items<ObjectDeclaration>, ParseError>
+    ensures { Reads (spec.variables (view tokens.old)) result (view tokens.new) }
+{
+    let mut found = Vec::new(alloc);
+    for _turn in 0..tokens.left() {
+        if !tokens.sees(Kind::Variable) {
+            return Ok(fitted(found));
+        }
+        tokens.take();
+        found.push(object(alloc, tokens)?)?;
+    }
+    Ok(fitted(found))
+}
+
+#[tactic(auto, unfolding(sim_reading::specs::Declarations::component_end))]
+fn component_end(
+    tokens: &mut Cursor,
+    name: Name,
+    is: bool,
+    ports: Items<PortDeclaration>,
+) -> Result<ComponentDeclaration, ParseError>
+    ensures { Reads (spec.component_end name is ports (view tokens.old)) result (view tokens.new) }
+{
+    tokens.expect(Kind::End)?;
+    tokens.expect(Kind::Component)?;
+    let name_repeated = repeated(tokens, name.text())?;
+    tokens.expect(Kind::Semicolon)?;
+    Ok(ComponentDeclaration {
+        name,
+        is,
+        ports,
+        name_repeated,
+    })
+}
+
+#[tactic(auto, unfolding(sim_reading::specs::Declarations::component))]
+fn component(alloc: Global, tokens: &mut Cursor) -> Result<ComponentDeclaration, ParseError>
+    ensures { Reads (spec.component (view tokens.old)) result (view tokens.new) }
+{
+    tokens.expect(Kind::Component)?;
+    let name = tokens.word()?;
+    let is = tokens.eat(Kind::Is);
+    let ports = ports(alloc, tokens)?;
+    component_end(tokens, name, is, ports)
+}
+
+fn begins_declaration(kind: Kind) -> bool
+    ensures { result ≡ spec.begins_declaration kind }
+{
+    matches!(kind, Kind::Signal | Kind::Component)
+}
+
+#[tactic(auto, unfolding(sim_reading::specs::Declarations::declaration))]
+fn declaration(alloc: Global, tokens: &mut Cursor) -> Result<Declaration, ParseError>
+    ensures { Reads (spec.declaration (view tokens.old)) result (view tokens.new) }
+{
+    match tokens.peek() {
+        Kind::Signal => {
+            tokens.take();
+            Ok(Declaration::Signal(object(alloc, tokens)?))
+        }
+        _ => Ok(Declaration::Component(component(alloc, tokens)?)),
+    }
+}
+
+/// Reads the declarations of an architecture (IEEE 1076-2008, 3.3.2).
+#[tactic(auto, unfolding(sim_reading::specs::Declarations::declarations, sim_reading::specs::Readers::many))]
+pub fn declarations(alloc: Global, tokens: &mut Cursor) -> Result<Items<Declaration>, ParseError>
+    ensures { Reads (spec.declarations (view tokens.old)) result (view tokens.new) }
+{
+    let mut found = Vec::new(alloc);
+    for _turn in 0..tokens.left() {
+        if !begins_declaration(tokens.peek()) {
+            return Ok(fitted(found));
+        }
+        found.push(declaration(alloc, tokens)?)?;
+    }
+    Ok(fitted(found))
+}
