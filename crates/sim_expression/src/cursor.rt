@@ -124,7 +124,7 @@ impl Cursor {
     }
 
     /// The character literal that comes next, and where it starts. `Syntax` comes where none does.
-    #[tactic(auto, unfolding(sim_reading::specs::Readers::literal, sim_reading::specs::Readers::left, sim_tree::specs::Input::next, sim_tree::specs::Input::place))]
+    #[tactic(auto, unfolding(sim_reading::specs::Readers::literal, sim_reading::specs::Readers::left, sim_tree::specs::Input::next))]
     pub fn literal(&mut self) -> Result<(Logic, usize), ParseError>
         ensures { Reads (spec.literal (view self.old)) result (view self.new) }
     {
@@ -132,7 +132,8 @@ impl Cursor {
             Some(token) if same_kind(token.kind(), Kind::Literal) => {
                 match logic_of(token.text()) {
                     Some(value) => {
-                        let at = self.take();
+                        let at = token.start();
+                        self.take();
                         Ok((value, at))
                     }
                     None => Err(ParseError::Syntax(self.left())),

@@ -1,4 +1,6 @@
--- Lists of items.
+-- Lists of items, as many as come or with a token between two. What is read as such a list is written so (`many_gives` and `separated_gives`), and what
+-- is written so is read (`many_again` and `separated_again`), where this holds of each item; by induction on how many tokens are left, or on the list.
+-- A list that is written is read to its end because each item begins with what goes on with the list, and what stands after it does not.
 use Rattle.std.proofs.Common.{◌≡◌, ℕ, zero, suc, ◌≤◌, Bool, true, false, cond, List, [], ◌∷◌, ◌++◌, length, map, Ok, refl, sym, subst, ◌∙◌, append_assoc, arith}
 use Rattle.std.proofs.lemmas.List.{append-nil}
 use Rattle.sim_token.specs.declared.kind.Kind.{Kind}

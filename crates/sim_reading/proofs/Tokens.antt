@@ -1,4 +1,6 @@
--- Single tokens: what a step took, and that it takes what is written.
+-- Single tokens. What a reader of one token goes past is the piece that it stands for (`word_gives`, `expect_gives`), and where that piece is written the
+-- reader goes past it (`word_read`, `expect_read`); a reader that may find another token is gone on from by `eat_then` and `sees_then`. The readers of
+-- tokens with a meaning are one, `token_as`, so that for each meaning only two lemmas about one token are left.
 use Rattle.std.proofs.Common.{◌≡◌, ℕ, Bool, true, false, cond, List, [], ◌∷◌, Option, Some, None, Ok, Err, refl, sym, ap, ◌∙◌, codes, rules}
 use Rattle.std.specs.Str.{bytes_eq}
 use Rattle.std.proofs.lemmas.Slice.Eq.{bytes_eq-Decides}

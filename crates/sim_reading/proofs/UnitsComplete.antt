@@ -21,7 +21,8 @@ use Rattle.sim_tree.specs.Writing.{Mark, This, if_written, just, mark, ◌▸◌
 use Rattle.sim_tree.specs.Grammar.{of_suffixes, of_selection, of_selected, of_context_item, of_entity, of_architecture, of_library_unit, of_unit}
 use Rattle.sim_tree.specs.Grammar.{of_units, IsFile}
 use Rattle.sim_tree.proofs.Writings.{split, none_read, never_fits, mark_read, shorter, less, then_less}
-use Rattle.sim_reading.proofs.Tokens.{other, is_same, not_same, word_read, word_kind, this_kind, is_seen, not_seen, eat_read, eat_not, expect_read, written_read}
+use Rattle.sim_reading.proofs.Tokens.{other, is_same, not_same, word_read, word_kind, this_kind, is_seen, not_seen, eat_read, eat_not, expect_read}
+use Rattle.sim_reading.proofs.Tokens.{written_read}
 use Rattle.sim_reading.proofs.Lists.{many_again, many_all_again, separated_again, all_begin}
 use Rattle.sim_reading.specs.Units.{suffixes_from, suffixes, selected, selected_names, context_item, begins_context, context, entity}
 use Rattle.sim_reading.specs.Units.{architecture_body, architecture, library_unit, unit, goes_on, units_of, finish, file}

@@ -1,5 +1,5 @@
 -- The laws of a whole text, from its four halves. What is read as a file is written so (UnitsSound), and what is written so is read (UnitsComplete). As
--- a reader has one answer, no tokens are two files, and tokens that are refused are none; where a fault stands is in FaultPlaces.
+-- a reader has one answer, no tokens are two files, and tokens that are refused are none; where a fault stands is in FileFaults.
 use Rattle.std.proofs.Common.{◌≡◌, ℕ, List, [], Ok, Err, refl, sym, ap, subst, ◌∙◌}
 use Rattle.sim_reading.specs.declared.error.ParseError.{ParseError}
 use Rattle.sim_reading.specs.declared.error.ParseError.TheVariants.{TimeRange, TooDeep}
