@@ -1,0 +1,3 @@
+pub mod Sums
+pub mod StaysLawful
+pub mod TableSteps

@@ -1,0 +1,6 @@
+use Rattle.std.proofs.Common.{rules}
+use Rattle.sim_claims.proofs.TableSteps.{draws}
+use Rattle.sim_claims.proofs.drawing.Claims.draw.Goals as goal
+
+pub fetch_add-found-requires : goal.fetch_add-found-requires
+fetch_add-found-requires c = (search rules, search rules, draws _ _ _ _ (search rules) (search rules))

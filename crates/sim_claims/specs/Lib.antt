@@ -1,0 +1,4 @@
+pub mod Views
+pub mod Lawful
+pub mod Rule
+pub mod Seats
