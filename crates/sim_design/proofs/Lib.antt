@@ -1,2 +1,3 @@
 pub mod FirstNamed
 pub mod Fitting
+pub mod Crossing

@@ -15,7 +15,7 @@ use Rattle.sim_run.specs.declared.error.RunError.{RunError}
 use Rattle.sim_run.specs.declared.error.RunError.TheVariants as refusal
 use Rattle.sim_run.specs.declared.program.Failure.{Failure}
 use Rattle.sim_run.specs.declared.program.Failure.TheVariants as failure
-use Rattle.sim_run.specs.Run.{ReachesLimit}
+use Rattle.sim_run.specs.Run.{IsCutShort, ReachesLimit}
 use Rattle.sim_run.specs.Session.{ReadsSource, IsWhole, HasText, HasRun, HasOptions, IsFailure, status_of}
 use Rattle.sim_run.specs.Simulation.{HasDesign, HasNoDesign, IsRefusal, IsRefusedText}
 
@@ -60,7 +60,8 @@ refusal_of source text options (refusal.Text (fault.TooDeep at)) long longer p =
 refusal_of source text options (refusal.Text (fault.TimeRange at)) long longer p = absurd (too_much source long p.short)
 refusal_of source text options (refusal.Flat f) long longer p = absurd (too_much source long p.is_text.short)
 refusal_of source text options (refusal.CycleLimit l) long longer p = absurd (too_much source long p.1.is_design.is_text.short)
-refusal_of source text options refusal.Memory long longer p = tt
+refusal_of source text options refusal.Stranger long longer p = absurd (too_much source long p.is_design.is_text.short)
+refusal_of source text options refusal.Memory long longer p = absurd (too_much source long p.is_design.is_text.short)
 refusal_of source text options refusal.Write long longer p = absurd p
 
 text_refused : (unread left : Option (List ℕ)) (source : List ℕ) (options : Options) (e : RunError) → ReadsSource unread left source
@@ -79,6 +80,7 @@ run_fails unread left source options refusal.Options r p = text_refused unread l
 run_fails unread left source options (refusal.Text f) r p = text_refused unread left source options (refusal.Text f) r (p (λ q. absurd cc))
 run_fails unread left source options (refusal.Flat f) r p = text_refused unread left source options (refusal.Flat f) r (p (λ q. absurd cc))
 run_fails unread left source options (refusal.CycleLimit l) r p = text_refused unread left source options (refusal.CycleLimit l) r (p (λ q. absurd cc))
+run_fails unread left source options refusal.Stranger r p = text_refused unread left source options refusal.Stranger r (p (λ q. absurd cc))
 run_fails unread left source options refusal.Memory r p = text_refused unread left source options refusal.Memory r (p (λ q. absurd cc))
 
 pub failed_write : (e : RunError) → ◌≡◌ {A = Result (Unit {0}) Failure} (Err (failure.Run e)) (Err (failure.Run refusal.Write)) → ◌≡◌
@@ -171,17 +173,24 @@ module _ (words : List (List ℕ)) (unread : Option (List ℕ)) (options : Optio
   status_1 (failure.Run (refusal.Flat f)) e p = unelaborated f (flat_status f) e p
   status_1 (failure.Run (refusal.CycleLimit l)) e p = absurd (omega arith)
   status_1 (failure.Run refusal.Write) e p = absurd (omega arith)
+  status_1 (failure.Run refusal.Stranger) e p = absurd (omega arith)
   status_1 (failure.Run refusal.Memory) e p = absurd (omega arith)
 
   pub status_3 : (f : Failure) → status_of f ≡ 3 → IsFailure unread options f
-      → HasRun words unread (λ text o. HasDesign text o (λ design. ReachesLimit design o))
+      → HasRun words unread (λ text o. HasDesign text o (λ design. IsCutShort design o))
   status_3 failure.Read e p = absurd (omega arith)
   status_3 failure.Memory e p = absurd (omega arith)
   status_3 (failure.Run refusal.Options) e p = absurd (omega arith)
   status_3 (failure.Run (refusal.Text f)) e p = absurd (text_not_limit f e)
   status_3 (failure.Run (refusal.Flat f)) e p = absurd (flat_not_limit f (flat_status f) e)
-  status_3 (failure.Run (refusal.CycleLimit l)) e p = has_run (λ text o. HasDesign text o (λ design. ReachesLimit design o))
-      (record { text = p.text; whole = p.whole; holds = p.holds.1 })
+  status_3 (failure.Run (refusal.CycleLimit l)) e p =
+      let d = p.holds.1 in
+      has_run (λ text o. HasDesign text o (λ design. IsCutShort design o))
+      (record { text = p.text; whole = p.whole; holds = record { design = d.design; is_design = d.is_design; holds = inl d.holds } })
+  status_3 (failure.Run refusal.Stranger) e p =
+      let d = p.holds in
+      has_run (λ text o. HasDesign text o (λ design. IsCutShort design o))
+      (record { text = p.text; whole = p.whole; holds = record { design = d.design; is_design = d.is_design; holds = inr d.holds } })
   status_3 (failure.Run refusal.Write) e p = absurd (omega arith)
   status_3 (failure.Run refusal.Memory) e p = absurd (omega arith)
 
@@ -194,6 +203,7 @@ module _ (words : List (List ℕ)) (unread : Option (List ℕ)) (options : Optio
   out_of_range unread' (failure.Run (refusal.Flat f)) e p = absurd (flat_not_words f (flat_status f) e)
   out_of_range unread' (failure.Run (refusal.CycleLimit l)) e p = absurd (omega arith)
   out_of_range unread' (failure.Run refusal.Write) e p = absurd (omega arith)
+  out_of_range unread' (failure.Run refusal.Stranger) e p = absurd (omega arith)
   out_of_range unread' (failure.Run refusal.Memory) e p = absurd (omega arith)
 
   pub status_2 : (f : Failure) → status_of f ≡ 2 → IsFailure unread options f
@@ -210,5 +220,6 @@ module _ (words : List (List ℕ)) (unread : Option (List ℕ)) (options : Optio
   stopped Holds (failure.Run (refusal.Text f)) quiet part = inl (quiet (λ e. absurd cc))
   stopped Holds (failure.Run (refusal.Flat f)) quiet part = inl (quiet (λ e. absurd cc))
   stopped Holds (failure.Run (refusal.CycleLimit l)) quiet part = inl (quiet (λ e. absurd cc))
+  stopped Holds (failure.Run refusal.Stranger) quiet part = inl (quiet (λ e. absurd cc))
   stopped Holds (failure.Run refusal.Memory) quiet part = inl (quiet (λ e. absurd cc))
   stopped Holds (failure.Run refusal.Write) quiet part = inr (inl (has_run Holds (part refl)))

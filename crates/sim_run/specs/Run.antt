@@ -1,5 +1,5 @@
 -- A run, whatever the design, by how the design behaves.
-use Rattle.std.specs.Prelude.{◌≡◌, ◌-◌, ℕ, suc, List, Option, Some, None}
+use Rattle.std.specs.Prelude.{◌≡◌, ◌↔◌, ◌⊎◌, ◌<◌, ◌-◌, ℕ, suc, List, Option, Some, None, Result, Err, MatchResult, false}
 use Rattle.sim_design.specs.Designs.{Design}
 use Rattle.sim_store.specs.Store.{Store}
 use Rattle.sim_store.specs.declared.store.Step.{Step}
@@ -8,6 +8,9 @@ use Rattle.sim_store.specs.Behaviour.{Behaviour, behaviour_of}
 use Rattle.sim_store.specs.History.{History}
 use Rattle.sim_store.specs.Outcome.{FinishedAfter, LimitReached, HasOutcome}
 use Rattle.sim_options.specs.declared.options.Options.{Options}
+use Rattle.sim_options.specs.Options.{are_in_range}
+use Rattle.sim_run.specs.declared.error.RunError.{RunError}
+use Rattle.sim_run.specs.declared.error.RunError.TheVariants as refusal
 use Rattle.sim_listing.specs.Listing.{listing}
 use Rattle.sim_listing.specs.Writing.{AppendsPart}
 
@@ -21,6 +24,29 @@ pub record Finishes (design : Behaviour) (options : Options) (history : History)
 -- The run needs more cycles than the limit.
 abbrev pub ReachesLimit : Behaviour → Options → Type 0
 ReachesLimit design options = HasOutcome design.next options.stop options.limit LimitReached
+
+-- Why a run on one thread has no history: there was no memory, or it needs more cycles than the limit.
+abbrev pub IsRefusalAlone : Behaviour → Options → RunError → Type 0
+IsRefusalAlone design options e = (e ≡ refusal.Memory) ⊎ ((e ≡ refusal.CycleLimit options.limit) × ReachesLimit design options)
+
+-- Why the run of a design has no history: an option is out of its range, it needs more cycles than the limit, the store under the lock is not that of this
+-- run, or there was no memory.
+abbrev pub IsRunRefusal : Behaviour → Options → RunError → Type 0
+IsRunRefusal design options refusal.Options = are_in_range options.stop options.limit options.workers ≡ false
+IsRunRefusal design options (refusal.CycleLimit limit) = (limit ≡ options.limit) × ReachesLimit design options
+IsRunRefusal design options refusal.Stranger = Unit {0}
+IsRunRefusal design options refusal.Memory = Unit {0}
+IsRunRefusal design options e = ⊥
+
+-- What a run of a design answers, on however many threads: the history of its finished run, or why it has none; and it is the options exactly where
+-- one of them is out of its range.
+pub record IsAnswer (design : Behaviour) (options : Options) (answer : Result History RunError) : Type 0 where
+  pub answered : MatchResult answer (λ history. Finishes design options history) (λ e. IsRunRefusal design options e)
+  pub ranges : (answer ≡ Err refusal.Options) ↔ (are_in_range options.stop options.limit options.workers ≡ false)
+
+-- The run needs more cycles than the limit; or threads share its store, of which a lock tells no more than its type, so that it may be a stranger's.
+abbrev pub IsCutShort : Behaviour → Options → Type 0
+IsCutShort design options = ReachesLimit design options ⊎ (1 < options.workers)
 
 -- The run is finished, and its listing was written.
 pub record Lists (design : Behaviour) (options : Options) (old new : Option (List ℕ)) : Type 0 where

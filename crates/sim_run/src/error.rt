@@ -6,10 +6,11 @@ ghost use Rattle.sim_run.specs.declared.error.RunError.TheVariants as refusal;
 use sim_flat::FlatError;
 use sim_listing::WriteError;
 use sim_text::TextError;
+use sim_workers::Fault;
 use std::alloc::{AllocError, AllocFailed};
 use thiserror::Error;
 
-/// A refusal of `simulate`. Its text is that of the program's line on standard error.
+/// A refusal of a run. Its text is that of the program's line on standard error.
 #[derive(Clone, Copy, Debug, PartialEq, Eq, Error)]
 pub enum RunError {
     /// The stop time, the cycle limit or the number of workers is out of its range.
@@ -24,6 +25,9 @@ pub enum RunError {
     /// The run needs more cycles than the limit.
     #[error("CycleLimit {limit}")]
     CycleLimit { limit: u32 },
+    /// The store under the lock is not that of this run: its design, its stop time or its limit is another.
+    #[error("Stranger")]
+    Stranger,
     /// A write failed, or took nothing.
     #[error("Write")]
     Write,
@@ -61,6 +65,20 @@ impl From<FlatError> for RunError {
 
     fn from(e: FlatError) -> RunError {
         RunError::Flat(e)
+    }
+}
+
+impl From<Fault> for RunError {
+    ghost use Rattle.std.specs.Prelude.{◌≡◌};
+    ghost use Rattle.sim_run.specs.Faults.{refusal_of};
+
+    ghost from_gives = { λ f e. e ≡ refusal_of f };
+
+    fn from(e: Fault) -> RunError {
+        match e {
+            Fault::Stranger => RunError::Stranger,
+            Fault::Memory => RunError::Memory,
+        }
     }
 }
 

@@ -7,7 +7,7 @@ ghost use Rattle.sim_options.specs.Asks.{AreRefused};
 ghost use Rattle.sim_options.specs.Options.{are_in_range};
 ghost use Rattle.sim_run.specs.declared.error.RunError.TheVariants as refusal;
 ghost use Rattle.sim_run.specs.declared.program.Failure.TheVariants as failure;
-ghost use Rattle.sim_run.specs.Run.{ReachesLimit, Lists, ListsPart};
+ghost use Rattle.sim_run.specs.Run.{IsCutShort, Lists, ListsPart};
 ghost use Rattle.sim_run.specs.Session.{ReadsSource, HasText, HasRun, HasOptions, HasHelp, IsAnswerTo, IsFailure, status_of};
 ghost use Rattle.sim_run.specs.Simulation.{HasDesign, IsRefusedText};
 ghost use Rattle.sim_listing.specs.Writing.{AppendsPart};
@@ -58,7 +58,7 @@ fn status_of_failure(failure: Failure) -> u8
         Failure::Run(RunError::Text(TextError::Memory) | RunError::Flat(FlatError::Memory)) => 4,
         Failure::Run(RunError::Text(_) | RunError::Flat(_)) => 1,
         Failure::Run(RunError::Options) => 2,
-        Failure::Run(RunError::CycleLimit { .. }) => 3,
+        Failure::Run(RunError::CycleLimit { .. } | RunError::Stranger) => 3,
         Failure::Read | Failure::Memory | Failure::Run(RunError::Write | RunError::Memory) => 4,
     }
 }
@@ -148,7 +148,7 @@ fn explain<W: Write, E: Write>(fault: &CliFault, out: &mut W, err: &mut E) -> u8
 
 /// The whole program: it takes its words, without its own name; reads the source from `input`; writes the listing to `out`, or
 /// a line `vsim: ` with the refusal's text to `err`; and answers its status. That is 0 where the listing was written, 1 where
-/// the text was refused, 2 where the words or the options were, 3 where the run needs more cycles than the limit, and 4 where
+/// the text was refused, 2 where the words or the options were, 3 where the run needs more cycles than the limit (or where threads found a stranger's store), and 4 where
 /// memory was short, or reading or writing failed. It reads at most 1,048,577 bytes, by at most 2,097,154 reads.
 ///
 /// Where the words ask for help, its text goes to `out`, with status 0; where they are refused, the lines of `clap` that say why go
@@ -172,7 +172,7 @@ pub fn session<T: Threads + Wait + Sync, R: Read, W: Write, E: Write>(
     ensures alone { (name : Text) → map string_bytes words.items ≡ codes "--top" ∷ name ∷ [] → starts_with_minus name ≡ false → result ≢ 2 }
     ensures limit { result ≡ 3 →
         HasRun (map string_bytes words.items) (R.remaining input.old) (λ text options.
-        HasDesign text options (λ design. ReachesLimit design options)) }
+        HasDesign text options (λ design. IsCutShort design options)) }
     ensures quiet { 0 < result → result < 4 → Keeps (W.contents out.old) (W.contents out.new) }
     // Memory was short, or reading or writing failed: nothing was written, or a proper front of the listing or of the help.
     ensures stopped { result ≡ 4 → Keeps (W.contents out.old) (W.contents out.new)

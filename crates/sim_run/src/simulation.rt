@@ -6,12 +6,13 @@ ghost use Rattle.sim_run.specs.Run.{Finishes, Lists, ListsPart, history_of};
 ghost use Rattle.sim_run.specs.Simulation.{IsDesignOf, HasDesign, IsOfText, IsRefusal};
 
 use crate::error::RunError;
-use crate::run::{run_design, write_run};
+use crate::runs::{run_alone, run_by_workers, write_run};
 use sim_design::Design;
 use sim_flat::flatten;
 use sim_options::Options;
 use sim_store::WaveStore;
 use sim_text::parse;
+use sim_workers::Open;
 use std::alloc::Global;
 use std::io::Write;
 use std::sync::Wait;
@@ -28,13 +29,22 @@ pub fn elaborate(alloc: Global, source: &[u8], options: &Options) -> Result<Desi
 }
 
 /// The run of a text: its store, once it is finished.
-fn run_text(alloc: Global, source: &[u8], options: &Options) -> Result<WaveStore, RunError>
+fn run_text<R: Threads + Wait + Sync>(
+    rt: &R,
+    alloc: Global,
+    source: &[u8],
+    options: &Options,
+) -> Result<WaveStore, RunError>
     requires { are_in_range options.now.stop options.now.limit options.now.workers ≡ true }
     ensures { MatchResult result (λ run. HasDesign source.now options.now (λ design. Finishes design options.now (history_of run)))
         (λ e. IsRefusal source.now options.now e) }
 {
     let design = elaborate(alloc, source, options)?;
-    run_design(alloc, design, options)
+    if options.workers > 1 {
+        run_by_workers(rt, alloc, design, options, &Open)
+    } else {
+        run_alone(alloc, design, options)
+    }
 }
 
 /// Simulates the design in a text and writes its listing. The refusals, in the order in which they are looked for: `Options`
@@ -44,7 +54,7 @@ fn run_text(alloc: Global, source: &[u8], options: &Options) -> Result<WaveStore
 /// `CycleLimit` where the run needs more cycles than the limit; `Write` where a write fails or takes nothing. With every
 /// refusal but `Write` nothing is written, and with that one a front of the listing.
 pub fn simulate<R: Threads + Wait + Sync, W: Write>(
-    _rt: &R,
+    rt: &R,
     alloc: Global,
     source: &[u8],
     options: &Options,
@@ -62,6 +72,6 @@ pub fn simulate<R: Threads + Wait + Sync, W: Write>(
     if !options.are_in_range() {
         return Err(RunError::Options);
     }
-    let run = run_text(alloc, source, options)?;
+    let run = run_text(rt, alloc, source, options)?;
     write_run(alloc, &run, out)
 }

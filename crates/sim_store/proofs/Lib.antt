@@ -10,3 +10,4 @@ pub mod Stores
 pub mod Together
 pub mod Walks
 pub mod Weaves
+pub mod Crossing

@@ -29,3 +29,13 @@ ranged f i (suc n) =
 
 pub members-listed : (set : List Bool) → members set ≡ listed set
 members-listed set = ranged (is_in set) 0 (length set)
+
+-- There are no more of them than numbers that are asked.
+pub those-few : (f : ℕ → Bool) (i n : ℕ) → length (those f i n) ≤ n
+unfolding those
+those-few f i zero = omega arith
+those-few f i (suc n) = go (f i) (those-few f (suc i) n)
+  where
+    go : (b : Bool) → length (those f (suc i) n) ≤ n → length (if b then i ∷ those f (suc i) n else those f (suc i) n) ≤ suc n
+    go true h = omega (arith, h)
+    go false h = omega (arith, h)

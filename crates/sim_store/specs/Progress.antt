@@ -47,6 +47,12 @@ present h = together h.design.processes (those_in h.deposited) (reached h)
 abbrev pub pending_from : Progress → ℕ → ℕ → ℕ
 pending_from h time p = if those_in h.deposited p then time else suc time
 
+-- The waveform of each driver rises strictly, also where its process has been executed since the last cycle: what is pending is later than that cycle, or not
+-- earlier where the process has been executed. What each process owns fits its body (IEEE 1076-2008, 10.5.2.2).
+abbrev pub AreRising : Progress → Type 0
+AreRising h = (p : ℕ) → p < length h.design.processes
+    → IsReady (process_at h.design.processes p).body (pending_from h (reached h).time p) (owned_at (present h).owned p)
+
 -- What is held is that of the simulation.
 pub record IsProgress (h : Progress) (time delta : ℕ) (held : Contents) (records : List Record) (due : List Bool) : Type 0 where
   pub there : standard h.design h.cycles ≡ Some (reached h)

@@ -9,7 +9,7 @@ use Rattle.sim_store.specs.declared.store.Step.{Step}
 use Rattle.sim_store.specs.declared.store.Step.TheVariants as step
 use Rattle.sim_store.specs.declared.store.Look.{Look}
 use Rattle.sim_store.specs.History.{event_count}
-use Rattle.sim_store.specs.Standard.{records_to, resumed}
+use Rattle.sim_store.specs.Standard.{records_to, resumed, standard}
 use Rattle.sim_store.specs.Outcome.{FinishedAfter, LimitReached, HasOutcome, IsOver}
 use Rattle.sim_store.specs.Progress.{Progress, IsComplete, IsDue, IsMissing, IsLeastMissing, IsOwn, after, next_after, next_in, reached, those_in, with_marks}
 
@@ -98,12 +98,18 @@ deposited w p = with_deposited w (slice_set w.progress.deposited p true)
 abbrev pub ended_as : Store → Step → Store
 ended_as w s = record w { ended = Some s }
 
--- A store went on: there is one cycle more, at a time up to the stop time; or the run has ended, and all else is as it was.
-abbrev pub IsAdvanced : Store → Store → Step → Type 0
-IsAdvanced old new step.Next =
+-- What one step of an open store leaves, all of whose due processes have been executed: one cycle more, at a time up to the stop time; or nothing is
+-- pending up to the stop time; or the limit is reached, and a further cycle would be needed. With the last two the run has ended, and all else is as it was.
+abbrev pub WentOn : Store → Store → Step → Type 0
+WentOn old new step.Next =
     (time : ℕ) × (next_after old.progress ≡ Some time) × (time ≤ old.stop) × (old.progress.cycles < old.limit)
     × (new ≡ record old { progress = after old.progress })
-IsAdvanced old new s = IsComplete old.progress × HasEnd old s × (new ≡ ended_as old s)
+WentOn old new step.Finished = HasEnd old step.Finished × (new ≡ ended_as old step.Finished)
+WentOn old new step.LimitReached = (old.progress.cycles ≡ old.limit) × HasEnd old step.LimitReached × (new ≡ ended_as old step.LimitReached)
+
+-- A store went on: it had not ended, and no process was missing.
+abbrev pub IsAdvanced : Store → Store → Step → Type 0
+IsAdvanced old new s = IsOpen old × IsComplete old.progress × WentOn old new s
 
 -- the processes that the last cycle resumed; none where the run has ended
 abbrev pub due_of : Store → List ℕ
@@ -112,6 +118,12 @@ due_of w = go w.ended
     go : Option Step → List ℕ
     go None = resumed w.progress.design w.progress.cycles (reached w.progress)
     go (Some s) = []
+
+-- Whoever has a store knows: it has had no more cycles than the limit, none later than the stop time, and the standard's cycle gives a state after as many.
+pub record IsWithin (w : Store) : Type 0 where
+  pub cycles : w.progress.cycles ≤ w.limit
+  pub time : (reached w.progress).time ≤ w.stop
+  pub there : standard w.progress.design w.progress.cycles ≡ Some (reached w.progress)
 
 -- how far it has come
 abbrev pub look_of : Store → Look

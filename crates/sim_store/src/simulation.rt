@@ -3,6 +3,7 @@
 ghost use Rattle.std.specs.Prelude.{ℕ, suc, ◌≡◌, ◌<◌, ◌≤◌, ◌^◌, ◌+◌, Some, None, Option, true, false, [], ◌∷◌, length, replicate, drop};
 ghost use Rattle.std.specs.Prelude.{slice_set, MatchOption, MatchResult, IfSome, IfOk, IfErr, OnOk, OnErr, ◌↔◌, IsTrue};
 ghost use Rattle.std.specs.List.{All};
+ghost use Rattle.sim_design.specs.Designs.{most};
 ghost use Rattle.sim_design.specs.Processes.{IsProcess};
 ghost use Rattle.sim_state.specs.Cycles as cycles;
 ghost use Rattle.sim_state.specs.Records.{values_of};
@@ -12,7 +13,7 @@ ghost use Rattle.sim_store.specs.Agreement.{total_of, value_by};
 ghost use Rattle.sim_store.specs.History.{IsNamed, event_count};
 ghost use Rattle.sim_store.specs.Made.{IsOf, progress_of};
 ghost use Rattle.sim_store.specs.Progress as spec;
-ghost use Rattle.sim_store.specs.Standard.{records_to, resumed};
+ghost use Rattle.sim_store.specs.Standard.{records_to, resumed, standard};
 ghost use Rattle.sim_store.specs.Store as store;
 
 use crate::due::Due;
@@ -377,14 +378,18 @@ impl Simulation {
 
     /// The numbers of the processes that the last cycle resumed, rising.
     pub fn due(&self) -> &[usize]
-        ensures { result.now ≡ resumed self.now.design self.now.cycles (spec.reached self.now) }
+        ensures value { result.now ≡ resumed self.now.design self.now.cycles (spec.reached self.now) }
+        ensures few { length result.now ≤ most }
     {
+        let _processes = self.design.processes();
         self.made.due.numbers()
     }
 
     /// The time and the delta number of the last cycle.
     pub fn time(&self) -> (u64, u64)
-        ensures { result ≡ ((spec.reached self.now).time, (spec.reached self.now).delta) }
+        ensures value { result ≡ ((spec.reached self.now).time, (spec.reached self.now).delta) }
+        ensures there { standard self.now.design self.now.cycles ≡ Some (spec.reached self.now) }
+        ensures rising { spec.AreRising self.now }
     {
         (self.made.time, self.made.delta)
     }

@@ -2,6 +2,7 @@
 
 ghost use Rattle.std.specs.Prelude.{◌≡◌, ◌<◌, ◌≤◌, Ok, Err, Some, None, suc, drop, length};
 ghost use Rattle.std.specs.Prelude.{MatchOption, MatchResult, IfSome, IfOk, IfErr, OnOk, OnErr};
+ghost use Rattle.sim_design.specs.Designs.{most};
 ghost use Rattle.sim_logic.specs.Time.{largest_time};
 ghost use Rattle.std.specs.List.{All};
 ghost use Rattle.sim_exec.specs.State.{net_at};
@@ -192,7 +193,7 @@ impl WaveStore {
         ensures err { IfErr result (spec.IsAdvanceRefusal self.old) }
         ensures kept { OnErr result (self.new ≡ self.old) }
     {
-        if self.ended.is_some() {
+        if let Some(_step) = self.ended {
             return Err(StoreError::Ended);
         }
         if let Some(process) = self.simulation.missing() {
@@ -205,7 +206,7 @@ impl WaveStore {
     fn go_on(&mut self) -> Result<Step, StoreError>
         requires open { spec.IsOpen self.old }
         requires complete { progress.IsComplete self.old.progress }
-        ensures ok { IfOk result (λ s. spec.IsAdvanced self.old self.new s) }
+        ensures ok { IfOk result (λ s. spec.WentOn self.old self.new s) }
         ensures err { IfErr result (λ e. e ≡ refusal.Memory) }
         ensures kept { OnErr result (self.new ≡ self.old) }
     {
@@ -263,7 +264,8 @@ impl WaveStore {
 
     /// The numbers of the processes that the last cycle resumed, rising, whether or not they have been executed since; none where the run has ended.
     pub fn due(&self) -> &[usize]
-        ensures { result.now ≡ spec.due_of self.now }
+        ensures value { result.now ≡ spec.due_of self.now }
+        ensures few { length result.now ≤ most }
     {
         if self.ended.is_some() {
             return &[];
@@ -271,9 +273,11 @@ impl WaveStore {
         self.simulation.due()
     }
 
-    /// How far the run has come.
+    /// How far the run has come. Whoever has a store knows so too that it is within its bounds, and that its drivers' waveforms rise.
     pub fn look(&self) -> Look
-        ensures { result ≡ spec.look_of self.now }
+        ensures value { result ≡ spec.look_of self.now }
+        ensures within { spec.IsWithin self.now }
+        ensures rising { progress.AreRising self.now.progress }
     {
         let (time, delta) = self.simulation.time();
         Look {

@@ -4,7 +4,7 @@ use Rattle.std.proofs.lemmas.List.{length-map}
 use Rattle.sim_design.specs.Designs.{Design, Net}
 use Rattle.sim_store.proofs.Records.{is_history}
 use Rattle.sim_store.proofs.Going.{length-records_to}
-use Rattle.sim_run.proofs.run.write_run.Goals as goal
+use Rattle.sim_run.proofs.runs.write_run.Goals as goal
 
 pub write_listing-requires-clause-history : goal.write_listing-requires-clause-history
 write_listing-requires-clause-history g c =

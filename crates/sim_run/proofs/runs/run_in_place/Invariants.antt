@@ -1,5 +1,5 @@
 use Rattle.sim_run.specs.Run.{IsRunOf, steps_left}
-use Rattle.sim_run.proofs.run.ended_run.Given as goal
+use Rattle.sim_run.proofs.runs.run_in_place.Given as goal
 
 -- the run of this design with these options
 abbrev pub invariant-loop-alloc : goal.invariant-loop-alloc

@@ -1,0 +1,244 @@
+//! A whole run of a design: on the calling thread, or by several that share its store.
+ghost use Rattle.std.specs.Prelude.{◌≡◌, ◌≢◌, ◌<◌, ◌≤◌, ◌⊎◌, ◌↔◌, IsTrue, None, Err, IfOk, IfErr, IfSome, OnOk, MatchResult};
+ghost use Rattle.std.specs.Io.KnownBytes.{Appends, Keeps};
+ghost use Rattle.sim_listing.specs.Listing.{listing};
+ghost use Rattle.sim_listing.specs.Writing.{AppendsPart};
+ghost use Rattle.sim_logic.specs.Time.{largest_time};
+ghost use Rattle.sim_store.specs.Behaviour.{behaviour_of};
+ghost use Rattle.sim_store.specs.Store as store;
+ghost use Rattle.sim_run.specs.declared.error.RunError.TheVariants as refusal;
+ghost use Rattle.sim_run.specs.Run.{Finishes, IsRefusalAlone, IsAnswer, IsRunOf, IsRunRefusal, IsSameRun, ReachesLimit, history_of, steps_left};
+
+use crate::error::RunError;
+use crate::finished::{Finished, names_of};
+use sim_design::Design;
+use sim_listing::write_listing;
+use sim_options::Options;
+use sim_store::{Step, WaveStore};
+use sim_workers::{Gate, run_to_end};
+use std::alloc::Global;
+use std::io::Write;
+use std::sync::{Mutex, Wait};
+use std::thread::Threads;
+
+/// Carries out one cycle: executes all processes that are due, in place and in rising order, and goes on.
+fn go_on(alloc: Global, run: WaveStore) -> Result<WaveStore, RunError>
+    requires { store.IsOpen run }
+    ensures bounds { IfOk result (IsSameRun run) }
+    ensures on { IfOk result (λ r. steps_left r < steps_left run) }
+    ensures err { IfErr result (λ e. e ≡ refusal.Memory) }
+{
+    let mut run = run.execute_due(alloc)?;
+    match run.advance(alloc) {
+        Ok(_step) => Ok(run),
+        // All that are due have been executed and the run has not ended, so only memory was short.
+        Err(_refusal) => Err(RunError::Memory),
+    }
+}
+
+/// The store of a design at the start of its run.
+fn begun_run(alloc: Global, design: Design, options: &Options) -> Result<WaveStore, RunError>
+    requires { options.now.stop ≤ largest_time }
+    ensures ok { IfOk result (λ run. IsRunOf design options.now run) }
+    ensures err { IfErr result (λ e. e ≡ refusal.Memory) }
+{
+    match WaveStore::new(alloc, design, options.stop, options.limit) {
+        Ok(run) => Ok(run),
+        // The stop time is not too late, so only memory was short.
+        Err(_refusal) => Err(RunError::Memory),
+    }
+}
+
+/// The store of a run that has ended, on the calling thread: nothing is copied, and no lock is taken.
+fn run_in_place(alloc: Global, design: Design, options: &Options) -> Result<WaveStore, RunError>
+    requires { options.now.stop ≤ largest_time }
+    ensures ok { IfOk result (λ run. IsRunOf design options.now run × (run.ended ≢ None)) }
+    ensures err { IfErr result (λ e. e ≡ refusal.Memory) }
+{
+    let mut run = begun_run(alloc, design, options)?;
+    while run.ended().is_none() {
+        run = go_on(alloc, run)?;
+    }
+    Ok(run)
+}
+
+/// Whether a store is that of the run of a design with these options.
+fn is_run_of(run: &WaveStore, design: &Design, options: &Options) -> bool
+    ensures { IsTrue result ↔ IsRunOf design.now options.now run.now }
+{
+    if run.stop() != options.stop {
+        return false;
+    }
+    if run.limit() != options.limit {
+        return false;
+    }
+    run.design().same(design)
+}
+
+/// The store of a run that has ended, by the workers of the options, who are told of by the gate.
+fn run_shared<R: Threads + Wait + Sync, G: Gate + Sync>(
+    rt: &R,
+    alloc: Global,
+    design: Design,
+    options: &Options,
+    gate: &G,
+) -> Result<WaveStore, RunError>
+    requires { options.now.stop ≤ largest_time }
+    ensures ok { IfOk result (λ run. IsRunOf design options.now run × (run.ended ≢ None)) }
+    ensures err { IfErr result (λ e. (e ≡ refusal.Stranger) ⊎ (e ≡ refusal.Memory)) }
+{
+    let copy = design.try_copy()?;
+    let store = Mutex::new(begun_run(alloc, copy, options)?);
+    run_to_end(rt, alloc, &store, options.workers, gate)?;
+    let run = store.into_inner();
+    if is_run_of(&run, &design, options) && run.ended().is_some() {
+        Ok(run)
+    } else {
+        Err(RunError::Stranger)
+    }
+}
+
+/// The store of a run that has ended, if it is finished.
+fn finished_run(run: WaveStore) -> Result<WaveStore, RunError>
+    requires { run.ended ≢ None }
+    ensures finished { IfOk result (λ r. (r ≡ run) × store.HasEnd run Step.Finished) }
+    ensures refused { IfErr result (λ e. (e ≡ refusal.CycleLimit run.limit) × store.HasEnd run Step.LimitReached) }
+{
+    match run.ended() {
+        Some(Step::LimitReached) => Err(RunError::CycleLimit { limit: run.limit() }),
+        _ => Ok(run),
+    }
+}
+
+/// The run of a design on the calling thread, up to the stop time and within the limit: its store, once it is finished.
+pub fn run_alone(alloc: Global, design: Design, options: &Options) -> Result<WaveStore, RunError>
+    requires { options.now.stop ≤ largest_time }
+    ensures finished { IfOk result (λ run. Finishes (behaviour_of design) options.now (history_of run)) }
+    ensures refused { IfErr result (IsRefusalAlone (behaviour_of design) options.now) }
+{
+    let run = run_in_place(alloc, design, options)?;
+    finished_run(run)
+}
+
+/// The run of a design by several workers, up to the stop time and within the limit: its store, once it is finished.
+pub fn run_by_workers<R: Threads + Wait + Sync, G: Gate + Sync>(
+    rt: &R,
+    alloc: Global,
+    design: Design,
+    options: &Options,
+    gate: &G,
+) -> Result<WaveStore, RunError>
+    requires { options.now.stop ≤ largest_time }
+    ensures finished { IfOk result (λ run. Finishes (behaviour_of design) options.now (history_of run)) }
+    ensures refused { IfErr result (λ e. (e ≡ refusal.Stranger) ⊎ IsRefusalAlone (behaviour_of design) options.now e) }
+{
+    let run = run_shared(rt, alloc, design, options, gate)?;
+    finished_run(run)
+}
+
+/// The history of a store under a lock, if its run has ended; none where it goes on. It is compared with the design and the options first.
+fn answer_of(
+    alloc: Global,
+    run: &WaveStore,
+    design: &Design,
+    options: &Options,
+) -> Result<Option<Finished>, RunError>
+    ensures { MatchResult result (λ found. IfSome found (λ history. Finishes (behaviour_of design.now) options.now history))
+        (λ e. (e ≢ refusal.Options) × IsRunRefusal (behaviour_of design.now) options.now e) }
+{
+    if !is_run_of(run, design, options) {
+        return Err(RunError::Stranger);
+    }
+    match run.ended() {
+        None => Ok(None),
+        Some(Step::LimitReached) => Err(RunError::CycleLimit {
+            limit: options.limit,
+        }),
+        Some(_) => {
+            let finished = Finished::of(alloc, run)?;
+            Ok(Some(finished))
+        }
+    }
+}
+
+/// Writes the listing of a store's history, from its log. Where there is no memory for the names of the nets, nothing is written.
+pub fn write_run<W: Write>(alloc: Global, run: &WaveStore, out: &mut W) -> Result<(), RunError>
+    ensures ok { OnOk result (Appends (W.contents out.old) (W.contents out.new) (listing (history_of run.now).names (history_of run.now).records)) }
+    ensures part { result ≡ Err RunError.Write
+        → AppendsPart (W.contents out.old) (W.contents out.new) (listing (history_of run.now).names (history_of run.now).records) }
+    ensures err { IfErr result (λ e. (e ≡ refusal.Write) ⊎ (e ≡ refusal.Memory)) }
+    ensures quiet { IfErr result (λ e. e ≢ RunError.Write → Keeps (W.contents out.old) (W.contents out.new)) }
+{
+    let names = names_of(alloc, run.design().nets())?;
+    write_listing(names.as_slice(), run.history(), run.look().events, out)?;
+    Ok(())
+}
+
+/// The run of a design, by workers where there are several or the gate watches, and else on the calling thread: its store, once it is finished.
+fn run_either<R: Threads + Wait + Sync, G: Gate + Sync>(
+    rt: &R,
+    alloc: Global,
+    design: &Design,
+    options: &Options,
+    gate: &G,
+) -> Result<WaveStore, RunError>
+    requires { options.now.stop ≤ largest_time }
+    ensures finished { IfOk result (λ run. Finishes (behaviour_of design.now) options.now (history_of run)) }
+    ensures refused { IfErr result (λ e. (e ≢ refusal.Options) × IsRunRefusal (behaviour_of design.now) options.now e) }
+{
+    let copy = design.try_copy()?;
+    if options.workers > 1 || gate.watches() {
+        run_by_workers(rt, alloc, copy, options, gate)
+    } else {
+        run_alone(alloc, copy, options)
+    }
+}
+
+/// Runs a design from its initialization to the end of its run, and answers its history. Its processes are executed by as many workers as the options say; the
+/// gate is told of each execution where it watches. With one worker and a gate that does not watch all is done on the calling thread, with no lock. The
+/// refusals: `Options` where an option is out of its range, `CycleLimit` where the run needs more cycles than the limit, `Memory`.
+pub fn run<R: Threads + Wait + Sync, G: Gate + Sync>(
+    rt: &R,
+    alloc: Global,
+    design: &Design,
+    options: &Options,
+    gate: &G,
+) -> Result<Finished, RunError>
+    ensures { IsAnswer (behaviour_of design.now) options.now result }
+{
+    if !options.are_in_range() {
+        return Err(RunError::Options);
+    }
+    let run = run_either(rt, alloc, design, options, gate)?;
+    Finished::of(alloc, &run)
+}
+
+/// Carries on the run of a store under a lock from where it stands to its end, and answers its history. Others may look at the store meanwhile, or carry
+/// it on as well; it stays in the lock. Its design, stop time and limit are compared with the caller's under the first lock and under the last. The refusals:
+/// `Options` where an option is out of its range, `Stranger` where the store is not that of this run, `CycleLimit` where the run needs more
+/// cycles than the limit, `Memory`, after which the call may be made again.
+pub fn run_in<R: Threads + Wait + Sync, G: Gate + Sync>(
+    rt: &R,
+    alloc: Global,
+    store: &Mutex<WaveStore>,
+    design: &Design,
+    options: &Options,
+    gate: &G,
+) -> Result<Finished, RunError>
+    ensures { IsAnswer (behaviour_of design.now) options.now result }
+{
+    if !options.are_in_range() {
+        return Err(RunError::Options);
+    }
+    if !is_run_of(&store.lock(rt), design, options) {
+        return Err(RunError::Stranger);
+    }
+    for _ in rt.forever() {
+        run_to_end(rt, alloc, store, options.workers, gate)?;
+        let found = answer_of(alloc, &store.lock(rt), design, options)?;
+        if let Some(finished) = found {
+            return Ok(finished);
+        }
+    }
+    unreachable!()
+}

@@ -1,0 +1,51 @@
+//! Histories, beside what is expected.
+
+use sim_logic::Logic;
+use sim_run::Record;
+
+/// When the cycles of the toggling flip-flop are, and what they change.
+const TOGGLED: [(u64, u64, &[(usize, Logic)]); 6] = [
+    (0, 0, &[(0, Logic::Zero), (1, Logic::U)]),
+    (5_000_000, 0, &[(0, Logic::One)]),
+    (5_000_000, 1, &[(1, Logic::One)]),
+    (10_000_000, 0, &[(0, Logic::Zero)]),
+    (15_000_000, 0, &[(0, Logic::One)]),
+    (15_000_000, 1, &[(1, Logic::Zero)]),
+];
+
+/// Whether two lists of changes are the same.
+fn are_same(changes: &[(usize, Logic)], others: &[(usize, Logic)]) -> bool {
+    for (change, other) in changes.iter().zip(others) {
+        if change.0 != other.0 || change.1 != other.1 {
+            return false;
+        }
+    }
+    changes.len() == others.len()
+}
+
+/// Whether these are the first records of the toggling flip-flop.
+pub fn begin_toggling(records: &[Record]) -> bool {
+    for (record, (time, delta, changes)) in records.iter().zip(&TOGGLED) {
+        if record.time != *time
+            || record.delta != *delta
+            || !are_same(record.changes.as_slice(), changes)
+        {
+            return false;
+        }
+    }
+    records.len() <= TOGGLED.len()
+}
+
+/// Whether these are all of its records.
+pub fn toggle(records: &[Record]) -> bool {
+    records.len() == TOGGLED.len() && begin_toggling(records)
+}
+
+/// How many changes come after the first record.
+pub fn events(records: &[Record]) -> u64 {
+    let mut count = 0u64;
+    for record in records {
+        count = count.wrapping_add(record.changes.len() as u64);
+    }
+    count.wrapping_sub(2)
+}
