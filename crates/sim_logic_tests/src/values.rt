@@ -1,4 +1,4 @@
-use crate::{LATEST, Logic, Time, Unit, resolve};
+use sim_logic::{LATEST, Logic, Time, Unit, resolve};
 
 fn femtoseconds(count: u64, unit: Unit) -> Option<u64> {
     Time::of(count, unit).map(|time| time.fs())

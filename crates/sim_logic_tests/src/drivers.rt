@@ -5,9 +5,9 @@ ghost use Rattle.sim_logic.specs.declared.logic.Logic as logic;
 ghost use Rattle.sim_wave.specs.Driver.{RisesFrom};
 ghost use Rattle.sim_wave.specs.Edit.{IsWithin};
 
-use crate::{Delay, Driver};
 use sim_logic::Logic::{self, Dash, One, X, Zero};
 use sim_logic::resolve_two;
+use sim_wave::{Delay, Driver, Transaction};
 use std::alloc::{AllocError, Global};
 use std::test::Fail;
 
@@ -21,15 +21,28 @@ fn pulse_rejected_by(alloc: Global, reject: u64) -> Result<Driver, AllocError>
     Ok(driver)
 }
 
+fn leaves(alloc: Global, reject: u64, wanted: &[Transaction]) -> Result<bool, AllocError>
+    requires { reject ≤ 5 }
+{
+    let driver = pulse_rejected_by(alloc, reject)?;
+    Ok(driver.pending() == wanted)
+}
+
+fn leave_the_same(alloc: Global, first: u64, second: u64) -> Result<bool, AllocError>
+    requires first { first ≤ 5 }
+    requires second { second ≤ 5 }
+{
+    let one = pulse_rejected_by(alloc, first)?;
+    let other = pulse_rejected_by(alloc, second)?;
+    Ok(one.same(&other))
+}
+
 #[test]
 fn the_rejection_limit_decides_what_is_kept(rt: HostRuntime) -> Result<(), Fail> {
-    let first = pulse_rejected_by(rt.alloc(), 1)?;
-    let second = pulse_rejected_by(rt.alloc(), 2)?;
-    let third = pulse_rejected_by(rt.alloc(), 3)?;
-    assert_eq!(rt; first.pending(), [(2, One), (3, Zero), (5, One)].as_slice());
-    assert_eq!(rt; second.pending(), [(2, One), (5, One)].as_slice());
-    assert_eq!(rt; third.pending(), [(5, One)].as_slice());
-    assert!(rt; !first.same(&second));
+    assert!(rt; leaves(rt.alloc(), 1, &[(2, One), (3, Zero), (5, One)])?);
+    assert!(rt; leaves(rt.alloc(), 2, &[(2, One), (5, One)])?);
+    assert!(rt; leaves(rt.alloc(), 3, &[(5, One)])?);
+    assert!(rt; !leave_the_same(rt.alloc(), 1, 2)?);
     Ok(())
 }
 
