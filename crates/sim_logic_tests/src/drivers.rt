@@ -62,16 +62,25 @@ fn short_pulse(alloc: Global) -> Result<Driver, AllocError> {
     Ok(driver)
 }
 
+/// Whether the transactions at 3 and 4 are taken at their times alone.
+fn takes_in_turn(driver: &mut Driver) -> bool {
+    driver.pending() == [(3, One), (4, One)].as_slice()
+        && driver.next() == Some(3)
+        && !driver.take(2)
+        && driver.take(3)
+        && driver.value() == One
+        && driver.pending() == [(4, One)].as_slice()
+}
+
+fn is_like_its_copy(driver: &Driver) -> Result<bool, AllocError> {
+    Ok(driver.try_copy()?.same(driver))
+}
+
 #[test]
 fn transactions_are_taken_at_their_times(rt: HostRuntime) -> Result<(), Fail> {
     let mut driver = short_pulse(rt.alloc())?;
-    assert_eq!(rt; driver.pending(), [(3, One), (4, One)].as_slice());
-    assert_eq!(rt; driver.next(), Some(3));
-    assert!(rt; !driver.take(2));
-    assert!(rt; driver.take(3));
-    assert_eq!(rt; driver.value(), One);
-    assert_eq!(rt; driver.pending(), [(4, One)].as_slice());
-    assert!(rt; driver.try_copy()?.same(&driver));
+    assert!(rt; takes_in_turn(&mut driver));
+    assert!(rt; is_like_its_copy(&driver)?);
     Ok(())
 }
 
@@ -98,7 +107,7 @@ fn equal_values_stay(rt: HostRuntime) -> Result<(), Fail> {
         driver.pending(),
         [(8, One), (9, One), (10, One), (11, One), (12, One)].as_slice()
     );
-    assert!(rt; driver.try_copy()?.same(&driver));
+    assert!(rt; is_like_its_copy(&driver)?);
     Ok(())
 }
 
@@ -134,14 +143,24 @@ fn one_pending(alloc: Global) -> Result<Driver, AllocError>
     Ok(driver)
 }
 
+/// Whether these are left of it by an inertial assignment at 3 of a value 5 fs ahead.
+fn leaves_of_one(
+    alloc: Global,
+    reject: u64,
+    value: Logic,
+    wanted: &[Transaction],
+) -> Result<bool, AllocError>
+    requires { reject ≤ 5 }
+{
+    let mut driver = one_pending(alloc)?;
+    driver.edit(3, Delay::Inertial { reject }, &[(5, value)])?;
+    Ok(driver.pending() == wanted)
+}
+
 #[test]
 fn a_single_one_is_kept_or_rejected(rt: HostRuntime) -> Result<(), Fail> {
-    let mut kept = one_pending(rt.alloc())?;
-    kept.edit(3, Delay::Inertial { reject: 5 }, &[(5, One)])?;
-    assert_eq!(rt; kept.pending(), [(5, One), (8, One)].as_slice());
-    let mut rejected = one_pending(rt.alloc())?;
-    rejected.edit(3, Delay::Inertial { reject: 3 }, &[(5, Zero)])?;
-    assert_eq!(rt; rejected.pending(), [(8, Zero)].as_slice());
+    assert!(rt; leaves_of_one(rt.alloc(), 5, One, &[(5, One), (8, One)])?);
+    assert!(rt; leaves_of_one(rt.alloc(), 3, Zero, &[(8, Zero)])?);
     Ok(())
 }
 

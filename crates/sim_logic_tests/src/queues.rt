@@ -22,38 +22,61 @@ fn listed(alloc: Global, set: &NumberSet) -> Result<Vec<usize>, AllocError> {
     Ok(numbers)
 }
 
+/// From where members are looked for, and the next one.
+static NEXT: [(usize, Option<usize>); 6] = [
+    (0, Some(0)),
+    (1, Some(63)),
+    (64, Some(64)),
+    (65, Some(4095)),
+    (4097, Some(4999)),
+    (5000, None),
+];
+
+fn finds_each_next(set: &NumberSet) -> bool {
+    for row in NEXT.iter() {
+        if set.next(row.0) != row.1 {
+            return false;
+        }
+    }
+    true
+}
+
+fn lists(alloc: Global, set: &NumberSet, wanted: &[usize]) -> Result<bool, AllocError> {
+    Ok(listed(alloc, set)?.as_slice() == wanted)
+}
+
 #[test]
 fn members_are_found_in_many_words(rt: HostRuntime) -> Result<(), Fail> {
     let mut set = NumberSet::new(rt.alloc(), 5000)?;
     put_each(&mut set, NUMBERS.as_slice(), true);
-    for (from, next) in [
-        (0, Some(0)),
-        (1, Some(63)),
-        (64, Some(64)),
-        (65, Some(4095)),
-        (4097, Some(4999)),
-        (5000, None),
-    ] {
-        assert_eq!(rt; set.next(from), next, "from {from}");
-    }
-    let numbers = listed(rt.alloc(), &set)?;
-    assert_eq!(rt; numbers.as_slice(), NUMBERS.as_slice());
+    assert!(rt; finds_each_next(&set));
+    assert!(rt; lists(rt.alloc(), &set, NUMBERS.as_slice())?);
     Ok(())
+}
+
+/// Whether these are members.
+static MEMBERS: [(usize, bool); 5] = [
+    (0, false),
+    (1, true),
+    (64, false),
+    (129, true),
+    (130, false),
+];
+
+fn has_members(set: &NumberSet) -> bool {
+    for row in MEMBERS.iter() {
+        if set.contains(row.0) != row.1 {
+            return false;
+        }
+    }
+    true
 }
 
 #[test]
 fn members_are_taken_out(rt: HostRuntime) -> Result<(), Fail> {
     let mut set = NumberSet::full(rt.alloc(), 130)?;
     put_each(&mut set, [0, 63, 64, 128].as_slice(), false);
-    for (number, is_member) in [
-        (0, false),
-        (1, true),
-        (64, false),
-        (129, true),
-        (130, false),
-    ] {
-        assert_eq!(rt; set.contains(number), is_member, "at {number}");
-    }
+    assert!(rt; has_members(&set));
     set.clear();
     assert!(rt; set.is_empty());
     Ok(())
@@ -71,36 +94,49 @@ fn three(alloc: Global) -> Result<TimeQueue, AllocError>
     Ok(queue)
 }
 
-/// The drivers of the least time, if there is one.
-fn due(alloc: Global, queue: &mut TimeQueue) -> Result<Vec<usize>, AllocError>
+/// Whether this is the least time, and these are its drivers. They are taken.
+fn are_due(
+    alloc: Global,
+    queue: &mut TimeQueue,
+    time: u64,
+    wanted: &[usize],
+) -> Result<bool, AllocError>
     ensures { length queue.new ≡ length queue.old }
 {
-    match queue.least() {
-        Some(time) => queue.take_due(alloc, time),
-        None => Ok(Vec::new(alloc)),
+    if queue.least() != Some(time) {
+        return Ok(false);
     }
+    Ok(queue.take_due(alloc, time)?.as_slice() == wanted)
+}
+
+fn takes_at_the_last_times(alloc: Global, queue: &mut TimeQueue) -> Result<bool, AllocError>
+    requires { length queue.old ≡ 3 }
+{
+    let is_taken = are_due(alloc, queue, 3, &[2])?;
+    let is_next = queue.least() == Some(5);
+    queue.put(0, None)?;
+    Ok(is_taken && is_next && queue.least() == Some(9))
 }
 
 #[test]
 fn drivers_are_taken_at_their_last_times(rt: HostRuntime) -> Result<(), Fail> {
     let mut queue = three(rt.alloc())?;
-    assert_eq!(rt; queue.least(), Some(3));
-    let first = due(rt.alloc(), &mut queue)?;
-    assert_eq!(rt; first.as_slice(), [2].as_slice());
-    assert_eq!(rt; queue.least(), Some(5));
-    queue.put(0, None)?;
-    assert_eq!(rt; queue.least(), Some(9));
+    assert!(rt; takes_at_the_last_times(rt.alloc(), &mut queue)?);
     Ok(())
+}
+
+fn takes_at_one_time_again(alloc: Global, queue: &mut TimeQueue) -> Result<bool, AllocError>
+    requires { length queue.old ≡ 3 }
+{
+    let is_taken = are_due(alloc, queue, 3, &[2])?;
+    queue.put(1, Some(3))?;
+    queue.put(2, Some(3))?;
+    Ok(is_taken && are_due(alloc, queue, 3, &[1, 2])? && queue.least() == Some(5))
 }
 
 #[test]
 fn the_time_that_was_taken_comes_again(rt: HostRuntime) -> Result<(), Fail> {
     let mut queue = three(rt.alloc())?;
-    let _first = due(rt.alloc(), &mut queue)?;
-    queue.put(1, Some(3))?;
-    queue.put(2, Some(3))?;
-    let second = due(rt.alloc(), &mut queue)?;
-    assert_eq!(rt; second.as_slice(), [1, 2].as_slice());
-    assert_eq!(rt; queue.least(), Some(5));
+    assert!(rt; takes_at_one_time_again(rt.alloc(), &mut queue)?);
     Ok(())
 }
