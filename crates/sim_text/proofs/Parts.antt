@@ -1,5 +1,5 @@
 -- The readers that the code reads in parts: each part is a function of its own, from whose answer the others go on.
-use Rattle.std.proofs.Common.{◌≡◌, refl, ℕ, Bool, true, false, if◌then◌else◌, List, [], Option, Some, None}
+use Rattle.std.proofs.Common.{◌≡◌, refl, ℕ, Bool, true, false, if◌then◌else◌, List, [], Option}
 use Rattle.sim_token.specs.declared.kind.Kind.{Kind}
 use Rattle.sim_token.specs.declared.kind.Kind.TheVariants as k
 use Rattle.sim_tree.specs.Name.{Name}
@@ -12,7 +12,7 @@ use Rattle.sim_tree.specs.declared.unit.Instantiated.{Instantiated}
 use Rattle.sim_tree.specs.declared.unit.Instantiated.TheVariants as made
 use Rattle.sim_tree.specs.declared.unit.Concurrent.TheVariants as c
 use Rattle.sim_tree.specs.declared.unit.ContextItem.TheVariants as items
-use Rattle.sim_reading.specs.Readers.{Outcome, Parser, and_then, pure, take_token, eat, expect, word}
+use Rattle.sim_reading.specs.Readers.{Outcome, Parser, and_then, pure, eat, expect, word}
 use Rattle.sim_reading.specs.Declarations.{names, object, initial, ports, port_list, component, component_end, declarations, repeated, variables}
 use Rattle.sim_reading.specs.Statements.{statements, label_again}
 use Rattle.sim_reading.specs.Concurrents.{associations, chosen, concurrents, entity_named, instance, port_map, process, process_body, sensitivity}
