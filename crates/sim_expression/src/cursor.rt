@@ -100,6 +100,22 @@ impl Cursor {
         }
     }
 
+    /// Goes past a token of the first kind and one of the second. `Syntax` comes where another is next.
+    pub fn expect_both(&mut self, first: Kind, second: Kind) -> Result<usize, ParseError>
+        ensures { Reads (spec.and_then (spec.expect first (view self.old)) (λ _. spec.expect second)) result (view self.new) }
+    {
+        self.expect(first)?;
+        self.expect(second)
+    }
+
+    /// Goes past a token of this kind, and reads the name after it. `Syntax` comes where another token is next.
+    pub fn word_after(&mut self, kind: Kind) -> Result<Name, ParseError>
+        ensures { Reads (spec.and_then (spec.expect kind (view self.old)) (λ _. spec.word)) result (view self.new) }
+    {
+        self.expect(kind)?;
+        self.word()
+    }
+
     /// The next token, if it is of this kind; else it is left.
     fn next_of(&mut self, kind: Kind) -> Option<Token>
         ensures left { IfNone result (view self.new ≡ view self.old) }

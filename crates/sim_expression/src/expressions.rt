@@ -3,7 +3,8 @@
 ghost use Rattle.std.specs.Prelude.{◌≡◌, ◌∷◌, [], true};
 ghost use Rattle.sim_reading.specs.Expressions as spec;
 ghost use Rattle.sim_tree.specs.Grammar.{is_repeatable, logical_kind};
-ghost use Rattle.sim_reading.specs.Readers.{Reads};
+ghost use Rattle.sim_token.specs.declared.kind.Kind.TheVariants as k;
+ghost use Rattle.sim_reading.specs.Readers.{Reads, and_then, pure, expect, word};
 ghost use Rattle.sim_expression.specs.Cursors.{view};
 
 use crate::cursor::Cursor;
@@ -11,13 +12,23 @@ use sim_reading::ParseError;
 use sim_token::Kind;
 use sim_tree::expression::{Expression, Logical, Operand, Relational};
 use sim_tree::list::{fitted, one};
+use sim_tree::name::Name;
 use sqlite_items::{Boxed, Items};
 use std::alloc::Global;
 
 /// How many parentheses of one expression may be open.
 const MOST_PARENTHESES: usize = 64;
 
-#[tactic(auto, unfolding(sim_reading::specs::Expressions::named))]
+/// Reads the argument of a call, and the parenthesis after it.
+fn argument(tokens: &mut Cursor) -> Result<Name, ParseError>
+    ensures { Reads (and_then (word (view tokens.old)) (λ name i. and_then (expect k.RightParen i) (λ _. pure name))) result (view tokens.new) }
+{
+    let name = tokens.word()?;
+    tokens.expect(Kind::RightParen)?;
+    Ok(name)
+}
+
+#[tactic(auto, using(crate::proofs::Parts::call_in_parts), unfolding(sim_reading::specs::Expressions::named))]
 fn named(tokens: &mut Cursor) -> Result<Expression, ParseError>
     ensures { Reads (spec.named (view tokens.old)) result (view tokens.new) }
 {
@@ -30,8 +41,7 @@ fn named(tokens: &mut Cursor) -> Result<Expression, ParseError>
         }
         Kind::LeftParen => {
             tokens.take();
-            let argument = tokens.word()?;
-            tokens.expect(Kind::RightParen)?;
+            let argument = argument(tokens)?;
             Ok(Expression::Call {
                 function: name,
                 argument,

@@ -1,7 +1,8 @@
 //! Waveforms and delays (IEEE 1076-2008, 10.5).
 
 ghost use Rattle.sim_reading.specs.Waveforms as spec;
-ghost use Rattle.sim_reading.specs.Readers.{Reads};
+ghost use Rattle.sim_token.specs.declared.kind.Kind.TheVariants as k;
+ghost use Rattle.sim_reading.specs.Readers.{Reads, and_then, pure, expect};
 ghost use Rattle.sim_expression.specs.Cursors.{view};
 
 use crate::cursor::Cursor;
@@ -135,8 +136,17 @@ fn waveforms(alloc: Global, tokens: &mut Cursor) -> Result<ConditionalWaveforms,
     Err(ParseError::Syntax(tokens.left()))
 }
 
+/// Reads conditional waveforms, and the semicolon after them.
+fn waveforms_ended(alloc: Global, tokens: &mut Cursor) -> Result<ConditionalWaveforms, ParseError>
+    ensures { Reads (and_then (spec.waveforms (view tokens.old)) (λ found i. and_then (expect k.Semicolon i) (λ _. pure found))) result (view tokens.new) }
+{
+    let waveforms = waveforms(alloc, tokens)?;
+    tokens.expect(Kind::Semicolon)?;
+    Ok(waveforms)
+}
+
 /// Reads what stands after the target of a concurrent assignment, with its semicolon (IEEE 1076-2008, 11.6).
-#[tactic(auto, unfolding(sim_reading::specs::Waveforms::assigned))]
+#[tactic(auto, using(crate::proofs::Parts::assigned_in_parts))]
 pub fn assigned(
     alloc: Global,
     tokens: &mut Cursor,
@@ -147,8 +157,7 @@ pub fn assigned(
 {
     tokens.expect(Kind::SignalAssign)?;
     let delay = delay(tokens)?;
-    let waveforms = waveforms(alloc, tokens)?;
-    tokens.expect(Kind::Semicolon)?;
+    let waveforms = waveforms_ended(alloc, tokens)?;
     Ok(ConcurrentSignalAssignment {
         label,
         target,

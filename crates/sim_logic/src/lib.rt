@@ -5,8 +5,6 @@ pub mod laws;
 mod logic;
 mod operators;
 mod resolution;
-#[cfg(test)]
-mod tests;
 mod time;
 
 pub use logic::Logic;

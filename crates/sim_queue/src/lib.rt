@@ -3,8 +3,6 @@
 
 mod entries;
 mod numbers;
-#[cfg(test)]
-mod tests;
 mod times;
 mod words;
 

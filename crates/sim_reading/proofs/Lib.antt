@@ -2,6 +2,7 @@ pub mod Gives
 pub mod Tokens
 pub mod Lists
 pub mod OneItemATurn
+pub mod Parts
 pub mod FaultPlaces
 pub mod ExpressionsSound
 pub mod ExpressionsComplete

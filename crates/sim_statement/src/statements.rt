@@ -3,7 +3,9 @@
 ghost use Rattle.std.specs.Prelude.{◌≡◌};
 ghost use Rattle.sim_reading.specs.Statements as spec;
 ghost use Rattle.sim_reading.specs.Statements.{condition};
-ghost use Rattle.sim_reading.specs.Readers.{Reads};
+ghost use Rattle.sim_token.specs.declared.kind.Kind.TheVariants as k;
+ghost use Rattle.sim_reading.specs.Waveforms.{waveform};
+ghost use Rattle.sim_reading.specs.Readers.{Reads, and_then, pure, expect};
 ghost use Rattle.sim_expression.specs.Cursors.{view};
 
 use sim_expression::Cursor;
@@ -15,6 +17,7 @@ use sim_tree::expression::Expression;
 use sim_tree::list::{fitted, one};
 use sim_tree::name::Name;
 use sim_tree::sequential::{Branch, Sequential, SignalAssignment, Statement, VariableAssignment};
+use sim_tree::waveform::Waveform;
 use sqlite_items::Items;
 use std::alloc::Global;
 
@@ -39,6 +42,16 @@ pub fn label_again(tokens: &mut Cursor, label: &Option<Name>) -> Result<bool, Pa
     }
 }
 
+/// Reads the label written again, where a word stands, and the semicolon after it; and says whether a word does.
+pub fn label_ended(tokens: &mut Cursor, label: &Option<Name>) -> Result<bool, ParseError>
+    ensures { Reads (and_then (spec.label_again label.now (view tokens.old)) (λ again i. and_then (expect k.Semicolon i) (λ _. pure again)))
+        result (view tokens.new) }
+{
+    let label_repeated = label_again(tokens, label)?;
+    tokens.expect(Kind::Semicolon)?;
+    Ok(label_repeated)
+}
+
 #[tactic(auto, unfolding(sim_reading::specs::Statements::variable_assigned))]
 fn variable_assigned(
     alloc: Global,
@@ -53,7 +66,16 @@ fn variable_assigned(
     Ok(Statement::Variable(VariableAssignment { target, value }))
 }
 
-#[tactic(auto, unfolding(sim_reading::specs::Statements::signal_assigned))]
+/// Reads a waveform, and the semicolon after it.
+fn waveform_ended(alloc: Global, tokens: &mut Cursor) -> Result<Waveform, ParseError>
+    ensures { Reads (and_then (waveform (view tokens.old)) (λ found i. and_then (expect k.Semicolon i) (λ _. pure found))) result (view tokens.new) }
+{
+    let waveform = waveform(alloc, tokens)?;
+    tokens.expect(Kind::Semicolon)?;
+    Ok(waveform)
+}
+
+#[tactic(auto, using(crate::proofs::Parts::signal_assigned_in_parts))]
 fn signal_assigned(
     alloc: Global,
     tokens: &mut Cursor,
@@ -63,8 +85,7 @@ fn signal_assigned(
 {
     tokens.expect(Kind::SignalAssign)?;
     let delay = delay(tokens)?;
-    let waveform = waveform(alloc, tokens)?;
-    tokens.expect(Kind::Semicolon)?;
+    let waveform = waveform_ended(alloc, tokens)?;
     Ok(Statement::Signal(SignalAssignment {
         target,
         delay,
@@ -241,7 +262,7 @@ fn otherwise(
     Ok(Some(statements))
 }
 
-#[tactic(auto, unfolding(sim_reading::specs::Statements::if_end))]
+#[tactic(auto, using(crate::proofs::Parts::if_end_in_parts))]
 fn if_end(
     tokens: &mut Cursor,
     label: &Option<Name>,
@@ -250,10 +271,8 @@ fn if_end(
 ) -> Result<Statement, ParseError>
     ensures { Reads (spec.if_end label.now branches otherwise (view tokens.old)) result (view tokens.new) }
 {
-    tokens.expect(Kind::End)?;
-    tokens.expect(Kind::If)?;
-    let label_repeated = label_again(tokens, label)?;
-    tokens.expect(Kind::Semicolon)?;
+    tokens.expect_both(Kind::End, Kind::If)?;
+    let label_repeated = label_ended(tokens, label)?;
     Ok(Statement::If {
         branches,
         otherwise,

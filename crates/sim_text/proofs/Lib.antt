@@ -1,2 +1,3 @@
 mod Places
 mod Texts
+mod Parts

@@ -4,18 +4,21 @@ ghost use Rattle.std.specs.Prelude.{◌≡◌};
 ghost use Rattle.sim_reading.specs.Concurrents as spec;
 ghost use Rattle.sim_tree.specs.Grammar.{is_named};
 ghost use Rattle.sim_tree.specs.Input.{kind};
-ghost use Rattle.sim_reading.specs.Readers.{Reads};
+ghost use Rattle.sim_token.specs.declared.kind.Kind.TheVariants as k;
+ghost use Rattle.sim_reading.specs.Statements.{statements};
+ghost use Rattle.sim_reading.specs.Readers.{Reads, and_then, pure, expect};
 ghost use Rattle.sim_expression.specs.Cursors.{view};
 
 use crate::declarations::{names, variables};
 use sim_expression::Cursor;
 use sim_expression::waveforms::assigned;
 use sim_reading::ParseError;
-use sim_statement::statements::{label_again, statements};
+use sim_statement::statements::{label_ended, statements};
 use sim_token::Kind;
 use sim_tree::declaration::ObjectDeclaration;
 use sim_tree::list::fitted;
 use sim_tree::name::Name;
+use sim_tree::sequential::Sequential;
 use sim_tree::unit::{
     Actual, Association, Concurrent, Instance, Instantiated, Process, Sensitivity,
 };
@@ -33,7 +36,14 @@ fn sensitivity(alloc: Global, tokens: &mut Cursor) -> Result<Sensitivity, ParseE
     Ok(Sensitivity::Names(names))
 }
 
-#[tactic(auto, unfolding(sim_reading::specs::Concurrents::process_body))]
+fn process_statements(alloc: Global, tokens: &mut Cursor) -> Result<Items<Sequential>, ParseError>
+    ensures { Reads (and_then (expect k.Begin (view tokens.old)) (λ _. statements)) result (view tokens.new) }
+{
+    tokens.expect(Kind::Begin)?;
+    statements(alloc, tokens)
+}
+
+#[tactic(auto, using(crate::proofs::Parts::process_body_in_parts))]
 fn process_body(
     alloc: Global,
     tokens: &mut Cursor,
@@ -44,12 +54,9 @@ fn process_body(
 ) -> Result<Process, ParseError>
     ensures { Reads (spec.process_body label sensitivity is variables (view tokens.old)) result (view tokens.new) }
 {
-    tokens.expect(Kind::Begin)?;
-    let statements = statements(alloc, tokens)?;
-    tokens.expect(Kind::End)?;
-    tokens.expect(Kind::Process)?;
-    let label_repeated = label_again(tokens, &label)?;
-    tokens.expect(Kind::Semicolon)?;
+    let statements = process_statements(alloc, tokens)?;
+    tokens.expect_both(Kind::End, Kind::Process)?;
+    let label_repeated = label_ended(tokens, &label)?;
     Ok(Process {
         label,
         sensitivity,
@@ -60,14 +67,21 @@ fn process_body(
     })
 }
 
-#[tactic(auto, unfolding(sim_reading::specs::Concurrents::process))]
+/// Reads a sensitivity list and the parenthesis after it.
+fn sensitivity_closed(alloc: Global, tokens: &mut Cursor) -> Result<Sensitivity, ParseError>
+    ensures { Reads (and_then (spec.sensitivity (view tokens.old)) (λ found i. and_then (expect k.RightParen i) (λ _. pure found))) result (view tokens.new) }
+{
+    let sensitivity = sensitivity(alloc, tokens)?;
+    tokens.expect(Kind::RightParen)?;
+    Ok(sensitivity)
+}
+
+#[tactic(auto, using(crate::proofs::Parts::process_in_parts))]
 fn process(alloc: Global, tokens: &mut Cursor, label: Option<Name>) -> Result<Process, ParseError>
     ensures { Reads (spec.process label (view tokens.old)) result (view tokens.new) }
 {
-    tokens.expect(Kind::Process)?;
-    tokens.expect(Kind::LeftParen)?;
-    let sensitivity = sensitivity(alloc, tokens)?;
-    tokens.expect(Kind::RightParen)?;
+    tokens.expect_both(Kind::Process, Kind::LeftParen)?;
+    let sensitivity = sensitivity_closed(alloc, tokens)?;
     let is = tokens.eat(Kind::Is);
     let variables = variables(alloc, tokens)?;
     process_body(alloc, tokens, label, sensitivity, is, variables)
@@ -170,21 +184,29 @@ fn associations(alloc: Global, tokens: &mut Cursor) -> Result<Items<Association>
     Err(ParseError::Syntax(tokens.left()))
 }
 
-#[tactic(auto, unfolding(sim_reading::specs::Concurrents::port_map))]
+#[tactic(auto, using(crate::proofs::Parts::port_map_in_parts))]
 fn port_map(alloc: Global, tokens: &mut Cursor) -> Result<Items<Association>, ParseError>
     ensures { Reads (spec.port_map (view tokens.old)) result (view tokens.new) }
 {
     if !tokens.eat(Kind::Port) {
         return Ok(Items::new(alloc));
     }
-    tokens.expect(Kind::Map)?;
-    tokens.expect(Kind::LeftParen)?;
+    tokens.expect_both(Kind::Map, Kind::LeftParen)?;
     let found = associations(alloc, tokens)?;
     tokens.expect(Kind::RightParen)?;
     Ok(found)
 }
 
-#[tactic(auto, unfolding(sim_reading::specs::Concurrents::instance))]
+/// Reads a port map, where one is written, and the semicolon after it.
+fn port_map_ended(alloc: Global, tokens: &mut Cursor) -> Result<Items<Association>, ParseError>
+    ensures { Reads (and_then (spec.port_map (view tokens.old)) (λ found i. and_then (expect k.Semicolon i) (λ _. pure found))) result (view tokens.new) }
+{
+    let associations = port_map(alloc, tokens)?;
+    tokens.expect(Kind::Semicolon)?;
+    Ok(associations)
+}
+
+#[tactic(auto, using(crate::proofs::Parts::instance_in_parts))]
 fn instance(
     alloc: Global,
     tokens: &mut Cursor,
@@ -193,8 +215,7 @@ fn instance(
 ) -> Result<Concurrent, ParseError>
     ensures { Reads (spec.instance label unit (view tokens.old)) result (view tokens.new) }
 {
-    let associations = port_map(alloc, tokens)?;
-    tokens.expect(Kind::Semicolon)?;
+    let associations = port_map_ended(alloc, tokens)?;
     Ok(Concurrent::Instance(Instance {
         label,
         unit,
@@ -214,14 +235,13 @@ fn chosen(tokens: &mut Cursor) -> Result<Option<Name>, ParseError>
     Ok(Some(name))
 }
 
-#[tactic(auto, unfolding(sim_reading::specs::Concurrents::entity_named))]
+#[tactic(auto, using(crate::proofs::Parts::entity_named_in_parts))]
 fn entity_named(tokens: &mut Cursor) -> Result<Instantiated, ParseError>
     ensures { Reads (spec.entity_named (view tokens.old)) result (view tokens.new) }
 {
     tokens.take();
     let library = tokens.word()?;
-    tokens.expect(Kind::Dot)?;
-    let entity = tokens.word()?;
+    let entity = tokens.word_after(Kind::Dot)?;
     let architecture = chosen(tokens)?;
     Ok(Instantiated::Entity {
         library,

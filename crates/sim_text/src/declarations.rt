@@ -2,7 +2,8 @@
 
 ghost use Rattle.std.specs.Prelude.{◌≡◌, Ok};
 ghost use Rattle.sim_reading.specs.Declarations as spec;
-ghost use Rattle.sim_reading.specs.Readers.{Reads};
+ghost use Rattle.sim_token.specs.declared.kind.Kind.TheVariants as k;
+ghost use Rattle.sim_reading.specs.Readers.{Reads, and_then, pure, expect};
 ghost use Rattle.sim_expression.specs.Cursors.{view};
 
 use sim_expression::Cursor;
@@ -128,7 +129,7 @@ fn port_list(alloc: Global, tokens: &mut Cursor) -> Result<Items<PortDeclaration
 }
 
 /// Reads a port clause, where one is written (IEEE 1076-2008, 6.5.6.3). Where none is, there are no ports.
-#[tactic(auto, unfolding(sim_reading::specs::Declarations::ports))]
+#[tactic(auto, using(crate::proofs::Parts::ports_in_parts))]
 pub fn ports(alloc: Global, tokens: &mut Cursor) -> Result<Items<PortDeclaration>, ParseError>
     ensures { Reads (spec.ports (view tokens.old)) result (view tokens.new) }
 {
@@ -137,20 +138,26 @@ pub fn ports(alloc: Global, tokens: &mut Cursor) -> Result<Items<PortDeclaration
     }
     tokens.expect(Kind::LeftParen)?;
     let found = port_list(alloc, tokens)?;
-    tokens.expect(Kind::RightParen)?;
-    tokens.expect(Kind::Semicolon)?;
+    tokens.expect_both(Kind::RightParen, Kind::Semicolon)?;
     Ok(found)
 }
 
-#[tactic(auto, unfolding(sim_reading::specs::Declarations::object))]
+/// Reads a first value, where one is written, and the semicolon after it.
+fn initial_ended(tokens: &mut Cursor) -> Result<Option<Initial>, ParseError>
+    ensures { Reads (and_then (spec.initial (view tokens.old)) (λ first i. and_then (expect k.Semicolon i) (λ _. pure first))) result (view tokens.new) }
+{
+    let initial = initial(tokens)?;
+    tokens.expect(Kind::Semicolon)?;
+    Ok(initial)
+}
+
+#[tactic(auto, using(crate::proofs::Parts::object_in_parts))]
 fn object(alloc: Global, tokens: &mut Cursor) -> Result<ObjectDeclaration, ParseError>
     ensures { Reads (spec.object (view tokens.old)) result (view tokens.new) }
 {
     let names = names(alloc, tokens)?;
-    tokens.expect(Kind::Colon)?;
-    let mark = tokens.word()?;
-    let initial = initial(tokens)?;
-    tokens.expect(Kind::Semicolon)?;
+    let mark = tokens.word_after(Kind::Colon)?;
+    let initial = initial_ended(tokens)?;
     Ok(ObjectDeclaration {
         names,
         mark,
@@ -174,7 +181,16 @@ pub fn variables(alloc: Global, tokens: &mut Cursor) -> Result<Items<ObjectDecla
     Ok(fitted(found))
 }
 
-#[tactic(auto, unfolding(sim_reading::specs::Declarations::component_end))]
+/// Reads the name written again, where a word stands, and the semicolon after it; and says whether a word does.
+fn name_ended(tokens: &mut Cursor, text: &[u8]) -> Result<bool, ParseError>
+    ensures { Reads (and_then (spec.repeated text.now (view tokens.old)) (λ again i. and_then (expect k.Semicolon i) (λ _. pure again))) result (view tokens.new) }
+{
+    let name_repeated = repeated(tokens, text)?;
+    tokens.expect(Kind::Semicolon)?;
+    Ok(name_repeated)
+}
+
+#[tactic(auto, using(crate::proofs::Parts::component_end_in_parts))]
 fn component_end(
     tokens: &mut Cursor,
     name: Name,
@@ -183,10 +199,8 @@ fn component_end(
 ) -> Result<ComponentDeclaration, ParseError>
     ensures { Reads (spec.component_end name is ports (view tokens.old)) result (view tokens.new) }
 {
-    tokens.expect(Kind::End)?;
-    tokens.expect(Kind::Component)?;
-    let name_repeated = repeated(tokens, name.text())?;
-    tokens.expect(Kind::Semicolon)?;
+    tokens.expect_both(Kind::End, Kind::Component)?;
+    let name_repeated = name_ended(tokens, name.text())?;
     Ok(ComponentDeclaration {
         name,
         is,
@@ -195,12 +209,11 @@ fn component_end(
     })
 }
 
-#[tactic(auto, unfolding(sim_reading::specs::Declarations::component))]
+#[tactic(auto, using(crate::proofs::Parts::component_in_parts))]
 fn component(alloc: Global, tokens: &mut Cursor) -> Result<ComponentDeclaration, ParseError>
     ensures { Reads (spec.component (view tokens.old)) result (view tokens.new) }
 {
-    tokens.expect(Kind::Component)?;
-    let name = tokens.word()?;
+    let name = tokens.word_after(Kind::Component)?;
     let is = tokens.eat(Kind::Is);
     let ports = ports(alloc, tokens)?;
     component_end(tokens, name, is, ports)

@@ -1,8 +1,11 @@
 //! Design units and files (IEEE 1076-2008, 13.1).
 
 ghost use Rattle.std.specs.Prelude.{◌≡◌};
+ghost use Rattle.sim_token.specs.declared.kind.Kind.TheVariants as k;
 ghost use Rattle.sim_reading.specs.Units as spec;
-ghost use Rattle.sim_reading.specs.Readers.{Reads};
+ghost use Rattle.sim_reading.specs.Declarations.{declarations, names, ports, repeated};
+ghost use Rattle.sim_reading.specs.Concurrents.{concurrents};
+ghost use Rattle.sim_reading.specs.Readers.{Reads, and_then, pure, eat, expect};
 ghost use Rattle.sim_expression.specs.Cursors.{view};
 
 use crate::concurrents::concurrents;
@@ -11,10 +14,12 @@ use sim_expression::Cursor;
 use sim_reading::ParseError;
 use sim_token::Kind;
 use sim_tree::DesignFile;
-use sim_tree::declaration::Declaration;
+use sim_tree::declaration::{Declaration, PortDeclaration};
 use sim_tree::list::{Several, fitted};
 use sim_tree::name::Name;
-use sim_tree::unit::{Architecture, ContextItem, DesignUnit, Entity, LibraryUnit, SelectedName};
+use sim_tree::unit::{
+    Architecture, Concurrent, ContextItem, DesignUnit, Entity, LibraryUnit, SelectedName,
+};
 use sqlite_items::Items;
 use std::alloc::Global;
 
@@ -64,21 +69,37 @@ fn selected_names(alloc: Global, tokens: &mut Cursor) -> Result<Several<Selected
     Ok(found.fitted())
 }
 
-#[tactic(auto, unfolding(sim_reading::specs::Units::context_item))]
+/// Reads the names of a library clause, and the semicolon after them.
+fn library_names(alloc: Global, tokens: &mut Cursor) -> Result<Several<Name>, ParseError>
+    ensures { Reads (and_then (names (view tokens.old)) (λ found i. and_then (expect k.Semicolon i) (λ _. pure found))) result (view tokens.new) }
+{
+    let names = names(alloc, tokens)?;
+    tokens.expect(Kind::Semicolon)?;
+    Ok(names)
+}
+
+/// Reads the names of a use clause, and the semicolon after them.
+fn used_names(alloc: Global, tokens: &mut Cursor) -> Result<Several<SelectedName>, ParseError>
+    ensures { Reads (and_then (spec.selected_names (view tokens.old)) (λ found i. and_then (expect k.Semicolon i) (λ _. pure found))) result (view tokens.new) }
+{
+    let names = selected_names(alloc, tokens)?;
+    tokens.expect(Kind::Semicolon)?;
+    Ok(names)
+}
+
+#[tactic(auto, using(crate::proofs::Parts::library_clause_in_parts, crate::proofs::Parts::use_clause_in_parts), unfolding(sim_reading::specs::Units::context_item))]
 fn context_item(alloc: Global, tokens: &mut Cursor) -> Result<ContextItem, ParseError>
     ensures { Reads (spec.context_item (view tokens.old)) result (view tokens.new) }
 {
     match tokens.peek() {
         Kind::Library => {
             tokens.take();
-            let names = names(alloc, tokens)?;
-            tokens.expect(Kind::Semicolon)?;
+            let names = library_names(alloc, tokens)?;
             Ok(ContextItem::Library(names))
         }
         _ => {
             tokens.expect(Kind::Use)?;
-            let names = selected_names(alloc, tokens)?;
-            tokens.expect(Kind::Semicolon)?;
+            let names = used_names(alloc, tokens)?;
             Ok(ContextItem::Use(names))
         }
     }
@@ -104,18 +125,32 @@ fn context(alloc: Global, tokens: &mut Cursor) -> Result<Items<ContextItem>, Par
     Ok(fitted(found))
 }
 
-#[tactic(auto, unfolding(sim_reading::specs::Units::entity))]
+fn entity_ports(alloc: Global, tokens: &mut Cursor) -> Result<Items<PortDeclaration>, ParseError>
+    ensures { Reads (and_then (expect k.Is (view tokens.old)) (λ _. ports)) result (view tokens.new) }
+{
+    tokens.expect(Kind::Is)?;
+    ports(alloc, tokens)
+}
+
+/// Reads the end of a unit: whether its word is repeated, and whether its name is.
+fn unit_end(tokens: &mut Cursor, word: Kind, name: &[u8]) -> Result<(bool, bool), ParseError>
+    ensures { Reads (and_then (expect k.End (view tokens.old)) (λ _ i. and_then (eat word i) (λ with_word i. and_then (repeated name.now i) (λ again i.
+        and_then (expect k.Semicolon i) (λ _. pure (with_word, again)))))) result (view tokens.new) }
+{
+    tokens.expect(Kind::End)?;
+    let word_repeated = tokens.eat(word);
+    let name_repeated = repeated(tokens, name)?;
+    tokens.expect(Kind::Semicolon)?;
+    Ok((word_repeated, name_repeated))
+}
+
+#[tactic(auto, using(crate::proofs::Parts::entity_in_parts))]
 fn entity(alloc: Global, tokens: &mut Cursor) -> Result<Entity, ParseError>
     ensures { Reads (spec.entity (view tokens.old)) result (view tokens.new) }
 {
-    tokens.expect(Kind::Entity)?;
-    let name = tokens.word()?;
-    tokens.expect(Kind::Is)?;
-    let ports = ports(alloc, tokens)?;
-    tokens.expect(Kind::End)?;
-    let word_repeated = tokens.eat(Kind::Entity);
-    let name_repeated = repeated(tokens, name.text())?;
-    tokens.expect(Kind::Semicolon)?;
+    let name = tokens.word_after(Kind::Entity)?;
+    let ports = entity_ports(alloc, tokens)?;
+    let (word_repeated, name_repeated) = unit_end(tokens, Kind::Entity, name.text())?;
     Ok(Entity {
         name,
         ports,
@@ -124,7 +159,17 @@ fn entity(alloc: Global, tokens: &mut Cursor) -> Result<Entity, ParseError>
     })
 }
 
-#[tactic(auto, unfolding(sim_reading::specs::Units::architecture_body))]
+fn architecture_statements(
+    alloc: Global,
+    tokens: &mut Cursor,
+) -> Result<Items<Concurrent>, ParseError>
+    ensures { Reads (and_then (expect k.Begin (view tokens.old)) (λ _. concurrents)) result (view tokens.new) }
+{
+    tokens.expect(Kind::Begin)?;
+    concurrents(alloc, tokens)
+}
+
+#[tactic(auto, using(crate::proofs::Parts::architecture_body_in_parts))]
 fn architecture_body(
     alloc: Global,
     tokens: &mut Cursor,
@@ -134,12 +179,8 @@ fn architecture_body(
 ) -> Result<Architecture, ParseError>
     ensures { Reads (spec.architecture_body name entity declarations (view tokens.old)) result (view tokens.new) }
 {
-    tokens.expect(Kind::Begin)?;
-    let statements = concurrents(alloc, tokens)?;
-    tokens.expect(Kind::End)?;
-    let word_repeated = tokens.eat(Kind::Architecture);
-    let name_repeated = repeated(tokens, name.text())?;
-    tokens.expect(Kind::Semicolon)?;
+    let statements = architecture_statements(alloc, tokens)?;
+    let (word_repeated, name_repeated) = unit_end(tokens, Kind::Architecture, name.text())?;
     Ok(Architecture {
         name,
         entity,
@@ -150,16 +191,23 @@ fn architecture_body(
     })
 }
 
-#[tactic(auto, unfolding(sim_reading::specs::Units::architecture))]
+fn architecture_declarations(
+    alloc: Global,
+    tokens: &mut Cursor,
+) -> Result<Items<Declaration>, ParseError>
+    ensures { Reads (and_then (expect k.Is (view tokens.old)) (λ _. declarations)) result (view tokens.new) }
+{
+    tokens.expect(Kind::Is)?;
+    declarations(alloc, tokens)
+}
+
+#[tactic(auto, using(crate::proofs::Parts::architecture_in_parts))]
 fn architecture(alloc: Global, tokens: &mut Cursor) -> Result<Architecture, ParseError>
     ensures { Reads (spec.architecture (view tokens.old)) result (view tokens.new) }
 {
-    tokens.expect(Kind::Architecture)?;
-    let name = tokens.word()?;
-    tokens.expect(Kind::Of)?;
-    let entity = tokens.word()?;
-    tokens.expect(Kind::Is)?;
-    let declarations = declarations(alloc, tokens)?;
+    let name = tokens.word_after(Kind::Architecture)?;
+    let entity = tokens.word_after(Kind::Of)?;
+    let declarations = architecture_declarations(alloc, tokens)?;
     architecture_body(alloc, tokens, name, entity, declarations)
 }
 

@@ -1,12 +1,80 @@
 //! The cursor over tokens.
 
-use crate::written::{put_ascii, put_at, put_name};
+use crate::line::Line;
+use crate::written::waveforms::unit_name;
 use sim_expression::Cursor;
-use sim_logic::{Logic, Unit};
 use sim_reading::ParseError;
 use sim_text::{Kind, tokens};
 use std::alloc::Global;
 use std::test::Fail;
+
+/// A call of a cursor.
+#[derive(Clone, Copy)]
+enum Step {
+    Word,
+    Number,
+    Literal,
+    Unit,
+    Event,
+    Repeat(&'static str),
+    Expect(Kind),
+    Eat(Kind),
+    Take,
+    /// Whether a token of this kind comes next, or none where it is the end.
+    Shows(Kind),
+}
+
+/// Texts, the calls of a cursor at their front, and what these answer.
+static CALLS: [(&str, &[Step], &str); 18] = [
+    (" Ab_C;", &[Step::Word], "ab_c@1,"),
+    (" 01_2;", &[Step::Number], "012@1,"),
+    ("'U' fs", &[Step::Literal, Step::Unit], "'U'@0, fs,"),
+    ("'X' PS", &[Step::Literal, Step::Unit], "'X'@0, ps,"),
+    ("'0' Ns", &[Step::Literal, Step::Unit], "'0'@0, ns,"),
+    ("'1' us", &[Step::Literal, Step::Unit], "'1'@0, us,"),
+    ("'Z' ms", &[Step::Literal, Step::Unit], "'Z'@0, ms,"),
+    ("'W' sec", &[Step::Literal, Step::Unit], "'W'@0, sec,"),
+    ("'L' min", &[Step::Literal, Step::Unit], "'L'@0, min,"),
+    ("'H' hr", &[Step::Literal, Step::Unit], "'H'@0, hr,"),
+    ("'-' hr", &[Step::Literal, Step::Unit], "'-'@0, hr,"),
+    (
+        "Event ABC",
+        &[
+            Step::Event,
+            Step::Repeat("ab"),
+            Step::Repeat("abc"),
+            Step::Shows(Kind::EndOfText),
+        ],
+        "passed,Syntax with 1 left,passed,true,",
+    ),
+    (
+        " (;and",
+        &[
+            Step::Expect(Kind::LeftParen),
+            Step::Eat(Kind::Comma),
+            Step::Eat(Kind::Semicolon),
+            Step::Take,
+            Step::Take,
+        ],
+        "1,false,true,3,0,",
+    ),
+    ("and", &[Step::Shows(Kind::And)], "true,"),
+    ("or and", &[Step::Shows(Kind::And)], "false,"),
+    ("--", &[Step::Shows(Kind::EndOfText)], "true,"),
+    ("and", &[Step::Shows(Kind::EndOfText)], "false,"),
+    (
+        "(",
+        &[
+            Step::Word,
+            Step::Number,
+            Step::Literal,
+            Step::Unit,
+            Step::Event,
+            Step::Expect(Kind::RightParen),
+        ],
+        "Syntax with 1 left,Syntax with 1 left,Syntax with 1 left,Syntax with 1 left,Syntax with 1 left,Syntax with 1 left,",
+    ),
+];
 
 /// A cursor at the front of a text.
 pub fn cursor_of(alloc: Global, text: &str) -> Result<Cursor, Fail> {
@@ -14,137 +82,83 @@ pub fn cursor_of(alloc: Global, text: &str) -> Result<Cursor, Fail> {
     Ok(Cursor::new(tokens))
 }
 
-/// The word at the front of a text with its place.
-fn word(alloc: Global, text: &str) -> Result<String, Fail> {
-    let mut cursor = cursor_of(alloc, text)?;
-    let name = cursor.word()?;
-    let mut line = String::new(alloc);
-    put_name(&mut line, &name)?;
-    Ok(line)
-}
-
-#[test]
-fn a_word_is_read_with_its_place(rt: HostRuntime) -> Result<(), Fail> {
-    assert_eq!(rt; word(rt.alloc(), " Ab_C;")?.as_str(), "ab_c@1");
-    Ok(())
-}
-
-/// The digits of the number at the front of a text with their place.
-fn number(alloc: Global, text: &str) -> Result<String, Fail> {
-    let mut cursor = cursor_of(alloc, text)?;
-    let (digits, at) = cursor.number()?;
-    let mut line = String::new(alloc);
-    put_ascii(&mut line, digits.as_slice())?;
-    put_at(&mut line, "", at)?;
-    Ok(line)
-}
-
-#[test]
-fn a_number_is_read_with_its_place(rt: HostRuntime) -> Result<(), Fail> {
-    assert_eq!(rt; number(rt.alloc(), " 01_2;")?.as_str(), "012@1");
-    Ok(())
-}
-
-/// The character literal at the front of a text with its place, and the unit after it.
-fn literal_and_unit(alloc: Global, text: &str) -> Result<((Logic, usize), Unit), Fail> {
-    let mut cursor = cursor_of(alloc, text)?;
-    let literal = cursor.literal()?;
-    Ok((literal, cursor.unit()?))
-}
-
-#[test]
-fn literals_and_units_are_read_by_their_names(rt: HostRuntime) -> Result<(), Fail> {
-    for (text, value, unit) in [
-        ("'U' fs", Logic::U, Unit::Fs),
-        ("'X' PS", Logic::X, Unit::Ps),
-        ("'0' Ns", Logic::Zero, Unit::Ns),
-        ("'1' us", Logic::One, Unit::Us),
-        ("'Z' ms", Logic::Z, Unit::Ms),
-        ("'W' sec", Logic::W, Unit::Sec),
-        ("'L' min", Logic::L, Unit::Min),
-        ("'H' hr", Logic::H, Unit::Hr),
-        ("'-' hr", Logic::Dash, Unit::Hr),
-    ] {
-        assert_eq!(rt; literal_and_unit(rt.alloc(), text)?, ((value, 0), unit));
+fn put_word(line: &mut Line, tokens: &mut Cursor) {
+    match tokens.word() {
+        Ok(name) => line.put_name(&name),
+        Err(error) => line.put_refusal(error),
     }
-    Ok(())
 }
 
-/// Goes past `event`, another word than `ab`, and that word; and says what was refused, and how many tokens are left.
-fn pass_words(alloc: Global, text: &str) -> Result<(Option<ParseError>, usize), Fail> {
-    let mut cursor = cursor_of(alloc, text)?;
-    cursor.event()?;
-    let refused = cursor.repeat(b"ab".as_slice()).err();
-    cursor.repeat(b"abc".as_slice())?;
-    Ok((refused, cursor.left()))
+fn put_number(line: &mut Line, tokens: &mut Cursor) {
+    match tokens.number() {
+        Ok((digits, at)) => line.put_digits(digits.as_slice(), at),
+        Err(error) => line.put_refusal(error),
+    }
 }
 
-#[test]
-fn words_are_passed_in_any_case(rt: HostRuntime) -> Result<(), Fail> {
-    let found = pass_words(rt.alloc(), "Event ABC")?;
-    assert_eq!(rt; found, (Some(ParseError::Syntax(1)), 0));
-    Ok(())
+fn put_literal(line: &mut Line, tokens: &mut Cursor) {
+    match tokens.literal() {
+        Ok((value, at)) => line.put_literal(value, at),
+        Err(error) => line.put_refusal(error),
+    }
 }
 
-/// The place of a `(`; whether a comma and then a semicolon were passed; and the places of two tokens after them.
-fn pass_delimiters(alloc: Global, text: &str) -> Result<(usize, bool, bool, usize, usize), Fail> {
-    let mut cursor = cursor_of(alloc, text)?;
-    let open = cursor.expect(Kind::LeftParen)?;
-    let comma = cursor.eat(Kind::Comma);
-    let semicolon = cursor.eat(Kind::Semicolon);
-    let next = cursor.take();
-    Ok((open, comma, semicolon, next, cursor.take()))
+fn put_unit(line: &mut Line, tokens: &mut Cursor) {
+    match tokens.unit() {
+        Ok(unit) => line.put(unit_name(unit)),
+        Err(error) => line.put_refusal(error),
+    }
 }
 
-#[test]
-fn tokens_are_passed_by_their_kind(rt: HostRuntime) -> Result<(), Fail> {
-    let found = pass_delimiters(rt.alloc(), " (;and")?;
-    assert_eq!(rt; found, (1, false, true, 3, 0));
-    Ok(())
+fn put_passed(line: &mut Line, answer: Result<(), ParseError>) {
+    match answer {
+        Ok(()) => line.put("passed"),
+        Err(error) => line.put_refusal(error),
+    }
 }
 
-/// Whether a token of this kind comes next, or none where it is the end.
-fn shows(alloc: Global, text: &str, kind: Kind) -> Result<bool, Fail> {
-    let cursor = cursor_of(alloc, text)?;
+fn put_expected(line: &mut Line, answer: Result<usize, ParseError>) {
+    match answer {
+        Ok(at) => line.put_number(at),
+        Err(error) => line.put_refusal(error),
+    }
+}
+
+fn shows(tokens: &Cursor, kind: Kind) -> bool {
     let is_end = kind == Kind::EndOfText;
-    Ok(cursor.peek() == kind && cursor.sees(kind) && cursor.is_empty() == is_end)
+    tokens.peek() == kind && tokens.sees(kind) && tokens.is_empty() == is_end
 }
 
-#[test]
-fn a_cursor_shows_what_comes_next(rt: HostRuntime) -> Result<(), Fail> {
-    for (text, kind, wanted) in [
-        ("and", Kind::And, true),
-        ("or and", Kind::And, false),
-        ("--", Kind::EndOfText, true),
-        ("and", Kind::EndOfText, false),
-    ] {
-        assert!(rt; shows(rt.alloc(), text, kind)? == wanted, "{text}");
+fn put_step(line: &mut Line, tokens: &mut Cursor, step: Step) {
+    match step {
+        Step::Word => put_word(line, tokens),
+        Step::Number => put_number(line, tokens),
+        Step::Literal => put_literal(line, tokens),
+        Step::Unit => put_unit(line, tokens),
+        Step::Event => put_passed(line, tokens.event()),
+        Step::Repeat(word) => put_passed(line, tokens.repeat(word.as_bytes())),
+        Step::Expect(kind) => put_expected(line, tokens.expect(kind)),
+        Step::Eat(kind) => line.put_truth(tokens.eat(kind)),
+        Step::Take => line.put_number(tokens.take()),
+        Step::Shows(kind) => line.put_truth(shows(tokens, kind)),
     }
-    Ok(())
 }
 
-/// Tries to read a word, a number and a literal where a `(` stands; and says what was refused.
-fn refused_values(alloc: Global, text: &str) -> Result<[Option<ParseError>; 3], Fail> {
-    let mut cursor = cursor_of(alloc, text)?;
-    let word = cursor.word().err();
-    let number = cursor.number().err();
-    let literal = cursor.literal().err();
-    Ok([word, number, literal])
-}
-
-/// The same of a unit, `event` and a `)`.
-fn refused_words(alloc: Global, text: &str) -> Result<[Option<ParseError>; 3], Fail> {
-    let mut cursor = cursor_of(alloc, text)?;
-    let unit = cursor.unit().err();
-    let event = cursor.event().err();
-    let close = cursor.expect(Kind::RightParen).err();
-    Ok([unit, event, close])
+/// What these calls answer at the front of a text.
+fn answers(alloc: Global, text: &str, steps: &[Step]) -> Result<String, Fail> {
+    let mut tokens = cursor_of(alloc, text)?;
+    let mut line = Line::new(alloc);
+    for step in steps {
+        put_step(&mut line, &mut tokens, *step);
+        line.put(",");
+    }
+    Ok(line.whole()?)
 }
 
 #[test]
-fn a_token_of_another_kind_is_left_where_it_is(rt: HostRuntime) -> Result<(), Fail> {
-    let wanted = [Some(ParseError::Syntax(1)); 3];
-    assert_eq!(rt; refused_values(rt.alloc(), "(")?, wanted);
-    assert_eq!(rt; refused_words(rt.alloc(), "(")?, wanted);
+fn a_cursor_reads_what_comes_next_and_leaves_what_it_refuses(rt: HostRuntime) -> Result<(), Fail> {
+    for row in CALLS.iter() {
+        assert_eq!(rt; answers(rt.alloc(), row.0, row.1)?.as_str(), row.2);
+    }
     Ok(())
 }

@@ -5,9 +5,11 @@
 #[cfg(test)]
 mod cursors;
 #[cfg(test)]
+mod line;
+#[cfg(test)]
 mod lists;
 #[cfg(test)]
-mod readers;
+mod parts;
 #[cfg(test)]
 mod times;
 #[cfg(test)]

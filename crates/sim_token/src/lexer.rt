@@ -135,6 +135,3 @@ pub fn tokens(alloc: Global, source: &[u8]) -> Result<Vec<Token>, TextError>
     }
     cut(alloc, source)
 }
-
-#[cfg(test)]
-mod tests;

@@ -7,8 +7,6 @@ mod edit;
 pub mod laws;
 mod pending;
 mod stored;
-#[cfg(test)]
-mod tests;
 
 pub use delay::Delay;
 pub use driver::{Driver, IN_PLACE, Transaction};

@@ -1,19 +1,18 @@
-use crate::written::{put, put_if, put_literal, put_name, put_names};
+use crate::line::Line;
 use sim_tree::declaration::{
     ComponentDeclaration, Declaration, Initial, Mode, ObjectDeclaration, PortDeclaration,
 };
-use std::alloc::AllocError;
 
-fn put_initial(line: &mut String, initial: &Option<Initial>) -> Result<(), AllocError> {
+fn put_initial(line: &mut Line, initial: &Option<Initial>) {
     match initial {
-        None => Ok(()),
+        None => {}
         Some(Initial::Literal { value, at }) => {
-            put(line, ":=")?;
-            put_literal(line, *value, *at)
+            line.put(":=");
+            line.put_literal(*value, *at);
         }
         Some(Initial::Named(name)) => {
-            put(line, ":=")?;
-            put_name(line, name)
+            line.put(":=");
+            line.put_name(name);
         }
     }
 }
@@ -27,63 +26,57 @@ fn mode(mode: Option<Mode>) -> &'static str {
     }
 }
 
-fn put_port(line: &mut String, port: &PortDeclaration) -> Result<(), AllocError> {
-    put_if(line, port.signal, "signal ")?;
-    put_names(line, port.names.as_slice())?;
-    put(line, ":")?;
-    put(line, mode(port.mode))?;
-    put_name(line, &port.mark)?;
-    put_initial(line, &port.initial)
+fn put_port(line: &mut Line, port: &PortDeclaration) {
+    line.put_if(port.signal, "signal ");
+    line.put_names(port.names.as_slice());
+    line.put(":");
+    line.put(mode(port.mode));
+    line.put_name(&port.mark);
+    put_initial(line, &port.initial);
 }
 
 /// Puts a port clause, if there are ports.
-pub fn put_ports(line: &mut String, ports: &[PortDeclaration]) -> Result<(), AllocError> {
+pub fn put_ports(line: &mut Line, ports: &[PortDeclaration]) {
     let mut between = "port(";
     for port in ports {
-        put(line, between)?;
-        put_port(line, port)?;
+        line.put(between);
+        put_port(line, port);
         between = ";";
     }
-    put_if(line, !ports.is_empty(), ");")
+    line.put_if(!ports.is_empty(), ");");
 }
 
-fn put_object(
-    line: &mut String,
-    class: &str,
-    object: &ObjectDeclaration,
-) -> Result<(), AllocError> {
-    put(line, class)?;
-    put_names(line, object.names.as_slice())?;
-    put(line, ":")?;
-    put_name(line, &object.mark)?;
-    put_initial(line, &object.initial)?;
-    put(line, ";")
+fn put_object(line: &mut Line, class: &str, object: &ObjectDeclaration) {
+    line.put(class);
+    line.put_names(object.names.as_slice());
+    line.put(":");
+    line.put_name(&object.mark);
+    put_initial(line, &object.initial);
+    line.put(";");
 }
 
-pub fn put_variables(line: &mut String, variables: &[ObjectDeclaration]) -> Result<(), AllocError> {
+pub fn put_variables(line: &mut Line, variables: &[ObjectDeclaration]) {
     for variable in variables {
-        put_object(line, "variable ", variable)?;
+        put_object(line, "variable ", variable);
     }
-    Ok(())
 }
 
-fn put_component(line: &mut String, component: &ComponentDeclaration) -> Result<(), AllocError> {
-    put(line, "component ")?;
-    put_name(line, &component.name)?;
-    put_if(line, component.is, " is")?;
-    put(line, " ")?;
-    put_ports(line, component.ports.as_slice())?;
-    put(line, "end component")?;
-    put_if(line, component.name_repeated, " again")?;
-    put(line, ";")
+fn put_component(line: &mut Line, component: &ComponentDeclaration) {
+    line.put("component ");
+    line.put_name(&component.name);
+    line.put_if(component.is, " is");
+    line.put(" ");
+    put_ports(line, component.ports.as_slice());
+    line.put("end component");
+    line.put_if(component.name_repeated, " again");
+    line.put(";");
 }
 
-pub fn put_declarations(line: &mut String, declarations: &[Declaration]) -> Result<(), AllocError> {
+pub fn put_declarations(line: &mut Line, declarations: &[Declaration]) {
     for declaration in declarations {
         match declaration {
-            Declaration::Signal(object) => put_object(line, "signal ", object)?,
-            Declaration::Component(component) => put_component(line, component)?,
+            Declaration::Signal(object) => put_object(line, "signal ", object),
+            Declaration::Component(component) => put_component(line, component),
         }
     }
-    Ok(())
 }

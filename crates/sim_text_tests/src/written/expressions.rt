@@ -1,19 +1,18 @@
-use crate::written::{put, put_at, put_literal, put_name};
+use crate::line::Line;
 use sim_tree::expression::{Expression, Logical, Operand, Relational};
 use sim_tree::name::Name;
-use std::alloc::AllocError;
 
-fn put_call(line: &mut String, function: &Name, argument: &Name) -> Result<(), AllocError> {
-    put_name(line, function)?;
-    put(line, "(")?;
-    put_name(line, argument)?;
-    put(line, ")")
+fn put_call(line: &mut Line, function: &Name, argument: &Name) {
+    line.put_name(function);
+    line.put("(");
+    line.put_name(argument);
+    line.put(")");
 }
 
-fn put_operator(line: &mut String, operator: &str, at: usize) -> Result<(), AllocError> {
-    put(line, " ")?;
-    put_at(line, operator, at)?;
-    put(line, " ")
+fn put_operator(line: &mut Line, operator: &str, at: usize) {
+    line.put(" ");
+    line.put_at(operator, at);
+    line.put(" ");
 }
 
 fn relational(operator: Relational) -> &'static str {
@@ -35,34 +34,33 @@ fn logical(operator: Logical) -> &'static str {
 }
 
 #[cycle(expression)]
-fn put_operands(line: &mut String, operator: &str, operands: &[Operand]) -> Result<(), AllocError> {
+fn put_operands(line: &mut Line, operator: &str, operands: &[Operand]) {
     for operand in operands {
-        put_operator(line, operator, operand.operator_at)?;
-        put_expression(line, &operand.operand)?;
+        put_operator(line, operator, operand.operator_at);
+        put_expression(line, &operand.operand);
     }
-    Ok(())
 }
 
 #[cycle(expression)]
-pub fn put_expression(line: &mut String, expression: &Expression) -> Result<(), AllocError> {
+pub fn put_expression(line: &mut Line, expression: &Expression) {
     match expression {
-        Expression::Literal { value, at } => put_literal(line, *value, *at),
-        Expression::Named(name) => put_name(line, name),
+        Expression::Literal { value, at } => line.put_literal(*value, *at),
+        Expression::Named(name) => line.put_name(name),
         Expression::Event(name) => {
-            put_name(line, name)?;
-            put(line, "'event")
+            line.put_name(name);
+            line.put("'event");
         }
         Expression::Call { function, argument } => put_call(line, function, argument),
         Expression::Parenthesized { at, inner } => {
-            put_at(line, "(", *at)?;
-            put(line, " ")?;
-            put_expression(line, inner.get())?;
-            put(line, ")")
+            line.put_at("(", *at);
+            line.put(" ");
+            put_expression(line, inner.get());
+            line.put(")");
         }
         Expression::Not { at, operand } => {
-            put_at(line, "not", *at)?;
-            put(line, " ")?;
-            put_expression(line, operand.get())
+            line.put_at("not", *at);
+            line.put(" ");
+            put_expression(line, operand.get());
         }
         Expression::Comparison {
             left,
@@ -70,17 +68,17 @@ pub fn put_expression(line: &mut String, expression: &Expression) -> Result<(), 
             at,
             right,
         } => {
-            put_expression(line, left.get())?;
-            put_operator(line, relational(*operator), *at)?;
-            put_expression(line, right.get())
+            put_expression(line, left.get());
+            put_operator(line, relational(*operator), *at);
+            put_expression(line, right.get());
         }
         Expression::Chain {
             operator,
             first,
             rest,
         } => {
-            put_expression(line, first.get())?;
-            put_operands(line, logical(*operator), rest.as_slice())
+            put_expression(line, first.get());
+            put_operands(line, logical(*operator), rest.as_slice());
         }
     }
 }

@@ -1,44 +1,37 @@
+use crate::line::Line;
 use crate::written::expressions::put_expression;
 use crate::written::waveforms::{put_delay, put_waveform};
-use crate::written::{put, put_if, put_label, put_name};
 use sim_tree::sequential::{Branch, Sequential, SignalAssignment, Statement, VariableAssignment};
-use std::alloc::AllocError;
 
-fn put_signal(line: &mut String, assignment: &SignalAssignment) -> Result<(), AllocError> {
-    put_name(line, &assignment.target)?;
-    put(line, "<=")?;
-    put_delay(line, &assignment.delay)?;
-    put_waveform(line, assignment.waveform.as_slice())?;
-    put(line, ";")
+fn put_signal(line: &mut Line, assignment: &SignalAssignment) {
+    line.put_name(&assignment.target);
+    line.put("<=");
+    put_delay(line, &assignment.delay);
+    put_waveform(line, assignment.waveform.as_slice());
+    line.put(";");
 }
 
-fn put_variable(line: &mut String, assignment: &VariableAssignment) -> Result<(), AllocError> {
-    put_name(line, &assignment.target)?;
-    put(line, ":=")?;
-    put_expression(line, &assignment.value)?;
-    put(line, ";")
-}
-
-#[cycle(sequential)]
-fn put_branch(line: &mut String, branch: &Branch) -> Result<(), AllocError> {
-    put_expression(line, &branch.condition)?;
-    put(line, " then ")?;
-    put_statements(line, branch.statements.as_slice())
+fn put_variable(line: &mut Line, assignment: &VariableAssignment) {
+    line.put_name(&assignment.target);
+    line.put(":=");
+    put_expression(line, &assignment.value);
+    line.put(";");
 }
 
 #[cycle(sequential)]
-fn put_branches(line: &mut String, branches: &[Branch]) -> Result<(), AllocError> {
+fn put_branches(line: &mut Line, branches: &[Branch]) {
     let mut first = true;
     for branch in branches {
-        put(line, if first { "if " } else { "elsif " })?;
-        put_branch(line, branch)?;
+        line.put(if first { "if " } else { "elsif " });
+        put_expression(line, &branch.condition);
+        line.put(" then ");
+        put_statements(line, branch.statements.as_slice());
         first = false;
     }
-    Ok(())
 }
 
 #[cycle(sequential)]
-fn put_statement(line: &mut String, statement: &Statement) -> Result<(), AllocError> {
+fn put_statement(line: &mut Line, statement: &Statement) {
     match statement {
         Statement::Signal(assignment) => put_signal(line, assignment),
         Statement::Variable(assignment) => put_variable(line, assignment),
@@ -47,24 +40,23 @@ fn put_statement(line: &mut String, statement: &Statement) -> Result<(), AllocEr
             otherwise,
             label_repeated,
         } => {
-            put_branches(line, branches.as_slice())?;
+            put_branches(line, branches.as_slice());
             if let Some(statements) = otherwise {
-                put(line, "else ")?;
-                put_statements(line, statements.as_slice())?;
+                line.put("else ");
+                put_statements(line, statements.as_slice());
             }
-            put(line, "end if")?;
-            put_if(line, *label_repeated, " again")?;
-            put(line, ";")
+            line.put("end if");
+            line.put_if(*label_repeated, " again");
+            line.put(";");
         }
-        Statement::Null => put(line, "null;"),
+        Statement::Null => line.put("null;"),
     }
 }
 
 #[cycle(sequential)]
-pub fn put_statements(line: &mut String, statements: &[Sequential]) -> Result<(), AllocError> {
+pub fn put_statements(line: &mut Line, statements: &[Sequential]) {
     for sequential in statements {
-        put_label(line, &sequential.label)?;
-        put_statement(line, &sequential.statement)?;
+        line.put_label(&sequential.label);
+        put_statement(line, &sequential.statement);
     }
-    Ok(())
 }

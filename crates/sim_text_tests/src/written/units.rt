@@ -1,184 +1,165 @@
+use crate::line::Line;
 use crate::written::declarations::{put_declarations, put_ports, put_variables};
 use crate::written::statements::put_statements;
 use crate::written::waveforms::put_assignment;
-use crate::written::{put, put_at, put_if, put_label, put_literal, put_name, put_names};
 use sim_tree::DesignFile;
 use sim_tree::unit::{
-    Actual, Architecture, Association, Concurrent, ContextItem, DesignUnit, Entity, Instance,
-    Instantiated, LibraryUnit, Process, SelectedName, Sensitivity,
+    Actual, Architecture, Association, Concurrent, ContextItem, Entity, Instance, Instantiated,
+    LibraryUnit, Process, SelectedName, Sensitivity,
 };
-use std::alloc::AllocError;
 
-fn put_sensitivity(line: &mut String, sensitivity: &Sensitivity) -> Result<(), AllocError> {
+fn put_sensitivity(line: &mut Line, sensitivity: &Sensitivity) {
     match sensitivity {
-        Sensitivity::All => put(line, "all"),
-        Sensitivity::Names(names) => put_names(line, names.as_slice()),
+        Sensitivity::All => line.put("all"),
+        Sensitivity::Names(names) => line.put_names(names.as_slice()),
     }
 }
 
-fn put_body(line: &mut String, process: &Process) -> Result<(), AllocError> {
-    put_variables(line, process.variables.as_slice())?;
-    put(line, "begin ")?;
-    put_statements(line, process.statements.as_slice())?;
-    put(line, "end process")
+fn put_process(line: &mut Line, process: &Process) {
+    line.put_label(&process.label);
+    line.put("process(");
+    put_sensitivity(line, &process.sensitivity);
+    line.put(")");
+    line.put_if(process.is, "is ");
+    put_variables(line, process.variables.as_slice());
+    line.put("begin ");
+    put_statements(line, process.statements.as_slice());
+    line.put("end process");
+    line.put_if(process.label_repeated, " again");
+    line.put(";");
 }
 
-fn put_process(line: &mut String, process: &Process) -> Result<(), AllocError> {
-    put_label(line, &process.label)?;
-    put(line, "process(")?;
-    put_sensitivity(line, &process.sensitivity)?;
-    put(line, ")")?;
-    put_if(line, process.is, "is ")?;
-    put_body(line, process)?;
-    put_if(line, process.label_repeated, " again")?;
-    put(line, ";")
-}
-
-fn put_actual(line: &mut String, actual: &Actual) -> Result<(), AllocError> {
+fn put_actual(line: &mut Line, actual: &Actual) {
     match actual {
-        Actual::Named(name) => put_name(line, name),
-        Actual::Literal { value, at } => put_literal(line, *value, *at),
-        Actual::Open { at } => put_at(line, "open", *at),
+        Actual::Named(name) => line.put_name(name),
+        Actual::Literal { value, at } => line.put_literal(*value, *at),
+        Actual::Open { at } => line.put_at("open", *at),
     }
 }
 
-fn put_association(line: &mut String, association: &Association) -> Result<(), AllocError> {
-    if let Some(formal) = &association.formal {
-        put_name(line, formal)?;
-        put(line, "=>")?;
-    }
-    put_actual(line, &association.actual)
-}
-
-fn put_associations(line: &mut String, associations: &[Association]) -> Result<(), AllocError> {
+fn put_associations(line: &mut Line, associations: &[Association]) {
     let mut between = " port map(";
     for association in associations {
-        put(line, between)?;
-        put_association(line, association)?;
+        line.put(between);
+        if let Some(formal) = &association.formal {
+            line.put_name(formal);
+            line.put("=>");
+        }
+        put_actual(line, &association.actual);
         between = ",";
     }
-    put_if(line, !associations.is_empty(), ")")
+    line.put_if(!associations.is_empty(), ")");
 }
 
-fn put_instantiated(line: &mut String, unit: &Instantiated) -> Result<(), AllocError> {
+fn put_instantiated(line: &mut Line, unit: &Instantiated) {
     match unit {
         Instantiated::Component {
             word_written,
             component,
         } => {
-            put_if(line, *word_written, "component ")?;
-            put_name(line, component)
+            line.put_if(*word_written, "component ");
+            line.put_name(component);
         }
         Instantiated::Entity {
             library,
             entity,
             architecture,
         } => {
-            put(line, "entity ")?;
-            put_name(line, library)?;
-            put(line, ".")?;
-            put_name(line, entity)?;
-            match architecture {
-                Some(name) => {
-                    put(line, "(")?;
-                    put_name(line, name)?;
-                    put(line, ")")
-                }
-                None => Ok(()),
+            line.put("entity ");
+            line.put_name(library);
+            line.put(".");
+            line.put_name(entity);
+            if let Some(name) = architecture {
+                line.put("(");
+                line.put_name(name);
+                line.put(")");
             }
         }
     }
 }
 
-fn put_instance(line: &mut String, instance: &Instance) -> Result<(), AllocError> {
-    put_name(line, &instance.label)?;
-    put(line, ":")?;
-    put_instantiated(line, &instance.unit)?;
-    put_associations(line, instance.associations.as_slice())?;
-    put(line, ";")
+fn put_instance(line: &mut Line, instance: &Instance) {
+    line.put_name(&instance.label);
+    line.put(":");
+    put_instantiated(line, &instance.unit);
+    put_associations(line, instance.associations.as_slice());
+    line.put(";");
 }
 
-fn put_concurrents(line: &mut String, statements: &[Concurrent]) -> Result<(), AllocError> {
+fn put_concurrents(line: &mut Line, statements: &[Concurrent]) {
     for statement in statements {
         match statement {
-            Concurrent::Assignment(assignment) => put_assignment(line, assignment)?,
-            Concurrent::Process(process) => put_process(line, process)?,
-            Concurrent::Instance(instance) => put_instance(line, instance)?,
+            Concurrent::Assignment(assignment) => put_assignment(line, assignment),
+            Concurrent::Process(process) => put_process(line, process),
+            Concurrent::Instance(instance) => put_instance(line, instance),
         }
     }
-    Ok(())
 }
 
-fn put_suffixes(line: &mut String, name: &SelectedName) -> Result<(), AllocError> {
+fn put_selected(line: &mut Line, name: &SelectedName) {
+    line.put_name(&name.prefix);
     for suffix in name.suffixes.as_slice() {
-        put(line, ".")?;
-        put_name(line, suffix)?;
+        line.put(".");
+        line.put_name(suffix);
     }
-    put_if(line, name.all, ".all")
+    line.put_if(name.all, ".all");
 }
 
-fn put_selected_names(line: &mut String, names: &[SelectedName]) -> Result<(), AllocError> {
+fn put_selected_names(line: &mut Line, names: &[SelectedName]) {
     let mut between = "use ";
     for name in names {
-        put(line, between)?;
-        put_name(line, &name.prefix)?;
-        put_suffixes(line, name)?;
+        line.put(between);
+        put_selected(line, name);
         between = ",";
     }
-    put(line, ";")
+    line.put(";");
 }
 
-fn put_context(line: &mut String, context: &[ContextItem]) -> Result<(), AllocError> {
+fn put_context(line: &mut Line, context: &[ContextItem]) {
     for item in context {
         match item {
             ContextItem::Library(names) => {
-                put(line, "library ")?;
-                put_names(line, names.as_slice())?;
-                put(line, ";")?;
+                line.put("library ");
+                line.put_names(names.as_slice());
+                line.put(";");
             }
-            ContextItem::Use(names) => put_selected_names(line, names.as_slice())?,
+            ContextItem::Use(names) => put_selected_names(line, names.as_slice()),
         }
     }
-    Ok(())
 }
 
-fn put_entity(line: &mut String, entity: &Entity) -> Result<(), AllocError> {
-    put(line, "entity ")?;
-    put_name(line, &entity.name)?;
-    put(line, " is ")?;
-    put_ports(line, entity.ports.as_slice())?;
-    put(line, "end")?;
-    put_if(line, entity.word_repeated, " entity")?;
-    put_if(line, entity.name_repeated, " again")?;
-    put(line, ";")
+fn put_entity(line: &mut Line, entity: &Entity) {
+    line.put("entity ");
+    line.put_name(&entity.name);
+    line.put(" is ");
+    put_ports(line, entity.ports.as_slice());
+    line.put("end");
+    line.put_if(entity.word_repeated, " entity");
+    line.put_if(entity.name_repeated, " again");
+    line.put(";");
 }
 
-fn put_architecture(line: &mut String, architecture: &Architecture) -> Result<(), AllocError> {
-    put(line, "architecture ")?;
-    put_name(line, &architecture.name)?;
-    put(line, " of ")?;
-    put_name(line, &architecture.entity)?;
-    put(line, " is ")?;
-    put_declarations(line, architecture.declarations.as_slice())?;
-    put(line, "begin ")?;
-    put_concurrents(line, architecture.statements.as_slice())?;
-    put(line, "end")?;
-    put_if(line, architecture.word_repeated, " architecture")?;
-    put_if(line, architecture.name_repeated, " again")?;
-    put(line, ";")
+fn put_architecture(line: &mut Line, architecture: &Architecture) {
+    line.put("architecture ");
+    line.put_name(&architecture.name);
+    line.put(" of ");
+    line.put_name(&architecture.entity);
+    line.put(" is ");
+    put_declarations(line, architecture.declarations.as_slice());
+    line.put("begin ");
+    put_concurrents(line, architecture.statements.as_slice());
+    line.put("end");
+    line.put_if(architecture.word_repeated, " architecture");
+    line.put_if(architecture.name_repeated, " again");
+    line.put(";");
 }
 
-fn put_unit(line: &mut String, unit: &DesignUnit) -> Result<(), AllocError> {
-    put_context(line, unit.context.as_slice())?;
-    match &unit.library_unit {
-        LibraryUnit::Entity(entity) => put_entity(line, entity),
-        LibraryUnit::Architecture(architecture) => put_architecture(line, architecture),
-    }
-}
-
-pub fn put_file(line: &mut String, file: &DesignFile) -> Result<(), AllocError> {
+pub fn put_file(line: &mut Line, file: &DesignFile) {
     for unit in file.units() {
-        put_unit(line, unit)?;
+        put_context(line, unit.context.as_slice());
+        match &unit.library_unit {
+            LibraryUnit::Entity(entity) => put_entity(line, entity),
+            LibraryUnit::Architecture(architecture) => put_architecture(line, architecture),
+        }
     }
-    Ok(())
 }

@@ -1,13 +1,12 @@
+use crate::line::Line;
 use crate::written::expressions::put_expression;
-use crate::written::{put, put_ascii, put_at, put_label, put_name};
 use sim_logic::Unit;
 use sim_tree::time::TimeLiteral;
 use sim_tree::waveform::{
-    ConcurrentSignalAssignment, ConditionalWaveform, ConditionalWaveforms, DelayMechanism, Element,
+    ConcurrentSignalAssignment, ConditionalWaveforms, DelayMechanism, Element,
 };
-use std::alloc::AllocError;
 
-fn unit(unit: Unit) -> &'static str {
+pub fn unit_name(unit: Unit) -> &'static str {
     match unit {
         Unit::Fs => " fs",
         Unit::Ps => " ps",
@@ -20,76 +19,57 @@ fn unit(unit: Unit) -> &'static str {
     }
 }
 
-pub fn put_time(line: &mut String, time: &TimeLiteral) -> Result<(), AllocError> {
-    put_ascii(line, time.digits())?;
-    put_at(line, "", time.at())?;
-    put(line, unit(time.unit()))
+pub fn put_time(line: &mut Line, time: &TimeLiteral) {
+    line.put_digits(time.digits(), time.at());
+    line.put(unit_name(time.unit()));
 }
 
-fn put_element(line: &mut String, element: &Element) -> Result<(), AllocError> {
-    put_expression(line, &element.value)?;
-    match &element.after {
-        Some(time) => {
-            put(line, " after ")?;
-            put_time(line, time)
-        }
-        None => Ok(()),
-    }
-}
-
-pub fn put_waveform(line: &mut String, waveform: &[Element]) -> Result<(), AllocError> {
+pub fn put_waveform(line: &mut Line, waveform: &[Element]) {
     let mut between = "";
     for element in waveform {
-        put(line, between)?;
-        put_element(line, element)?;
+        line.put(between);
+        put_expression(line, &element.value);
+        if let Some(time) = &element.after {
+            line.put(" after ");
+            put_time(line, time);
+        }
         between = ",";
     }
-    Ok(())
 }
 
-pub fn put_delay(line: &mut String, delay: &DelayMechanism) -> Result<(), AllocError> {
+pub fn put_delay(line: &mut Line, delay: &DelayMechanism) {
     match delay {
-        DelayMechanism::Unwritten => Ok(()),
-        DelayMechanism::Transport => put(line, "transport "),
-        DelayMechanism::Inertial => put(line, "inertial "),
+        DelayMechanism::Unwritten => {}
+        DelayMechanism::Transport => line.put("transport "),
+        DelayMechanism::Inertial => line.put("inertial "),
         DelayMechanism::Reject(limit) => {
-            put(line, "reject ")?;
-            put_time(line, limit)?;
-            put(line, " inertial ")
+            line.put("reject ");
+            put_time(line, limit);
+            line.put(" inertial ");
         }
     }
 }
 
-fn put_conditional(line: &mut String, waveform: &ConditionalWaveform) -> Result<(), AllocError> {
-    put_waveform(line, waveform.waveform.as_slice())?;
-    put(line, " when ")?;
-    put_expression(line, &waveform.condition)
-}
-
-fn put_waveforms(line: &mut String, waveforms: &ConditionalWaveforms) -> Result<(), AllocError> {
+fn put_waveforms(line: &mut Line, waveforms: &ConditionalWaveforms) {
     let mut between = "";
     for waveform in waveforms.conditional.as_slice() {
-        put(line, between)?;
-        put_conditional(line, waveform)?;
+        line.put(between);
+        put_waveform(line, waveform.waveform.as_slice());
+        line.put(" when ");
+        put_expression(line, &waveform.condition);
         between = " else ";
     }
-    match &waveforms.otherwise {
-        Some(waveform) => {
-            put(line, between)?;
-            put_waveform(line, waveform.as_slice())
-        }
-        None => Ok(()),
+    if let Some(waveform) = &waveforms.otherwise {
+        line.put(between);
+        put_waveform(line, waveform.as_slice());
     }
 }
 
-pub fn put_assignment(
-    line: &mut String,
-    assignment: &ConcurrentSignalAssignment,
-) -> Result<(), AllocError> {
-    put_label(line, &assignment.label)?;
-    put_name(line, &assignment.target)?;
-    put(line, "<=")?;
-    put_delay(line, &assignment.delay)?;
-    put_waveforms(line, &assignment.waveforms)?;
-    put(line, ";")
+pub fn put_assignment(line: &mut Line, assignment: &ConcurrentSignalAssignment) {
+    line.put_label(&assignment.label);
+    line.put_name(&assignment.target);
+    line.put("<=");
+    put_delay(line, &assignment.delay);
+    put_waveforms(line, &assignment.waveforms);
+    line.put(";");
 }

@@ -4,7 +4,7 @@ use Rattle.sim_reading.specs.Readers.{sees}
 use Rattle.sim_expression.specs.Cursors.{view}
 use Rattle.sim_tree.proofs.Turns.{deeper}
 use Rattle.sim_reading.proofs.OneItemATurn.{one_more, no_more}
-use Rattle.sim_reading.specs.Expressions.{nested}
+use Rattle.sim_reading.specs.Expressions.{nested, relation}
 use Rattle.sim_expression.proofs.expressions.+expression.Goals as goal
 
 pub more_operands-returns-then-not-sees : goal.more_operands-returns-then-not-sees
@@ -33,3 +33,7 @@ unfolding nested
 nested-returns-in_err-inner t c =
     let e = deeper (λ n. nested n (view c.args.tokens.now)) c.args.depth (omega arith) in
     first_of (search rules, grind (arith, common_steps))
+
+pub relation-returns-in-Unequal : goal.relation-returns-in-Unequal
+unfolding relation
+relation-returns-in-Unequal t c = search rules

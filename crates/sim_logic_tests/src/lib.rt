@@ -1,0 +1,9 @@
+//! Tests of values and times, of drivers, and of sets and queues: each public call once, against values that were worked by hand.
+#![tactic(auto)]
+
+#[cfg(test)]
+mod drivers;
+#[cfg(test)]
+mod queues;
+#[cfg(test)]
+mod values;

@@ -1,0 +1,142 @@
+ghost use Rattle.std.specs.Prelude.{◌≡◌, length, IfOk};
+
+use sim_queue::{NumberSet, TimeQueue};
+use std::alloc::{AllocError, Global};
+use std::test::Fail;
+
+/// Numbers at both ends of words and of top words.
+const NUMBERS: [usize; 6] = [0, 63, 64, 4095, 4096, 4999];
+
+/// Adds these numbers or takes them out.
+fn put_each(set: &mut NumberSet, numbers: &[usize], is_member: bool) {
+    for number in numbers {
+        if *number < set.len() {
+            set.put(*number, is_member);
+        }
+    }
+}
+
+fn listed(alloc: Global, set: &NumberSet) -> Result<Vec<usize>, AllocError> {
+    let mut numbers = Vec::with_capacity(alloc, set.len())?;
+    set.list(&mut numbers);
+    Ok(numbers)
+}
+
+/// From where members are looked for, and the next one.
+static NEXT: [(usize, Option<usize>); 6] = [
+    (0, Some(0)),
+    (1, Some(63)),
+    (64, Some(64)),
+    (65, Some(4095)),
+    (4097, Some(4999)),
+    (5000, None),
+];
+
+fn finds_each_next(set: &NumberSet) -> bool {
+    for row in NEXT.iter() {
+        if set.next(row.0) != row.1 {
+            return false;
+        }
+    }
+    true
+}
+
+fn lists(alloc: Global, set: &NumberSet, wanted: &[usize]) -> Result<bool, AllocError> {
+    Ok(listed(alloc, set)?.as_slice() == wanted)
+}
+
+#[test]
+fn members_are_found_in_many_words(rt: HostRuntime) -> Result<(), Fail> {
+    let mut set = NumberSet::new(rt.alloc(), 5000)?;
+    put_each(&mut set, NUMBERS.as_slice(), true);
+    assert!(rt; finds_each_next(&set));
+    assert!(rt; lists(rt.alloc(), &set, NUMBERS.as_slice())?);
+    Ok(())
+}
+
+/// Whether these are members.
+static MEMBERS: [(usize, bool); 5] = [
+    (0, false),
+    (1, true),
+    (64, false),
+    (129, true),
+    (130, false),
+];
+
+fn has_members(set: &NumberSet) -> bool {
+    for row in MEMBERS.iter() {
+        if set.contains(row.0) != row.1 {
+            return false;
+        }
+    }
+    true
+}
+
+#[test]
+fn members_are_taken_out(rt: HostRuntime) -> Result<(), Fail> {
+    let mut set = NumberSet::full(rt.alloc(), 130)?;
+    put_each(&mut set, [0, 63, 64, 128].as_slice(), false);
+    assert!(rt; has_members(&set));
+    set.clear();
+    assert!(rt; set.is_empty());
+    Ok(())
+}
+
+/// Driver 0 at 5, driver 1 first at 3 and then at 9, driver 2 at 3.
+fn three(alloc: Global) -> Result<TimeQueue, AllocError>
+    ensures { IfOk result (λ queue. length queue ≡ 3) }
+{
+    let mut queue = TimeQueue::new(alloc, 3)?;
+    queue.put(0, Some(5))?;
+    queue.put(1, Some(3))?;
+    queue.put(2, Some(3))?;
+    queue.put(1, Some(9))?;
+    Ok(queue)
+}
+
+/// Whether this is the least time, and these are its drivers. They are taken.
+fn are_due(
+    alloc: Global,
+    queue: &mut TimeQueue,
+    time: u64,
+    wanted: &[usize],
+) -> Result<bool, AllocError>
+    ensures { length queue.new ≡ length queue.old }
+{
+    if queue.least() != Some(time) {
+        return Ok(false);
+    }
+    Ok(queue.take_due(alloc, time)?.as_slice() == wanted)
+}
+
+fn takes_at_the_last_times(alloc: Global, queue: &mut TimeQueue) -> Result<bool, AllocError>
+    requires { length queue.old ≡ 3 }
+{
+    let is_taken = are_due(alloc, queue, 3, &[2])?;
+    let is_next = queue.least() == Some(5);
+    queue.put(0, None)?;
+    Ok(is_taken && is_next && queue.least() == Some(9))
+}
+
+#[test]
+fn drivers_are_taken_at_their_last_times(rt: HostRuntime) -> Result<(), Fail> {
+    let mut queue = three(rt.alloc())?;
+    assert!(rt; takes_at_the_last_times(rt.alloc(), &mut queue)?);
+    Ok(())
+}
+
+fn takes_at_one_time_again(alloc: Global, queue: &mut TimeQueue) -> Result<bool, AllocError>
+    requires { length queue.old ≡ 3 }
+{
+    let is_taken = are_due(alloc, queue, 3, &[2])?;
+    queue.put(1, Some(3))?;
+    queue.put(2, Some(3))?;
+    Ok(is_taken && are_due(alloc, queue, 3, &[1, 2])? && queue.least() == Some(5))
+}
+
+#[test]
+fn the_time_that_was_taken_comes_again(rt: HostRuntime) -> Result<(), Fail> {
+    let mut queue = three(rt.alloc())?;
+    assert!(rt; takes_at_one_time_again(rt.alloc(), &mut queue)?);
+    Ok(())
+}

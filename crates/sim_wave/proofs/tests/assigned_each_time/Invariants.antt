@@ -1,5 +1,0 @@
-use Rattle.sim_wave.specs.Driver.{RisesFrom}
-use Rattle.sim_wave.proofs.tests.assigned_each_time.Given as goal
-
-abbrev pub invariant-loop-now : goal.invariant-loop-now
-invariant-loop-now l = RisesFrom l.now l.driver.pending
