@@ -12,7 +12,7 @@ ghost use Rattle.sim_plan.specs.Plans as spec;
 use crate::instances::instances;
 use crate::objects::{ports, signals};
 use crate::templates::templates;
-use sim_hierarchy::{Block, Object, Ports};
+use sim_hierarchy::{Block, Object, Port, Ports};
 use sim_instance::Library;
 use sim_region::{EntityPorts, region};
 use sim_scope::Scope;
@@ -35,13 +35,21 @@ fn ports_named<'l>(
     library.entity_ports(name.text()).unwrap_or(none)
 }
 
-/// The ports that an entity declares, as those of a block.
+/// The list of the ports that an entity declares, as those of a block.
 #[tactic(auto, unfolding(crate::specs::Plans::block_ports))]
-fn block_ports(alloc: Global, declared: &EntityPorts<'_>) -> Result<Ports, AllocError>
+fn listed_ports(alloc: Global, declared: &EntityPorts<'_>) -> Result<Items<Port>, AllocError>
     ensures { IfOk result (λ r. r ≡ spec.block_ports declared.now) }
 {
     let region = Scope::after(alloc, declared.region());
     let ports = ports(alloc, &region, declared.declarations())?;
+    Ok(ports)
+}
+
+/// The ports that an entity declares, as those of a block.
+fn block_ports(alloc: Global, declared: &EntityPorts<'_>) -> Result<Ports, AllocError>
+    ensures { IfOk result (λ r. r ≡ spec.block_ports declared.now) }
+{
+    let ports = listed_ports(alloc, declared)?;
     let shared = Ports::new(alloc, ports)?;
     Ok(shared)
 }

@@ -1,5 +1,4 @@
-use Rattle.std.proofs.Common.{ap, sym, ◌∙◌}
-use Rattle.sim_plan.specs.Plans.{instances_of, ports_named, seen}
+use Rattle.sim_plan.specs.Plans.{ports_named}
 use Rattle.sim_plan.proofs.KnownBlocks.{block_known}
 use Rattle.sim_plan.proofs.plan.block_in.Goals as goal
 
