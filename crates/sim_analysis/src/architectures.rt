@@ -2,8 +2,10 @@
 
 ghost use Rattle.std.specs.Prelude.{◌≡◌, [], OnOk};
 ghost use Rattle.sim_scope.specs.Faults.{first_of};
+ghost use Rattle.sim_instance.specs.Components.{components};
 ghost use Rattle.sim_instance.specs.Libraries.{architectures_at};
 ghost use Rattle.sim_analysis.specs.BodyNames.{with_name};
+ghost use Rattle.sim_analysis.specs.Statements.{statements_faults};
 ghost use Rattle.sim_analysis.specs.Architectures as spec;
 
 use crate::body_names::BodyNames;
@@ -13,8 +15,9 @@ use sim_instance::component::components;
 use sim_region::check::{check_architecture, check_predefined};
 use sim_region::{EntityPorts, region};
 use sim_scope::fault::note;
-use sim_scope::{Fault, Kind};
-use sim_tree::unit::Architecture;
+use sim_scope::{Fault, Kind, Scope};
+use sim_tree::declaration::Declaration;
+use sim_tree::unit::{Architecture, Concurrent};
 use std::alloc::{AllocError, Global};
 
 /// Notes an architecture of no entity of the file, or of one that has an architecture of its name already.
@@ -72,6 +75,24 @@ fn check_names(
     Ok(())
 }
 
+/// Notes the faults of the statements of an architecture with this region and these declarations.
+fn check_concurrents(
+    alloc: Global,
+    library: &Library<'_>,
+    region: &Scope<'_>,
+    declarations: &[Declaration],
+    statements: &[Concurrent],
+    first: &mut Option<Fault>,
+) -> Result<(), AllocError>
+    ensures { OnOk result (first.new ≡ first_of first.old
+        (statements_faults library.now region.now (components library.now declarations.now) statements.now)) }
+{
+    let components = components(alloc, library, declarations)?;
+    let known = components.as_slice();
+    check_statements(alloc, library, region, known, statements, first)?;
+    Ok(())
+}
+
 /// Notes the faults of the declarations and statements of an architecture of an entity with these ports.
 #[tactic(auto, using(sim_scope::proofs::FirstFaults::first_of_both), unfolding(crate::specs::Architectures::body_faults))]
 fn check_body<'a>(
@@ -86,16 +107,8 @@ fn check_body<'a>(
     let declarations = architecture.declarations.as_slice();
     let statements = architecture.statements.as_slice();
     let region = region::architecture(alloc, ports, declarations, statements)?;
-    let components = components(alloc, library, declarations)?;
     check_architecture(alloc, &region, ports, declarations, statements, first)?;
-    check_statements(
-        alloc,
-        library,
-        &region,
-        components.as_slice(),
-        statements,
-        first,
-    )?;
+    check_concurrents(alloc, library, &region, declarations, statements, first)?;
     Ok(())
 }
 

@@ -134,7 +134,7 @@ pub fn logic(
         }
         Expression::Parenthesized { inner, .. } => logic(alloc, names, inner.get()),
         Expression::Not { operand, .. } => {
-            let operand = Boxed::new(alloc, logic(alloc, names, operand.get())?)?;
+            let operand = boxed_logic(alloc, names, operand)?;
             Ok(LogicExpression::Not(operand))
         }
         Expression::Chain {
@@ -142,7 +142,7 @@ pub fn logic(
             first,
             rest,
         } => {
-            let first = Boxed::new(alloc, logic(alloc, names, first.get())?)?;
+            let first = boxed_logic(alloc, names, first)?;
             let rest = logic_operands(alloc, names, rest.as_slice())?;
             Ok(LogicExpression::Chain {
                 operator: *operator,
@@ -151,6 +151,22 @@ pub fn logic(
             })
         }
     }
+}
+
+/// An expression of type std_ulogic, in a box.
+#[cycle(logic)]
+fn boxed_logic(
+    alloc: Global,
+    names: &Names<'_, '_>,
+    expression: &Boxed<Expression>,
+) -> Result<Boxed<LogicExpression>, AllocError>
+    requires within { AreWithin (means names.now.process.now names.now.architecture.now) names.now.objects names.now.variables.now }
+    ensures value { IfOk result (λ r. r ≡ spec.logic_of (means names.now.process.now names.now.architecture.now) expression.now) }
+    ensures fits { IfOk result (λ r. logic_fits names.now.objects names.now.variables.now r ≡ true) }
+{
+    let made = logic(alloc, names, expression.get())?;
+    let boxed = Boxed::new(alloc, made)?;
+    Ok(boxed)
 }
 
 /// The operands after the first of a chain of type std_ulogic.
@@ -176,9 +192,9 @@ fn logic_operands(
 fn logic_comparison(
     alloc: Global,
     names: &Names<'_, '_>,
-    left: &Expression,
+    left: &Boxed<Expression>,
     operator: Relational,
-    right: &Expression,
+    right: &Boxed<Expression>,
 ) -> Result<BooleanExpression, AllocError>
     requires within { AreWithin (means names.now.process.now names.now.architecture.now) names.now.objects names.now.variables.now }
     ensures value { IfOk result (λ r. r ≡ boolean.LogicComparison
@@ -186,8 +202,8 @@ fn logic_comparison(
         (spec.logic_of (means names.now.process.now names.now.architecture.now) right.now)) }
     ensures fits { IfOk result (λ r. boolean_fits names.now.objects names.now.variables.now r ≡ true) }
 {
-    let left = Boxed::new(alloc, logic(alloc, names, left)?)?;
-    let right = Boxed::new(alloc, logic(alloc, names, right)?)?;
+    let left = boxed_logic(alloc, names, left)?;
+    let right = boxed_logic(alloc, names, right)?;
     Ok(BooleanExpression::LogicComparison {
         left,
         operator,
@@ -217,7 +233,7 @@ pub fn boolean(
         }
         Expression::Parenthesized { inner, .. } => boolean(alloc, names, inner.get()),
         Expression::Not { operand, .. } => {
-            let operand = Boxed::new(alloc, boolean(alloc, names, operand.get())?)?;
+            let operand = boxed_boolean(alloc, names, operand)?;
             Ok(BooleanExpression::Not(operand))
         }
         Expression::Comparison {
@@ -227,25 +243,61 @@ pub fn boolean(
             ..
         } => {
             if !is_boolean(names, left.get()) {
-                return logic_comparison(alloc, names, left.get(), *operator, right.get());
+                return logic_comparison(alloc, names, left, *operator, right);
             }
-            let left = Boxed::new(alloc, boolean(alloc, names, left.get())?)?;
-            let right = Boxed::new(alloc, boolean(alloc, names, right.get())?)?;
-            Ok(BooleanExpression::BooleanComparison {
-                left,
-                operator: *operator,
-                right,
-            })
+            let left = boxed_boolean(alloc, names, left)?;
+            boolean_comparison(alloc, names, right, *operator, left)
         }
         Expression::Chain {
             operator,
             first,
             rest,
         } => {
-            let first = Boxed::new(alloc, boolean(alloc, names, first.get())?)?;
+            let first = boxed_boolean(alloc, names, first)?;
             boolean_chain(alloc, names, rest.as_slice(), *operator, first)
         }
     }
+}
+
+/// An expression of type boolean, in a box.
+#[cycle(boolean)]
+fn boxed_boolean(
+    alloc: Global,
+    names: &Names<'_, '_>,
+    expression: &Boxed<Expression>,
+) -> Result<Boxed<BooleanExpression>, AllocError>
+    requires within { AreWithin (means names.now.process.now names.now.architecture.now) names.now.objects names.now.variables.now }
+    ensures value { IfOk result (λ r. r ≡ spec.boolean_of (means names.now.process.now names.now.architecture.now) expression.now) }
+    ensures fits { IfOk result (λ r. boolean_fits names.now.objects names.now.variables.now r ≡ true) }
+{
+    let made = boolean(alloc, names, expression.get())?;
+    let boxed = Boxed::new(alloc, made)?;
+    Ok(boxed)
+}
+
+/// `=` or `/=` between operands of type boolean, of which the left one is translated (9.2.3).
+#[cycle(boolean)]
+#[tactic(auto, using(sim_design::proofs::Fitting::booleans_fit))]
+fn boolean_comparison(
+    alloc: Global,
+    names: &Names<'_, '_>,
+    right: &Boxed<Expression>,
+    operator: Relational,
+    left: Boxed<BooleanExpression>,
+) -> Result<BooleanExpression, AllocError>
+    requires within { AreWithin (means names.now.process.now names.now.architecture.now) names.now.objects names.now.variables.now }
+    requires left { boolean_fits names.now.objects names.now.variables.now left ≡ true }
+    ensures value { IfOk result (λ r. r ≡ boolean.BooleanComparison left operator
+        (spec.boolean_of (means names.now.process.now names.now.architecture.now) right.now)) }
+    ensures fits { IfOk result (λ r. boolean_fits names.now.objects names.now.variables.now r ≡ true) }
+{
+    let made = boolean(alloc, names, right.get())?;
+    let right = Boxed::new(alloc, made)?;
+    Ok(BooleanExpression::BooleanComparison {
+        left,
+        operator,
+        right,
+    })
 }
 
 /// A chain of type boolean, whose first operand is translated.

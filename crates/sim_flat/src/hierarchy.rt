@@ -3,6 +3,7 @@
 ghost use Rattle.std.specs.Prelude.{◌<◌, MatchResult, length};
 ghost use Rattle.std.specs.List.{All};
 ghost use Rattle.sim_hierarchy.specs.Blocks.{IsBlock};
+ghost use Rattle.sim_hierarchy.specs.Limits.{Fits};
 ghost use Rattle.sim_flat.specs.Hierarchies as spec;
 
 use crate::error::FlatError;
@@ -13,12 +14,13 @@ use sim_hierarchy::{Block, expand};
 use sim_reach::{first_recursive, first_with_many_sources};
 use std::alloc::Global;
 
-/// The flat design of the hierarchy under the top. The refusals, in the order in which they are looked for: `Recursive` where an
-/// instance stands in itself, `TooMany` where a limit is passed, `ManySources`.
-pub fn expand_top(alloc: Global, blocks: &[Block], top: Top) -> Result<Design, FlatError>
+/// Refuses a hierarchy that has a fault, in the order of its groups: `Recursive` where an instance stands in itself, `TooMany`
+/// where a limit is passed, `ManySources`.
+fn check(alloc: Global, blocks: &[Block], top: Top) -> Result<(), FlatError>
     requires known { All (IsBlock blocks.now) blocks.now }
     requires top { top.block < length blocks.now }
-    ensures { MatchResult result (λ d. spec.IsFlat blocks.now top d) (λ e. spec.IsFault blocks.now top e) }
+    ensures { MatchResult result (λ found. spec.IsFinite blocks.now top.block × Fits blocks.now top.block × spec.IsResolved blocks.now top.block)
+        (λ e. spec.IsFault blocks.now top e) }
 {
     if let Some(at) = first_recursive(alloc, blocks, top.block)? {
         return Err(FlatError::Recursive { at });
@@ -29,6 +31,16 @@ pub fn expand_top(alloc: Global, blocks: &[Block], top: Top) -> Result<Design, F
     if let Some(at) = first_with_many_sources(alloc, blocks, top.block)? {
         return Err(FlatError::ManySources { at });
     }
+    Ok(())
+}
+
+/// The flat design of the hierarchy under the top, or its first fault.
+pub fn expand_top(alloc: Global, blocks: &[Block], top: Top) -> Result<Design, FlatError>
+    requires known { All (IsBlock blocks.now) blocks.now }
+    requires top { top.block < length blocks.now }
+    ensures { MatchResult result (λ d. spec.IsFlat blocks.now top d) (λ e. spec.IsFault blocks.now top e) }
+{
+    check(alloc, blocks, top)?;
     let design = expand(alloc, blocks, top.block)?;
     Ok(design)
 }

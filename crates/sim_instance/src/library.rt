@@ -12,16 +12,34 @@ use sim_tree::unit::{Architecture, DesignUnit, Entity, LibraryUnit};
 use std::alloc::{AllocError, Global};
 use std::marker::Model;
 
+/// The ports of entities, by place: as port maps see them, and with the regions that they make.
+#[derive(Drop)]
+struct EntityInterfaces<'a> {
+    interfaces: Vec<Interface<'a>>,
+    ports: Vec<EntityPorts<'a>>,
+}
+
+/// The entities of a file, with the place of the first of each name.
+#[derive(Drop)]
+struct EntityList<'a> {
+    list: Vec<&'a Entity>,
+    declared: EntityInterfaces<'a>,
+    first: Places<'a>,
+}
+
+/// The architectures of a file, with the place of the last of each entity, and of each name.
+#[derive(Drop)]
+struct ArchitectureList<'a> {
+    list: Vec<&'a Architecture>,
+    last: Places<'a>,
+    named: PairPlaces<'a>,
+}
+
 /// The entities and the architectures of a file, each in the order of the file.
 #[derive(Drop)]
 pub struct Library<'a> {
-    entities: Vec<&'a Entity>,
-    interfaces: Vec<Interface<'a>>,
-    ports: Vec<EntityPorts<'a>>,
-    architectures: Vec<&'a Architecture>,
-    first_entities: Places<'a>,
-    last_architectures: Places<'a>,
-    named_architectures: PairPlaces<'a>,
+    entities: EntityList<'a>,
+    architectures: ArchitectureList<'a>,
 }
 
 impl<'a> Model for Library<'a> {
@@ -37,14 +55,14 @@ impl<'a> Model for Library<'a> {
 
     ghost coded = { Prim.hlevel (codes, expression.the_row.coded, statement.the_row.coded, sequential.the_row.coded) };
 
-    ghost view = { λ l. record { entities = spec.entities_at l.entities.items; architectures = spec.architectures_at l.architectures.items } };
+    ghost view = { λ l. record { entities = spec.entities_at l.entities.list.items; architectures = spec.architectures_at l.architectures.list.items } };
 
     ghost invariant = { λ l.
-        (l.interfaces.items ≡ spec.interfaces (spec.entities_at l.entities.items))
-        × (l.ports.items ≡ spec.declared_ports (spec.entities_at l.entities.items))
-        × ((n : List ℕ) → place_of l.first_entities n ≡ spec.first_entity (spec.entities_at l.entities.items) n)
-        × ((e : List ℕ) → place_of l.last_architectures e ≡ spec.last_architecture (spec.architectures_at l.architectures.items) e)
-        × ((e n : List ℕ) → place_of_both l.named_architectures e n ≡ spec.last_named (spec.architectures_at l.architectures.items) e n) };
+        (l.entities.declared.interfaces.items ≡ spec.interfaces (spec.entities_at l.entities.list.items))
+        × (l.entities.declared.ports.items ≡ spec.declared_ports (spec.entities_at l.entities.list.items))
+        × ((n : List ℕ) → place_of l.entities.first n ≡ spec.first_entity (spec.entities_at l.entities.list.items) n)
+        × ((e : List ℕ) → place_of l.architectures.last e ≡ spec.last_architecture (spec.architectures_at l.architectures.list.items) e)
+        × ((e n : List ℕ) → place_of_both l.architectures.named e n ≡ spec.last_named (spec.architectures_at l.architectures.list.items) e n) };
 }
 
 /// Puts a unit at the end that is an entity.
@@ -172,6 +190,51 @@ fn named_architectures<'a>(
     Ok(places)
 }
 
+/// The ports of entities.
+fn entity_interfaces<'a>(
+    alloc: Global,
+    entities: &[&'a Entity],
+) -> Result<EntityInterfaces<'a>, AllocError>
+    ensures interfaces { IfOk result (λ r. r.interfaces.items ≡ spec.interfaces (spec.entities_at entities.now)) }
+    ensures ports { IfOk result (λ r. r.ports.items ≡ spec.declared_ports (spec.entities_at entities.now)) }
+{
+    let interfaces = interfaces(alloc, entities)?;
+    let ports = entity_ports(alloc, entities)?;
+    Ok(EntityInterfaces { interfaces, ports })
+}
+
+/// The entities among units, with their ports and places.
+fn entity_list<'a>(alloc: Global, units: &'a [DesignUnit]) -> Result<EntityList<'a>, AllocError>
+    ensures list { IfOk result (λ r. spec.entities_at r.list.items ≡ spec.entities_in units.now) }
+    ensures interfaces { IfOk result (λ r. r.declared.interfaces.items ≡ spec.interfaces (spec.entities_at r.list.items)) }
+    ensures ports { IfOk result (λ r. r.declared.ports.items ≡ spec.declared_ports (spec.entities_at r.list.items)) }
+    ensures first { IfOk result (λ r. (n : List ℕ) → place_of r.first n ≡ spec.first_entity (spec.entities_at r.list.items) n) }
+{
+    let list = entities_in(alloc, units)?;
+    let first = first_entities(alloc, list.as_slice())?;
+    let declared = entity_interfaces(alloc, list.as_slice())?;
+    Ok(EntityList {
+        list,
+        declared,
+        first,
+    })
+}
+
+/// The architectures among units, with their places.
+fn architecture_list<'a>(
+    alloc: Global,
+    units: &'a [DesignUnit],
+) -> Result<ArchitectureList<'a>, AllocError>
+    ensures list { IfOk result (λ r. spec.architectures_at r.list.items ≡ spec.architectures_in units.now) }
+    ensures last { IfOk result (λ r. (e : List ℕ) → place_of r.last e ≡ spec.last_architecture (spec.architectures_at r.list.items) e) }
+    ensures named { IfOk result (λ r. (e n : List ℕ) → place_of_both r.named e n ≡ spec.last_named (spec.architectures_at r.list.items) e n) }
+{
+    let list = architectures_in(alloc, units)?;
+    let last = last_architectures(alloc, list.as_slice())?;
+    let named = named_architectures(alloc, list.as_slice())?;
+    Ok(ArchitectureList { list, last, named })
+}
+
 impl<'a> Library<'a> {
     ghost use Rattle.std.specs.Prelude.{◌≡◌, ℕ, List, Option, IfOk};
     ghost use Rattle.std.specs.Option.{option_copied};
@@ -181,21 +244,11 @@ impl<'a> Library<'a> {
     pub fn of(alloc: Global, file: &'a DesignFile) -> Result<Library<'a>, AllocError>
         ensures { IfOk result (λ l. l ≡ spec.library_of file.now.units) }
     {
-        let entities = entities_in(alloc, file.units())?;
-        let architectures = architectures_in(alloc, file.units())?;
-        let interfaces = interfaces(alloc, entities.as_slice())?;
-        let ports = entity_ports(alloc, entities.as_slice())?;
-        let first_entities = first_entities(alloc, entities.as_slice())?;
-        let last_architectures = last_architectures(alloc, architectures.as_slice())?;
-        let named_architectures = named_architectures(alloc, architectures.as_slice())?;
+        let entities = entity_list(alloc, file.units())?;
+        let architectures = architecture_list(alloc, file.units())?;
         Ok(Library {
             entities,
-            interfaces,
-            ports,
             architectures,
-            first_entities,
-            last_architectures,
-            named_architectures,
         })
     }
 
@@ -203,16 +256,16 @@ impl<'a> Library<'a> {
     pub fn entity_place(&self, name: &[u8]) -> Option<usize>
         ensures { result ≡ spec.first_entity self.now.entities name.now }
     {
-        self.first_entities.find(name)
+        self.entities.first.find(name)
     }
 
     /// The entity of a name: the first of the file counts.
     pub fn entity(&self, name: &[u8]) -> Option<&'a Entity>
         ensures { option_copied result ≡ spec.entity_of self.now name.now }
     {
-        match self.first_entities.find(name) {
+        match self.entities.first.find(name) {
             None => None,
-            Some(place) => self.entities.get(place).copied(),
+            Some(place) => self.entities.list.get(place).copied(),
         }
     }
 
@@ -220,9 +273,9 @@ impl<'a> Library<'a> {
     pub fn entity_ports(&self, name: &[u8]) -> Option<&EntityPorts<'a>>
         ensures { option_copied result ≡ spec.ports_in (spec.entity_of self.now name.now) }
     {
-        match self.first_entities.find(name) {
+        match self.entities.first.find(name) {
             None => None,
-            Some(place) => self.ports.get(place),
+            Some(place) => self.entities.declared.ports.get(place),
         }
     }
 
@@ -230,16 +283,16 @@ impl<'a> Library<'a> {
     pub fn ports(&self) -> &[EntityPorts<'a>]
         ensures { result.now ≡ spec.declared_ports self.now.entities }
     {
-        self.ports.as_slice()
+        self.entities.declared.ports.as_slice()
     }
 
     /// The ports of the entity of a name.
     pub fn interface(&self, entity: &[u8]) -> Option<&Interface<'a>>
         ensures { option_copied result ≡ spec.interface_of self.now entity.now }
     {
-        match self.first_entities.find(entity) {
+        match self.entities.first.find(entity) {
             None => None,
-            Some(place) => self.interfaces.get(place),
+            Some(place) => self.entities.declared.interfaces.get(place),
         }
     }
 
@@ -247,27 +300,27 @@ impl<'a> Library<'a> {
     pub fn last_architecture(&self, entity: &[u8]) -> Option<usize>
         ensures { result ≡ spec.last_architecture self.now.architectures entity.now }
     {
-        self.last_architectures.find(entity)
+        self.architectures.last.find(entity)
     }
 
     /// The place of the last architecture of an entity that has this name.
     pub fn architecture_named(&self, entity: &[u8], name: &[u8]) -> Option<usize>
         ensures { result ≡ spec.last_named self.now.architectures entity.now name.now }
     {
-        self.named_architectures.find(entity, name)
+        self.architectures.named.find(entity, name)
     }
 
     /// The entities, by place.
     pub fn entities(&self) -> &[&'a Entity]
         ensures { spec.entities_at result.now ≡ self.now.entities }
     {
-        self.entities.as_slice()
+        self.entities.list.as_slice()
     }
 
     /// The architectures, by place.
     pub fn architectures(&self) -> &[&'a Architecture]
         ensures { spec.architectures_at result.now ≡ self.now.architectures }
     {
-        self.architectures.as_slice()
+        self.architectures.list.as_slice()
     }
 }

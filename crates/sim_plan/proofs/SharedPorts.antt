@@ -1,5 +1,5 @@
 -- The blocks of one entity share its ports: those at its place are the ports that it declares.
-use Rattle.std.proofs.Common.{◌≡◌, ℕ, zero, suc, List, [], ◌∷◌, map, Option, Some, None, refl, ap}
+use Rattle.std.proofs.Common.{◌≡◌, ℕ, zero, suc, List, [], ◌∷◌, map, Option, Some, None, refl}
 use Rattle.sim_tree.specs.declared.unit.Entity.{Entity}
 use Rattle.sim_region.specs.Ports.{ports_of}
 use Rattle.sim_instance.specs.Libraries.{Library, at_place, declared_ports, entity_of, first_entity}

@@ -5,12 +5,14 @@ ghost use Rattle.std.specs.List.{All};
 ghost use Rattle.sim_hierarchy.specs.Blocks.{IsBlock, no_block};
 ghost use Rattle.std.specs.Option.{option_copied};
 ghost use Rattle.sim_instance.specs.Libraries.{architectures_at, at_place};
+ghost use Rattle.sim_region.specs.Regions.{architecture_region};
+ghost use Rattle.sim_template.specs.Below.{AreBelow, object_count};
 ghost use Rattle.sim_plan.specs.Plans as spec;
 
 use crate::instances::instances;
 use crate::objects::{ports, signals};
 use crate::templates::templates;
-use sim_hierarchy::{Block, Ports};
+use sim_hierarchy::{Block, Object, Port, Ports};
 use sim_instance::Library;
 use sim_region::{EntityPorts, region};
 use sim_scope::Scope;
@@ -33,13 +35,21 @@ fn ports_named<'l>(
     library.entity_ports(name.text()).unwrap_or(none)
 }
 
-/// The ports that an entity declares, as those of a block.
+/// The list of the ports that an entity declares, as those of a block.
 #[tactic(auto, unfolding(crate::specs::Plans::block_ports))]
-fn block_ports(alloc: Global, declared: &EntityPorts<'_>) -> Result<Ports, AllocError>
+fn listed_ports(alloc: Global, declared: &EntityPorts<'_>) -> Result<Items<Port>, AllocError>
     ensures { IfOk result (λ r. r ≡ spec.block_ports declared.now) }
 {
     let region = Scope::after(alloc, declared.region());
     let ports = ports(alloc, &region, declared.declarations())?;
+    Ok(ports)
+}
+
+/// The ports that an entity declares, as those of a block.
+fn block_ports(alloc: Global, declared: &EntityPorts<'_>) -> Result<Ports, AllocError>
+    ensures { IfOk result (λ r. r ≡ spec.block_ports declared.now) }
+{
+    let ports = listed_ports(alloc, declared)?;
     let shared = Ports::new(alloc, ports)?;
     Ok(shared)
 }
@@ -87,8 +97,67 @@ fn ports_of_block(
     }
 }
 
-/// An architecture with its entity.
+/// The ports and signals of a block.
+#[derive(Drop)]
+struct PortsAndSignals {
+    ports: Ports,
+    signals: Items<Object>,
+}
+
+/// The ports and signals of an architecture with this region.
+fn ports_and_signals_of(
+    alloc: Global,
+    library: &Library<'_>,
+    shared: &[Ports],
+    region: &Scope<'_>,
+    architecture: &Architecture,
+) -> Result<PortsAndSignals, AllocError>
+    requires shared { shared.now ≡ spec.shared_ports library.now }
+    ensures ports { IfOk result (λ r. r.ports ≡ spec.block_ports (spec.ports_named library.now architecture.now.entity.text)) }
+    ensures signals { IfOk result (λ r. r.signals ≡ spec.signals_of (spec.seen region.now) architecture.now.declarations) }
+{
+    let ports = ports_of_block(alloc, library, shared, &architecture.entity)?;
+    let signals = signals(alloc, region, architecture.declarations.as_slice())?;
+    Ok(PortsAndSignals { ports, signals })
+}
+
+/// An architecture with this region, which has this number of ports and signals.
 #[tactic(auto, unfolding(crate::specs::Plans::block_of))]
+fn block_in(
+    alloc: Global,
+    library: &Library<'_>,
+    shared: &[Ports],
+    region: &Scope<'_>,
+    objects: usize,
+    architecture: &Architecture,
+) -> Result<Block, AllocError>
+    requires shared { shared.now ≡ spec.shared_ports library.now }
+    requires region { region.now ≡ architecture_region (spec.ports_named library.now architecture.now.entity.text)
+        architecture.now.declarations architecture.now.statements }
+    requires objects { objects ≡ object_count (spec.ports_named library.now architecture.now.entity.text) architecture.now.declarations }
+    requires below { AreBelow objects region.now }
+    ensures value { IfOk result (λ b. b ≡ spec.block_of library.now architecture.now) }
+    ensures known { IfOk result (λ b. IsBlock (spec.blocks_of library.now) b) }
+{
+    let statements = architecture.statements.as_slice();
+    let instances = instances(alloc, library, region, statements)?;
+    let processes = templates(alloc, region, objects, statements)?;
+    let PortsAndSignals { ports, signals } = ports_and_signals_of(
+        alloc,
+        library,
+        shared,
+        region,
+        architecture,
+    )?;
+    Ok(Block {
+        ports,
+        signals,
+        processes,
+        instances,
+    })
+}
+
+/// An architecture with its entity.
 fn block<'l>(
     alloc: Global,
     library: &'l Library<'l>,
@@ -104,18 +173,10 @@ fn block<'l>(
     let declared = ports_named(library, none, &architecture.entity);
     let declarations = architecture.declarations.as_slice();
     let statements = architecture.statements.as_slice();
-    let region = region::architecture(alloc, declared, declarations, statements)?;
     let objects = object_count(declared, declarations)?;
-    let ports = ports_of_block(alloc, library, shared, &architecture.entity)?;
-    let signals = signals(alloc, &region, declarations)?;
-    let instances = instances(alloc, library, &region, statements)?;
-    let processes = templates(alloc, &region, objects, statements)?;
-    Ok(Block {
-        ports,
-        signals,
-        processes,
-        instances,
-    })
+    let region = region::architecture(alloc, declared, declarations, statements)?;
+    let block = block_in(alloc, library, shared, &region, objects, architecture)?;
+    Ok(block)
 }
 
 /// The empty block.
@@ -152,6 +213,18 @@ fn each_block<'l>(
     Ok(found)
 }
 
+/// The blocks of a library, but the last.
+fn architecture_blocks(alloc: Global, library: &Library<'_>) -> Result<Vec<Block>, AllocError>
+    ensures value { IfOk result (λ r. r.items ≡ map (spec.block_of library.now) library.now.architectures) }
+    ensures known { IfOk result (λ r. All (IsBlock (spec.blocks_of library.now)) r.items) }
+{
+    let none = EntityPorts::of(alloc, &[])?;
+    let shared = shared_ports(alloc, library.ports())?;
+    let architectures = library.architectures();
+    let found = each_block(alloc, library, &none, shared.as_slice(), architectures)?;
+    Ok(found)
+}
+
 /// The blocks of a library, one for each architecture by its place, and last an empty one. Each stands among them.
 #[tactic(auto, unfolding(crate::specs::Plans::blocks_of))]
 pub fn blocks(alloc: Global, library: &Library<'_>) -> Result<Items<Block>, AllocError>
@@ -159,10 +232,8 @@ pub fn blocks(alloc: Global, library: &Library<'_>) -> Result<Items<Block>, Allo
     ensures length { IfOk result (λ r. length r ≡ length library.now.architectures + 1) }
     ensures known { IfOk result (λ r. All (IsBlock r) r) }
 {
-    let none = EntityPorts::of(alloc, &[])?;
-    let shared = shared_ports(alloc, library.ports())?;
-    let architectures = library.architectures();
-    let mut found = each_block(alloc, library, &none, shared.as_slice(), architectures)?;
-    found.push(no_block(alloc)?)?;
+    let mut found = architecture_blocks(alloc, library)?;
+    let last = no_block(alloc)?;
+    found.push(last)?;
     Ok(Items::from_vec(found))
 }

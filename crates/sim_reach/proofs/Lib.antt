@@ -1,4 +1,3 @@
-pub mod Certified
 pub mod Counted
 pub mod Endless
 pub mod Leasts
@@ -7,5 +6,4 @@ pub mod Noted
 pub mod Recursions
 pub mod Reversed
 pub mod Searches
-pub mod Settling
 pub mod SourcePlaces

@@ -1,15 +1,15 @@
 -- Recursive instances: block by block the first of them, and where there is one, chains of instances are of any length.
-use Rattle.std.proofs.Common.{◌≡◌, ℕ, zero, suc, ◌+◌, ◌<◌, ◌≤◌, ◌↔◌, List, [], ◌∷◌, Bool, true, false, Option, None, length, get_or, ◌⊎◌, inl, inr}
+use Rattle.std.proofs.Common.{◌≡◌, ℕ, zero, suc, ◌+◌, ◌<◌, ◌≤◌, ◌↔◌, List, [], ◌∷◌, Bool, true, false, ◌||◌, Option, Some, None, length, get_or, ◌⊎◌, inl, inr}
 use Rattle.std.proofs.Common.{refl, ap, sym, ◌∙◌, subst, arith, if◌then◌else◌}
-use Rattle.std.specs.List.{Contains}
+use Rattle.std.specs.List.{Contains, list_any}
+use Rattle.std.proofs.lemmas.Bool.{ltb-false}
 use Rattle.std.proofs.lemmas.List.{get_or_past}
 use Rattle.sim_hierarchy.specs.declared.blocks.Instance.{Instance}
 use Rattle.sim_hierarchy.specs.declared.blocks.Block.{Block}
 use Rattle.sim_hierarchy.specs.Blocks.{no_block}
 use Rattle.sim_reach.specs.Graph.{Graph, blocks_of, graph_of, block_at, led, Reaches}
-use Rattle.sim_reach.specs.Homes.{Homes, shares}
-use Rattle.sim_reach.specs.Least.{IsLeast, least_of}
-use Rattle.sim_reach.specs.Recursion.{IsRecursive, IsLeastBack, IsLeastOn, IsLeastShared, TellsRecursive, places_of, marked}
+use Rattle.sim_reach.specs.Least.{IsLeast, lesser, least_of}
+use Rattle.sim_reach.specs.Recursion.{IsRecursive, IsLeastBack, IsLeastOn, is_before, is_earlier, places_of, marked}
 use Rattle.sim_reach.proofs.Lists.{by_cases, by_order, nothing_in, first_in, later_in, one_of}
 use Rattle.sim_reach.proofs.Leasts.{said_otherwise, with_more}
 
@@ -90,6 +90,28 @@ place_there test (j ∷ is) i c t =
     not_now : test j.block ≡ false → (j ≡ i) ⊎ Contains is i → Contains is i
     not_now n (inl e) = absurd (let a : test j.block ≡ true = ap (λ (k : Instance). test k.block) e ∙ t in cc)
     not_now n (inr d) = d
+
+-- ---- instances that stand behind the first place that is known
+neither : (a b : Bool) → a || b ≡ false → (a ≡ false) × (b ≡ false)
+neither true b e = cc
+neither false b e = (refl, e)
+
+not_before : (known : Option ℕ) (at : ℕ) → is_before known at ≡ false → known ≡ Some (lesser known at)
+not_before None at e = cc
+not_before (Some m) at e = ap Some (let le : m ≤ at = ltb-false at m e in omega arith)
+
+pub none_earlier : (test : ℕ → Bool) (known : Option ℕ) (is : List Instance) → list_any (is_earlier known) is ≡ false
+    → known ≡ least_of known (places_of test is)
+unfolding places_of least_of
+none_earlier test known [] e = refl
+none_earlier test known (i ∷ is) e =
+    let both = neither (is_before known i.at) (list_any (is_earlier known) is) e in
+    by_test (test i.block) (not_before known i.at both.0) (none_earlier test known is both.1)
+  where
+    by_test : (b : Bool) → known ≡ Some (lesser known i.at) → known ≡ least_of known (places_of test is)
+        → known ≡ least_of known (if b then i.at ∷ places_of test is else places_of test is)
+    by_test true same more = more ∙ ap (λ (o : Option ℕ). least_of o (places_of test is)) same
+    by_test false same more = more
 
 -- ---- block by block: recursive instances in the blocks of lesser numbers
 pub record Below (blocks : List Block) (top below at : ℕ) : Type 0 where
@@ -178,16 +200,6 @@ one_more blocks top k marks back known found true b reached turned m is h known_
         (sym m) l.least known_least
 one_more blocks top k marks back known found false b reached turned m is h known_least =
     rw h (passed_over blocks top k marks reached known (sym m) known_least)
-
--- by homes
-pub one_shared : (blocks : List Block) (top k : ℕ) (marks : List Bool) (homes : Homes) (known found : Option ℕ) (on : Bool) (b : Block)
-    → TellsRecursive blocks top marks homes → on ≡ get_or marks k false → b ≡ block_at blocks k
-    → IsLeastShared on homes k b.instances known found → IsLeast (Below blocks top k) known → IsLeast (Below blocks top (k + 1)) found
-one_shared blocks top k marks homes known found true b tells m is h known_least =
-    looked_at blocks top k marks tells.reached (shares homes k) known found (λ i among. tells.back k i.block (sym m) (led_there blocks k i among))
-    (sym m) (h ∙ ap (λ (x : Block). least_of known (places_of (shares homes k) x.instances)) is) known_least
-one_shared blocks top k marks homes known found false b tells m is h known_least =
-    rw h (passed_over blocks top k marks tells.reached known (sym m) known_least)
 
 pub none_below : (blocks : List Block) (top : ℕ) → IsLeast (Below blocks top 0) None
 none_below blocks top at b = let l = b.less in absurd (omega arith)

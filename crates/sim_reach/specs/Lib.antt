@@ -1,5 +1,4 @@
 pub mod Graph
-pub mod Homes
 pub mod Least
 pub mod Recursion
 pub mod Search

@@ -1,10 +1,9 @@
 -- Instances that stand, in the end, in themselves (IEEE 1076-2008, 14.2).
-use Rattle.std.specs.Prelude.{ℕ, ◌≡◌, ◌↔◌, List, [], ◌∷◌, Bool, true, false, if◌then◌else◌, Option, get_or}
+use Rattle.std.specs.Prelude.{ℕ, ◌≡◌, ◌↔◌, nat_lt, List, [], ◌∷◌, Bool, true, false, if◌then◌else◌, Option, Some, None, get_or}
 use Rattle.std.specs.List.{Contains}
 use Rattle.sim_hierarchy.specs.declared.blocks.Instance.{Instance}
 use Rattle.sim_hierarchy.specs.declared.blocks.Block.{Block}
 use Rattle.sim_reach.specs.Graph.{Graph, graph_of, block_at, Reaches}
-use Rattle.sim_reach.specs.Homes.{Homes, shares, TellsBack}
 use Rattle.sim_reach.specs.Least.{least_of}
 
 -- An instance, in a block that the top reaches, is of a block that reaches the one in which it stands. What it is of is named here.
@@ -27,6 +26,15 @@ places_of test (i ∷ is) = if test i.block then i.at ∷ places_of test is else
 abbrev pub marked : List Bool → ℕ → Bool
 marked marks n = get_or marks n false
 
+-- whether a place stands before the first that is known
+abbrev pub is_before : Option ℕ → ℕ → Bool
+is_before None at = true
+is_before (Some m) at = nat_lt at m
+
+-- whether an instance names what it is of before the first place that is known
+abbrev pub is_earlier : Option ℕ → Instance → Bool
+is_earlier known i = is_before known i.at
+
 -- It is the least place of instances of those blocks that a number reaches, and of what is known.
 pub record IsLeastBack (back : Graph) (number : ℕ) (instances : List Instance) (known found : Option ℕ) : Type 0 where
   pub marks : List Bool
@@ -37,13 +45,3 @@ pub record IsLeastBack (back : Graph) (number : ℕ) (instances : List Instance)
 abbrev pub IsLeastOn : Bool → Graph → ℕ → List Instance → Option ℕ → Option ℕ → Type 0
 IsLeastOn true back number instances known found = IsLeastBack back number instances known found
 IsLeastOn false back number instances known found = found ≡ known
-
--- With a block more, if it is marked, it is the least place of instances of blocks of the same home, and of what is known.
-abbrev pub IsLeastShared : Bool → Homes → ℕ → List Instance → Option ℕ → Option ℕ → Type 0
-IsLeastShared true homes number instances known found = found ≡ least_of known (places_of (shares homes number) instances)
-IsLeastShared false homes number instances known found = found ≡ known
-
--- Marks and homes tell which instances are recursive.
-pub record TellsRecursive (blocks : List Block) (top : ℕ) (marks : List Bool) (homes : Homes) : Type 0 where
-  pub reached : (n : ℕ) → (get_or marks n false ≡ true) ↔ Reaches (graph_of blocks) n top
-  pub back : TellsBack (graph_of blocks) marks homes

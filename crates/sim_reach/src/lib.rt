@@ -1,11 +1,8 @@
 //! What the instances of a hierarchy lead to: recursion, and the sources of what is not resolved.
 #![tactic(auto)]
 
-mod certificate;
 mod graph;
-mod homes;
 mod least;
-mod order;
 mod recursion;
 mod search;
 mod sources;

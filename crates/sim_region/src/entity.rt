@@ -34,6 +34,15 @@ impl<'a> Model for EntityPorts<'a> {
         × (e.count ≡ spec.port_count e.declarations.now) };
 }
 
+/// The region of the ports of an entity, which stands in none.
+fn region_of<'a>(alloc: Global, declarations: &'a [PortDeclaration]) -> Result<Part<'a>, AllocError>
+    ensures { IfOk result (λ part. part ≡ spec.ports_region [] declarations.now) }
+{
+    let nothing = Scope::new(alloc);
+    let part = region::ports(alloc, declarations, &nothing)?;
+    Ok(part)
+}
+
 impl<'a> EntityPorts<'a> {
     /// The ports that an entity declares.
     pub fn of(
@@ -42,11 +51,10 @@ impl<'a> EntityPorts<'a> {
     ) -> Result<EntityPorts<'a>, AllocError>
         ensures { IfOk result (λ e. e ≡ declarations.now) }
     {
+        let region = region_of(alloc, declarations)?;
         let names = Names::of_ports(alloc, declarations)?;
         let count = names.len();
         let labels = region::labels(alloc, &names)?;
-        let nothing = Scope::new(alloc);
-        let region = region::ports(alloc, declarations, &nothing)?;
         Ok(EntityPorts {
             declarations,
             labels,

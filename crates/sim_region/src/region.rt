@@ -2,7 +2,7 @@
 
 ghost use Rattle.std.specs.Prelude.{◌≡◌, ◌+◌, [], length, OnOk, IfOk};
 ghost use Rattle.sim_scope.specs.Scopes.{declaring, means};
-ghost use Rattle.sim_region.specs.DeclaredNames.{named_by};
+ghost use Rattle.sim_region.specs.DeclaredNames.{concurrent_labels, named_by, process_names, statement_labels};
 ghost use Rattle.sim_region.specs.Regions as spec;
 
 use crate::entity::EntityPorts;
@@ -11,6 +11,7 @@ use crate::port::mode_of;
 use sim_scope::scope::{Declare, Meaning, Part, Scope, Type, look_up};
 use sim_tree::declaration::{Declaration, Mode, ObjectDeclaration, PortDeclaration};
 use sim_tree::name::Name;
+use sim_tree::sequential::Sequential;
 use sim_tree::unit::{Concurrent, Process};
 use std::alloc::{AllocError, Global};
 
@@ -225,6 +226,29 @@ pub fn labels<'a>(alloc: Global, names: &Names<'a>) -> Result<Part<'a>, AllocErr
     Ok(part)
 }
 
+/// The names of ports, of which nothing else is known, as a region.
+fn port_labels<'a>(alloc: Global, ports: &'a [PortDeclaration]) -> Result<Scope<'a>, AllocError>
+    ensures { IfOk result (λ s. s ≡ spec.port_labels ports.now) }
+{
+    let names = Names::of_ports(alloc, ports)?;
+    let part = labels(alloc, &names)?;
+    Ok(Scope::of(part))
+}
+
+/// Ports as a region of their own, the first at place 0. A mark is looked up in two regions.
+fn declared_ports<'a>(
+    alloc: Global,
+    inner: &Scope<'_>,
+    outer: &Scope<'_>,
+    ports: &'a [PortDeclaration],
+) -> Result<Part<'a>, AllocError>
+    ensures { IfOk result (λ part. part ≡ declaring [] (spec.ports (means inner.now outer.now) 0 ports.now)) }
+{
+    let mut part = Part::new(alloc);
+    declare_ports(&mut part, inner, outer, ports)?;
+    Ok(part)
+}
+
 /// The region of the ports of an entity, in an empty one, or of a component, in that of its architecture.
 #[tactic(auto, unfolding(crate::specs::Regions::ports_region))]
 pub fn ports<'a>(
@@ -234,10 +258,8 @@ pub fn ports<'a>(
 ) -> Result<Part<'a>, AllocError>
     ensures { IfOk result (λ part. part ≡ spec.ports_region outer.now ports.now) }
 {
-    let names = Names::of_ports(alloc, ports)?;
-    let own = Scope::of(labels(alloc, &names)?);
-    let mut part = Part::new(alloc);
-    declare_ports(&mut part, &own, outer, ports)?;
+    let own = port_labels(alloc, ports)?;
+    let part = declared_ports(alloc, &own, outer, ports)?;
     Ok(part)
 }
 
@@ -256,6 +278,50 @@ fn architecture_labels<'a>(
     Ok(scope)
 }
 
+/// Declares the signals and components of an architecture, whose region stands in none, the first signal at this place.
+fn declare_own<'a>(
+    alloc: Global,
+    scope: &mut Scope<'a>,
+    own: &Scope<'_>,
+    signal: usize,
+    declarations: &'a [Declaration],
+) -> Result<(), AllocError>
+    ensures { OnOk result (scope.new ≡ declaring scope.old (spec.declarations (means own.now []) signal 0 declarations.now)) }
+{
+    let nothing = Scope::new(alloc);
+    declare_declarations(scope, own, &nothing, signal, declarations)?;
+    Ok(())
+}
+
+/// The region of an architecture without its labels.
+fn declared<'a>(
+    alloc: Global,
+    entity: &'a EntityPorts<'a>,
+    declarations: &'a [Declaration],
+    statements: &'a [Concurrent],
+) -> Result<Scope<'a>, AllocError>
+    ensures { IfOk result (λ s. s ≡ declaring (spec.ports_region [] entity.now)
+        (spec.declarations (means (spec.architecture_labels entity.now declarations.now statements.now) []) (spec.port_count entity.now) 0 declarations.now)) }
+{
+    let own = architecture_labels(alloc, entity, declarations, statements)?;
+    let mut scope = Scope::after(alloc, entity.region());
+    declare_own(alloc, &mut scope, &own, entity.count(), declarations)?;
+    Ok(scope)
+}
+
+/// Declares the labels of concurrent statements.
+fn declare_concurrents<'a>(
+    alloc: Global,
+    scope: &mut Scope<'a>,
+    statements: &'a [Concurrent],
+) -> Result<(), AllocError>
+    ensures { OnOk result (scope.new ≡ spec.naming scope.old (concurrent_labels statements.now)) }
+{
+    let labels = Names::of_concurrents(alloc, statements)?;
+    declare_labels(scope, &labels)?;
+    Ok(())
+}
+
 /// The region of an architecture: it goes on from that of the ports of its entity with its declarations and its labels.
 #[tactic(auto, unfolding(crate::specs::Regions::architecture_region))]
 pub fn architecture<'a>(
@@ -266,13 +332,46 @@ pub fn architecture<'a>(
 ) -> Result<Scope<'a>, AllocError>
     ensures { IfOk result (λ s. s ≡ spec.architecture_region entity.now declarations.now statements.now) }
 {
-    let own = architecture_labels(alloc, entity, declarations, statements)?;
-    let nothing = Scope::new(alloc);
-    let mut scope = Scope::after(alloc, entity.region());
-    declare_declarations(&mut scope, &own, &nothing, entity.count(), declarations)?;
-    let labels = Names::of_concurrents(alloc, statements)?;
-    declare_labels(&mut scope, &labels)?;
+    let mut scope = declared(alloc, entity, declarations, statements)?;
+    declare_concurrents(alloc, &mut scope, statements)?;
     Ok(scope)
+}
+
+/// The names that a process declares, of which nothing else is known, as a region.
+fn process_labels<'a>(alloc: Global, process: &'a Process) -> Result<Scope<'a>, AllocError>
+    ensures { IfOk result (λ s. s ≡ spec.naming [] (process_names process.now)) }
+{
+    let names = Names::of_process(alloc, process)?;
+    let part = labels(alloc, &names)?;
+    Ok(Scope::of(part))
+}
+
+/// The region of a process without its labels.
+fn process_variables<'a>(
+    alloc: Global,
+    outer: &Scope<'_>,
+    process: &'a Process,
+) -> Result<Part<'a>, AllocError>
+    ensures { IfOk result (λ part. part
+        ≡ declaring [] (spec.variables (means (spec.naming [] (process_names process.now)) outer.now) 0 process.now.variables)) }
+{
+    let own = process_labels(alloc, process)?;
+    let mut part = Part::new(alloc);
+    declare_variables(&mut part, &own, outer, process.variables.as_slice())?;
+    Ok(part)
+}
+
+/// Declares the labels of sequential statements, of those in ifs too.
+fn declare_statements<'a>(
+    alloc: Global,
+    part: &mut Part<'a>,
+    statements: &'a [Sequential],
+) -> Result<(), AllocError>
+    ensures { OnOk result (part.new ≡ spec.naming part.old (statement_labels statements.now)) }
+{
+    let labels = Names::of_statements(alloc, statements)?;
+    declare_labels(part, &labels)?;
+    Ok(())
 }
 
 /// The region of a process, which stands in that of its architecture.
@@ -284,11 +383,7 @@ pub fn process<'a>(
 ) -> Result<Scope<'a>, AllocError>
     ensures { IfOk result (λ s. s ≡ spec.process_region outer.now process.now) }
 {
-    let names = Names::of_process(alloc, process)?;
-    let own = Scope::of(self::labels(alloc, &names)?);
-    let mut part = Part::new(alloc);
-    declare_variables(&mut part, &own, outer, process.variables.as_slice())?;
-    let labels = Names::of_statements(alloc, process.statements.as_slice())?;
-    declare_labels(&mut part, &labels)?;
+    let mut part = process_variables(alloc, outer, process)?;
+    declare_statements(alloc, &mut part, process.statements.as_slice())?;
     Ok(Scope::of(part))
 }

@@ -3,7 +3,8 @@
 ghost use Rattle.std.specs.Prelude.{◌≡◌, ◌∷◌, ◌++◌, [], None, true, IfOk, OnOk, length, map};
 ghost use Rattle.std.specs.List.{All};
 ghost use Rattle.sim_scope.specs.Scopes.{means};
-ghost use Rattle.sim_design.specs.Bodies.{statement_fits};
+ghost use Rattle.sim_design.specs.Bodies.{objects_of, statement_fits};
+ghost use Rattle.sim_design.specs.Processes.{rising};
 ghost use Rattle.sim_body.specs.Statements.{concurrent_of, gathered, sequential_of, target_of, targets_of};
 ghost use Rattle.sim_body.specs.Within.{AreWithin};
 ghost use Rattle.sim_template.specs.Below.{AreBelow};
@@ -95,6 +96,27 @@ fn wakes(
     }
 }
 
+/// What wakes a process, and what it reads.
+#[derive(Drop)]
+struct Waking {
+    sensitivity: Items<usize>,
+    reads: Items<usize>,
+}
+
+/// What wakes a process of these statements, and what it reads.
+fn woken(
+    alloc: Global,
+    listed: Option<Items<usize>>,
+    statements: &[Statement],
+) -> Result<Waking, AllocError>
+    ensures sensitivity { IfOk result (λ w. w.sensitivity ≡ spec.wakes listed (rising (objects_of statements.now))) }
+    ensures reads { IfOk result (λ w. w.reads ≡ rising (objects_of statements.now)) }
+{
+    let reads = reads(alloc, statements)?;
+    let sensitivity = wakes(alloc, listed, reads.as_slice())?;
+    Ok(Waking { sensitivity, reads })
+}
+
 /// A process from its parts.
 fn template(
     alloc: Global,
@@ -110,14 +132,13 @@ fn template(
     ensures value { IfOk result (λ t. t ≡ spec.template objects listed targets.now variables statements) }
     ensures blocks { IfOk result (λ t. FitsBlocks objects t) }
 {
-    let reads = reads(alloc, statements.as_slice())?;
-    let sensitivity = wakes(alloc, listed, reads.as_slice())?;
-    let targets = Items::from_slice(alloc, targets.as_slice())?;
-    let drivers = targets.len();
+    let woken = woken(alloc, listed, statements.as_slice())?;
+    let drivers = targets.as_slice().len();
     let body = Body::new(alloc, objects, drivers, variables, statements)?;
+    let targets = Items::from_slice(alloc, targets.as_slice())?;
     Ok(Template {
-        sensitivity,
-        reads,
+        sensitivity: woken.sensitivity,
+        reads: woken.reads,
         targets,
         body,
     })

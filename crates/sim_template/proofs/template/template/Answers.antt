@@ -4,20 +4,19 @@ use Rattle.sim_template.proofs.template.template.Goals as goal
 
 pub new-requires : goal.new-requires
 new-requires c =
-    rw (c.len-drivers.ensures, c.in_ok-targets.ensures, c.as_slice-3.ensures)
+    rw c.as_slice-drivers.ensures
     (body_fits c.args.objects (length c.args.targets.now) c.args.variables c.args.statements c.requires.fits)
 
 pub returns-clause-blocks : goal.returns-clause-blocks
 returns-clause-blocks c =
     rw (
-      c.in_ok-sensitivity.ensures,
-      c.as_slice-2.ensures,
-      c.in_ok-reads.ensures,
+      c.in_ok-woken.ensures.sensitivity,
+      c.in_ok-woken.ensures.reads,
       c.as_slice.ensures,
       c.in_ok-body.ensures,
-      c.len-drivers.ensures,
+      c.as_slice-drivers.ensures,
       c.in_ok-targets.ensures,
-      c.as_slice-3.ensures,
+      c.as_slice-2.ensures,
     )
     (template_fits c.args.objects c.args.listed c.args.targets.now c.args.variables c.args.statements c.requires.fits c.requires.targets
     c.requires.listed)

@@ -11,7 +11,7 @@ returns-in-None c = entity_none c.args.self.now _ c.args.name.now (ap (λ (l : L
 
 pub returns-in-Some : goal.returns-in-Some
 returns-in-Some c =
-    let es = c.self.inside.entities.items in
+    let es = c.self.inside.entities.list.items in
     let read = c.copied.ensures ∙ (got c.get.result c.deref.result.now c.in-Some.place c.get.ensures.lookup.3 c.get.ensures.lookup.1
     ∙ ap (λ (xs : List (Bor Entity)). slice_get xs c.in-Some.place) c.deref.ensures.value) in
     entity_some c.args.self.now es c.args.name.now c.in-Some.place c.copied.result (ap (λ (l : Library). l.entities) c.self.view_is)
