@@ -11,7 +11,7 @@
 //! | `+` | more of the text's last line |
 //! | `*` | a number, and after a blank more of that line, as many times |
 //! | `_` | a number: as many blanks more in that line |
-//! | `@` | two numbers, and after a blank more of that line for each number from the first to the second, which `{n}` stands for in it, and `{n+1}` for the next |
+//! | `@` | two numbers, and after a blank more of that line for each number from the first to the second: `{n}` in it is that number, `{n+1}` the next |
 //! | `>` | a line that is to be written to standard output |
 //! | `&` | as `@`, a line that is to be written to standard output for each number |
 //! | `!` | a line that is to be written to standard error |
