@@ -1,5 +1,6 @@
 //! A case: what the program is given, and what it is to answer.
 
+use crate::repeated::{number, put_blanks, put_line, put_numbered, put_times};
 use std::alloc::{AllocError, Global};
 use std::str;
 
@@ -33,32 +34,6 @@ fn words_of(alloc: Global, line: &[u8]) -> Result<Vec<String>, AllocError> {
     Ok(words)
 }
 
-/// A number, and the bytes after the blank that follows it.
-fn counted(line: &[u8]) -> Option<(u32, &[u8])> {
-    let (number, rest) = str::from_utf8(line).ok()?.split_once(' ')?;
-    Some((number.parse::<u32>().ok()?, rest.as_bytes()))
-}
-
-/// A decimal number.
-fn number(line: &[u8]) -> Option<u32> {
-    str::from_utf8(line).ok()?.parse::<u32>().ok()
-}
-
-/// Adds a line.
-fn put_line(lines: &mut Vec<u8>, line: &[u8]) -> Result<(), AllocError> {
-    lines.extend_from_slice(line)?;
-    lines.push(b'\n')?;
-    Ok(())
-}
-
-/// Adds these bytes, as many times as it says.
-fn put_times(text: &mut Vec<u8>, count: u32, piece: &[u8]) -> Result<(), AllocError> {
-    for _ in 0..count {
-        text.extend_from_slice(piece)?;
-    }
-    Ok(())
-}
-
 impl Case {
     /// The case of an empty text that has no listing, for the top `t`.
     pub fn new(alloc: Global, name: &[u8]) -> Result<Case, AllocError> {
@@ -79,37 +54,61 @@ impl Case {
     }
 
     /// Begins a line of the text.
-    fn put_text(&mut self, line: &[u8]) -> Result<(), AllocError> {
+    fn put_text(&mut self, line: &[u8]) -> Result<bool, AllocError> {
         if !self.text.is_empty() {
             self.text.push(b'\n')?;
         }
-        self.text.extend_from_slice(line)
+        self.put_more(line)
+    }
+
+    /// Goes on with the last line of the text.
+    fn put_more(&mut self, line: &[u8]) -> Result<bool, AllocError> {
+        self.text.extend_from_slice(line)?;
+        Ok(true)
+    }
+
+    /// What the words are.
+    fn put_words(&mut self, alloc: Global, line: &[u8]) -> Result<bool, AllocError> {
+        self.words = words_of(alloc, line)?;
+        Ok(true)
+    }
+
+    /// What the status is to be.
+    fn put_status(&mut self, line: &[u8]) -> bool {
+        match number(line) {
+            Some(status) => {
+                self.status = status;
+                true
+            }
+            None => false,
+        }
+    }
+
+    /// What is not to be compared.
+    fn put_spared(&mut self, line: &[u8]) -> bool {
+        match line {
+            b">" => self.compares_output = false,
+            b"!" => self.compares_error = false,
+            _ => return false,
+        }
+        true
     }
 
     /// Reads a line of the case: its mark, and what follows the blank after it. `false` where it is none.
     pub fn put(&mut self, alloc: Global, mark: u8, line: &[u8]) -> Result<bool, AllocError> {
         match mark {
-            b'$' => self.words = words_of(alloc, line)?,
-            b'<' => self.put_text(line)?,
-            b'+' => self.text.extend_from_slice(line)?,
-            b'*' => match counted(line) {
-                Some((count, piece)) => put_times(&mut self.text, count, piece)?,
-                None => return Ok(false),
-            },
-            b'_' => match number(line) {
-                Some(count) => put_times(&mut self.text, count, b" ")?,
-                None => return Ok(false),
-            },
-            b'>' => put_line(&mut self.output, line)?,
-            b'!' => put_line(&mut self.error, line)?,
-            b'?' => match number(line) {
-                Some(status) => self.status = status,
-                None => return Ok(false),
-            },
-            b'~' if line == b">".as_slice() => self.compares_output = false,
-            b'~' if line == b"!".as_slice() => self.compares_error = false,
-            _ => return Ok(false),
+            b'$' => self.put_words(alloc, line),
+            b'<' => self.put_text(line),
+            b'+' => self.put_more(line),
+            b'*' => put_times(&mut self.text, line),
+            b'_' => put_blanks(&mut self.text, line),
+            b'@' => put_numbered(alloc, &mut self.text, line, b""),
+            b'>' => put_line(&mut self.output, line),
+            b'&' => put_numbered(alloc, &mut self.output, line, b"\n"),
+            b'!' => put_line(&mut self.error, line),
+            b'?' => Ok(self.put_status(line)),
+            b'~' => Ok(self.put_spared(line)),
+            _ => Ok(false),
         }
-        Ok(true)
     }
 }

@@ -11,7 +11,9 @@
 //! | `+` | more of the text's last line |
 //! | `*` | a number, and after a blank more of that line, as many times |
 //! | `_` | a number: as many blanks more in that line |
+//! | `@` | two numbers, and after a blank more of that line for each number from the first to the second: `{n}` in it is that number, `{n+1}` the next |
 //! | `>` | a line that is to be written to standard output |
+//! | `&` | as `@`, a line that is to be written to standard output for each number |
 //! | `!` | a line that is to be written to standard error |
 //! | `?` | the status; where there is no such line, 0 |
 //! | `~` | `>` or `!`: what is written there is not compared |
@@ -20,6 +22,7 @@
 mod case;
 mod file;
 mod outcome;
+mod repeated;
 
 use crate::case::Case;
 use crate::file::cases;
@@ -73,19 +76,32 @@ fn counted(counts: Counts, outcome: Outcome) -> Counts {
     }
 }
 
+/// The cases of the file with this name.
+fn cases_of<R: AllocGlobal + Files>(rt: &R, name: &str) -> Result<Vec<Case>> {
+    let file = fs::read(rt, name).context("a file of cases cannot be read")?;
+    cases(rt.alloc(), file.as_slice())
+}
+
+/// Gives the program these cases.
+fn run_cases<R: Threads + Wait + Sync + AllocGlobal + Print>(
+    rt: &R,
+    cases: Vec<Case>,
+) -> Result<Counts> {
+    let mut counts = Counts { same: 0, differ: 0 };
+    for case in cases {
+        let (name, outcome) = run_case(rt, case)?;
+        tell(rt, name.as_str(), outcome)?;
+        counts = counted(counts, outcome);
+    }
+    Ok(counts)
+}
+
 /// Gives the program the cases of a file.
 fn run_file<R: Threads + Wait + Sync + AllocGlobal + Files + Print>(
     rt: &R,
     name: &str,
 ) -> Result<()> {
-    let file = fs::read(rt, name).context("a file of cases cannot be read")?;
-    let mut counts = Counts { same: 0, differ: 0 };
-    for case in cases(rt.alloc(), file.as_slice())? {
-        let (name, outcome) = run_case(rt, case)?;
-        tell(rt, name.as_str(), outcome)?;
-        counts = counted(counts, outcome);
-    }
-    let Counts { same, differ } = counts;
+    let Counts { same, differ } = run_cases(rt, cases_of(rt, name)?)?;
     println!(rt; "{name}: {same} as they are to be, {differ} differ")?;
     Ok(())
 }

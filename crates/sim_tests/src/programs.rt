@@ -1,6 +1,6 @@
 //! The program, over readers and writers in memory.
 
-use crate::streams::{Dripping, Endless, Failing};
+use crate::streams::{Counting, Dripping, Endless, Failing};
 use sim_run::session;
 use std::alloc::{AllocError, Global};
 use std::test::Fail;
@@ -120,5 +120,26 @@ fn help_to_a_writer_that_fails_has_status_4(rt: HostRuntime) -> Result<(), Fail>
     );
     assert_eq!(rt; status, 4);
     assert_eq!(rt; out.taken.len(), 10);
+    Ok(())
+}
+
+#[test]
+fn help_and_refused_words_read_nothing(rt: HostRuntime) -> Result<(), Fail> {
+    let alloc = rt.alloc();
+    for (line, expected) in [("--help", 0), ("", 2)] {
+        let mut input = Counting { calls: 0 };
+        let mut out = Vec::new(alloc);
+        let mut err = Vec::new(alloc);
+        let status = session(
+            &rt,
+            alloc,
+            words(alloc, line)?,
+            &mut input,
+            &mut out,
+            &mut err,
+        );
+        assert_eq!(rt; status, expected);
+        assert_eq!(rt; input.calls, 0);
+    }
     Ok(())
 }

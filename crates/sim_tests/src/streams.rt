@@ -75,3 +75,16 @@ impl Read for Endless {
         Ok(count)
     }
 }
+
+/// A reader that counts its calls, and is at its end.
+#[derive(Drop)]
+pub struct Counting {
+    pub calls: usize,
+}
+
+impl Read for Counting {
+    fn read(&mut self, _buf: &mut [u8]) -> io::Result<usize> {
+        self.calls = self.calls.saturating_add(1);
+        Ok(0)
+    }
+}
