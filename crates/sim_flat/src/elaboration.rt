@@ -24,6 +24,16 @@ fn elaborate(alloc: Global, library: &Library<'_>, top: &str) -> Result<Design, 
     expand_top(alloc, plan.as_slice(), found)
 }
 
+/// The flat design under the top, or the first fault: that of a unit comes first.
+fn checked(alloc: Global, library: &Library<'_>, top: &str) -> Result<Design, FlatError>
+    ensures { MatchResult result (λ d. spec.IsDesign library.now top.now d) (λ e. spec.IsRefusal library.now top.now e) }
+{
+    if let Some(fault) = analyze(alloc, library)? {
+        return Err(refusal_of(fault));
+    }
+    elaborate(alloc, library, top)
+}
+
 /// The flat design of a file under the entity `top`, whose name is compared without regard to case.
 ///
 /// The refusals, in the order in which they are looked for: the first fault of any unit of the file, reached from the top or not
@@ -36,8 +46,5 @@ pub fn flatten(alloc: Global, file: &DesignFile, top: &str) -> Result<Design, Fl
         (λ e. spec.IsRefusal (library_of file.now.units) top.now e) }
 {
     let library = Library::of(alloc, file)?;
-    if let Some(fault) = analyze(alloc, &library)? {
-        return Err(refusal_of(fault));
-    }
-    elaborate(alloc, &library, top)
+    checked(alloc, &library, top)
 }
