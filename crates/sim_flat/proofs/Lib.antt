@@ -1,3 +1,4 @@
+pub mod NamesAtPlaces
 pub mod NestedNets
 pub mod SourceTrees
 pub mod TopBlocks

@@ -1,13 +1,22 @@
--- What holds of a design without fault: its nets have the values of the ports and signals that they are (IEEE 1076-2008, 14.7.3).
-use Rattle.std.specs.Prelude.{ℕ, ◌≡◌, List, [], map, slice_index_or}
+-- What holds of a design without fault: its nets have the values of the ports and signals that they are (IEEE 1076-2008, 14.7.3). And what
+-- holds of each architecture: what its region says of places is what its block has there.
+use Rattle.std.specs.Prelude.{ℕ, ◌≡◌, List, [], map, Option, Some, None, option_map, slice_get, slice_index_or}
 use Rattle.sim_logic.specs.declared.logic.Logic.{Logic}
 use Rattle.sim_logic.specs.Resolution.{resolved}
 use Rattle.sim_logic.specs.Sources.{SourceTree, nested}
 use Rattle.sim_design.specs.declared.design.Source.{Source}
 use Rattle.sim_design.specs.declared.design.Source.TheVariants as source
 use Rattle.sim_design.specs.Designs.{Net, Design}
+use Rattle.sim_tree.specs.declared.unit.Architecture.{Architecture}
+use Rattle.sim_scope.specs.declared.scope.Meaning.{Meaning}
+use Rattle.sim_scope.specs.declared.scope.Meaning.TheVariants as m
+use Rattle.sim_scope.specs.Scopes.{Region}
+use Rattle.sim_region.specs.Regions.{architecture_region}
+use Rattle.sim_instance.specs.Libraries.{Library}
+use Rattle.sim_plan.specs.Plans.{ports_named}
+use Rattle.sim_hierarchy.specs.declared.blocks.Object.{Object}
 use Rattle.sim_hierarchy.specs.declared.blocks.Block.{Block}
-use Rattle.sim_hierarchy.specs.Blocks.{no_block}
+use Rattle.sim_hierarchy.specs.Blocks.{no_block, objects}
 use Rattle.sim_hierarchy.specs.Flat.{drivers_at, gather, nets_at, port_trees, processes_at, scenes_of, tree_of}
 use Rattle.sim_hierarchy.specs.Hierarchy.{Own, Scene, own_at, scenes}
 
@@ -48,3 +57,19 @@ abbrev pub flat_to : ℕ → List Block → ℕ → Design
 flat_to levels blocks top =
     let all = scenes_to levels blocks top in
     record { nets = gather (nets_at blocks all) all; processes = gather (processes_at all) all; drivers = gather (drivers_at all) all }
+
+-- ---- names and places
+
+-- the region of an architecture of a library
+abbrev pub region_of : Library → Architecture → Region
+region_of l a = architecture_region (ports_named l a.entity.text) a.declarations a.statements
+
+-- the place of what a name means, where that is a port or signal
+abbrev pub place_of : Option Meaning → Option ℕ
+place_of (Some (m.Port place mode type)) = Some place
+place_of (Some (m.Signal place type)) = Some place
+place_of _ = None
+
+-- the name of the port or signal at a place of a block
+abbrev pub name_at : Block → ℕ → Option (List ℕ)
+name_at b place = option_map (λ (x : Object). x.name.text) (slice_get (objects b) place)

@@ -1,14 +1,17 @@
 //! Laws of flat designs.
 
-ghost use Rattle.std.specs.Prelude.{◌≡◌, ◌≤◌, ℕ, List};
+ghost use Rattle.std.specs.Prelude.{◌≡◌, ◌≤◌, ℕ, List, Some};
 ghost use Rattle.std.specs.List.{All, AllZip};
 ghost use Rattle.sim_logic.specs.Sources.{IsResolvable};
 ghost use Rattle.sim_design.specs.Designs.{Design};
+ghost use Rattle.sim_tree.specs.declared.unit.Architecture.{Architecture};
+ghost use Rattle.sim_instance.specs.Libraries.{Library};
+ghost use Rattle.sim_plan.specs.Plans.{block_of, seen};
 ghost use Rattle.sim_hierarchy.specs.declared.blocks.Block.{Block};
 ghost use Rattle.sim_hierarchy.specs.Blocks.{levels};
 ghost use Rattle.sim_flat.specs.declared.top.Top.{Top};
 ghost use Rattle.sim_flat.specs.Hierarchies.{IsFlat};
-ghost use Rattle.sim_flat.specs.Laws.{HasValueOf, flat_to, trees, trees_to};
+ghost use Rattle.sim_flat.specs.Laws.{HasValueOf, flat_to, name_at, place_of, region_of, trees, trees_to};
 
 /// In the source tree of each net of a design without fault, no port or signal of type std_ulogic has more than one source, in whatever
 /// instance it stands (IEEE 1076-2008, 6.4.2.3).
@@ -31,4 +34,10 @@ pub fn nothing_is_cut_off()
         IsFlat blocks top design → (n : ℕ) → levels ≤ n → trees_to n blocks top.block ≡ trees blocks top.block }
     ensures design { (blocks : List Block) (top : Top) (design : Design) →
         IsFlat blocks top design → (n : ℕ) → levels ≤ n → flat_to n blocks top.block ≡ design }
+{}
+
+/// Where an architecture's region gives a name a place, as that of a port or signal, the port or signal at this place of its block has that name.
+pub fn names_stand_at_their_places()
+    ensures { (l : Library) (a : Architecture) (name : List ℕ) (place : ℕ) →
+        place_of (seen (region_of l a) name) ≡ Some place → name_at (block_of l a) place ≡ Some name }
 {}
