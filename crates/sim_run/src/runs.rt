@@ -75,27 +75,51 @@ fn is_run_of(run: &WaveStore, design: &Design, options: &Options) -> bool
     run.design().same(design)
 }
 
+/// A store that came out of a lock, if it is that of this run and has ended.
+fn own_run(run: WaveStore, design: &Design, options: &Options) -> Result<WaveStore, RunError>
+    ensures ok { IfOk result (λ r. IsRunOf design.now options.now r × (r.ended ≢ None)) }
+    ensures err { IfErr result (λ e. e ≡ refusal.Stranger) }
+{
+    if !is_run_of(&run, design, options) {
+        return Err(RunError::Stranger);
+    }
+    match run.ended() {
+        None => Err(RunError::Stranger),
+        Some(_) => Ok(run),
+    }
+}
+
+/// What is in the lock once workers have carried a store on to its end: by what is known here, any store.
+fn carried_on<R: Threads + Wait + Sync, G: Gate + Sync>(
+    rt: &R,
+    alloc: Global,
+    run: WaveStore,
+    workers: usize,
+    gate: &G,
+) -> Result<WaveStore, RunError>
+    ensures { IfErr result (λ e. (e ≡ refusal.Stranger) ⊎ (e ≡ refusal.Memory)) }
+{
+    let store = Mutex::new(run);
+    run_to_end(rt, alloc, &store, workers, gate)?;
+    Ok(store.into_inner())
+}
+
 /// The store of a run that has ended, by the workers of the options, who are told of by the gate.
 fn run_shared<R: Threads + Wait + Sync, G: Gate + Sync>(
     rt: &R,
     alloc: Global,
-    design: Design,
+    design: &Design,
     options: &Options,
     gate: &G,
 ) -> Result<WaveStore, RunError>
     requires { options.now.stop ≤ largest_time }
-    ensures ok { IfOk result (λ run. IsRunOf design options.now run × (run.ended ≢ None)) }
+    ensures ok { IfOk result (λ run. IsRunOf design.now options.now run × (run.ended ≢ None)) }
     ensures err { IfErr result (λ e. (e ≡ refusal.Stranger) ⊎ (e ≡ refusal.Memory)) }
 {
     let copy = design.try_copy()?;
-    let store = Mutex::new(begun_run(alloc, copy, options)?);
-    run_to_end(rt, alloc, &store, options.workers, gate)?;
-    let run = store.into_inner();
-    if is_run_of(&run, &design, options) && run.ended().is_some() {
-        Ok(run)
-    } else {
-        Err(RunError::Stranger)
-    }
+    let run = begun_run(alloc, copy, options)?;
+    let run = carried_on(rt, alloc, run, options.workers, gate)?;
+    own_run(run, design, options)
 }
 
 /// The store of a run that has ended, if it is finished.
@@ -132,7 +156,7 @@ pub fn run_by_workers<R: Threads + Wait + Sync, G: Gate + Sync>(
     ensures finished { IfOk result (λ run. Finishes (behaviour_of design) options.now (history_of run)) }
     ensures refused { IfErr result (λ e. (e ≡ refusal.Stranger) ⊎ IsRefusalAlone (behaviour_of design) options.now e) }
 {
-    let run = run_shared(rt, alloc, design, options, gate)?;
+    let run = run_shared(rt, alloc, &design, options, gate)?;
     finished_run(run)
 }
 
