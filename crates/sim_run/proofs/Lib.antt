@@ -1,3 +1,4 @@
+pub mod Answering
 pub mod NestedValues
 pub mod Programs
 pub mod Simulations

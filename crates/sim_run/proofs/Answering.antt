@@ -1,0 +1,24 @@
+-- What a run answers once its store is finished: the history that is copied from it, or want of memory.
+use Rattle.std.proofs.Common.{◌≡◌, true, Result, Ok, Err, sym, subst, ◌∙◌}
+use Rattle.std.specs.Prelude.{IfOk, IfErr}
+use Rattle.sim_store.specs.Store.{Store}
+use Rattle.sim_store.specs.Behaviour.{Behaviour}
+use Rattle.sim_store.specs.History.{History}
+use Rattle.sim_options.specs.declared.options.Options.{Options}
+use Rattle.sim_options.specs.Options.{are_in_range}
+use Rattle.sim_run.specs.declared.error.RunError.{RunError}
+use Rattle.sim_run.specs.declared.error.RunError.TheVariants as refusal
+use Rattle.sim_run.specs.Run.{Finishes, IsAnswer, IsRunRefusal, history_of}
+
+pub answered : (design : Behaviour) (options : Options) (run : Store) (answer : Result History RunError)
+    → are_in_range options.stop options.limit options.workers ≡ true → Finishes design options (history_of run)
+    → IfOk answer (λ f. f.names ≡ (history_of run).names) → IfOk answer (λ f. f.records ≡ (history_of run).records)
+    → IfErr answer (λ e. e ≡ refusal.Memory) → IsAnswer design options answer
+answered design options run (Ok history) range f names records err = record {
+  answered = record { cycles = f.cycles; outcome = f.outcome; names = names ∙ f.names; records = records ∙ f.records };
+  ranges = (λ e. absurd cc, λ e. absurd cc);
+}
+answered design options run (Err e) range f names records err = record {
+  answered = subst (IsRunRefusal design options) (sym err) tt;
+  ranges = (λ e. absurd cc, λ e. absurd cc);
+}
