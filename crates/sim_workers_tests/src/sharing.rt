@@ -46,32 +46,46 @@ fn watches<R: Wait>(rt: &R, alloc: Global, store: &Mutex<WaveStore>) -> Option<b
     None
 }
 
+/// What a run, and a thread that looks at it, see.
+fn run_and_watch<R: Threads + Wait + Sync>(
+    rt: &R,
+    alloc: Global,
+    store: &Mutex<WaveStore>,
+) -> (Option<bool>, Option<bool>) {
+    join(rt, || runs(rt, alloc, store), || watches(rt, alloc, store))
+}
+
+/// What two runs of one store at once see.
+fn run_twice<R: Threads + Wait + Sync>(
+    rt: &R,
+    alloc: Global,
+    store: &Mutex<WaveStore>,
+) -> (Option<bool>, Option<bool>) {
+    join(rt, || runs(rt, alloc, store), || runs(rt, alloc, store))
+}
+
 /// Whether a run, and a thread that looks at it, see one history.
-fn watched<R: Threads + Wait + Sync>(rt: &R, alloc: Global) -> Option<bool> {
+fn are_watched<R: Threads + Wait + Sync>(rt: &R, alloc: Global) -> Option<bool> {
     let store = Mutex::new(store(alloc, TOGGLE, 10)?);
-    let (run, look) = join(
-        rt,
-        || runs(rt, alloc, &store),
-        || watches(rt, alloc, &store),
-    );
+    let (run, look) = run_and_watch(rt, alloc, &store);
     Some(run? && look?)
 }
 
 /// Whether two runs of one store at once have one history.
-fn run_twice<R: Threads + Wait + Sync>(rt: &R, alloc: Global) -> Option<bool> {
+fn are_one<R: Threads + Wait + Sync>(rt: &R, alloc: Global) -> Option<bool> {
     let store = Mutex::new(store(alloc, TOGGLE, 10)?);
-    let (one, other) = join(rt, || runs(rt, alloc, &store), || runs(rt, alloc, &store));
+    let (one, other) = run_twice(rt, alloc, &store);
     Some(one? && other?)
 }
 
 #[test]
 fn who_looks_sees_beginnings_of_one_history(rt: HostRuntime) -> Result<(), Fail> {
-    assert_eq!(rt; watched(&rt, rt.alloc()), Some(true));
+    assert_eq!(rt; are_watched(&rt, rt.alloc()), Some(true));
     Ok(())
 }
 
 #[test]
 fn two_runs_of_one_store_have_one_history(rt: HostRuntime) -> Result<(), Fail> {
-    assert_eq!(rt; run_twice(&rt, rt.alloc()), Some(true));
+    assert_eq!(rt; are_one(&rt, rt.alloc()), Some(true));
     Ok(())
 }

@@ -3,5 +3,5 @@ use Rattle.std.proofs.Crossing.{crosses}
 use Rattle.sim_store.proofs.Crossing.{store_send, store_sync}
 use Rattle.sim_workers_tests.proofs.sharing.run_twice.Goals as goal
 
-pub join-one-requires-send-F : goal.join-one-requires-send-F
-join-one-requires-send-F g c κs within = search (store_send, store_sync, crosses, sendable) depth 40
+pub join-requires-send-F : goal.join-requires-send-F
+join-requires-send-F g c κs within = search (store_send, store_sync, crosses, sendable) depth 40
