@@ -1,5 +1,6 @@
 #!/usr/bin/env python3
-"""Measures whole runs: `runs.py PROGRAM`, of vsim. Of each design the least of three times in seconds, the most memory in MiB, cycles and events.
+"""Measures whole runs: `runs.py PROGRAM [WORKERS [DESIGN ..]]`, of vsim. Of each design the least of three processor times and of three wall times in seconds, the
+most memory in MiB, cycles and events.
 
 clock        one signal that changes a million times
 ten          ten signals that change together a million times: ten million lines
@@ -13,6 +14,7 @@ import os
 import subprocess
 import sys
 import tempfile
+import time
 
 CLOCK = "clk <= not clk after 5 ns;"
 PERIOD = 10_000_000
@@ -49,26 +51,30 @@ RUNS = {
 }
 
 
-def measured(program, text, stop):
-    """Seconds, MiB and the last line of one run, whose listing is thrown away."""
+def measured(program, workers, text, stop):
+    """Processor seconds, wall seconds, MiB and the last line of one run, whose listing is thrown away."""
     with tempfile.TemporaryFile() as source, tempfile.TemporaryFile() as listing:
         source.write(text.encode())
         source.seek(0)
-        words = [program, "--top", "t", "--stop", str(stop), "--limit", "1000000"]
+        words = [program, "--top", "t", "--stop", str(stop), "--limit", "1000000", "--workers", workers]
+        start = time.monotonic()
         child = subprocess.Popen(words, stdin=source, stdout=listing)
         _, status, usage = os.wait4(child.pid, 0)
+        wall = time.monotonic() - start
         assert status == 0, f"status {status}"
         listing.seek(-40, os.SEEK_END)
         last = listing.read().decode().splitlines()[-1]
-    return usage.ru_utime + usage.ru_stime, usage.ru_maxrss / 1024, last
+    return usage.ru_utime + usage.ru_stime, wall, usage.ru_maxrss / 1024, last
 
 
 def main():
     program = os.path.abspath(sys.argv[1])
-    print("| Design | Seconds | MiB | Last line |\n|---|---|---|---|")
-    for name, (text, stop) in RUNS.items():
-        found = [measured(program, text, stop) for _ in range(3)]
-        print(f"| {name} | {min(f[0] for f in found):.2f} | {max(f[1] for f in found):.0f} | {found[0][2]} |", flush=True)
+    workers = sys.argv[2] if len(sys.argv) > 2 else "1"
+    print("| Design | Processor | Wall | MiB | Last line |\n|---|---|---|---|---|")
+    for name in sys.argv[3:] or RUNS:
+        found = [measured(program, workers, *RUNS[name]) for _ in range(3)]
+        least = [min(f[i] for f in found) for i in range(2)]
+        print(f"| {name} | {least[0]:.2f} | {least[1]:.2f} | {max(f[2] for f in found):.0f} | {found[0][3]} |", flush=True)
 
 
 if __name__ == "__main__":
