@@ -3,10 +3,12 @@
 ghost use Rattle.std.specs.Prelude.{◌≡◌, ◌+◌, [], IfOk, slice_index_or, length};
 ghost use Rattle.sim_hierarchy.specs.Laid as spec;
 ghost use Rattle.sim_hierarchy.specs.Blocks.{size};
+ghost use Rattle.sim_design.specs.Processes.{rising, nets_of};
 
 use crate::blocks::Block;
 use crate::links::{Link, Links};
 use crate::processes::Sketch;
+use crate::rising::rising;
 use sim_design::process::Homes;
 use sqlite_items::Items;
 use std::alloc::{AllocError, Global};
@@ -80,4 +82,19 @@ pub fn housed(
     let (homes, nets) = homes(alloc, outer, links, at, flat.nets)?;
     flat.nets = nets;
     Homes::new(alloc, homes)
+}
+
+/// The nets of ports and signals, each once, from the least on.
+pub fn nets_of(
+    alloc: Global,
+    homes: &[usize],
+    objects: &[usize],
+) -> Result<Items<usize>, AllocError>
+    ensures { IfOk result (λ r. r ≡ rising (nets_of homes.now objects.now)) }
+{
+    let mut nets = Vec::new(alloc);
+    for object in objects {
+        nets.push(net_at(homes, *object))?;
+    }
+    Ok(rising(nets))
 }

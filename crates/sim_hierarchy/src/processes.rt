@@ -8,9 +8,8 @@ ghost use Rattle.sim_hierarchy.specs.Blocks.{IsTemplate, default_at, process_of,
 ghost use Rattle.sim_hierarchy.specs.Laid as spec;
 
 use crate::blocks::{Block, Template};
-use crate::homes::net_at;
+use crate::homes::{net_at, nets_of};
 use crate::leaves::add;
-use crate::rising::nets_of;
 use sim_design::process::Homes;
 use sim_design::{DriverOf, Process, Source};
 use sim_logic::Logic;
