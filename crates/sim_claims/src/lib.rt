@@ -6,8 +6,6 @@
 
 mod drawing;
 mod table_rule;
-#[cfg(test)]
-mod tests;
 mod view;
 
 pub use drawing::{ClaimSeat, Claims};

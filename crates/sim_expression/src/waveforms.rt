@@ -1,5 +1,6 @@
 //! Waveforms and delays (IEEE 1076-2008, 10.5).
 
+ghost use Rattle.std.specs.Prelude.{[], ◌∷◌};
 ghost use Rattle.sim_reading.specs.Waveforms as spec;
 ghost use Rattle.sim_token.specs.declared.kind.Kind.TheVariants as k;
 ghost use Rattle.sim_reading.specs.Readers.{Reads, and_then, pure, expect};
@@ -56,12 +57,21 @@ fn element(alloc: Global, tokens: &mut Cursor) -> Result<Element, ParseError>
     }
 }
 
+/// Reads the first element of a waveform.
+fn first_element(alloc: Global, tokens: &mut Cursor) -> Result<Waveform, ParseError>
+    ensures { Reads (and_then (spec.element (view tokens.old)) (λ first. pure (first ∷ []))) result (view tokens.new) }
+{
+    let first = element(alloc, tokens)?;
+    let found = Several::new(alloc, first)?;
+    Ok(found)
+}
+
 /// Reads a waveform (IEEE 1076-2008, 10.5.2.1).
-#[tactic(auto, unfolding(sim_reading::specs::Waveforms::waveform, sim_reading::specs::Readers::separated, sim_reading::specs::Readers::sees))]
+#[tactic(auto, using(sim_reading::proofs::Parts::separated_in_parts), unfolding(sim_reading::specs::Waveforms::waveform, sim_reading::specs::Readers::sees))]
 pub fn waveform(alloc: Global, tokens: &mut Cursor) -> Result<Waveform, ParseError>
     ensures { Reads (spec.waveform (view tokens.old)) result (view tokens.new) }
 {
-    let mut found = Several::new(alloc, element(alloc, tokens)?)?;
+    let mut found = first_element(alloc, tokens)?;
     for _turn in 0..tokens.left() {
         if !tokens.sees(Kind::Comma) {
             return Ok(found.fitted());

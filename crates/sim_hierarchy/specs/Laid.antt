@@ -100,11 +100,16 @@ module _ (one : Walk) (blocks : List Block) where
       let x = instance_laid homes prefix i leaves f in
       instances_laid homes prefix is (nets ++ x.0) x.1 x.2
 
+  -- the processes of a block, and then its instances
+  abbrev pub occupants_laid : List ℕ → List ℕ → Block → Sketch → List Net × Leaves × Sketch
+  occupants_laid prefix homes b f =
+      let p = processes_laid homes b b.processes (replicate (size b) []) f in
+      instances_laid homes prefix b.instances [] p.0 p.1
+
   -- what stands in a block, once its ports and signals have their nets
   unfoldable pub inside_laid : List ℕ → List Link → List ℕ → Block → Leaves → Sketch → List Net × Leaves × Sketch
   inside_laid prefix links homes b around f =
-      let p = processes_laid homes b b.processes (replicate (size b) []) f in
-      let x = instances_laid homes prefix b.instances [] p.0 p.1 in
+      let x = occupants_laid prefix homes b f in
       let s = objects_settled prefix links x.1 b around in
       (s.0 ++ x.0, s.1, x.2)
 

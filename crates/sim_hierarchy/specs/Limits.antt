@@ -14,5 +14,5 @@ pub record Fits (blocks : List Block) (top : ℕ) : Type 0 where
   pub instances : number Instances blocks top ≤ most
   pub depth : has_chain blocks 33 (slice_index_or blocks top no_block) ≡ false
 
-abbrev pub all : Bool → Bool → Bool → Bool → Bool → Bool
-all deep nets processes drivers instances = not deep && (nets && (processes && (drivers && instances)))
+abbrev pub all : Bool → Bool → Bool → Bool
+all first second third = first && (second && third)

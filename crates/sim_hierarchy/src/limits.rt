@@ -3,9 +3,10 @@
 ghost use Rattle.std.specs.Prelude.{◌≡◌, ◌<◌, ◌≤◌, IfOk, Decides, length};
 ghost use Rattle.std.specs.List.{All};
 ghost use Rattle.sim_design.specs.Designs.{most};
-ghost use Rattle.sim_hierarchy.specs.Blocks.{IsBlock};
+ghost use Rattle.sim_hierarchy.specs.Blocks.{IsBlock, IsWithinLimits};
 ghost use Rattle.sim_hierarchy.specs.Limits as spec;
 ghost use Rattle.sim_hierarchy.specs.Counts.{number};
+ghost use Rattle.sim_hierarchy.specs.Flat.{flat};
 
 use crate::blocks::Block;
 use crate::counts::{Kind, count};
@@ -27,6 +28,18 @@ fn is_within(alloc: Global, blocks: &[Block], top: usize, kind: Kind) -> Result<
     Ok(found)
 }
 
+/// Whether the flat design has no more nets, processes and drivers than it may have.
+fn design_fits(alloc: Global, blocks: &[Block], top: usize) -> Result<bool, AllocError>
+    requires known { All (IsBlock blocks.now) blocks.now }
+    requires top { top < length blocks.now }
+    ensures { IfOk result (λ b. Decides b (IsWithinLimits (flat blocks.now top))) }
+{
+    let nets = is_within(alloc, blocks, top, Kind::Nets)?;
+    let processes = is_within(alloc, blocks, top, Kind::Processes)?;
+    let drivers = is_within(alloc, blocks, top, Kind::Drivers)?;
+    Ok(all(nets, processes, drivers))
+}
+
 /// Whether the flat design is within its limits, and so are the instances and their depth.
 pub fn fits(alloc: Global, blocks: &[Block], top: usize) -> Result<bool, AllocError>
     requires known { All (IsBlock blocks.now) blocks.now }
@@ -34,15 +47,13 @@ pub fn fits(alloc: Global, blocks: &[Block], top: usize) -> Result<bool, AllocEr
     ensures { IfOk result (λ b. Decides b (spec.Fits blocks.now top)) }
 {
     let deep = is_too_deep(alloc, blocks, top)?;
-    let nets = is_within(alloc, blocks, top, Kind::Nets)?;
-    let processes = is_within(alloc, blocks, top, Kind::Processes)?;
-    let drivers = is_within(alloc, blocks, top, Kind::Drivers)?;
     let instances = is_within(alloc, blocks, top, Kind::Instances)?;
-    Ok(all(deep, nets, processes, drivers, instances))
+    let design = design_fits(alloc, blocks, top)?;
+    Ok(all(!deep, instances, design))
 }
 
-fn all(deep: bool, nets: bool, processes: bool, drivers: bool, instances: bool) -> bool
-    ensures { result ≡ spec.all deep nets processes drivers instances }
+fn all(first: bool, second: bool, third: bool) -> bool
+    ensures { result ≡ spec.all first second third }
 {
-    !deep && nets && processes && drivers && instances
+    first && second && third
 }

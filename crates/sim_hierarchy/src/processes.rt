@@ -3,7 +3,7 @@
 ghost use Rattle.std.specs.Prelude.{◌≡◌, IfOk, OnOk, length};
 ghost use Rattle.std.specs.List.{All};
 ghost use Rattle.sim_design.specs.Bodies.{objects_of};
-ghost use Rattle.sim_design.specs.Processes.{rising};
+ghost use Rattle.sim_design.specs.Processes.{nets_of, rising};
 ghost use Rattle.sim_hierarchy.specs.Blocks.{IsTemplate, default_at, process_of, size};
 ghost use Rattle.sim_hierarchy.specs.Laid as spec;
 
@@ -63,6 +63,20 @@ fn targets(
     Ok(())
 }
 
+/// The nets of a process: those that it is sensitive to, and those that it reads.
+fn nets_seen(
+    alloc: Global,
+    homes: &[usize],
+    template: &Template,
+) -> Result<(Items<usize>, Items<usize>), AllocError>
+    ensures sensitivity { IfOk result (λ r. r.0 ≡ rising (nets_of homes.now template.now.sensitivity)) }
+    ensures reads { IfOk result (λ r. r.1 ≡ rising (nets_of homes.now template.now.reads)) }
+{
+    let sensitivity = nets_of(alloc, homes, template.sensitivity.as_slice())?;
+    let reads = nets_of(alloc, homes, template.reads.as_slice())?;
+    Ok((sensitivity, reads))
+}
+
 /// A process of an instance.
 fn process(
     alloc: Global,
@@ -74,8 +88,7 @@ fn process(
     requires reads { template.now.reads ≡ rising (objects_of template.now.body.statements) }
     ensures { IfOk result (λ p. p ≡ process_of homes.now first_driver template.now) }
 {
-    let sensitivity = nets_of(alloc, homes.as_slice(), template.sensitivity.as_slice())?;
-    let reads = nets_of(alloc, homes.as_slice(), template.reads.as_slice())?;
+    let (sensitivity, reads) = nets_seen(alloc, homes.as_slice(), template)?;
     Process::new(
         alloc,
         sensitivity,

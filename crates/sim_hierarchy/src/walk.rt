@@ -76,16 +76,33 @@ fn inside(
     ensures { IfOk result (λ r. (r, around.new, flat.new)
         ≡ spec.inside_laid (spec.laid blocks.now levels) blocks.now prefix.now links.now homes.now at.now around.old flat.old) }
 {
+    let (mut own, more) = occupants(alloc, blocks, levels, prefix, homes, at, flat)?;
+    let mut nets = settled(alloc, prefix, links, own.as_mut_slice(), at, around)?;
+    nets.append(more)?;
+    Ok(nets)
+}
+
+/// Lays the processes of a block and then its instances. Gives the leaves of each of its ports and signals, and the nets of its instances.
+#[cycle(walk)]
+fn occupants(
+    alloc: Global,
+    blocks: &[Block],
+    levels: usize,
+    prefix: &str,
+    homes: &Homes,
+    at: &Block,
+    flat: &mut Sketch,
+) -> Result<(Vec<Items<Source>>, Items<Net>), AllocError>
+    requires known { All (IsBlock blocks.now) blocks.now }
+    requires here { IsBlock blocks.now at.now }
+    requires placed { length homes.now ≡ size at.now }
+    ensures { IfOk result (λ r. (r.1, r.0.items, flat.new)
+        ≡ spec.occupants_laid (spec.laid blocks.now levels) blocks.now prefix.now homes.now at.now flat.old) }
+{
     let mut own = none(alloc, homes.as_slice().len())?;
-    processes(
-        alloc,
-        homes,
-        at,
-        at.processes.as_slice(),
-        own.as_mut_slice(),
-        flat,
-    )?;
-    let more = instances(
+    let templates = at.processes.as_slice();
+    processes(alloc, homes, at, templates, own.as_mut_slice(), flat)?;
+    let nets = instances(
         alloc,
         blocks,
         levels,
@@ -96,9 +113,7 @@ fn inside(
         own.as_mut_slice(),
         flat,
     )?;
-    let mut nets = settled(alloc, prefix, links, own.as_mut_slice(), at, around)?;
-    nets.append(more)?;
-    Ok(nets)
+    Ok((own, nets))
 }
 
 /// Lays instances of a block.

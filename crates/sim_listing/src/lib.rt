@@ -5,8 +5,6 @@ mod block;
 mod error;
 mod history;
 mod listing;
-#[cfg(test)]
-mod tests;
 
 pub use block::write_whole;
 pub use error::WriteError;

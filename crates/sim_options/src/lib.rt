@@ -10,6 +10,3 @@ mod reading;
 pub use fault::CliFault;
 pub use options::Options;
 pub use reading::read_options;
-
-#[cfg(test)]
-mod tests;

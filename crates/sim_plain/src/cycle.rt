@@ -2,8 +2,8 @@
 
 use crate::nets::{values_in, values_of, views_of};
 use crate::process::{executed, is_resumed, put};
-use sim_design::{Design, Held};
-use sim_exec::NetView;
+use sim_design::{Design, Held, Process};
+use sim_exec::{Done, NetView};
 use sim_logic::Logic;
 use sim_wave::Driver;
 use std::alloc::Global;
@@ -48,12 +48,17 @@ fn first_variables(alloc: Global, design: &Design) -> Option<Vec<Vec<Held>>> {
     Some(variables)
 }
 
+/// How the nets are seen at the start, by the drivers.
+fn first_views(alloc: Global, design: &Design, drivers: &[Driver]) -> Option<Vec<NetView>> {
+    let values = values_of(alloc, drivers, design.nets())?;
+    views_of(alloc, values.as_slice(), values.as_slice())
+}
+
 /// The state at the start (14.7.5.2).
 fn first_state(alloc: Global, design: &Design) -> Option<State> {
     let drivers = first_drivers(alloc, design)?;
     let variables = first_variables(alloc, design)?;
-    let values = values_of(alloc, drivers.as_slice(), design.nets())?;
-    let views = views_of(alloc, values.as_slice(), values.as_slice())?;
+    let views = first_views(alloc, design, drivers.as_slice())?;
     Some(State {
         time: 0,
         delta: 0,
@@ -63,23 +68,46 @@ fn first_state(alloc: Global, design: &Design) -> Option<State> {
     })
 }
 
+/// The drivers of a process.
+fn drivers_of<'a>(state: &'a State, process: &Process) -> Option<&'a [Driver]> {
+    let first = process.first_driver();
+    let end = first.checked_add(process.body().drivers())?;
+    state.drivers.as_slice().get(first..end)
+}
+
+/// The execution of a process in this state.
+fn done_in(alloc: Global, state: &State, process: &Process, number: usize) -> Option<Done> {
+    let drivers = drivers_of(state, process)?;
+    let variables = state.variables.get(number)?.as_slice();
+    let views = state.views.as_slice();
+    executed(
+        alloc, state.time, number, process, views, drivers, variables,
+    )
+}
+
+/// Puts what an execution of a process leaves in place of what the process owned.
+fn put_done(
+    alloc: Global,
+    state: &mut State,
+    first_driver: usize,
+    done: &Done,
+    number: usize,
+) -> Option<()> {
+    put(
+        alloc,
+        state.drivers.as_mut_slice(),
+        first_driver,
+        done.drivers(),
+    )?;
+    *state.variables.get_mut(number)? = Vec::from_slice(alloc, done.variables()).ok()?;
+    Some(())
+}
+
 /// Executes a process.
 fn execute(alloc: Global, design: &Design, state: &mut State, number: usize) -> Option<()> {
     let process = design.processes().get(number)?;
-    let first = process.first_driver();
-    let end = first.checked_add(process.body().drivers())?;
-    let done = executed(
-        alloc,
-        state.time,
-        number,
-        process,
-        state.views.as_slice(),
-        state.drivers.as_slice().get(first..end)?,
-        state.variables.get(number)?.as_slice(),
-    )?;
-    put(alloc, state.drivers.as_mut_slice(), first, done.drivers())?;
-    *state.variables.get_mut(number)? = Vec::from_slice(alloc, done.variables()).ok()?;
-    Some(())
+    let done = done_in(alloc, state, process, number)?;
+    put_done(alloc, state, process.first_driver(), &done, number)
 }
 
 /// Whether a process is due.
@@ -155,14 +183,51 @@ fn next_delta(state: &State, time: u64) -> Option<u64> {
     }
 }
 
+/// How the nets are seen once the drivers have taken what is due.
+fn next_views(alloc: Global, design: &Design, state: &State) -> Option<Vec<NetView>> {
+    let values = values_of(alloc, state.drivers.as_slice(), design.nets())?;
+    let lasts = values_in(alloc, state.views.as_slice())?;
+    views_of(alloc, values.as_slice(), lasts.as_slice())
+}
+
 /// The cycle at a time: drivers first, then nets (14.7.5.3).
 fn update(alloc: Global, design: &Design, state: &mut State, time: u64) -> Option<()> {
     state.delta = next_delta(state, time)?;
     state.time = time;
     take(state.drivers.as_mut_slice(), time);
-    let values = values_of(alloc, state.drivers.as_slice(), design.nets())?;
-    let lasts = values_in(alloc, state.views.as_slice())?;
-    state.views = views_of(alloc, values.as_slice(), lasts.as_slice())?;
+    state.views = next_views(alloc, design, state)?;
+    Some(())
+}
+
+/// Executes what is due and carries out the cycle after it, if anything is pending; says whether there was one. In the first cycle all are due.
+fn go_on(alloc: Global, design: &Design, state: &mut State, is_first: bool) -> Option<bool> {
+    execute_due(alloc, design, state, is_first)?;
+    let Some(time) = next_time(state.drivers.as_slice()) else {
+        return Some(false);
+    };
+    update(alloc, design, state, time)?;
+    Some(true)
+}
+
+/// Adds the state as it is told.
+fn add(alloc: Global, snapshots: &mut Vec<Snapshot>, state: &State, all: bool) -> Option<()> {
+    snapshots.push(taken(alloc, state, all)?).ok()
+}
+
+/// Carries out this many cycles, or until nothing is pending.
+fn run(
+    alloc: Global,
+    design: &Design,
+    state: &mut State,
+    cycles: usize,
+    snapshots: &mut Vec<Snapshot>,
+) -> Option<()> {
+    for cycle in 0..cycles {
+        if !go_on(alloc, design, state, cycle == 0)? {
+            return Some(());
+        }
+        add(alloc, snapshots, state, false)?;
+    }
     Some(())
 }
 
@@ -171,14 +236,7 @@ fn update(alloc: Global, design: &Design, state: &mut State, time: u64) -> Optio
 pub fn snapshots(alloc: Global, design: &Design, cycles: usize) -> Option<Vec<Snapshot>> {
     let mut state = first_state(alloc, design)?;
     let mut snapshots = Vec::new(alloc);
-    snapshots.push(taken(alloc, &state, true)?).ok()?;
-    for cycle in 0..cycles {
-        execute_due(alloc, design, &mut state, cycle == 0)?;
-        let Some(time) = next_time(state.drivers.as_slice()) else {
-            break;
-        };
-        update(alloc, design, &mut state, time)?;
-        snapshots.push(taken(alloc, &state, false)?).ok()?;
-    }
+    add(alloc, &mut snapshots, &state, true)?;
+    run(alloc, design, &mut state, cycles, &mut snapshots)?;
     Some(snapshots)
 }

@@ -45,22 +45,34 @@ fn copies(alloc: Global, drivers: &[Driver]) -> Option<Vec<Driver>> {
     Some(copied)
 }
 
+/// Copies of what a process owns.
+fn owned(
+    alloc: Global,
+    drivers: &[Driver],
+    variables: &[Held],
+) -> Option<(Vec<Driver>, Vec<Held>)> {
+    let drivers = copies(alloc, drivers)?;
+    let variables = Vec::from_slice(alloc, variables).ok()?;
+    Some((drivers, variables))
+}
+
 /// A job whose lists fit the process.
 fn job(
     time: u64,
     number: usize,
-    process: Process,
+    process: &Process,
     views: Vec<NetView>,
     drivers: Vec<Driver>,
     variables: Vec<Held>,
 ) -> Option<Job> {
     if Job::fits(
         time,
-        &process,
+        process,
         views.as_slice(),
         variables.as_slice(),
         drivers.as_slice(),
     ) {
+        let process = process.try_copy().ok()?;
         Some(Job::new(0, number, time, process, views, variables, drivers))
     } else {
         None
@@ -78,9 +90,7 @@ pub fn executed(
     variables: &[Held],
 ) -> Option<Done> {
     let seen = seen(alloc, views, process.reads())?;
-    let drivers = copies(alloc, drivers)?;
-    let variables = Vec::from_slice(alloc, variables).ok()?;
-    let process = process.try_copy().ok()?;
+    let (drivers, variables) = owned(alloc, drivers, variables)?;
     let job = job(time, number, process, seen, drivers, variables)?;
     Done::run(alloc, job).ok()
 }

@@ -188,3 +188,8 @@ separated x item = item >>= λ a. λ i. many_from (λ y. same_kind y x) (take_to
 abbrev pub Reads : {A : Type 0} → Outcome A → Result A ParseError → Input → Type 0
 Reads outcome (Ok a) new = outcome ≡ Ok (a, new)
 Reads outcome (Err e) new = e ≢ OutOfMemory → outcome ≡ Err e
+
+-- The same of what this makes of the result.
+abbrev pub ReadsAs : {A V : Type 0} → Outcome A → Result V ParseError → (V → A) → Input → Type 0
+ReadsAs outcome (Ok v) made new = outcome ≡ Ok (made v, new)
+ReadsAs outcome (Err e) made new = e ≢ OutOfMemory → outcome ≡ Err e

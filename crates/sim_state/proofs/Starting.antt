@@ -99,20 +99,16 @@ views-first ws (n ∷ nets) =
     ap (λ b. record { value = v; event = not b; last = v } ∷ views_of (map (net_value ws) nets) (map (net_value ws) nets)) (same_as_itself v)
     ∙ ap (λ w. net_started ws n ∷ w) (views-first ws nets)
 
-pub first-held : (design : Design) (nets : List Net) (sources : List (List Source)) (processes processes' : List Process) (ds : List DriverOf)
-    (dss : List (List Waveform)) (vss : List (List Held)) (ws : List Waveform) (values lasts : List Logic)
-    → nets ≡ design.nets → sources ≡ sources_of design.nets → processes ≡ design.processes → processes' ≡ design.processes → ds ≡ design.drivers
-    → dss ≡ map (drivers_of ds) processes → vss ≡ map variables_of processes' → ws ≡ joined dss → values ≡ map (net_value ws) nets → lasts ≡ values
+pub first-held : (design : Design) (sources : List (List Source)) (dss : List (List Waveform)) (vss : List (List Held)) (values lasts : List Logic)
+    → sources ≡ sources_of design.nets → dss ≡ map (drivers_of design.drivers) design.processes → vss ≡ map variables_of design.processes
+    → values ≡ map (net_value (joined dss)) design.nets → lasts ≡ values
     → held sources values lasts dss vss ≡ contents_of design (first_state design)
-first-held design nets sources processes processes' ds dss vss ws values lasts en er ep ep' ed es ev ew eu el =
+first-held design sources dss vss values lasts er es ev eu el =
     let owned = all_first_owned design in
-    let dd : dss ≡ map (drivers_of design.drivers) design.processes = es ∙ (ap (λ w. map (drivers_of w) processes) ed ∙ ap
-    (map (drivers_of design.drivers)) ep) in
-    let vv : vss ≡ map variables_of design.processes = ev ∙ ap (map variables_of) ep' in
-    let o : owned_lists dss vss ≡ owned = ap (λ w. owned_lists w vss) dd ∙ (ap (owned_lists (map (drivers_of design.drivers) design.processes)) vv
-    ∙ owned-first design.drivers design.processes) in
-    let w : ws ≡ waves owned = ew ∙ (ap joined dd ∙ waves-first design.drivers design.processes) in
-    let u : values ≡ map (net_value (waves owned)) design.nets = eu ∙ (ap (λ z. map (net_value z) nets) w ∙ ap (map (net_value (waves owned))) en) in
+    let o : owned_lists dss vss ≡ owned = ap (λ w. owned_lists w vss) es
+    ∙ (ap (owned_lists (map (drivers_of design.drivers) design.processes)) ev ∙ owned-first design.drivers design.processes) in
+    let w : joined dss ≡ waves owned = ap joined es ∙ waves-first design.drivers design.processes in
+    let u : values ≡ map (net_value (waves owned)) design.nets = eu ∙ ap (λ z. map (net_value z) design.nets) w in
     ap (λ z. held z values lasts dss vss) er ∙ (ap (λ z. held (sources_of design.nets) values z dss vss) el ∙ (ap
     (λ z. held (sources_of design.nets) z z dss vss) u
     ∙ (ap (λ z. record { sources = sources_of design.nets; nets = z; owned = owned_lists dss vss }) (views-first (waves owned) design.nets)
@@ -155,30 +151,28 @@ same-rows : (ws : List Waveform) (nets : List Net) → map (net_value ws) nets �
 same-rows ws [] = refl
 same-rows ws (n ∷ nets) = ap (λ w. net_value ws n ∷ w) (same-rows ws nets)
 
-pub first-kept : (nets : List Net) (sources : List (List Source)) (processes processes' : List Process) (ds : List DriverOf)
-    (dss : List (List Waveform)) (vss : List (List Held)) (ws : List Waveform) (values lasts : List Logic) (driven : List (List ℕ)) (times : List (Option ℕ))
-    (stale touched : List Bool) (count many : ℕ)
-    → sources ≡ sources_of nets → processes ≡ processes'
-    → dss ≡ map (drivers_of ds) processes → vss ≡ map variables_of processes' → ws ≡ joined dss → values ≡ map (net_value ws) nets → lasts ≡ values
-    → count ≡ length ws → many ≡ length values → AreDriven sources driven → length driven ≡ count → times ≡ replicate count None
-    → stale ≡ replicate count false → touched ≡ replicate many false → IsHeld values lasts dss vss sources driven times stale touched
-first-kept nets sources processes processes' ds dss vss ws values lasts driven times stale touched count many er ep es ev ew eu el ec em ad ld et est eto =
-    let total : count ≡ length (joined dss) = ec ∙ ap length ew in
+pub first-kept : (design : Design) (sources : List (List Source)) (dss : List (List Waveform)) (vss : List (List Held)) (values lasts : List Logic)
+    (driven : List (List ℕ)) (times : List (Option ℕ)) (stale touched : List Bool) (count many : ℕ)
+    → sources ≡ sources_of design.nets → dss ≡ map (drivers_of design.drivers) design.processes → vss ≡ map variables_of design.processes
+    → values ≡ map (net_value (joined dss)) design.nets → lasts ≡ values → count ≡ length (joined dss) → many ≡ length values
+    → AreDriven sources driven → length driven ≡ count → times ≡ replicate count None → stale ≡ replicate count false → touched ≡ replicate many false
+    → IsHeld values lasts dss vss sources driven times stale touched
+first-kept design sources dss vss values lasts driven times stale touched count many er es ev eu el ec em ad ld et est eto =
     let here : (d : ℕ) → (driver_at (joined dss) d).pending ≡ [] =
-    λ d. ap (λ w. (driver_at (joined w) d).pending) es ∙ idle-first ds processes d in
+    λ d. ap (λ w. (driver_at (joined w) d).pending) es ∙ idle-first design.drivers design.processes d in
     record {
       lists = record {
         nets = sym (ap length el);
-        owned = omega (arith, ap length es, ap length ev, ap length ep, length-map processes (drivers_of ds), length-map processes' variables_of);
+        owned = omega (arith, ap length es, ap length ev, length-map design.processes (drivers_of design.drivers), length-map design.processes variables_of);
       };
       timed = record {
-        sized = omega (arith, ap length et, length-replicate count no_time, total);
-        marked = omega (arith, ap length est, length-replicate count false, total);
+        sized = omega (arith, ap length et, length-replicate count no_time, ec);
+        marked = omega (arith, ap length est, length-replicate count false, ec);
         current = λ d _. ap (λ w. time_of w d) et ∙ (none-at count d ∙ sym (none-idle (driver_at (joined dss) d) (here d)));
       };
-      driven_count = ld ∙ total;
+      driven_count = ld ∙ ec;
       driving = ad;
-      resolving = eu ∙ (same-rows ws nets ∙ (ap (map (row_value ws)) (sym er) ∙ ap (λ w. map (row_value w) sources) ew));
+      resolving = eu ∙ (same-rows (joined dss) design.nets ∙ ap (map (row_value (joined dss))) (sym er));
       touching = record {
         sized = omega (arith, ap length eto, length-replicate many false, em);
         still = λ n _. ap (λ w. value_at w n) (sym el);

@@ -22,7 +22,7 @@ use crate::execution::execute_at;
 use crate::log::Log;
 use crate::nets::{Seen, are_views, resolve_touched, settle, views_at};
 use crate::resumption::find_resumed;
-use crate::start::{driven, first_drivers, first_variables, sources, values};
+use crate::start::{connections, first_contents, nothing_pending};
 use sim_design::{Design, Held, Process, Source};
 use sim_exec::NetView;
 use sim_logic::Logic;
@@ -87,21 +87,15 @@ impl FlatState {
     pub fn first(alloc: Global, design: &Design) -> Result<FlatState, AllocError>
         ensures { IfOk result (λ s. s ≡ contents_of design.now (first_state design.now)) }
     {
-        let drivers = first_drivers(alloc, design.drivers(), design.processes())?;
-        let variables = first_variables(alloc, design.processes())?;
-        let values = values(alloc, design.nets(), drivers.flat())?;
-        let lasts = Vec::from_slice(alloc, values.as_slice())?;
-        let sources = sources(alloc, design)?;
-        let count = drivers.flat().len();
-        let driven = driven(alloc, &sources, count)?;
-        let queue = TimeQueue::new(alloc, count)?;
-        let stale = NumberSet::new(alloc, count)?;
-        let touched = NumberSet::new(alloc, values.len())?;
+        let first = first_contents(alloc, design)?;
+        let count = first.drivers.flat().len();
+        let (sources, driven) = connections(alloc, design, count)?;
+        let (queue, stale, touched) = nothing_pending(alloc, count, first.values.len())?;
         Ok(FlatState {
-            values,
-            lasts,
-            drivers,
-            variables,
+            values: first.values,
+            lasts: first.lasts,
+            drivers: first.drivers,
+            variables: first.variables,
             sources,
             driven,
             queue,

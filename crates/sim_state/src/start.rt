@@ -1,17 +1,19 @@
 //! The state of a design before any process is executed (IEEE 1076-2008, 14.7.5.2), and what is made once for its cycles.
 
-ghost use Rattle.std.specs.Prelude.{ℕ, [], ◌≡◌, ◌+◌, ◌<◌, ◌≤◌, ◌==◌, ◌||◌, ◌&&◌, map, length, take, drop, slice_index_or, IfOk, OnOk};
+ghost use Rattle.std.specs.Prelude.{ℕ, [], None, false, ◌≡◌, ◌+◌, ◌<◌, ◌≤◌, ◌==◌, ◌||◌, ◌&&◌, map, length, take, drop, slice_index_or, replicate, IfOk, OnOk};
 ghost use Rattle.std.specs.List.{All};
 ghost use Rattle.sim_state.specs.Drivers as spec;
 ghost use Rattle.sim_state.specs.Nets.{net_value};
 ghost use Rattle.sim_state.specs.Changes.{AreDriven, is_driven, is_driver};
 ghost use Rattle.sim_state.specs.Contents.{sources_of};
 ghost use Rattle.sim_state.specs.Wakes.{is_among};
+ghost use Rattle.sim_rows.specs.Rows.{joined};
 
 use crate::lists::{add, empty_lists, in_rows};
 use crate::nets::net_value;
 use sim_design::{Design, DriverOf, Held, Net, Process, Source};
 use sim_logic::Logic;
+use sim_queue::{NumberSet, TimeQueue};
 use sim_rows::Rows;
 use sim_wave::Driver;
 use sqlite_items::Items;
@@ -49,7 +51,7 @@ fn own_drivers(
 }
 
 /// The drivers of each process at first.
-pub fn first_drivers(
+fn first_drivers(
     alloc: Global,
     drivers: &[DriverOf],
     processes: &[Process],
@@ -65,7 +67,7 @@ pub fn first_drivers(
 }
 
 /// The variables of each process at first.
-pub fn first_variables(alloc: Global, processes: &[Process]) -> Result<Rows<Held>, AllocError>
+fn first_variables(alloc: Global, processes: &[Process]) -> Result<Rows<Held>, AllocError>
     ensures { IfOk result (λ r. r ≡ map (λ p. p.body.variables) processes.now) }
 {
     let mut rows = Rows::new(alloc)?;
@@ -75,8 +77,18 @@ pub fn first_variables(alloc: Global, processes: &[Process]) -> Result<Rows<Held
     Ok(rows)
 }
 
+/// The drivers and the variables of each process at first.
+fn first_owned(alloc: Global, design: &Design) -> Result<(Rows<Driver>, Rows<Held>), AllocError>
+    ensures drivers { IfOk result (λ r. r.0 ≡ map (λ p. (spec.first_owned design.now.drivers p).drivers) design.now.processes) }
+    ensures variables { IfOk result (λ r. r.1 ≡ map (λ p. p.body.variables) design.now.processes) }
+{
+    let drivers = first_drivers(alloc, design.drivers(), design.processes())?;
+    let variables = first_variables(alloc, design.processes())?;
+    Ok((drivers, variables))
+}
+
 /// The value of each net.
-pub fn values(alloc: Global, nets: &[Net], drivers: &[Driver]) -> Result<Vec<Logic>, AllocError>
+fn values(alloc: Global, nets: &[Net], drivers: &[Driver]) -> Result<Vec<Logic>, AllocError>
     ensures { IfOk result (λ v. v.items ≡ map (net_value drivers.now) nets.now) }
 {
     let mut values = Vec::with_capacity(alloc, nets.len())?;
@@ -86,8 +98,48 @@ pub fn values(alloc: Global, nets: &[Net], drivers: &[Driver]) -> Result<Vec<Log
     Ok(values)
 }
 
+/// The value of each net, and the value that it had before, which is the same.
+fn first_values(
+    alloc: Global,
+    nets: &[Net],
+    drivers: &[Driver],
+) -> Result<(Vec<Logic>, Vec<Logic>), AllocError>
+    ensures values { IfOk result (λ r. r.0.items ≡ map (net_value drivers.now) nets.now) }
+    ensures lasts { IfOk result (λ r. r.1.items ≡ r.0.items) }
+{
+    let values = values(alloc, nets, drivers)?;
+    let lasts = Vec::from_slice(alloc, values.as_slice())?;
+    Ok((values, lasts))
+}
+
+/// What processes own at first, and the values of nets that come of it.
+#[derive(Drop)]
+pub struct FirstContents {
+    pub drivers: Rows<Driver>,
+    pub variables: Rows<Held>,
+    pub values: Vec<Logic>,
+    pub lasts: Vec<Logic>,
+}
+
+/// What a design begins with.
+pub fn first_contents(alloc: Global, design: &Design) -> Result<FirstContents, AllocError>
+    ensures drivers { IfOk result (λ r. r.drivers ≡ map (λ p. (spec.first_owned design.now.drivers p).drivers) design.now.processes) }
+    ensures variables { IfOk result (λ r. r.variables ≡ map (λ p. p.body.variables) design.now.processes) }
+    ensures values { IfOk result (λ r. r.values.items ≡ map (net_value (joined r.drivers)) design.now.nets) }
+    ensures lasts { IfOk result (λ r. r.lasts.items ≡ r.values.items) }
+{
+    let (drivers, variables) = first_owned(alloc, design)?;
+    let (values, lasts) = first_values(alloc, design.nets(), drivers.flat())?;
+    Ok(FirstContents {
+        drivers,
+        variables,
+        values,
+        lasts,
+    })
+}
+
 /// The sources of each net of a design, side by side.
-pub fn sources(alloc: Global, design: &Design) -> Result<Rows<Source>, AllocError>
+fn sources(alloc: Global, design: &Design) -> Result<Rows<Source>, AllocError>
     ensures { IfOk result (λ r. r ≡ sources_of design.now.nets) }
 {
     let mut rows = Rows::new(alloc)?;
@@ -139,15 +191,42 @@ fn add_nets(driven: &mut [Items<usize>], sources: &Rows<Source>) -> Result<(), A
 
 /// For each of this number of drivers, the nets that have it as a source. A driver beyond them is passed over. It takes time in proportion to the
 /// drivers and to all sources.
-pub fn driven(
-    alloc: Global,
-    sources: &Rows<Source>,
-    drivers: usize,
-) -> Result<Rows<usize>, AllocError>
+fn driven(alloc: Global, sources: &Rows<Source>, drivers: usize) -> Result<Rows<usize>, AllocError>
     ensures value { IfOk result (λ r. AreDriven sources.now r) }
     ensures drivers { IfOk result (λ r. length r ≡ drivers) }
 {
     let mut lists = empty_lists(alloc, drivers)?;
     add_nets(lists.as_mut_slice(), sources)?;
     in_rows(alloc, lists.as_slice())
+}
+
+/// The sources of each net of a design, and the nets of each of its drivers, of which there are this many.
+pub fn connections(
+    alloc: Global,
+    design: &Design,
+    drivers: usize,
+) -> Result<(Rows<Source>, Rows<usize>), AllocError>
+    ensures sources { IfOk result (λ r. r.0 ≡ sources_of design.now.nets) }
+    ensures driven { IfOk result (λ r. AreDriven r.0 r.1) }
+    ensures drivers { IfOk result (λ r. length r.1 ≡ drivers) }
+{
+    let sources = sources(alloc, design)?;
+    let driven = driven(alloc, &sources, drivers)?;
+    Ok((sources, driven))
+}
+
+/// That none of these drivers has a pending transaction or is stale, and none of these nets is touched.
+pub fn nothing_pending(
+    alloc: Global,
+    drivers: usize,
+    nets: usize,
+) -> Result<(TimeQueue, NumberSet, NumberSet), AllocError>
+    ensures queue { IfOk result (λ r. r.0 ≡ replicate drivers None) }
+    ensures stale { IfOk result (λ r. r.1 ≡ replicate drivers false) }
+    ensures touched { IfOk result (λ r. r.2 ≡ replicate nets false) }
+{
+    let queue = TimeQueue::new(alloc, drivers)?;
+    let stale = NumberSet::new(alloc, drivers)?;
+    let touched = NumberSet::new(alloc, nets)?;
+    Ok((queue, stale, touched))
 }

@@ -1,11 +1,11 @@
 //! Sequential statements (IEEE 1076-2008, 10).
 
-ghost use Rattle.std.specs.Prelude.{◌≡◌};
+ghost use Rattle.std.specs.Prelude.{◌≡◌, [], ◌∷◌};
 ghost use Rattle.sim_reading.specs.Statements as spec;
 ghost use Rattle.sim_reading.specs.Statements.{condition};
 ghost use Rattle.sim_token.specs.declared.kind.Kind.TheVariants as k;
 ghost use Rattle.sim_reading.specs.Waveforms.{waveform};
-ghost use Rattle.sim_reading.specs.Readers.{Reads, and_then, pure, expect};
+ghost use Rattle.sim_reading.specs.Readers.{Reads, ReadsAs, and_then, pure, expect};
 ghost use Rattle.sim_expression.specs.Cursors.{view};
 
 use sim_expression::Cursor;
@@ -230,12 +230,23 @@ fn branch(alloc: Global, tokens: &mut Cursor, depth: usize) -> Result<Branch, Pa
     })
 }
 
+/// Reads the first branch of an if statement.
 #[cycle(statement)]
-#[tactic(auto, unfolding(sim_reading::specs::Statements::branches, sim_reading::specs::Readers::separated))]
+fn first_branch(alloc: Global, tokens: &mut Cursor, depth: usize) -> Result<Vec<Branch>, ParseError>
+    ensures { ReadsAs (and_then (spec.branch (spec.if_statement depth) (view tokens.old)) (λ first. pure (first ∷ [])))
+        result (λ v. v.items) (view tokens.new) }
+{
+    let first = branch(alloc, tokens, depth)?;
+    let found = one(alloc, first)?;
+    Ok(found)
+}
+
+#[cycle(statement)]
+#[tactic(auto, using(sim_reading::proofs::Parts::separated_in_parts), unfolding(sim_reading::specs::Statements::branches))]
 fn branches(alloc: Global, tokens: &mut Cursor, depth: usize) -> Result<Items<Branch>, ParseError>
     ensures { Reads (spec.branches (spec.if_statement depth) (view tokens.old)) result (view tokens.new) }
 {
-    let mut found = one(alloc, branch(alloc, tokens, depth)?)?;
+    let mut found = first_branch(alloc, tokens, depth)?;
     for _turn in 0..tokens.left() {
         if !tokens.sees(Kind::Elsif) {
             return Ok(fitted(found));

@@ -6,6 +6,7 @@ ghost use Rattle.std.specs.List.{All};
 ghost use Rattle.sim_design.specs.Designs.{most};
 ghost use Rattle.sim_design.specs.Processes.{IsProcess};
 ghost use Rattle.sim_state.specs.Cycles as cycles;
+ghost use Rattle.sim_state.specs.Contents.{contents_of};
 ghost use Rattle.sim_state.specs.Records.{values_of};
 ghost use Rattle.sim_exec.specs.State.{driver_values, net_at, owned_at};
 ghost use Rattle.sim_logic.specs.Time.{largest_time};
@@ -95,6 +96,16 @@ fn first_log(alloc: Global, state: &FlatState, nets: usize) -> Result<Log, Alloc
     Ok(log)
 }
 
+/// The first state of a design, and a log that holds its record.
+fn started(alloc: Global, design: &Design) -> Result<(FlatState, Log), AllocError>
+    ensures state { IfOk result (λ s. s.0 ≡ contents_of design.now (cycles.first_state design.now)) }
+    ensures log { IfOk result (λ s. s.1.records ≡ record { time = 0; delta = 0; changes = values_of s.0.nets } ∷ []) }
+{
+    let state = FlatState::first(alloc, design)?;
+    let log = first_log(alloc, &state, design.nets().len())?;
+    Ok((state, log))
+}
+
 /// That each of these processes is to be executed, none has been, and none of these nets had an event.
 fn marks(
     alloc: Global,
@@ -119,8 +130,7 @@ fn prepared(alloc: Global, design: &Design) -> Result<Made, AllocError>
     let nets = design.nets().len();
     let (due, deposited, totals) = marks(alloc, design.processes().len(), nets)?;
     let wakes = wakes(alloc, design)?;
-    let state = FlatState::first(alloc, design)?;
-    let log = first_log(alloc, &state, nets)?;
+    let (state, log) = started(alloc, design)?;
     Ok(Made {
         time: 0,
         delta: 0,

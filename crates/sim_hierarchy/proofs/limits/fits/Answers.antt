@@ -1,4 +1,4 @@
-use Rattle.std.proofs.Common.{Bool, Decides, sym, subst}
+use Rattle.std.proofs.Common.{Bool, Decides, not, sym, subst, ◌∙◌}
 use Rattle.sim_hierarchy.specs.Limits.{Fits}
 use Rattle.sim_hierarchy.proofs.Within.{fits_is}
 use Rattle.sim_hierarchy.proofs.limits.fits.Goals as goal
@@ -6,6 +6,5 @@ use Rattle.sim_hierarchy.proofs.limits.fits.Goals as goal
 pub returns : goal.returns
 returns c =
     subst (λ (b : Bool). Decides b (Fits c.args.blocks.now c.args.top)) (sym c.all.ensures)
-    (fits_is c.args.blocks.now c.args.top c.in_ok-deep.deep c.in_ok-nets.nets c.in_ok-processes.processes c.in_ok-drivers.drivers
-    c.in_ok-instances.instances c.in_ok-deep.ensures c.in_ok-nets.ensures c.in_ok-processes.ensures c.in_ok-drivers.ensures
-    c.in_ok-instances.ensures)
+    (fits_is c.args.blocks.now c.args.top c.in_ok-deep.deep c.in_ok-instances.instances c.in_ok-design.design c.in_ok-deep.ensures
+    c.in_ok-instances.ensures c.in_ok-design.ensures)

@@ -3,16 +3,19 @@ use Rattle.sim_hierarchy.specs.Laid as spec
 use Rattle.sim_hierarchy.proofs.walk.+walk.Given as goal
 
 abbrev pub decreases-block : goal.decreases-block
-decreases-block l = 4 * l.levels
+decreases-block l = 5 * l.levels
 
 abbrev pub decreases-instance : goal.decreases-instance
-decreases-instance l = 4 * l.levels + 1
+decreases-instance l = 5 * l.levels + 1
 
 abbrev pub decreases-instances : goal.decreases-instances
-decreases-instances l = 4 * l.levels + 2
+decreases-instances l = 5 * l.levels + 2
+
+abbrev pub decreases-occupants : goal.decreases-occupants
+decreases-occupants l = 5 * l.levels + 3
 
 abbrev pub decreases-inside : goal.decreases-inside
-decreases-inside l = 4 * l.levels + 3
+decreases-inside l = 5 * l.levels + 4
 
 abbrev pub invariant-instances-loop-each : goal.invariant-instances-loop-each
 invariant-instances-loop-each l =

@@ -21,8 +21,8 @@ sequence-returns t c = let e = no_more c.loop-turn.invariant c.loop-turn-test.fa
 pub branches-returns-then-not-sees : goal.branches-returns-then-not-sees
 branches-returns-then-not-sees t c = let e = one_after c.loop-turn.invariant c.loop-turn-test.true in search rules
 
-pub branches-returns-in_err-branch-2 : goal.branches-returns-in_err-branch-2
-branches-returns-in_err-branch-2 t c = let e = one_after c.loop-turn.invariant c.loop-turn-test.true in search rules
+pub branches-returns-in_err-branch : goal.branches-returns-in_err-branch
+branches-returns-in_err-branch t c = let e = one_after c.loop-turn.invariant c.loop-turn-test.true in search rules
 
 pub branches-loop-turn-preserved : goal.branches-loop-turn-preserved
 branches-loop-turn-preserved t c = let e = one_after c.loop-turn.invariant c.loop-turn-test.true in search rules

@@ -6,28 +6,31 @@ use Rattle.sim_reading.specs.Statements.{if_statement, sequence, statement, begi
 use Rattle.sim_statement.proofs.statements.+statement.Given as goal
 
 abbrev pub decreases-if_statement : goal.decreases-if_statement
-decreases-if_statement l = 8 * l.depth
+decreases-if_statement l = 9 * l.depth
 
 abbrev pub decreases-labelled : goal.decreases-labelled
-decreases-labelled l = 8 * l.depth + 1
+decreases-labelled l = 9 * l.depth + 1
 
 abbrev pub decreases-named : goal.decreases-named
-decreases-named l = 8 * l.depth + 2
+decreases-named l = 9 * l.depth + 2
 
 abbrev pub decreases-statement : goal.decreases-statement
-decreases-statement l = 8 * l.depth + 3
+decreases-statement l = 9 * l.depth + 3
 
 abbrev pub decreases-sequence : goal.decreases-sequence
-decreases-sequence l = 8 * l.depth + 4
+decreases-sequence l = 9 * l.depth + 4
 
 abbrev pub decreases-branch : goal.decreases-branch
-decreases-branch l = 8 * l.depth + 5
+decreases-branch l = 9 * l.depth + 5
 
 abbrev pub decreases-otherwise : goal.decreases-otherwise
-decreases-otherwise l = 8 * l.depth + 5
+decreases-otherwise l = 9 * l.depth + 5
+
+abbrev pub decreases-first_branch : goal.decreases-first_branch
+decreases-first_branch l = 9 * l.depth + 6
 
 abbrev pub decreases-branches : goal.decreases-branches
-decreases-branches l = 8 * l.depth + 6
+decreases-branches l = 9 * l.depth + 7
 
 abbrev pub invariant-sequence-loop-turn : goal.invariant-sequence-loop-turn
 invariant-sequence-loop-turn l = AsManyAsCome (sequence (if_statement l.depth) (view l.fn.tokens)) begins_statement (statement (if_statement l.depth))

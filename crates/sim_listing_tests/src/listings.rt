@@ -1,7 +1,10 @@
+//! Listings to a writer that takes a byte at a time, and records in both of the forms that a listing reads.
+
 ghost use Rattle.std.specs.Prelude.{◌≡◌, ◌<◌, length, All, IfOk, ℕ};
 ghost use Rattle.sim_logic.specs.declared.logic.Logic as logic;
+ghost use Rattle.sim_store.specs.History.{IsNamed, event_count};
 
-use crate::{Change, Records, WriteError, write_listing, write_whole};
+use sim_listing::{Change, Records, WriteError, write_listing, write_whole};
 use sim_logic::Logic;
 use sim_state::{Log, Record};
 use sqlite_items::Items;
@@ -53,13 +56,31 @@ fn record(alloc: Global, time: u64, value: Logic) -> Result<Record, AllocError>
     })
 }
 
-/// What is written of two records to a writer with this room, and how it ended.
+/// The name of net 0.
+fn names(alloc: Global) -> Result<Vec<String>, AllocError>
+    ensures { IfOk result (λ v. length v.items ≡ 1) }
+{
+    let name = String::from_str(alloc, "s")?;
+    let names = vec![in alloc; name]?;
+    Ok(names)
+}
+
+/// Two records, with one event.
+fn records(alloc: Global) -> Result<Vec<Record>, AllocError>
+    ensures begun { IfOk result (λ v. 0 < length v.items) }
+    ensures named { IfOk result (λ v. All (IsNamed 1) v.items) }
+    ensures events { IfOk result (λ v. event_count v.items ≡ 1) }
+{
+    let first = record(alloc, 0, Logic::Zero)?;
+    let second = record(alloc, 5_000_000, Logic::One)?;
+    let records = vec![in alloc; first, second]?;
+    Ok(records)
+}
+
+/// What is written of these records to a writer with this room, and how it ended.
 fn listed(alloc: Global, room: usize) -> Result<(Vec<u8>, Result<(), WriteError>), AllocError> {
-    let names = vec![in alloc; String::from_str(alloc, "s")?]?;
-    let records = vec![in alloc;
-        record(alloc, 0, Logic::Zero)?,
-        record(alloc, 5_000_000, Logic::One)?,
-    ]?;
+    let names = names(alloc)?;
+    let records = records(alloc)?;
     let mut out = Narrow {
         bytes: Vec::new(alloc),
         room,
@@ -68,22 +89,21 @@ fn listed(alloc: Global, room: usize) -> Result<(Vec<u8>, Result<(), WriteError>
     Ok((out.bytes, ended))
 }
 
-#[test]
-fn each_change_has_a_line(rt: HostRuntime) -> Result<(), Fail> {
-    let (bytes, ended) = listed(rt.alloc(), 1_000)?;
-    assert_eq!(rt; ended, Ok(()));
-    assert_eq!(rt;
-        bytes.as_slice(),
-        b"0 0 s 0\n5000000 0 s 1\ndone 1 1\n".as_slice()
-    );
-    Ok(())
-}
+/// How much a writer takes in all, what it then has, and how the listing ends.
+static LISTINGS: [(usize, &[u8], Result<(), WriteError>); 4] = [
+    (1_000, b"0 0 s 0\n5000000 0 s 1\ndone 1 1\n", Ok(())),
+    (31, b"0 0 s 0\n5000000 0 s 1\ndone 1 1\n", Ok(())),
+    (10, b"0 0 s 0\n50", Err(WriteError)),
+    (0, b"", Err(WriteError)),
+];
 
 #[test]
-fn a_front_is_written_where_a_write_takes_nothing(rt: HostRuntime) -> Result<(), Fail> {
-    let (bytes, ended) = listed(rt.alloc(), 10)?;
-    assert_eq!(rt; ended, Err(WriteError));
-    assert_eq!(rt; bytes.as_slice(), b"0 0 s 0\n50".as_slice());
+fn each_change_has_a_line_as_far_as_there_is_room(rt: HostRuntime) -> Result<(), Fail> {
+    for (room, bytes, ended) in &LISTINGS {
+        let (written, end) = listed(rt.alloc(), *room)?;
+        assert_eq!(rt; end, *ended, "{room}");
+        assert_eq!(rt; written.as_slice(), *bytes, "{room}");
+    }
     Ok(())
 }
 

@@ -1,7 +1,9 @@
+//! What no clause says of a run: which numbers come, and in which order.
+
 ghost use Rattle.std.specs.Prelude.{◌≡◌, ◌+◌, OnOk};
 ghost use Rattle.sim_claims.specs.Seats.{IsOf, balance};
 
-use crate::{ClaimSeat, Claims};
+use sim_claims::{ClaimSeat, Claims};
 use std::alloc::{AllocError, Global};
 use std::test::Fail;
 use std::thread::{Threads, join};
@@ -81,36 +83,42 @@ fn draw_in_two_threads<R: Threads + Sync>(
     (seat, both(drawn, drawn_too))
 }
 
-/// What both threads drew.
-fn both(
+/// What one thread drew, and then what the other did.
+fn appended(
     drawn: Result<Vec<Option<usize>>, AllocError>,
     drawn_too: Result<Vec<Option<usize>>, AllocError>,
 ) -> Result<Vec<Option<usize>>, AllocError> {
     let mut drawn = drawn?;
     let mut drawn_too = drawn_too?;
     drawn.append(&mut drawn_too)?;
+    Ok(drawn)
+}
+
+/// What both threads drew, in order.
+fn both(
+    drawn: Result<Vec<Option<usize>>, AllocError>,
+    drawn_too: Result<Vec<Option<usize>>, AllocError>,
+) -> Result<Vec<Option<usize>>, AllocError> {
+    let mut drawn = appended(drawn, drawn_too)?;
     drawn.sort()?;
     Ok(drawn)
 }
 
-#[test]
-fn numbers_come_in_order_and_then_none(rt: HostRuntime) -> Result<(), Fail> {
-    let (claims, mut seat) = Claims::new(rt.alloc(), 100)?;
-    let drawn = draw_times(rt.alloc(), &claims, &mut seat, 165)?;
-    assert_eq!(rt; claims.close(seat), 100);
-    assert_eq!(rt; drawn.len(), 165);
-    for (turn, number) in drawn.iter().enumerate() {
-        let expected = if turn < 100 { Some(turn) } else { None };
-        assert_eq!(rt; *number, expected, "turn {turn}");
-    }
-    Ok(())
-}
+/// How many numbers there are, and how often one is drawn.
+static DRAWS: [(u8, u32); 4] = [(100, 165), (3, 3), (1, 2), (0, 1)];
 
 #[test]
-fn no_numbers_give_none(rt: HostRuntime) -> Result<(), Fail> {
-    let (claims, mut seat) = Claims::new(rt.alloc(), 0)?;
-    assert_eq!(rt; claims.draw(&mut seat), None);
-    assert_eq!(rt; claims.close(seat), 0);
+fn numbers_come_in_order_and_then_none(rt: HostRuntime) -> Result<(), Fail> {
+    for (count, times) in &DRAWS {
+        let count = usize::from(*count);
+        let (claims, mut seat) = Claims::new(rt.alloc(), count)?;
+        let drawn = draw_times(rt.alloc(), &claims, &mut seat, *times)?;
+        assert_eq!(rt; claims.close(seat), count);
+        for (turn, number) in drawn.iter().enumerate() {
+            let expected = if turn < count { Some(turn) } else { None };
+            assert_eq!(rt; *number, expected, "turn {turn} of {count}");
+        }
+    }
     Ok(())
 }
 

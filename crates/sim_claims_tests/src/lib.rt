@@ -1,0 +1,5 @@
+//! Tests of numbers that threads draw.
+#![tactic(auto)]
+
+#[cfg(test)]
+mod drawing;
