@@ -1,7 +1,7 @@
 -- Variables are alike where each is of the type of the other at its place.
 use Rattle.std.proofs.Common.{◌≡◌, ◌<◌, ℕ, List, Bool, true, length, get_or, map, sym, ap, ◌∙◌}
 use Rattle.std.proofs.lemmas.List.{get_or-map}
-use Rattle.sim_design.specs.declared.held.Held.{Held}
+use Rattle.sim_flat_design.specs.declared.held.Held.{Held}
 use Rattle.sim_exec.specs.Jobs.{holds_bit}
 
 -- alike, they are alike at each place

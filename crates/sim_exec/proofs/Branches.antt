@@ -1,13 +1,13 @@
 -- The branch of an if statement that is looked at: its statements are carried out, or the others are looked at.
 use Rattle.std.proofs.Common.{◌≡◌, ◌+◌, ◌<◌, ℕ, List, ◌∷◌, true, false, ◌||◌, length, drop, get_or, map, if◌then◌else◌, refl, sym, ap, ◌∙◌}
 use Rattle.std.proofs.lemmas.List.{drop_more}
-use Rattle.sim_design.specs.declared.statement.Branch.{Branch}
-use Rattle.sim_design.specs.declared.statement.Statement.{Statement}
-use Rattle.sim_design.specs.declared.statement.Statement.TheViews as views
-use Rattle.sim_exec.specs.declared.view.NetView.{NetView}
-use Rattle.sim_exec.specs.State.{Owned}
-use Rattle.sim_exec.specs.Statements.{Steps, in_turn, first_taken, statement_done, branch_done, own_steps, one_holds}
-use Rattle.sim_exec.proofs.StatementRules.{branch_is}
+use Rattle.sim_flat_design.specs.declared.statement.Branch.{Branch}
+use Rattle.sim_flat_design.specs.declared.statement.Statement.{Statement}
+use Rattle.sim_flat_design.specs.declared.statement.Statement.TheViews as views
+use Rattle.sim_standard.specs.declared.net_view.NetView.{NetView}
+use Rattle.sim_standard.specs.State.{Owned}
+use Rattle.sim_standard.specs.Statements.{Steps, in_turn, first_taken, statement_done, branch_done, own_steps, one_holds}
+use Rattle.sim_standard.proofs.StatementRules.{branch_is}
 
 module _ {S : Type 0} (steps : Steps S) (branches : List Branch) (i : ℕ) (b : Branch) where
   -- those from it on

@@ -1,16 +1,16 @@
 -- The elements of a waveform with their values rise as the waveform does.
 use Rattle.std.proofs.Common.{◌≡◌, ◌≤◌, ℕ, suc, List, [], ◌∷◌, take, length, arith}
 use Rattle.std.proofs.lemmas.List.{take_all}
-use Rattle.sim_design.specs.declared.held.Held.{Held}
-use Rattle.sim_design.specs.declared.waveform.Element.{Element}
-use Rattle.sim_design.specs.Waveforms.{IsWaveform}
-use Rattle.sim_design.specs.Waveforms as design
-use Rattle.sim_wave.specs.Driver.{RisesFrom, Transaction}
-use Rattle.sim_exec.specs.declared.view.NetView.{NetView}
-use Rattle.sim_exec.specs.Values.{element_values}
+use Rattle.sim_flat_design.specs.declared.held.Held.{Held}
+use Rattle.sim_flat_design.specs.declared.waveform.Element.{Element}
+use Rattle.sim_flat_design.specs.Waveforms.{IsWaveform}
+use Rattle.sim_flat_design.specs.Waveforms as design
+use Rattle.sim_standard.specs.Drivers.{RisesFrom, Transaction}
+use Rattle.sim_standard.specs.declared.net_view.NetView.{NetView}
+use Rattle.sim_standard.specs.Expressions.{element_values}
 
 module _ (look : ℕ → NetView) (variables : List Held) where
-  later : (time : ℕ) (w : List Element) → design.RisesFrom time w → RisesFrom (suc time) (element_values look variables w)
+  later : (time : ℕ) (w : List Element) → design.ElementsRise time w → RisesFrom (suc time) (element_values look variables w)
   later time [] h = tt
   later time (x ∷ xs) h = (omega (arith, h.0), later x.after xs h.1)
 

@@ -2,20 +2,20 @@
 use Rattle.std.proofs.Common.{◌≡◌, ℕ, suc, List, [], ◌∷◌, ◌++◌, map, take, length, Some, None, refl, sym, ◌∙◌, subst, arith}
 use Rattle.std.proofs.lemmas.List.{take_at}
 use Rattle.std.proofs.lemmas.List.Elements.{All-weaker}
-use Rattle.sim_wave.specs.Driver.{Waveform, RisesFrom}
-use Rattle.sim_exec.specs.declared.view.NetView.{NetView}
-use Rattle.sim_exec.specs.State.{Owned, net_at}
-use Rattle.sim_design.specs.Processes.{Process}
-use Rattle.sim_design.specs.declared.held.Held.{Held}
-use Rattle.sim_design.specs.declared.statement.Statement.{Statement}
-use Rattle.sim_exec.specs.Statements.{own_steps, statement_done, in_turn, executed}
-use Rattle.sim_exec.specs.Processes.{home, place_in}
+use Rattle.sim_standard.specs.Drivers.{Waveform, RisesFrom}
+use Rattle.sim_standard.specs.declared.net_view.NetView.{NetView}
+use Rattle.sim_standard.specs.State.{Owned, net_at}
+use Rattle.sim_flat_design.specs.Processes.{Process}
+use Rattle.sim_flat_design.specs.declared.held.Held.{Held}
+use Rattle.sim_flat_design.specs.declared.statement.Statement.{Statement}
+use Rattle.sim_standard.specs.Statements.{own_steps, statement_done, in_turn, executed}
+use Rattle.sim_standard.specs.Processes.{object_net, place_in}
 use Rattle.sim_exec.specs.Jobs.{Job, IsJob, IsReady, IsDone, result_of}
-use Rattle.sim_exec.proofs.Owning.{outcome_is}
+use Rattle.sim_standard.proofs.Owning.{outcome_is}
 
 -- how a job sees the ports and signals of its body
 abbrev pub sight : Job → ℕ → NetView
-sight job object = net_at job.views (place_in job.process.reads (home job.process object))
+sight job object = net_at job.views (place_in job.process.reads (object_net job.process object))
 
 pub result_is : (job : Job) → result_of job ≡ executed (sight job) job.time job.process.body.statements job.owned
 result_is job = outcome_is job.process _ (omega arith)
@@ -53,7 +53,7 @@ done_changed job own ready is =
 -- the statements of a job, on what it shows
 pub shown : (job : Job) (process : Process) (views : List NetView) (statements : List Statement)
     → process ≡ job.process → views ≡ job.views → statements ≡ job.process.body.statements
-    → in_turn (map (statement_done (own_steps (λ object. net_at views (place_in process.reads (home process object))) job.time)) statements) job.owned
+    → in_turn (map (statement_done (own_steps (λ object. net_at views (place_in process.reads (object_net process object))) job.time)) statements) job.owned
     ≡ executed (sight job) job.time job.process.body.statements job.owned
 unfolding executed
 shown job process views statements p v s = rw (s, v, p) refl

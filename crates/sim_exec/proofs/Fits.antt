@@ -9,24 +9,24 @@ use Rattle.std.proofs.lemmas.List.Folds.{list_all-map}
 use Rattle.std.proofs.lemmas.Bool.Decides.{nat_tests}
 use Rattle.sim_logic.specs.declared.logic.Logic.{Logic}
 use Rattle.sim_exec.specs.Jobs.{holds_bit}
-use Rattle.sim_design.specs.declared.held.Held.{Held}
-use Rattle.sim_design.specs.declared.held.Held.TheVariants as held
-use Rattle.sim_design.specs.declared.expression.LogicExpression.{LogicExpression}
-use Rattle.sim_design.specs.declared.expression.BooleanExpression.{BooleanExpression}
-use Rattle.sim_design.specs.declared.waveform.Element.{Element}
-use Rattle.sim_design.specs.declared.statement.Delay.{Delay}
-use Rattle.sim_design.specs.declared.statement.Delay.TheVariants as mechanism
-use Rattle.sim_design.specs.declared.statement.ConditionalWaveform.{ConditionalWaveform}
-use Rattle.sim_design.specs.declared.statement.SignalAssignment.{SignalAssignment}
-use Rattle.sim_design.specs.declared.statement.Branch.{Branch}
-use Rattle.sim_design.specs.declared.statement.Statement.{Statement}
-use Rattle.sim_design.specs.declared.statement.Statement.TheVariants as s
-use Rattle.sim_design.specs.declared.statement.Statement.TheOpen as so
-use Rattle.sim_design.specs.declared.statement.Statement.TheViews as views
-use Rattle.sim_design.specs.declared.statement.Statement.TheFolds as folds
-use Rattle.sim_design.specs.Waveforms.{IsRejected}
-use Rattle.sim_design.specs.Bodies.{all, is_bit, is_truth, is_rejected, conditional_fits, last_fits, boolean_fits, logic_fits}
-use Rattle.sim_design.specs.Bodies.{assignment_fits, statement_fits_rule, branch_fits_rule, statement_fits, branch_fits, Body, fits}
+use Rattle.sim_flat_design.specs.declared.held.Held.{Held}
+use Rattle.sim_flat_design.specs.declared.held.Held.TheVariants as held
+use Rattle.sim_flat_design.specs.declared.expression.LogicExpression.{LogicExpression}
+use Rattle.sim_flat_design.specs.declared.expression.BooleanExpression.{BooleanExpression}
+use Rattle.sim_flat_design.specs.declared.waveform.Element.{Element}
+use Rattle.sim_flat_design.specs.declared.statement.Delay.{Delay}
+use Rattle.sim_flat_design.specs.declared.statement.Delay.TheVariants as mechanism
+use Rattle.sim_flat_design.specs.declared.statement.ConditionalWaveform.{ConditionalWaveform}
+use Rattle.sim_flat_design.specs.declared.statement.SignalAssignment.{SignalAssignment}
+use Rattle.sim_flat_design.specs.declared.statement.Branch.{Branch}
+use Rattle.sim_flat_design.specs.declared.statement.Statement.{Statement}
+use Rattle.sim_flat_design.specs.declared.statement.Statement.TheVariants as s
+use Rattle.sim_flat_design.specs.declared.statement.Statement.TheOpen as so
+use Rattle.sim_flat_design.specs.declared.statement.Statement.TheViews as views
+use Rattle.sim_flat_design.specs.declared.statement.Statement.TheFolds as folds
+use Rattle.sim_flat_design.specs.Waveforms.{IsRejected}
+use Rattle.sim_flat_design.specs.Bodies.{all, is_bit, is_truth, is_rejected, conditional_fits, last_fits, boolean_fits, logic_fits}
+use Rattle.sim_flat_design.specs.Bodies.{assignment_fits, statement_fits_rule, branch_fits_rule, statement_fits, branch_fits, Body, fits}
 
 pub left : (a b : Bool) → (a && b) ≡ true → a ≡ true
 left true b e = refl

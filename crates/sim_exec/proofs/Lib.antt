@@ -1,13 +1,7 @@
 pub mod Alike
-pub mod Alongside
 pub mod Branches
-pub mod Owning
 pub mod Elements
 pub mod Executed
 pub mod Fits
-pub mod Frame
 pub mod Places
-pub mod Seeing
-pub mod StatementRules
 pub mod ValueRules
-pub mod ValuesKept

@@ -7,8 +7,8 @@ use Rattle.std.proofs.lemmas.List.Sorted.{searched}
 use Rattle.std.specs.List.Sorted.{IsBinarySearchResult}
 use Rattle.std.specs.Ordering.{nat_cmp}
 use Rattle.std.proofs.Common.{Ok, Err}
-use Rattle.sim_design.specs.Processes.{rising, with_number}
-use Rattle.sim_exec.specs.Processes.{place_in}
+use Rattle.sim_flat_design.specs.Processes.{rising, with_number}
+use Rattle.sim_standard.specs.Processes.{place_in}
 
 -- each number is larger than the one before it, the first no smaller than this one
 abbrev pub Rises : ℕ → List ℕ → Type 0

@@ -3,20 +3,20 @@ use Rattle.std.proofs.Common.{◌≡◌, ℕ, List, map, Bool, not, fold, sym, a
 use Rattle.sim_logic.specs.declared.logic.Logic.{Logic}
 use Rattle.sim_logic.specs.Logic.{is_same}
 use Rattle.sim_logic.specs.Tables.{not_table}
-use Rattle.sim_tree.specs.declared.expression.Relational.{Relational}
-use Rattle.sim_tree.specs.declared.expression.Logical.{Logical}
-use Rattle.sim_design.specs.declared.held.Held.{Held}
-use Rattle.sim_design.specs.declared.expression.LogicExpression.{LogicExpression}
-use Rattle.sim_design.specs.declared.expression.LogicExpression.TheVariants as l
-use Rattle.sim_design.specs.declared.expression.LogicExpression.TheOpen as lo
-use Rattle.sim_design.specs.declared.expression.LogicExpression.TheFolds as logic_folds
-use Rattle.sim_design.specs.declared.expression.BooleanExpression.{BooleanExpression}
-use Rattle.sim_design.specs.declared.expression.BooleanExpression.TheVariants as b
-use Rattle.sim_design.specs.declared.expression.BooleanExpression.TheOpen as bo
-use Rattle.sim_design.specs.declared.expression.BooleanExpression.TheFolds as boolean_folds
-use Rattle.sim_exec.specs.declared.view.NetView.{NetView}
-use Rattle.sim_exec.specs.Values.{logic_operation, boolean_operation, relation, is_as_true, bit_of, truth_of, has_edge}
-use Rattle.sim_exec.specs.Values.{logic_value_rule, logic_value, boolean_value_rule, boolean_value}
+use Rattle.sim_text_tree.specs.declared.expression.Relational.{Relational}
+use Rattle.sim_text_tree.specs.declared.expression.Logical.{Logical}
+use Rattle.sim_flat_design.specs.declared.held.Held.{Held}
+use Rattle.sim_flat_design.specs.declared.expression.LogicExpression.{LogicExpression}
+use Rattle.sim_flat_design.specs.declared.expression.LogicExpression.TheVariants as l
+use Rattle.sim_flat_design.specs.declared.expression.LogicExpression.TheOpen as lo
+use Rattle.sim_flat_design.specs.declared.expression.LogicExpression.TheFolds as logic_folds
+use Rattle.sim_flat_design.specs.declared.expression.BooleanExpression.{BooleanExpression}
+use Rattle.sim_flat_design.specs.declared.expression.BooleanExpression.TheVariants as b
+use Rattle.sim_flat_design.specs.declared.expression.BooleanExpression.TheOpen as bo
+use Rattle.sim_flat_design.specs.declared.expression.BooleanExpression.TheFolds as boolean_folds
+use Rattle.sim_standard.specs.declared.net_view.NetView.{NetView}
+use Rattle.sim_standard.specs.Expressions.{logic_operation, boolean_operation, relation, is_as_true, bit_of, truth_of, has_edge}
+use Rattle.sim_standard.specs.Expressions.{logic_value_rule, logic_value, boolean_value_rule, boolean_value}
 
 module _ (look : ℕ → NetView) (variables : List Held) where
   pub logic_literal : (v : Logic) → logic_value look variables (l.Literal v) ≡ v

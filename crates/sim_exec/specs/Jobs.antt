@@ -1,15 +1,16 @@
 -- What is handed out to be executed.
+-- Of the implementation: what `simulate` promises does not rest on this file.
 use Rattle.std.specs.Prelude.{ℕ, suc, ◌≡◌, ◌≤◌, List, [], ◌∷◌, Bool, true, false, Option, MatchOption, map, length}
 use Rattle.std.specs.List.{All}
 use Rattle.sim_logic.specs.Time.{largest_time}
-use Rattle.sim_design.specs.declared.held.Held.{Held}
-use Rattle.sim_design.specs.declared.held.Held.TheVariants as held
-use Rattle.sim_design.specs.Bodies.{Body}
-use Rattle.sim_design.specs.Processes.{Process}
-use Rattle.sim_wave.specs.Driver.{Waveform, RisesFrom}
-use Rattle.sim_exec.specs.declared.view.NetView.{NetView}
-use Rattle.sim_exec.specs.State.{State, Owned}
-use Rattle.sim_exec.specs.Processes.{outcome}
+use Rattle.sim_flat_design.specs.declared.held.Held.{Held}
+use Rattle.sim_flat_design.specs.declared.held.Held.TheVariants as held
+use Rattle.sim_flat_design.specs.Bodies.{Body}
+use Rattle.sim_flat_design.specs.Processes.{Process}
+use Rattle.sim_standard.specs.Drivers.{Waveform, RisesFrom}
+use Rattle.sim_standard.specs.declared.net_view.NetView.{NetView}
+use Rattle.sim_standard.specs.State.{State, Owned}
+use Rattle.sim_standard.specs.Processes.{outcome}
 
 -- A process to be executed: in which cycle, its number, the time, how it sees the nets that it reads, and what it owns.
 pub record Job : Type 0 where

@@ -1,5 +1,1 @@
-pub mod State
-pub mod Values
-pub mod Statements
-pub mod Processes
 pub mod Jobs

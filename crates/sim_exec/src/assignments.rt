@@ -3,20 +3,20 @@
 ghost use Rattle.std.specs.Prelude.{◌≡◌, ◌≤◌, true, length, map, slice_get, slice_set, option_copied, IfOk, IfSome, OnOk, OnErr};
 ghost use Rattle.std.specs.List.{All};
 ghost use Rattle.sim_logic.specs.Time.{largest_time};
-ghost use Rattle.sim_design.specs.Waveforms.{IsWaveform, IsRejected};
-ghost use Rattle.sim_design.specs.Bodies.{assignment_fits, is_bit, is_truth};
-ghost use Rattle.sim_wave.specs.Driver.{RisesFrom, Transaction as transaction};
-ghost use Rattle.sim_design.specs.declared.held.Held as held;
+ghost use Rattle.sim_flat_design.specs.Waveforms.{IsWaveform, IsRejected};
+ghost use Rattle.sim_flat_design.specs.Bodies.{assignment_fits, is_bit, is_truth};
+ghost use Rattle.sim_standard.specs.Drivers.{RisesFrom, Transaction as transaction};
+ghost use Rattle.sim_flat_design.specs.declared.held.Held as held;
 ghost use Rattle.sim_exec.specs.Jobs.{holds_bit};
-ghost use Rattle.sim_exec.specs.State.{driver_values};
-ghost use Rattle.sim_exec.specs.Statements as spec;
-ghost use Rattle.sim_exec.specs.Values as values;
+ghost use Rattle.sim_standard.specs.State.{driver_values};
+ghost use Rattle.sim_standard.specs.Statements as spec;
+ghost use Rattle.sim_standard.specs.Expressions as values;
 
 use crate::values::{boolean_value, logic_value};
 use crate::view::Nets;
-use sim_design::statement::{self, SignalAssignment};
-use sim_design::waveform::Element;
-use sim_design::{Body, Held};
+use sim_flat_design::statement::{self, SignalAssignment};
+use sim_flat_design::waveform::Element;
+use sim_flat_design::{Body, Held};
 use sim_logic::Logic;
 use sim_wave::{Delay, Driver, Transaction};
 use smallvec::SmallVec;
@@ -25,7 +25,8 @@ use std::alloc::{AllocError, Global};
 /// As many elements of a waveform are assigned without an allocation.
 const IN_PLACE: usize = 16;
 
-/// What a delay mechanism does with pending transactions, where the first element is driven after this time (10.5.2.1).
+/// What a delay mechanism does with pending transactions, where the first element is driven after
+/// this time (10.5.2.1).
 fn delay(mechanism: statement::Delay, first: u64) -> Delay
     ensures { result ≡ spec.delay_of mechanism first }
 {
@@ -67,8 +68,10 @@ fn element_values<N: Nets>(
     Ok(found)
 }
 
-/// The waveform that an assignment takes: the first whose condition holds, else the last, if there is one (10.5.3).
-#[tactic(auto, using(crate::proofs::Fits::conditionals_rejected, crate::proofs::Fits::last_rejected), unfolding(crate::specs::Values::taken_waveform))]
+/// The waveform that an assignment takes: the first whose condition holds, else the last, if there
+/// is one (10.5.3).
+#[tactic(auto, using(crate::proofs::Fits::conditionals_rejected, crate::proofs::Fits::last_rejected),
+    unfolding(sim_standard::specs::Expressions::taken_waveform))]
 fn taken_waveform<'a, N: Nets>(
     nets: &N,
     body: &Body,

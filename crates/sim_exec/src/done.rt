@@ -2,17 +2,18 @@
 
 ghost use Rattle.std.specs.Prelude.{◌≡◌, IfOk};
 ghost use Rattle.sim_exec.specs.Jobs.{IsDone};
-ghost use Rattle.sim_design.specs.Processes.{rising};
-ghost use Rattle.sim_exec.specs.State.{net_at};
-ghost use Rattle.sim_exec.specs.Processes.{home, place_in};
+ghost use Rattle.sim_flat_design.specs.Processes.{rising};
+ghost use Rattle.sim_standard.specs.State.{net_at};
+ghost use Rattle.sim_standard.specs.Processes.{object_net, place_in};
 
 use crate::execution::execute;
 use crate::idle::assign_nothing;
 use crate::job::Job;
-use crate::view::{NetView, Nets};
-use sim_design::{Held, Process};
+use crate::view::Nets;
+use sim_flat_design::{Held, Process};
 use sim_logic::Logic;
 use sim_wave::Driver;
+use sim_standard::NetView;
 use std::alloc::{AllocError, Global};
 use std::marker::Model;
 
@@ -52,7 +53,7 @@ struct Sight<'a> {
 }
 
 impl Nets for Sight<'_> {
-    ghost look = { λ s object. net_at s.views.now (place_in s.process.now.reads (home s.process.now object)) };
+    ghost look = { λ s object. net_at s.views.now (place_in s.process.now.reads (object_net s.process.now object)) };
 
     fn view(&self, object: usize) -> NetView {
         let net = self.process.nets().get(object).copied().unwrap_or(0);
@@ -68,16 +69,18 @@ pub struct Results {
 }
 
 impl Model for Results {
-    ghost use Rattle.sim_exec.specs.State.{Owned};
+    ghost use Rattle.sim_standard.specs.State.{Owned};
 
     ghost Value = { Owned };
 
     ghost view = { λ r. record { drivers = r.drivers.items; variables = r.variables.items } };
 }
 
-/// A job that was executed: what its process owns then is what the meaning of the process gives on the job's part of a state.
+/// A job that was executed: what its process owns then is what the meaning of the process gives on
+/// the job's part of a state.
 ///
-/// Where nothing was assigned, nothing is copied. The contracts see a `Done` as its job, since all else follows from it.
+/// Where nothing was assigned, nothing is copied. The contracts see a `Done` as its job, since all
+/// else follows from it.
 #[derive(Drop)]
 pub struct Done {
     job: Job,
@@ -87,9 +90,9 @@ pub struct Done {
 
 impl Model for Done {
     ghost use Rattle.std.specs.Coded.{codes};
-    ghost use Rattle.sim_design.specs.contracts.expression.LogicExpression as logic;
-    ghost use Rattle.sim_design.specs.contracts.expression.BooleanExpression as boolean;
-    ghost use Rattle.sim_design.specs.contracts.statement.Statement as statement;
+    ghost use Rattle.sim_flat_design.specs.contracts.expression.LogicExpression as logic;
+    ghost use Rattle.sim_flat_design.specs.contracts.expression.BooleanExpression as boolean;
+    ghost use Rattle.sim_flat_design.specs.contracts.statement.Statement as statement;
     ghost use Rattle.sim_exec.specs.Jobs.{Job, IsDone};
 
     ghost Value = { Job };
@@ -142,7 +145,8 @@ impl Done {
     ghost use Rattle.std.specs.Option.{MatchOption};
     ghost use Rattle.sim_exec.specs.Jobs.{result_of, IsReady};
 
-    /// Executes a job once, from the first statement of its process to the last. Where memory is refused the job comes back as it was.
+    /// Executes a job once, from the first statement of its process to the last. If allocation
+    /// fails the job comes back as it was.
     pub fn run(alloc: Global, job: Job) -> Result<Done, (AllocError, Job)>
         ensures { MatchResult result (λ d. d ≡ job) (λ e. e.1 ≡ job) }
     {
@@ -179,7 +183,8 @@ impl Done {
         }
     }
 
-    /// The job, and the drivers and variables after the execution; where there are none, they are those of the job.
+    /// The job, and the drivers and variables after the execution; where there are none, they are
+    /// those of the job.
     pub fn into_parts(self) -> (Job, Option<Results>)
         ensures job { result.0 ≡ self }
         ensures results { MatchOption result.1 (result_of self ≡ self.owned) (λ r. r ≡ result_of self) }

@@ -1,18 +1,19 @@
 //! Executions that assign nothing.
 
 ghost use Rattle.std.specs.Prelude.{ℕ, ◌≡◌, IsTrue, map, not};
-ghost use Rattle.sim_exec.specs.State.{Owned};
-ghost use Rattle.sim_exec.specs.Statements.{own_steps, statement_done, branch_done, first_taken, in_turn, one_holds};
+ghost use Rattle.sim_standard.specs.State.{Owned};
+ghost use Rattle.sim_standard.specs.Statements.{own_steps, statement_done, branch_done, first_taken, in_turn, one_holds};
 
 use crate::values::boolean_value;
 use crate::view::Nets;
-use sim_design::Held;
-use sim_design::statement::{Branch, Statement};
+use sim_flat_design::Held;
+use sim_flat_design::statement::{Branch, Statement};
 
-/// Whether the execution of these statements is known to assign nothing: they are looked at up to the first assignment, or the first condition of a
-/// branch that holds. `false` tells nothing of them.
+/// Whether the execution of these statements is known to assign nothing: they are looked at up to
+/// the first assignment, or the first condition of a branch that holds. `false` tells nothing of
+/// them.
 #[cycle(idle)]
-#[tactic(auto, unfolding(crate::specs::Statements::in_turn))]
+#[tactic(auto, unfolding(sim_standard::specs::Statements::in_turn))]
 pub(crate) fn assign_nothing<N: Nets>(
     nets: &N,
     variables: &[Held],
@@ -31,7 +32,7 @@ pub(crate) fn assign_nothing<N: Nets>(
 
 /// Whether the execution of a statement is known to assign nothing.
 #[cycle(idle)]
-#[tactic(auto, using(crate::proofs::StatementRules::statements_are))]
+#[tactic(auto, using(sim_standard::proofs::StatementRules::statements_are))]
 fn assigns_nothing<N: Nets>(nets: &N, variables: &[Held], statement: &Statement) -> bool
     ensures { IsTrue result → (now : ℕ) (own : Owned) → own.variables ≡ variables.now
         → statement_done (own_steps (N.look nets.now) now) statement.now own ≡ own }
@@ -52,7 +53,8 @@ fn assigns_nothing<N: Nets>(nets: &N, variables: &[Held], statement: &Statement)
 }
 
 /// Whether no condition of these branches holds.
-#[tactic(auto, using(crate::proofs::StatementRules::branch_is), unfolding(crate::specs::Statements::first_taken, crate::specs::Statements::one_holds))]
+#[tactic(auto, using(sim_standard::proofs::StatementRules::branch_is), unfolding(sim_standard::specs::Statements::first_taken,
+    sim_standard::specs::Statements::one_holds))]
 fn none_is_taken<N: Nets>(nets: &N, variables: &[Held], branches: &[Branch]) -> bool
     ensures none { IsTrue result → (now : ℕ) (otherwise : Owned → Owned) (own : Owned) → own.variables ≡ variables.now
         → first_taken (map (branch_done (own_steps (N.look nets.now) now)) branches.now) otherwise own ≡ otherwise own }

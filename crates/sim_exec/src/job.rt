@@ -2,17 +2,18 @@
 
 ghost use Rattle.std.specs.Prelude.{◌≡◌, ◌↔◌, suc, map, IsTrue};
 ghost use Rattle.std.specs.List.{All};
-ghost use Rattle.sim_wave.specs.Driver.{RisesFrom};
+ghost use Rattle.sim_standard.specs.Drivers.{RisesFrom};
 ghost use Rattle.sim_exec.specs.Jobs.{holds_bit};
 
-use crate::view::NetView;
-use sim_design::{Held, Process};
+use sim_flat_design::{Held, Process};
 use sim_logic::LATEST;
 use sim_wave::Driver;
+use sim_standard::NetView;
 use std::marker::Model;
 
-/// A process to be executed once, with all that it needs: in which cycle, the time in femtoseconds, how it sees each net that it reads, and its
-/// variables and drivers. The process is shared, the lists are the job's own.
+/// A process to be executed once, with all that it needs: in which cycle, the time in femtoseconds,
+/// how it sees each net that it reads, and its variables and drivers. The process is shared, the
+/// lists are the job's own.
 #[derive(Drop)]
 pub struct Job {
     cycle: usize,
@@ -26,9 +27,9 @@ pub struct Job {
 
 impl Model for Job {
     ghost use Rattle.std.specs.Coded.{codes};
-    ghost use Rattle.sim_design.specs.contracts.expression.LogicExpression as logic;
-    ghost use Rattle.sim_design.specs.contracts.expression.BooleanExpression as boolean;
-    ghost use Rattle.sim_design.specs.contracts.statement.Statement as statement;
+    ghost use Rattle.sim_flat_design.specs.contracts.expression.LogicExpression as logic;
+    ghost use Rattle.sim_flat_design.specs.contracts.expression.BooleanExpression as boolean;
+    ghost use Rattle.sim_flat_design.specs.contracts.statement.Statement as statement;
     ghost use Rattle.sim_exec.specs.Jobs.{Job, IsJob};
 
     ghost Value = { Job };
@@ -98,8 +99,9 @@ impl Job {
     ghost use Rattle.std.specs.Prelude.{◌≡◌, ◌↔◌, IsTrue};
     ghost use Rattle.sim_exec.specs.Jobs.{IsJob};
 
-    /// Whether the lists fit the process: a view for each net that it reads, in the order of their numbers, its variables, each of its type, and its
-    /// drivers, all in their order. The time is at most 2^62 - 1 fs, and what is pending is after it.
+    /// Whether the lists fit the process: a view for each net that it reads, in the order of their
+    /// numbers, its variables, each of its type, and its drivers, all in their order. The time is
+    /// at most 2^62 - 1 fs, and what is pending is after it.
     pub fn fits(
         time: u64,
         process: &Process,
@@ -175,7 +177,8 @@ impl Job {
         &self.process
     }
 
-    /// How each net that the process reads is seen, in the order of their numbers. The whole job fits its process.
+    /// How each net that the process reads is seen, in the order of their numbers. The whole job
+    /// fits its process.
     pub fn views(&self) -> &[NetView]
         ensures value { result.now ≡ self.now.views }
         ensures fits { IsJob self.now.time self.now.process self.now.views self.now.owned }

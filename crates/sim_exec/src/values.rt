@@ -1,13 +1,14 @@
 //! The values of expressions (IEEE 1076-2008, 9).
 
 ghost use Rattle.std.specs.Prelude.{◌≡◌, fold, map, slice_get};
-ghost use Rattle.sim_exec.specs.Values as spec;
+ghost use Rattle.sim_standard.specs.Expressions as spec;
 
-use crate::view::{NetView, Nets};
-use sim_design::Held;
-use sim_design::expression::{BooleanExpression, LogicExpression};
+use crate::view::Nets;
+use sim_standard::NetView;
+use sim_flat_design::Held;
+use sim_flat_design::expression::{BooleanExpression, LogicExpression};
 use sim_logic::Logic;
-use sim_tree::expression::{Logical, Relational};
+use sim_text_tree::expression::{Logical, Relational};
 
 /// A logical operator on two values of std_ulogic (9.2.2).
 fn logic_operation(operator: Logical, left: Logic, right: Logic) -> Logic
@@ -146,8 +147,8 @@ pub fn boolean_value<N: Nets>(nets: &N, variables: &[Held], expression: &Boolean
     }
 }
 
-/// A value and those of these expressions, with the operator between each two. Of `and`, `or`, `nand` and `nor` the right operand is evaluated only where
-/// the left one does not decide (9.2.2).
+/// A value and those of these expressions, with the operator between each two. Of `and`, `or`,
+/// `nand` and `nor` the right operand is evaluated only where the left one does not decide (9.2.2).
 #[cycle(boolean_values)]
 #[inline(never)]
 fn boolean_chain<N: Nets>(

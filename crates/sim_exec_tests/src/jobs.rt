@@ -1,6 +1,6 @@
 //! Designs, jobs and drivers for the tests.
 
-use sim_design::{Design, Held};
+use sim_flat_design::{Design, Held};
 use sim_exec::{Job, NetView};
 use sim_logic::{LATEST, Logic};
 use sim_run::{Options, elaborate};

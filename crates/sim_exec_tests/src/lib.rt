@@ -1,4 +1,5 @@
-//! Tests of `sim_exec` on processes of texts: jobs whose results were worked by hand from the standard.
+//! Tests of `sim_exec` on processes of texts: jobs whose results were worked by hand from the
+//! standard.
 #![tactic(auto)]
 
 #[cfg(test)]

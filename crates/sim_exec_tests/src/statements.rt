@@ -1,14 +1,16 @@
-//! A body with every statement and operator, executed once at 10 ns, where x rose from '0' to '1', y is '0' and z is 'H'.
+//! A body with every statement and operator, executed once at 10 ns, where x rose from '0' to '1',
+//! y is '0' and z is 'H'.
 
 use crate::jobs::{changed, design, is_driver, job, steady};
-use sim_design::Held;
+use sim_flat_design::Held;
 use sim_exec::{Done, NetView};
 use sim_logic::Logic;
 use sim_wave::Driver;
 use std::alloc::{AllocError, Global};
 use std::test::Fail;
 
-/// Process 0 has every statement and operator; processes 1 and 2 are conditional assignments, without and with a last waveform.
+/// Process 0 has every statement and operator; processes 1 and 2 are conditional assignments,
+/// without and with a last waveform.
 const TEXT: &[u8] =
     b"entity t is end;architecture a of t is signal x,y,z,q,r,s,u,w,k:std_logic;begin \
 process (x, y, z) variable v:std_logic:='0'; variable b:boolean; begin \

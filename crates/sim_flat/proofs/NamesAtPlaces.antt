@@ -5,27 +5,28 @@ use Rattle.std.proofs.lemmas.List.{map-append}
 use Rattle.std.proofs.lemmas.Option.{slice_get-map}
 use Rattle.std.proofs.lemmas.Simd.{map-map}
 use Rattle.std.proofs.lemmas.Slice.Eq.{bytes_eq-Decides}
-use Rattle.sim_token.proofs.Tests.{by_cases}
-use Rattle.sim_tree.specs.Name.{Name}
-use Rattle.sim_tree.specs.declared.declaration.Declaration.{Declaration}
-use Rattle.sim_tree.specs.declared.declaration.Declaration.TheVariants as declaration
-use Rattle.sim_tree.specs.declared.declaration.ObjectDeclaration.{ObjectDeclaration}
-use Rattle.sim_tree.specs.declared.declaration.PortDeclaration.{PortDeclaration}
-use Rattle.sim_tree.specs.declared.unit.Architecture.{Architecture}
-use Rattle.sim_tree.specs.declared.unit.Concurrent.{Concurrent}
-use Rattle.sim_scope.specs.declared.scope.Meaning.{Meaning}
-use Rattle.sim_scope.specs.Scopes.{Declared, Region, Look, declaring, found, means, or_else, predefined, with_first}
-use Rattle.sim_region.specs.declared.region.Object as kind
-use Rattle.sim_region.specs.declared.region.Object.TheVariants as object
-use Rattle.sim_region.specs.DeclaredNames.{concurrent_labels, port_names}
-use Rattle.sim_region.specs.Ports.{Port, ports_named, ports_of}
-use Rattle.sim_region.specs.Regions.{architecture_region, declarations, declared, labels, meaning_of, objects, port_count, port_objects, ports, ports_region}
-use Rattle.sim_instance.specs.Libraries.{Library}
-use Rattle.sim_template.specs.Below.{signal_names}
-use Rattle.sim_plan.specs.Plans as plan
-use Rattle.sim_hierarchy.specs.declared.blocks.Object.{Object}
-use Rattle.sim_hierarchy.specs.declared.blocks.Port as block_port
-use Rattle.sim_hierarchy.specs.Blocks as blocks
+use Rattle.sim_text_tokens.proofs.Tests.{by_cases}
+use Rattle.sim_text_tree.specs.Name.{Name}
+use Rattle.sim_text_tree.specs.declared.declaration.Declaration.{Declaration}
+use Rattle.sim_text_tree.specs.declared.declaration.Declaration.TheVariants as declaration
+use Rattle.sim_text_tree.specs.declared.declaration.ObjectDeclaration.{ObjectDeclaration}
+use Rattle.sim_text_tree.specs.declared.declaration.PortDeclaration.{PortDeclaration}
+use Rattle.sim_text_tree.specs.declared.unit.Architecture.{Architecture}
+use Rattle.sim_text_tree.specs.declared.unit.Concurrent.{Concurrent}
+use Rattle.sim_flat_scope.specs.declared.scope.Meaning.{Meaning}
+use Rattle.sim_flat_scope.specs.Scopes.{Declared, Region, Lookup, declaring, found, means, or_else, predefined, with_first}
+use Rattle.sim_flat_scope.specs.declared.region.Object as kind
+use Rattle.sim_flat_scope.specs.declared.region.Object.TheVariants as object
+use Rattle.sim_flat_scope.specs.DeclaredNames.{concurrent_labels, port_names}
+use Rattle.sim_flat_scope.specs.Ports.{Port, ports_named, ports_of}
+use Rattle.sim_flat_scope.specs.Regions.{architecture_region, declarations, declared, labels, meaning_of, objects, port_count, port_objects, ports}
+use Rattle.sim_flat_scope.specs.Regions.{ports_region}
+use Rattle.sim_flat_instances.specs.Libraries.{Library}
+use Rattle.sim_flat_blocks.specs.Below.{signal_names}
+use Rattle.sim_flat_blocks.specs.Plans as plan
+use Rattle.sim_flat_blocks.specs.declared.parts.Object.{Object}
+use Rattle.sim_flat_blocks.specs.declared.parts.Port as block_port
+use Rattle.sim_flat_blocks.specs.Blocks as blocks
 use Rattle.sim_flat.specs.Laws.{name_at, place_of, region_of}
 
 texts : List Name → List (List ℕ)
@@ -123,7 +124,7 @@ module _ (all : List (List ℕ)) where
         subst (λ (k : ℕ). StandFrom all (place + k) (texts more)) (texts_length ns) rest,
       )
 
-  ports_stand : (look : Look) (place : ℕ) (ps : List PortDeclaration) → StandFrom all place (texts (port_names ps)) → AllStand all (ports look place ps)
+  ports_stand : (look : Lookup) (place : ℕ) (ps : List PortDeclaration) → StandFrom all place (texts (port_names ps)) → AllStand all (ports look place ps)
   unfolding AllStand ports port_names
   ports_stand look place [] h = tt
   ports_stand look place (p ∷ ps) h =
@@ -132,7 +133,7 @@ module _ (all : List (List ℕ)) where
       (objects_stand _ place p.names parts.0)
       (ports_stand look (place + length p.names) ps parts.1)
 
-  declarations_stand : (look : Look) (signal component : ℕ) (ds : List Declaration) → StandFrom all signal (texts (signal_names ds))
+  declarations_stand : (look : Lookup) (signal component : ℕ) (ds : List Declaration) → StandFrom all signal (texts (signal_names ds))
       → AllStand all (declarations look signal component ds)
   unfolding AllStand declarations signal_names
   declarations_stand look signal component [] h = tt
@@ -182,12 +183,12 @@ ports_texts (p ∷ ps) = rw (
   ports_texts ps,
 ) refl
 
-objects_texts : (look : Look) (o : ObjectDeclaration) (ns : List Name) → map name_of (map (plan.object look o.mark o.initial) ns) ≡ texts ns
+objects_texts : (look : Lookup) (o : ObjectDeclaration) (ns : List Name) → map name_of (map (plan.object look o.mark o.initial) ns) ≡ texts ns
 unfolding texts
 objects_texts look o [] = refl
 objects_texts look o (n ∷ ns) = ap (λ (xs : List (List ℕ)). n.text ∷ xs) (objects_texts look o ns)
 
-signals_texts : (look : Look) (ds : List Declaration) → map name_of (plan.signals_of look ds) ≡ texts (signal_names ds)
+signals_texts : (look : Lookup) (ds : List Declaration) → map name_of (plan.signals_of look ds) ≡ texts (signal_names ds)
 unfolding plan.signals_of signal_names texts
 signals_texts look [] = refl
 signals_texts look (declaration.Signal o ∷ ds) = rw (

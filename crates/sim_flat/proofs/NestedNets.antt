@@ -1,23 +1,23 @@
 -- The nets of a flat design have the values of their source trees: scene by scene, each tree is one in which no name of type std_ulogic has
--- more than one source, and of such a tree the leaves resolve as the nested names.
+-- more than one source, and of such a tree the flat sources resolve as the nested names.
 use Rattle.std.proofs.Common.{◌≡◌, ℕ, zero, suc, ◌+◌, List, [], ◌∷◌, ◌++◌, Bool, true, false, Some, map, slice_get, All}
 use Rattle.std.proofs.Common.{refl, ap, sym, ◌∙◌, subst, if◌then◌else◌}
 use Rattle.std.specs.List.{AllZip}
 use Rattle.sim_logic.specs.declared.logic.Logic.{Logic}
 use Rattle.sim_logic.specs.Resolution.{resolved}
-use Rattle.sim_logic.specs.Sources.{SourceTree, Leaf, Driven, IsResolvable, leaves, leaf_value, nested}
+use Rattle.sim_logic.specs.Sources.{SourceTree, FlatSource, Driven, IsResolvable, flat_sources, flat_source_value, nested}
 use Rattle.sim_logic.specs.Sources as tree
-use Rattle.sim_logic.proofs.SourceLaws.{resolved-leaves}
-use Rattle.sim_design.specs.declared.design.Source.{Source}
-use Rattle.sim_design.specs.Designs.{Net, Design}
-use Rattle.sim_hierarchy.specs.declared.blocks.Object.{Object}
-use Rattle.sim_hierarchy.specs.declared.blocks.Instance.{Instance}
-use Rattle.sim_hierarchy.specs.declared.blocks.Block.{Block}
-use Rattle.sim_hierarchy.specs.Blocks.{block_of, objects, levels}
-use Rattle.sim_hierarchy.specs.Hierarchy.{Path, Scene, Step, Own, is_own, link_of, own_from, own_at, inner, scenes}
-use Rattle.sim_hierarchy.specs.Flat.{flat, gather, net, nets_at, scenes_of, source_of}
-use Rattle.sim_hierarchy.proofs.Sound.{Each, each_append, each_map, all_of}
-use Rattle.sim_reach.specs.Graph.{block_at, Here}
+use Rattle.sim_logic.proofs.SourceLaws.{resolved-flat_sources}
+use Rattle.sim_flat_design.specs.declared.design.Source.{Source}
+use Rattle.sim_flat_design.specs.Designs.{Net, Design}
+use Rattle.sim_flat_blocks.specs.declared.parts.Object.{Object}
+use Rattle.sim_flat_blocks.specs.declared.parts.Instance.{Instance}
+use Rattle.sim_flat_blocks.specs.declared.parts.Block.{Block}
+use Rattle.sim_flat_blocks.specs.Blocks.{block_of, objects, levels}
+use Rattle.sim_flat_expansion.specs.Hierarchy.{Path, Scene, PathStep, Own, is_own, link_of, own_from, own_at, inner, scenes}
+use Rattle.sim_flat_expansion.specs.Flat.{flat, gather, net, nets_at, scenes_of, source_of}
+use Rattle.sim_flat_expansion.proofs.Sound.{Each, each_append, each_map, all_of}
+use Rattle.sim_flat_graph.specs.Graph.{block_at, Here}
 use Rattle.sim_flat.specs.declared.top.Top.{Top}
 use Rattle.sim_flat.specs.Hierarchies.{IsFlat, IsResolved}
 use Rattle.sim_flat.specs.Laws.{HasValueOf, source_value, trees}
@@ -38,7 +38,7 @@ module _ (blocks : List Block) (top : ℕ) where
   unfolding inner
   inner_reached one h p j [] each = tt
   inner_reached one h p j (i ∷ is) each =
-      let s : Step = record { instance = i; place = j } in
+      let s : PathStep = record { instance = i; place = j } in
       each_append (IsReached blocks top) (one (s ∷ p) (block_of blocks i)) (inner one blocks p (j + 1) is)
       (h (s ∷ p) i.block each.0) (inner_reached one h p (j + 1) is each.1)
 
@@ -106,7 +106,7 @@ trees_resolvable blocks top resolved =
 
 -- ---- nets and trees, one by one
 abbrev IsMadeOf : SourceTree → Net → Type 0
-IsMadeOf t n = n.sources ≡ map source_of (leaves t)
+IsMadeOf t n = n.sources ≡ map source_of (flat_sources t)
 
 zip_append : {X Y : Type 0} (R : X → Y → Type 0) (xs : List X) (ys : List Y) (vs : List X) (ws : List Y)
     → AllZip R xs ys → AllZip R vs ws → AllZip R (xs ++ vs) (ys ++ ws)
@@ -133,7 +133,7 @@ nets_made blocks top =
     (λ s. zip_mapped IsMadeOf (laws.tree blocks all s) (net blocks all s) (own_at s) (λ x. refl))
 
 -- ---- values
-values_same : (driving : ℕ → Logic) (ls : List Leaf) → map (source_value driving) (map source_of ls) ≡ map (leaf_value driving) ls
+values_same : (driving : ℕ → Logic) (ls : List FlatSource) → map (source_value driving) (map source_of ls) ≡ map (flat_source_value driving) ls
 values_same driving [] = refl
 values_same driving (Driven n ∷ ls) = ap (λ (vs : List Logic). driving n ∷ vs) (values_same driving ls)
 values_same driving (tree.Constant v ∷ ls) = ap (λ (vs : List Logic). v ∷ vs) (values_same driving ls)
@@ -141,7 +141,7 @@ values_same driving (tree.Constant v ∷ ls) = ap (λ (vs : List Logic). v ∷ v
 has_value : (t : SourceTree) (n : Net) → IsResolvable t → IsMadeOf t n → HasValueOf t n
 has_value t n may made driving =
     ap (λ (ss : List Source). resolved (map (source_value driving) ss)) made
-    ∙ (ap (λ (vs : List Logic). resolved vs) (values_same driving (leaves t)) ∙ resolved-leaves driving t may)
+    ∙ (ap (λ (vs : List Logic). resolved vs) (values_same driving (flat_sources t)) ∙ resolved-flat_sources driving t may)
 
 all_values : (ts : List SourceTree) (ns : List Net) → Each IsResolvable ts → AllZip IsMadeOf ts ns → AllZip HasValueOf ts ns
 all_values [] [] h z = tt

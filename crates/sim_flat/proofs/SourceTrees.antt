@@ -4,21 +4,21 @@ use Rattle.std.proofs.Common.{◌≡◌, ℕ, zero, suc, ◌+◌, ◌==◌, ◌&
 use Rattle.std.proofs.Common.{map, slice_get, refl, sym, ◌∙◌, subst, arith, length-append, if◌then◌else◌}
 use Rattle.std.specs.List.{Contains}
 use Rattle.sim_logic.specs.Sources.{SourceTree, Sources, count_of, AllowsSources, IsResolvable, AreResolvable}
-use Rattle.sim_hierarchy.specs.declared.links.Link.{Link}
-use Rattle.sim_hierarchy.specs.declared.links.Link.TheVariants.{To, Constant, Open}
-use Rattle.sim_hierarchy.specs.declared.blocks.Object.{Object}
-use Rattle.sim_hierarchy.specs.declared.blocks.Port.{Port}
-use Rattle.sim_hierarchy.specs.declared.blocks.Instance.{Instance}
-use Rattle.sim_hierarchy.specs.declared.blocks.Block.{Block}
-use Rattle.sim_hierarchy.specs.Blocks.{block_of, link_at, objects}
-use Rattle.sim_hierarchy.specs.Hierarchy.{Path, Scene, Step, targets_of, before, driver_count}
-use Rattle.sim_hierarchy.specs.Flat.{driving, with_drivers, with_ports, type_of, leads_to, of_ports, of_instances, tree_of, port_trees}
-use Rattle.sim_hierarchy.proofs.Sound.{Each}
-use Rattle.sim_reach.specs.Graph.{Graph, graph_of, block_at, led, Reaches, blocks_of}
-use Rattle.sim_reach.specs.Sources.{driven_by, driven_by_ports, driven_by_instances, driven, times, source_count}
-use Rattle.sim_reach.proofs.Lists.{by_order, first_in, later_in}
-use Rattle.sim_reach.proofs.Recursions.{led_is}
-use Rattle.sim_reach.proofs.Searches.{one_step}
+use Rattle.sim_flat_blocks.specs.declared.links.Link.{Link}
+use Rattle.sim_flat_blocks.specs.declared.links.Link.TheVariants.{To, Constant, Open}
+use Rattle.sim_flat_blocks.specs.declared.parts.Object.{Object}
+use Rattle.sim_flat_blocks.specs.declared.parts.Port.{Port}
+use Rattle.sim_flat_blocks.specs.declared.parts.Instance.{Instance}
+use Rattle.sim_flat_blocks.specs.declared.parts.Block.{Block}
+use Rattle.sim_flat_blocks.specs.Blocks.{block_of, link_at, objects, targets_of}
+use Rattle.sim_flat_expansion.specs.Hierarchy.{Path, Scene, PathStep, before, driver_count}
+use Rattle.sim_flat_expansion.specs.Flat.{driving, with_drivers, with_ports, type_of, leads_to, of_ports, of_instances, tree_of, port_trees}
+use Rattle.sim_flat_expansion.proofs.Sound.{Each}
+use Rattle.sim_flat_graph.specs.Graph.{Graph, graph_of, block_at, led, Reaches, blocks_of}
+use Rattle.sim_flat_graph.specs.Sources.{driven_by, driven_by_ports, driven_by_instances, driven, times, source_count}
+use Rattle.sim_flat_graph.proofs.Lists.{by_order, first_in, later_in}
+use Rattle.sim_flat_graph.proofs.Recursions.{led_is}
+use Rattle.sim_flat_graph.proofs.Searches.{one_step}
 use Rattle.sim_flat.specs.Hierarchies.{IsResolved}
 
 -- ---- counting
@@ -97,7 +97,7 @@ module _ (blocks : List Block) (all : List Scene) where
   unfolding of_instances driven_by_instances
   of_instances_counted k p m j [] = omega arith
   of_instances_counted k p m j (i ∷ is) =
-      let s : Step = record { instance = i; place = j } in
+      let s : PathStep = record { instance = i; place = j } in
       let here = port_trees blocks all k (s ∷ p) (block_of blocks i) i.links m in
       let one = port_trees_counted k (s ∷ p) (block_of blocks i) i.links m in
       let rest = of_instances_counted k p m (j + 1) is in
@@ -209,7 +209,7 @@ module _ (blocks : List Block) (all : List Scene) (top : ℕ) (resolved : IsReso
   unfolding of_instances
   instances_may k h p m j [] each = tt
   instances_may k h p m j (i ∷ is) each =
-      let s : Step = record { instance = i; place = j } in
+      let s : PathStep = record { instance = i; place = j } in
       ports_may (port_trees blocks all k (s ∷ p) (block_of blocks i) i.links m) (of_instances (port_trees blocks all k) blocks p m (j + 1) is)
       (h (s ∷ p) i.block each.0 i.links m) (instances_may k h p m (j + 1) is each.1)
 

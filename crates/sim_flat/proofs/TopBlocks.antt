@@ -1,9 +1,9 @@
 -- The architecture of the top is one of the library: its block is there.
 use Rattle.std.proofs.Common.{ℕ, ◌≡◌, ◌+◌, ◌<◌, List, [], ◌∷◌, length, suc, Bool, true, false, Option, Some, None, arith}
 use Rattle.std.specs.Option.{option_or}
-use Rattle.sim_tree.specs.declared.unit.Architecture.{Architecture}
-use Rattle.sim_instance.specs.Libraries.{last_architecture, is_of}
-use Rattle.sim_instance.specs.Places.{last_place, where_at}
+use Rattle.sim_text_tree.specs.declared.unit.Architecture.{Architecture}
+use Rattle.sim_flat_instances.specs.Libraries.{last_architecture, is_of}
+use Rattle.sim_flat_instances.specs.Places.{last_place, where_at}
 
 here : (b : Bool) (at n p : ℕ) → where_at b at ≡ Some p → p < at + suc n
 here true at n p h = let e : at ≡ p = cc in omega arith

@@ -1,21 +1,22 @@
 -- Where no chain of instances is longer than the levels, the trees and the design are those of the whole hierarchy: with more levels the same
--- scenes are found, each with more levels below it, and nothing that is told of them differs.
+-- scenes are found, each with more levels below it, and nothing that is reported of them differs.
 use Rattle.std.proofs.Common.{◌≡◌, ℕ, zero, suc, ◌+◌, ◌-◌, ◌≤◌, ◌||◌, List, [], ◌∷◌, ◌++◌}
 use Rattle.std.proofs.Common.{Bool, true, false, map, slice_index_or, refl, ap, sym, ◌∙◌, subst, arith}
 use Rattle.std.specs.List.{list_any}
-use Rattle.sim_logic.specs.Sources.{SourceTree, leaves}
-use Rattle.sim_design.specs.Designs.{Design}
-use Rattle.sim_hierarchy.specs.declared.links.Link.{Link}
-use Rattle.sim_hierarchy.specs.declared.blocks.Object.{Object}
-use Rattle.sim_hierarchy.specs.declared.blocks.Port.{Port}
-use Rattle.sim_hierarchy.specs.declared.blocks.Instance.{Instance}
-use Rattle.sim_hierarchy.specs.declared.blocks.Block.{Block}
-use Rattle.sim_hierarchy.specs.Blocks.{block_of, levels, no_block, size}
-use Rattle.sim_hierarchy.specs.Depth.{has_chain}
-use Rattle.sim_hierarchy.specs.Hierarchy.{Path, Scene, Step, Own, before, driver_count, home, inner, net_count, net_number, own_at, process_count, scenes}
-use Rattle.sim_hierarchy.specs.Flat.{drivers_at, flat, gather, homes_at, homes_from, nets_at, of_instances, of_ports}
-use Rattle.sim_hierarchy.specs.Flat.{net, port_trees, prefix, processes_at, scenes_of, source_of, tree_of}
-use Rattle.sim_hierarchy.proofs.Sound.{Each, each_append, each_map}
+use Rattle.sim_logic.specs.Sources.{SourceTree, flat_sources}
+use Rattle.sim_flat_design.specs.Designs.{Design}
+use Rattle.sim_flat_blocks.specs.declared.links.Link.{Link}
+use Rattle.sim_flat_blocks.specs.declared.parts.Object.{Object}
+use Rattle.sim_flat_blocks.specs.declared.parts.Port.{Port}
+use Rattle.sim_flat_blocks.specs.declared.parts.Instance.{Instance}
+use Rattle.sim_flat_blocks.specs.declared.parts.Block.{Block}
+use Rattle.sim_flat_blocks.specs.Blocks.{block_of, levels, no_block, size}
+use Rattle.sim_flat_expansion.specs.Depth.{has_chain}
+use Rattle.sim_flat_expansion.specs.Hierarchy.{Path, Scene, PathStep, Own, before, driver_count, net_object, inner, net_count, net_number, own_at}
+use Rattle.sim_flat_expansion.specs.Hierarchy.{process_count, scenes}
+use Rattle.sim_flat_expansion.specs.Flat.{drivers_at, flat, gather, object_nets_at, object_nets_from, nets_at, of_instances, of_ports}
+use Rattle.sim_flat_expansion.specs.Flat.{net, port_trees, prefix, processes_at, scenes_of, source_of, tree_of}
+use Rattle.sim_flat_expansion.proofs.Sound.{Each, each_append, each_map}
 use Rattle.sim_flat.specs.declared.top.Top.{Top}
 use Rattle.sim_flat.specs.Hierarchies.{IsFlat}
 use Rattle.sim_flat.specs.Laws.{flat_to, scenes_to, trees, trees_to}
@@ -59,7 +60,7 @@ module _ (blocks : List Block) (m : ℕ) where
   unfolding inner
   inner_raised k h p j [] none = refl
   inner_raised k h p j (i ∷ is) none =
-      let s : Step = record { instance = i; place = j } in
+      let s : PathStep = record { instance = i; place = j } in
       let here = scenes blocks k (s ∷ p) (block_of blocks i) in
       let rest = inner (scenes blocks k) blocks p (j + 1) is in
       rw (h (s ∷ p) (block_of blocks i) none.0, inner_raised k h p (j + 1) is none.1) (sym (map_append (raised m) here rest))
@@ -82,7 +83,7 @@ module _ (blocks : List Block) where
   unfolding inner
   inner_cut k h p j [] none = tt
   inner_cut k h p j (i ∷ is) none =
-      let s : Step = record { instance = i; place = j } in
+      let s : PathStep = record { instance = i; place = j } in
       each_append (IsCut blocks) (scenes blocks k (s ∷ p) (block_of blocks i)) (inner (scenes blocks k) blocks p (j + 1) is)
       (h (s ∷ p) (block_of blocks i) none.0) (inner_cut k h p (j + 1) is none.1)
 
@@ -116,7 +117,7 @@ module _ (blocks : List Block) (all some : List Scene) (m : ℕ) (same : (p : Pa
   unfolding of_instances
   instances_same k h p n j [] none = refl
   instances_same k h p n j (i ∷ is) none =
-      let s : Step = record { instance = i; place = j } in
+      let s : PathStep = record { instance = i; place = j } in
       rw (h (s ∷ p) (block_of blocks i) none.0 i.links n, instances_same k h p n (j + 1) is none.1) refl
 
   tree_same : (k : ℕ) → ArePortsSame k → (p : Path) (b : Block) → NoneLong blocks k b.instances → (n : ℕ) (o : Object)
@@ -144,11 +145,11 @@ map_same : {X Y : Type 0} (f g : X → Y) (xs : List X) → ((x : X) → f x ≡
 map_same f g [] same = refl
 map_same f g (x ∷ xs) same = rw (same x, map_same f g xs same) refl
 
-homes_same : (all some : List Scene) → ((p : Path) → before net_count all p ≡ before net_count some p) → (p : Path) (n k : ℕ)
-    → homes_from all p n k ≡ homes_from some p n k
-unfolding homes_from net_number
-homes_same all some same p n zero = refl
-homes_same all some same p n (suc k) = rw (same (home p n).path, homes_same all some same p (n + 1) k) refl
+object_nets_same : (all some : List Scene) → ((p : Path) → before net_count all p ≡ before net_count some p) → (p : Path) (n k : ℕ)
+    → object_nets_from all p n k ≡ object_nets_from some p n k
+unfolding object_nets_from net_number
+object_nets_same all some same p n zero = refl
+object_nets_same all some same p n (suc k) = rw (same (net_object p n).path, object_nets_same all some same p (n + 1) k) refl
 
 module _ (blocks : List Block) (top : ℕ) (short : has_chain blocks levels (slice_index_or blocks top no_block) ≡ false) (m : ℕ) where
   abbrev few : List Scene
@@ -184,16 +185,16 @@ module _ (blocks : List Block) (top : ℕ) (short : has_chain blocks levels (sli
   one_net : (s : Scene) → IsCut blocks s → nets_at blocks many (raised m s) ≡ nets_at blocks few s
   one_net s h =
       map_same (net blocks many (raised m s)) (net blocks few s) (own_at s)
-      (λ x. ap (λ (t : SourceTree). record { name = prefix s.path ++ x.object.name.text; sources = map source_of (leaves t) }) (one_tree s h x))
+      (λ x. ap (λ (t : SourceTree). record { name = prefix s.path ++ x.object.name.text; sources = map source_of (flat_sources t) }) (one_tree s h x))
 
-  homes : (s : Scene) → homes_at many s ≡ homes_at few s
-  homes s = homes_same many few nets_before s.path 0 (size s.block)
+  object_nets : (s : Scene) → object_nets_at many s ≡ object_nets_at few s
+  object_nets s = object_nets_same many few nets_before s.path 0 (size s.block)
 
   one_process : (s : Scene) → processes_at many (raised m s) ≡ processes_at few s
-  one_process s = rw (homes s, drivers_before s.path) refl
+  one_process s = rw (object_nets s, drivers_before s.path) refl
 
   one_driver : (s : Scene) → drivers_at many (raised m s) ≡ drivers_at few s
-  one_driver s = rw (homes s, processes_before s.path) refl
+  one_driver s = rw (object_nets s, processes_before s.path) refl
 
   all_nets : gather (nets_at blocks many) many ≡ gather (nets_at blocks few) few
   all_nets =

@@ -1,11 +1,11 @@
 -- Elaboration: the flat design of a library and a top, or the first fault of the first group that has one (IEEE 1076-2008, 13 and 14).
 use Rattle.std.specs.Prelude.{ℕ, ◌≡◌, ◌⊎◌, List, Option, Some, None}
-use Rattle.sim_design.specs.Designs.{Design}
-use Rattle.sim_scope.specs.declared.fault.Fault.{Fault}
-use Rattle.sim_scope.specs.Faults.{first_of}
-use Rattle.sim_instance.specs.Libraries.{Library}
-use Rattle.sim_analysis.specs.Files.{file_faults}
-use Rattle.sim_plan.specs.Plans.{blocks_of}
+use Rattle.sim_flat_design.specs.Designs.{Design}
+use Rattle.sim_flat_scope.specs.declared.fault.Fault.{Fault}
+use Rattle.sim_flat_scope.specs.Faults.{earliest}
+use Rattle.sim_flat_instances.specs.Libraries.{Library}
+use Rattle.sim_flat_check.specs.Files.{file_faults}
+use Rattle.sim_flat_blocks.specs.Plans.{blocks_of}
 use Rattle.sim_flat.specs.declared.error.FlatError.{FlatError}
 use Rattle.sim_flat.specs.declared.error.FlatError.TheVariants as refusal
 use Rattle.sim_flat.specs.declared.top.Top.{Top}
@@ -15,7 +15,7 @@ use Rattle.sim_flat.specs.Tops.{IsTop, IsMissing}
 
 -- the first fault of the units of a file, reached from the top or not
 abbrev pub first_fault : Library → Option Fault
-first_fault l = first_of None (file_faults l)
+first_fault l = earliest None (file_faults l)
 
 -- The units have no fault, the top is there, and under it is no fault: this is its flat design.
 pub record IsDesign (l : Library) (name : List ℕ) (design : Design) : Type 0 where
@@ -28,7 +28,7 @@ pub record IsDesign (l : Library) (name : List ℕ) (design : Design) : Type 0 w
 pub record IsUnitFault (l : Library) (e : FlatError) : Type 0 where
   pub fault : Fault
   pub first : first_fault l ≡ Some fault
-  pub told : e ≡ refusal_of fault
+  pub reported : e ≡ refusal_of fault
 
 -- The units have no fault, but the top is not there.
 pub record IsWithoutTop (l : Library) (name : List ℕ) (e : FlatError) : Type 0 where

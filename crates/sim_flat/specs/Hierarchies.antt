@@ -1,12 +1,12 @@
 -- The hierarchy of blocks under a top: its flat design, or its first fault (IEEE 1076-2008, 14).
 use Rattle.std.specs.Prelude.{ℕ, ◌≡◌, List, Some, None}
-use Rattle.sim_design.specs.Designs.{Design}
-use Rattle.sim_hierarchy.specs.declared.blocks.Block.{Block}
-use Rattle.sim_hierarchy.specs.Flat.{flat}
-use Rattle.sim_hierarchy.specs.Limits.{Fits}
-use Rattle.sim_reach.specs.Least.{IsLeast}
-use Rattle.sim_reach.specs.Recursion.{IsRecursive}
-use Rattle.sim_reach.specs.Sources.{HasManySources}
+use Rattle.sim_flat_design.specs.Designs.{Design}
+use Rattle.sim_flat_blocks.specs.declared.parts.Block.{Block}
+use Rattle.sim_flat_expansion.specs.Flat.{flat}
+use Rattle.sim_flat_expansion.specs.Limits.{Fits}
+use Rattle.sim_flat_graph.specs.Least.{IsLeast}
+use Rattle.sim_flat_graph.specs.Recursion.{IsRecursive}
+use Rattle.sim_flat_graph.specs.Sources.{HasManySources}
 use Rattle.sim_flat.specs.declared.error.FlatError.{FlatError}
 use Rattle.sim_flat.specs.declared.error.FlatError.TheVariants as refusal
 use Rattle.sim_flat.specs.declared.top.Top.{Top}

@@ -4,21 +4,21 @@ use Rattle.std.specs.Prelude.{ℕ, ◌≡◌, List, [], map, Option, Some, None,
 use Rattle.sim_logic.specs.declared.logic.Logic.{Logic}
 use Rattle.sim_logic.specs.Resolution.{resolved}
 use Rattle.sim_logic.specs.Sources.{SourceTree, nested}
-use Rattle.sim_design.specs.declared.design.Source.{Source}
-use Rattle.sim_design.specs.declared.design.Source.TheVariants as source
-use Rattle.sim_design.specs.Designs.{Net, Design}
-use Rattle.sim_tree.specs.declared.unit.Architecture.{Architecture}
-use Rattle.sim_scope.specs.declared.scope.Meaning.{Meaning}
-use Rattle.sim_scope.specs.declared.scope.Meaning.TheVariants as m
-use Rattle.sim_scope.specs.Scopes.{Region}
-use Rattle.sim_region.specs.Regions.{architecture_region}
-use Rattle.sim_instance.specs.Libraries.{Library}
-use Rattle.sim_plan.specs.Plans.{ports_named}
-use Rattle.sim_hierarchy.specs.declared.blocks.Object.{Object}
-use Rattle.sim_hierarchy.specs.declared.blocks.Block.{Block}
-use Rattle.sim_hierarchy.specs.Blocks.{no_block, objects}
-use Rattle.sim_hierarchy.specs.Flat.{drivers_at, gather, nets_at, port_trees, processes_at, scenes_of, tree_of}
-use Rattle.sim_hierarchy.specs.Hierarchy.{Own, Scene, own_at, scenes}
+use Rattle.sim_flat_design.specs.declared.design.Source.{Source}
+use Rattle.sim_flat_design.specs.declared.design.Source.TheVariants as source
+use Rattle.sim_flat_design.specs.Designs.{Net, Design}
+use Rattle.sim_text_tree.specs.declared.unit.Architecture.{Architecture}
+use Rattle.sim_flat_scope.specs.declared.scope.Meaning.{Meaning}
+use Rattle.sim_flat_scope.specs.declared.scope.Meaning.TheVariants as m
+use Rattle.sim_flat_scope.specs.Scopes.{Region}
+use Rattle.sim_flat_scope.specs.Regions.{architecture_region}
+use Rattle.sim_flat_instances.specs.Libraries.{Library}
+use Rattle.sim_flat_blocks.specs.Plans.{ports_named}
+use Rattle.sim_flat_blocks.specs.declared.parts.Object.{Object}
+use Rattle.sim_flat_blocks.specs.declared.parts.Block.{Block}
+use Rattle.sim_flat_blocks.specs.Blocks.{no_block, objects}
+use Rattle.sim_flat_expansion.specs.Flat.{drivers_at, gather, nets_at, port_trees, processes_at, scenes_of, tree_of}
+use Rattle.sim_flat_expansion.specs.Hierarchy.{Own, Scene, own_at, scenes}
 
 -- the source tree of a port or signal that is a net
 abbrev pub tree : List Block → List Scene → Scene → Own → SourceTree

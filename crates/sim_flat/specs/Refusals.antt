@@ -1,7 +1,7 @@
--- How faults are told.
-use Rattle.sim_scope.specs.declared.fault.Kind.TheVariants as k
-use Rattle.sim_scope.specs.declared.fault.Kind.{Kind}
-use Rattle.sim_scope.specs.declared.fault.Fault.{Fault}
+-- How faults are reported.
+use Rattle.sim_flat_scope.specs.declared.fault.Kind.TheVariants as k
+use Rattle.sim_flat_scope.specs.declared.fault.Kind.{Kind}
+use Rattle.sim_flat_scope.specs.declared.fault.Fault.{Fault}
 use Rattle.std.specs.Prelude.{ℕ}
 use Rattle.sim_flat.specs.declared.error.FlatError.{FlatError}
 use Rattle.sim_flat.specs.declared.error.FlatError.TheVariants as refusal

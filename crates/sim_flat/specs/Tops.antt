@@ -1,8 +1,8 @@
 -- The top: the entity that is elaborated, and its architecture (IEEE 1076-2008, 7.3.3, 14.1).
 use Rattle.std.specs.Prelude.{ℕ, ◌≡◌, List, Some, None, map}
 use Rattle.std.specs.Char.{to_ascii_lowercase}
-use Rattle.sim_tree.specs.declared.unit.Entity.{Entity}
-use Rattle.sim_instance.specs.Libraries.{Library, entity_of, last_architecture}
+use Rattle.sim_text_tree.specs.declared.unit.Entity.{Entity}
+use Rattle.sim_flat_instances.specs.Libraries.{Library, entity_of, last_architecture}
 use Rattle.sim_flat.specs.declared.error.FlatError.{FlatError}
 use Rattle.sim_flat.specs.declared.error.FlatError.TheVariants as refusal
 use Rattle.sim_flat.specs.declared.top.Top.{Top}

@@ -1,17 +1,17 @@
 //! The flat design of a file and its top.
 
 ghost use Rattle.std.specs.Prelude.{◌≡◌, None, MatchResult};
-ghost use Rattle.sim_instance.specs.Libraries.{library_of};
+ghost use Rattle.sim_flat_instances.specs.Libraries.{library_of};
 ghost use Rattle.sim_flat.specs.Elaboration as spec;
 
 use crate::error::{FlatError, refusal_of};
 use crate::hierarchy::expand_top;
 use crate::top::top_of;
-use sim_analysis::analyze;
-use sim_design::Design;
-use sim_instance::Library;
-use sim_plan::blocks;
-use sim_tree::DesignFile;
+use sim_flat_check::analyze;
+use sim_flat_design::Design;
+use sim_flat_instances::Library;
+use sim_flat_blocks::blocks;
+use sim_text_tree::DesignFile;
 use std::alloc::Global;
 
 /// The flat design under the top, in a library whose units have no fault.
@@ -36,11 +36,12 @@ fn checked(alloc: Global, library: &Library<'_>, top: &str) -> Result<Design, Fl
 
 /// The flat design of a file under the entity `top`, whose name is compared without regard to case.
 ///
-/// The refusals, in the order in which they are looked for: the first fault of any unit of the file, reached from the top or not
-/// (by position, and of two at one position the one that comes first in `FlatError`); `NoTop` where no entity has the name;
-/// `NoArchitecture`, at its name, where the top has none; `Recursive`, at the first instance that stands in itself; `TooMany`,
-/// at the name of the top, where the flat design would pass a limit; `ManySources`, at the first signal or port of type std_ulogic
-/// with more than one source. `Memory` may come at any time.
+/// The refusals, in the order in which they are looked for: the first fault of any unit of the
+/// file, reached from the top or not (by position, and of two at one position the one that comes
+/// first in `FlatError`); `NoTop` where no entity has the name; `NoArchitecture`, at its name,
+/// where the top has none; `Recursive`, at the first instance that stands in itself; `TooMany`, at
+/// the name of the top, where the flat design would pass a limit; `ManySources`, at the first
+/// signal or port of type std_ulogic with more than one source. `Memory` may come at any time.
 pub fn flatten(alloc: Global, file: &DesignFile, top: &str) -> Result<Design, FlatError>
     ensures { MatchResult result (λ d. spec.IsDesign (library_of file.now.units) top.now d)
         (λ e. spec.IsRefusal (library_of file.now.units) top.now e) }

@@ -4,12 +4,12 @@ ghost use Rattle.std.specs.Prelude.{◌≡◌};
 ghost use Rattle.sim_flat.specs.declared.error.FlatError.TheVariants as fault;
 ghost use Rattle.sim_flat.specs.Refusals.{refusal_of};
 
-use sim_scope::{Fault, Kind};
+use sim_flat_scope::{Fault, Kind};
 use std::alloc::{AllocError, AllocFailed};
 use thiserror::Error;
 
-/// A refusal of `flatten`. Positions are those of the first byte of a token, from 0; the text is that of the program's line on
-/// standard error.
+/// A refusal of `flatten`. Positions are those of the first byte of a token, from 0; the text is
+/// that of the program's line on standard error.
 #[derive(Clone, Copy, Debug, PartialEq, Eq, Error)]
 pub enum FlatError {
     /// No memory.
@@ -72,7 +72,8 @@ pub enum FlatError {
     /// A rejection limit is larger than the first delay of its waveform (10.5.2.1).
     #[error("RejectTooLong at {at}")]
     RejectTooLong { at: usize },
-    /// There are too many elements, nets, processes, drivers or instances, or instances stand too deep in one another.
+    /// There are too many elements, nets, processes, drivers or instances, or instances stand too
+    /// deep in one another.
     #[error("TooMany at {at}")]
     TooMany { at: usize },
 }

@@ -2,20 +2,21 @@
 
 ghost use Rattle.std.specs.Prelude.{◌<◌, MatchResult, length};
 ghost use Rattle.std.specs.List.{All};
-ghost use Rattle.sim_hierarchy.specs.Blocks.{IsBlock};
-ghost use Rattle.sim_hierarchy.specs.Limits.{Fits};
+ghost use Rattle.sim_flat_blocks.specs.Blocks.{IsBlock};
+ghost use Rattle.sim_flat_expansion.specs.Limits.{Fits};
 ghost use Rattle.sim_flat.specs.Hierarchies as spec;
 
 use crate::error::FlatError;
 use crate::top::Top;
-use sim_design::Design;
-use sim_hierarchy::limits::fits;
-use sim_hierarchy::{Block, expand};
-use sim_reach::{first_recursive, first_with_many_sources};
+use sim_flat_design::Design;
+use sim_flat_expansion::limits::fits;
+use sim_flat_blocks::Block;
+use sim_flat_expansion::expand;
+use sim_flat_graph::{first_recursive, first_with_many_sources};
 use std::alloc::Global;
 
-/// Refuses a hierarchy that has a fault, in the order of its groups: `Recursive` where an instance stands in itself, `TooMany`
-/// where a limit is passed, `ManySources`.
+/// Refuses a hierarchy that has a fault, in the order of its groups: `Recursive` where an instance
+/// stands in itself, `TooMany` where a limit is passed, `ManySources`.
 fn check(alloc: Global, blocks: &[Block], top: Top) -> Result<(), FlatError>
     requires known { All (IsBlock blocks.now) blocks.now }
     requires top { top.block < length blocks.now }

@@ -1,4 +1,5 @@
-//! Elaboration: from the tree of a design file to its flat design, or its one fault (IEEE 1076-2008, 13 and 14).
+//! Elaboration: from the tree of a design file to its flat design, or its one fault (IEEE
+//! 1076-2008, 13 and 14).
 #![tactic(auto)]
 
 mod elaboration;
@@ -9,4 +10,4 @@ mod top;
 
 pub use elaboration::flatten;
 pub use error::FlatError;
-pub use sim_design::{Design, DriverOf, Net, Process, Source};
+pub use sim_flat_design::{Design, DriverOf, Net, Process, Source};

@@ -5,7 +5,7 @@ ghost use Rattle.std.specs.Char.{to_ascii_lowercase};
 ghost use Rattle.sim_flat.specs.Tops as spec;
 
 use crate::error::FlatError;
-use sim_instance::Library;
+use sim_flat_instances::Library;
 use std::alloc::Global;
 
 /// The number of the block of the top, and where its entity is named.
@@ -15,8 +15,9 @@ pub struct Top {
     pub at: usize,
 }
 
-/// The top of this name, which is compared without regard to case: the last architecture of its entity counts. `NoTop` comes
-/// where no entity has the name, `NoArchitecture` where it has no architecture.
+/// The top of this name, which is compared without regard to case: the last architecture of its
+/// entity counts. `NoTop` comes where no entity has the name, `NoArchitecture` where it has no
+/// architecture.
 pub fn top_of(alloc: Global, library: &Library<'_>, name: &str) -> Result<Top, FlatError>
     ensures { MatchResult result (λ top. spec.IsTop library.now name.now top) (λ e. spec.IsMissing library.now name.now e) }
 {

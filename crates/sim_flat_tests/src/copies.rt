@@ -1,7 +1,7 @@
 //! Designs and processes that are the same, and that differ in one thing.
 
 use crate::texts::flat;
-use sim_design::{Design, Process};
+use sim_flat_design::{Design, Process};
 use std::alloc::{AllocError, Global};
 use std::test::Fail;
 
@@ -93,7 +93,8 @@ fn copy_is_same(process: &Process, other: &Process) -> Option<bool> {
     Some(process.try_copy().ok()?.same(other))
 }
 
-/// Whether the copies of two processes are there, and each is the same as its own and not as the other.
+/// Whether the copies of two processes are there, and each is the same as its own and not as the
+/// other.
 fn processes_are_copied(processes: &[Process]) -> bool {
     match processes {
         [one, other] => {

@@ -41,24 +41,24 @@ fn a_design_has_its_nets_drivers_and_processes(rt: HostRuntime) -> Result<(), Fa
         (
             OPEN,
             "net u.i has '1'; net u.o has 0; driver of 0 to 1 from 'U'; \
-process wakes 0, reads 0, nets 0 1, objects, drivers and the first 2 1 0, variables, statements to 0 after 0; ",
+process sensitive 0, reads 0, nets 0 1, objects, drivers and the first 2 1 0, variables, statements to 0 after 0; ",
         ),
         (
             TWICE,
             "net s has 0 1; driver of 0 to 0 from 'U'; driver of 0 to 0 from 'U'; \
-process wakes, reads, nets 0 0, objects, drivers and the first 2 2 0, variables, statements to 0 after 0 to 1 after 0; ",
+process sensitive, reads, nets 0 0, objects, drivers and the first 2 2 0, variables, statements to 0 after 0 to 1 after 0; ",
         ),
         (
             CLOCK,
             "net clk has 0; net q has 1; driver of 0 to 0 from '0'; driver of 1 to 1 from 'U'; \
-process wakes 0, reads 0, nets 0 1, objects, drivers and the first 2 1 0, variables, statements to 0 after 5000000; \
-process wakes 0, reads 0, nets 0 1, objects, drivers and the first 2 1 1, variables '0' false, statements if; ",
+process sensitive 0, reads 0, nets 0 1, objects, drivers and the first 2 1 0, variables, statements to 0 after 5000000; \
+process sensitive 0, reads 0, nets 0 1, objects, drivers and the first 2 1 1, variables '0' false, statements if; ",
         ),
         (
             DEEP,
             "net s has 0 1; net u.x has 'U'; net v.x has 'U'; driver of 0 to 0 from '0'; driver of 1 to 0 from '0'; \
-process wakes 1, reads 1, nets 1 0, objects, drivers and the first 2 1 0, variables, statements to 0 after 0; \
-process wakes 2, reads 2, nets 2 0, objects, drivers and the first 2 1 1, variables, statements to 0 after 0; ",
+process sensitive 1, reads 1, nets 1 0, objects, drivers and the first 2 1 0, variables, statements to 0 after 0; \
+process sensitive 2, reads 2, nets 2 0, objects, drivers and the first 2 1 1, variables, statements to 0 after 0; ",
         ),
     ] {
         assert_eq!(rt; written(rt.alloc(), text)?.as_str(), wanted);

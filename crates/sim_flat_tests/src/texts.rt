@@ -1,6 +1,6 @@
 //! Flat designs of texts.
 
-use sim_design::Design;
+use sim_flat_design::Design;
 use sim_logic::LATEST;
 use sim_run::{Options, elaborate};
 use std::alloc::Global;

@@ -1,8 +1,9 @@
-//! A flat design as one line. Values stand between quotes, nets, drivers and processes by their numbers, times in femtoseconds.
+//! A flat design as one line. Values stand between quotes, nets, drivers and processes by their
+//! numbers, times in femtoseconds.
 
-use sim_design::statement::Statement;
-use sim_design::waveform::Waveform;
-use sim_design::{Design, DriverOf, Held, Net, Process, Source};
+use sim_flat_design::statement::Statement;
+use sim_flat_design::waveform::Waveform;
+use sim_flat_design::{Design, DriverOf, Held, Net, Process, Source};
 use std::alloc::AllocError;
 
 fn put_source(line: &mut String, source: Source) -> Result<(), AllocError> {
@@ -59,7 +60,8 @@ fn put_times(line: &mut String, waveform: &Waveform) -> Result<(), AllocError> {
     Ok(())
 }
 
-/// Puts the driver of an assignment and the times of its last waveform; of another statement nothing but its word.
+/// Puts the driver of an assignment and the times of its last waveform; of another statement
+/// nothing but its word.
 fn put_statement(line: &mut String, statement: &Statement) -> Result<(), AllocError> {
     match statement {
         Statement::Signal(assignment) => {
@@ -83,7 +85,7 @@ fn put_statements(line: &mut String, statements: &[Statement]) -> Result<(), All
 }
 
 fn put_process(line: &mut String, process: &Process) -> Result<(), AllocError> {
-    put_numbers(line, "process wakes", process.sensitivity())?;
+    put_numbers(line, "process sensitive", process.sensitivity())?;
     put_numbers(line, "reads", process.reads())?;
     put_numbers(line, "nets", process.nets())?;
     let body = process.body();

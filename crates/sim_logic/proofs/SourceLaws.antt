@@ -1,4 +1,4 @@
--- The leaves of a source tree, resolved as one list, give the value that the nested names give.
+-- The flat sources of a source tree, resolved as one list, give the value that the nested names give.
 use Rattle.std.proofs.Common.{ℕ, ◌≡◌, ◌<◌, ◌≤◌, List, [], ◌∷◌, ◌++◌, length, map, refl, ap, sym, ◌∙◌, subst, arith, length-append}
 use Rattle.std.specs.List.{fold}
 use Rattle.std.proofs.lemmas.List.{map-append}
@@ -8,7 +8,7 @@ use Rattle.sim_logic.specs.declared.logic.Logic.TheVariants.{Z}
 use Rattle.sim_logic.specs.Tables.{resolution_table}
 use Rattle.sim_logic.specs.Resolution.{resolved}
 use Rattle.sim_logic.specs.Sources.{SignalType, Std_logic, Std_ulogic, SourceTree, Name, Sources, No_more, Driver, Port, count_of, AllowsSources}
-use Rattle.sim_logic.specs.Sources.{IsResolvable, AreResolvable, driving_value, nested, values_of, Leaf, leaves, leaves_of, leaf_value}
+use Rattle.sim_logic.specs.Sources.{IsResolvable, AreResolvable, driving_value, nested, values_of, FlatSource, flat_sources, flat_sources_of, flat_source_value}
 use Rattle.sim_logic.proofs.TableLaws.{resolution_table-assoc, resolution_table-passes_z}
 
 -- a value taken out of a fold
@@ -46,84 +46,85 @@ length-values_of driving No_more = refl
 length-values_of driving (Driver number more) = let ih = length-values_of driving more in omega arith
 length-values_of driving (Port tree more) = let ih = length-values_of driving more in omega arith
 
-length-map : (f : Leaf → Logic) (xs : List Leaf) → length (map f xs) ≡ length xs
+length-map : (f : FlatSource → Logic) (xs : List FlatSource) → length (map f xs) ≡ length xs
 length-map f [] = refl
 length-map f (x ∷ xs) = let ih = length-map f xs in omega arith
 
--- each source has a leaf
+-- each source has a flat source
 mutual
-  pub some_leaves : (tree : SourceTree) → 0 < length (leaves tree)
-  some_leaves (Name type default No_more) = omega arith
-  some_leaves (Name type default (Driver number more)) = omega arith
-  some_leaves (Name type default (Port tree more)) =
-      let front = some_leaves tree in omega (arith, length-append (leaves tree) (leaves_of more))
+  pub some_flat_sources : (tree : SourceTree) → 0 < length (flat_sources tree)
+  some_flat_sources (Name type default No_more) = omega arith
+  some_flat_sources (Name type default (Driver number more)) = omega arith
+  some_flat_sources (Name type default (Port tree more)) =
+      let front = some_flat_sources tree in omega (arith, length-append (flat_sources tree) (flat_sources_of more))
 
-  enough_leaves : (sources : Sources) → count_of sources ≤ length (leaves_of sources)
-  enough_leaves No_more = omega arith
-  enough_leaves (Driver number more) = let ih = enough_leaves more in omega arith
-  enough_leaves (Port tree more) =
-      let front = some_leaves tree in
-      let ih = enough_leaves more in
-      omega (arith, length-append (leaves tree) (leaves_of more))
+  enough_flat_sources : (sources : Sources) → count_of sources ≤ length (flat_sources_of sources)
+  enough_flat_sources No_more = omega arith
+  enough_flat_sources (Driver number more) = let ih = enough_flat_sources more in omega arith
+  enough_flat_sources (Port tree more) =
+      let front = some_flat_sources tree in
+      let ih = enough_flat_sources more in
+      omega (arith, length-append (flat_sources tree) (flat_sources_of more))
 
-append-none : (xs : List Leaf) → xs ++ [] ≡ xs
+append-none : (xs : List FlatSource) → xs ++ [] ≡ xs
 append-none [] = refl
-append-none (x ∷ xs) = ap (λ (ys : List Leaf). x ∷ ys) (append-none xs)
+append-none (x ∷ xs) = ap (λ (ys : List FlatSource). x ∷ ys) (append-none xs)
 
--- two sources or more, by their leaves and by their values
-resolved-leaves_of : (driving : ℕ → Logic) (type : SignalType) (default : Logic) (sources : Sources)
+-- two sources or more, by their flat sources and by their values
+resolved-flat_sources_of : (driving : ℕ → Logic) (type : SignalType) (default : Logic) (sources : Sources)
     → AllowsSources type (count_of sources) → 1 < count_of sources
-    → fold resolution_table Z (map (leaf_value driving) (leaves_of sources)) ≡ fold resolution_table Z (values_of driving sources)
-    → resolved (map (leaf_value driving) (leaves_of sources)) ≡ driving_value type default (values_of driving sources)
-resolved-leaves_of driving type default sources allowed many same =
-    let enough = enough_leaves sources in
-    let flat : 1 < length (map (leaf_value driving) (leaves_of sources)) =
-    omega (arith, length-map (leaf_value driving) (leaves_of sources)) in
+    → fold resolution_table Z (map (flat_source_value driving) (flat_sources_of sources)) ≡ fold resolution_table Z (values_of driving sources)
+    → resolved (map (flat_source_value driving) (flat_sources_of sources)) ≡ driving_value type default (values_of driving sources)
+resolved-flat_sources_of driving type default sources allowed many same =
+    let enough = enough_flat_sources sources in
+    let flat : 1 < length (map (flat_source_value driving) (flat_sources_of sources)) =
+    omega (arith, length-map (flat_source_value driving) (flat_sources_of sources)) in
     let count = length-values_of driving sources in
     let allowed' : AllowsSources type (length (values_of driving sources)) =
     subst (λ (n : ℕ). AllowsSources type n) (sym count) allowed in
-    resolved-many (map (leaf_value driving) (leaves_of sources)) flat
+    resolved-many (map (flat_source_value driving) (flat_sources_of sources)) flat
     ∙ (same ∙ sym (driving_value-many type default (values_of driving sources) allowed' (omega arith)))
 
 -- one port among the sources
-fold-port : (driving : ℕ → Logic) (a v : Logic) (front back : List Leaf) (values : List Logic)
-    → 0 < length front → resolved (map (leaf_value driving) front) ≡ v
-    → fold resolution_table (resolution_table a v) (map (leaf_value driving) back) ≡ fold resolution_table (resolution_table a v) values
-    → fold resolution_table a (map (leaf_value driving) (front ++ back)) ≡ fold resolution_table (resolution_table a v) values
+fold-port : (driving : ℕ → Logic) (a v : Logic) (front back : List FlatSource) (values : List Logic)
+    → 0 < length front → resolved (map (flat_source_value driving) front) ≡ v
+    → fold resolution_table (resolution_table a v) (map (flat_source_value driving) back) ≡ fold resolution_table (resolution_table a v) values
+    → fold resolution_table a (map (flat_source_value driving) (front ++ back)) ≡ fold resolution_table (resolution_table a v) values
 fold-port driving a v front back values some is_v rest =
-    let some' : 0 < length (map (leaf_value driving) front) = omega (arith, length-map (leaf_value driving) front) in
-    ap (λ (xs : List Logic). fold resolution_table a xs) (map-append (leaf_value driving) front back)
-    ∙ (fold-append resolution_table a (map (leaf_value driving) front) (map (leaf_value driving) back)
-    ∙ (ap (λ (w : Logic). fold resolution_table w (map (leaf_value driving) back))
-    (fold-resolved a (map (leaf_value driving) front) some' ∙ ap (resolution_table a) is_v)
+    let some' : 0 < length (map (flat_source_value driving) front) = omega (arith, length-map (flat_source_value driving) front) in
+    ap (λ (xs : List Logic). fold resolution_table a xs) (map-append (flat_source_value driving) front back)
+    ∙ (fold-append resolution_table a (map (flat_source_value driving) front) (map (flat_source_value driving) back)
+    ∙ (ap (λ (w : Logic). fold resolution_table w (map (flat_source_value driving) back))
+    (fold-resolved a (map (flat_source_value driving) front) some' ∙ ap (resolution_table a) is_v)
     ∙ rest))
 
 mutual
-  pub resolved-leaves : (driving : ℕ → Logic) (tree : SourceTree) → IsResolvable tree → resolved (map (leaf_value driving) (leaves tree)) ≡ nested driving tree
-  resolved-leaves driving (Name type default No_more) resolvable = refl
-  resolved-leaves driving (Name type default (Driver number No_more)) resolvable =
+  pub resolved-flat_sources : (driving : ℕ → Logic) (tree : SourceTree) → IsResolvable tree
+      → resolved (map (flat_source_value driving) (flat_sources tree)) ≡ nested driving tree
+  resolved-flat_sources driving (Name type default No_more) resolvable = refl
+  resolved-flat_sources driving (Name type default (Driver number No_more)) resolvable =
       sym (driving_value-one type default (driving number))
-  resolved-leaves driving (Name type default (Port tree No_more)) resolvable =
-      ap (λ (xs : List Leaf). resolved (map (leaf_value driving) xs)) (append-none (leaves tree))
-      ∙ (resolved-leaves driving tree resolvable.1.0 ∙ sym (driving_value-one type default (nested driving tree)))
-  resolved-leaves driving (Name type default (Driver number (Driver next more))) resolvable =
-      resolved-leaves_of driving type default (Driver number (Driver next more)) resolvable.0 (omega arith)
-      (fold-leaves driving Z (Driver number (Driver next more)) resolvable.1)
-  resolved-leaves driving (Name type default (Driver number (Port tree more))) resolvable =
-      resolved-leaves_of driving type default (Driver number (Port tree more)) resolvable.0 (omega arith)
-      (fold-leaves driving Z (Driver number (Port tree more)) resolvable.1)
-  resolved-leaves driving (Name type default (Port tree (Driver next more))) resolvable =
-      resolved-leaves_of driving type default (Port tree (Driver next more)) resolvable.0 (omega arith)
-      (fold-leaves driving Z (Port tree (Driver next more)) resolvable.1)
-  resolved-leaves driving (Name type default (Port tree (Port next more))) resolvable =
-      resolved-leaves_of driving type default (Port tree (Port next more)) resolvable.0 (omega arith)
-      (fold-leaves driving Z (Port tree (Port next more)) resolvable.1)
+  resolved-flat_sources driving (Name type default (Port tree No_more)) resolvable =
+      ap (λ (xs : List FlatSource). resolved (map (flat_source_value driving) xs)) (append-none (flat_sources tree))
+      ∙ (resolved-flat_sources driving tree resolvable.1.0 ∙ sym (driving_value-one type default (nested driving tree)))
+  resolved-flat_sources driving (Name type default (Driver number (Driver next more))) resolvable =
+      resolved-flat_sources_of driving type default (Driver number (Driver next more)) resolvable.0 (omega arith)
+      (fold-flat_sources driving Z (Driver number (Driver next more)) resolvable.1)
+  resolved-flat_sources driving (Name type default (Driver number (Port tree more))) resolvable =
+      resolved-flat_sources_of driving type default (Driver number (Port tree more)) resolvable.0 (omega arith)
+      (fold-flat_sources driving Z (Driver number (Port tree more)) resolvable.1)
+  resolved-flat_sources driving (Name type default (Port tree (Driver next more))) resolvable =
+      resolved-flat_sources_of driving type default (Port tree (Driver next more)) resolvable.0 (omega arith)
+      (fold-flat_sources driving Z (Port tree (Driver next more)) resolvable.1)
+  resolved-flat_sources driving (Name type default (Port tree (Port next more))) resolvable =
+      resolved-flat_sources_of driving type default (Port tree (Port next more)) resolvable.0 (omega arith)
+      (fold-flat_sources driving Z (Port tree (Port next more)) resolvable.1)
 
-  fold-leaves : (driving : ℕ → Logic) (a : Logic) (sources : Sources) → AreResolvable sources
-      → fold resolution_table a (map (leaf_value driving) (leaves_of sources)) ≡ fold resolution_table a (values_of driving sources)
-  fold-leaves driving a No_more resolvable = refl
-  fold-leaves driving a (Driver number more) resolvable = fold-leaves driving (resolution_table a (driving number)) more resolvable
-  fold-leaves driving a (Port tree more) resolvable =
-      fold-port driving a (nested driving tree) (leaves tree) (leaves_of more) (values_of driving more) (some_leaves tree)
-      (resolved-leaves driving tree resolvable.0)
-      (fold-leaves driving (resolution_table a (nested driving tree)) more resolvable.1)
+  fold-flat_sources : (driving : ℕ → Logic) (a : Logic) (sources : Sources) → AreResolvable sources
+      → fold resolution_table a (map (flat_source_value driving) (flat_sources_of sources)) ≡ fold resolution_table a (values_of driving sources)
+  fold-flat_sources driving a No_more resolvable = refl
+  fold-flat_sources driving a (Driver number more) resolvable = fold-flat_sources driving (resolution_table a (driving number)) more resolvable
+  fold-flat_sources driving a (Port tree more) resolvable =
+      fold-port driving a (nested driving tree) (flat_sources tree) (flat_sources_of more) (values_of driving more) (some_flat_sources tree)
+      (resolved-flat_sources driving tree resolvable.0)
+      (fold-flat_sources driving (resolution_table a (nested driving tree)) more resolvable.1)

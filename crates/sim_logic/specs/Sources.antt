@@ -56,24 +56,24 @@ abbrev mutual
   values_of driving (Driver number more) = driving number ∷ values_of driving more
   values_of driving (Port tree more) = nested driving tree ∷ values_of driving more
 
--- a leaf of a source tree: a driver, or the default of a name that has no source
-pub data Leaf : Type 0 where
-  Driven : ℕ → Leaf
-  Constant : Logic → Leaf
+-- a flat source of a source tree: a driver, or the default of a name that has no source
+pub data FlatSource : Type 0 where
+  Driven : ℕ → FlatSource
+  Constant : Logic → FlatSource
 
--- the leaves of a source tree from left to right
+-- the flat sources of a source tree from left to right
 abbrev mutual
-  pub leaves : SourceTree → List Leaf
-  leaves (Name type default No_more) = Constant default ∷ []
-  leaves (Name type default (Driver number more)) = Driven number ∷ leaves_of more
-  leaves (Name type default (Port tree more)) = leaves tree ++ leaves_of more
+  pub flat_sources : SourceTree → List FlatSource
+  flat_sources (Name type default No_more) = Constant default ∷ []
+  flat_sources (Name type default (Driver number more)) = Driven number ∷ flat_sources_of more
+  flat_sources (Name type default (Port tree more)) = flat_sources tree ++ flat_sources_of more
 
-  pub leaves_of : Sources → List Leaf
-  leaves_of No_more = []
-  leaves_of (Driver number more) = Driven number ∷ leaves_of more
-  leaves_of (Port tree more) = leaves tree ++ leaves_of more
+  pub flat_sources_of : Sources → List FlatSource
+  flat_sources_of No_more = []
+  flat_sources_of (Driver number more) = Driven number ∷ flat_sources_of more
+  flat_sources_of (Port tree more) = flat_sources tree ++ flat_sources_of more
 
--- the value of a leaf
-abbrev pub leaf_value : (ℕ → Logic) → Leaf → Logic
-leaf_value driving (Driven number) = driving number
-leaf_value driving (Constant value) = value
+-- the value of a flat source
+abbrev pub flat_source_value : (ℕ → Logic) → FlatSource → Logic
+flat_source_value driving (Driven number) = driving number
+flat_source_value driving (Constant value) = value

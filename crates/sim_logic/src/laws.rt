@@ -3,7 +3,7 @@
 ghost use Rattle.std.specs.Prelude.{◌≡◌, ◌<◌, ℕ, List, [], ◌∷◌, fold, length, map};
 ghost use Rattle.sim_logic.specs.declared.logic.Logic as logic;
 ghost use Rattle.sim_logic.specs.Resolution.{resolved};
-ghost use Rattle.sim_logic.specs.Sources.{SourceTree, IsResolvable, leaf_value, leaves, nested};
+ghost use Rattle.sim_logic.specs.Sources.{SourceTree, IsResolvable, flat_source_value, flat_sources, nested};
 ghost use Rattle.sim_logic.specs.Tables.{resolution_table};
 
 /// Values may be resolved in any grouping.
@@ -28,9 +28,9 @@ pub fn several_values_are_folded()
         → resolved values ≡ fold resolution_table logic.Logic.Z values }
 {}
 
-/// The leaves of a source tree, resolved as one flat list, have the value that the tree has where
-/// each port is resolved by itself.
-pub fn leaves_resolve_as_the_nested_names()
+/// The flat sources of a source tree, resolved as one flat list, have the value that the tree has
+/// where each port is resolved by itself.
+pub fn flat_sources_resolve_as_the_nested_names()
     ensures { (driving : ℕ → logic.Logic) (tree : SourceTree) → IsResolvable tree
-        → resolved (map (leaf_value driving) (leaves tree)) ≡ nested driving tree }
+        → resolved (map (flat_source_value driving) (flat_sources tree)) ≡ nested driving tree }
 {}

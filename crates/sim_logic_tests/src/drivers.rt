@@ -2,8 +2,8 @@ ghost use Rattle.std.specs.Prelude.{◌≡◌, ◌≤◌, [], ◌∷◌, fold, m
 ghost use Rattle.sim_logic.specs.Tables.{resolution_table};
 ghost use Rattle.sim_logic.specs.Resolution.{resolved};
 ghost use Rattle.sim_logic.specs.declared.logic.Logic as logic;
-ghost use Rattle.sim_wave.specs.Driver.{RisesFrom};
-ghost use Rattle.sim_wave.specs.Edit.{IsWithin};
+ghost use Rattle.sim_standard.specs.Drivers.{RisesFrom};
+ghost use Rattle.sim_standard.specs.Editing.{IsWithin};
 
 use sim_logic::Logic::{self, Dash, One, X, Zero};
 use sim_logic::resolve_two;
@@ -21,7 +21,7 @@ fn pulse_rejected_by(alloc: Global, reject: u64) -> Result<Driver, AllocError>
     Ok(driver)
 }
 
-fn leaves(alloc: Global, reject: u64, wanted: &[Transaction]) -> Result<bool, AllocError>
+fn flat_sources(alloc: Global, reject: u64, wanted: &[Transaction]) -> Result<bool, AllocError>
     requires { reject ≤ 5 }
 {
     let driver = pulse_rejected_by(alloc, reject)?;
@@ -39,9 +39,9 @@ fn leave_the_same(alloc: Global, first: u64, second: u64) -> Result<bool, AllocE
 
 #[test]
 fn the_rejection_limit_decides_what_is_kept(rt: HostRuntime) -> Result<(), Fail> {
-    assert!(rt; leaves(rt.alloc(), 1, &[(2, One), (3, Zero), (5, One)])?);
-    assert!(rt; leaves(rt.alloc(), 2, &[(2, One), (5, One)])?);
-    assert!(rt; leaves(rt.alloc(), 3, &[(5, One)])?);
+    assert!(rt; flat_sources(rt.alloc(), 1, &[(2, One), (3, Zero), (5, One)])?);
+    assert!(rt; flat_sources(rt.alloc(), 2, &[(2, One), (5, One)])?);
+    assert!(rt; flat_sources(rt.alloc(), 3, &[(5, One)])?);
     assert!(rt; !leave_the_same(rt.alloc(), 1, 2)?);
     Ok(())
 }
@@ -54,7 +54,7 @@ fn a_waveform_is_scheduled(rt: HostRuntime) -> Result<(), Fail> {
     Ok(())
 }
 
-/// A pulse from 3 to 5, of which a later inertial assignment leaves the rise.
+/// A pulse from 3 to 5, of which a later inertial assignment flat sources the rise.
 fn short_pulse(alloc: Global) -> Result<Driver, AllocError> {
     let mut driver = Driver::new(alloc, Zero);
     driver.edit(0, Delay::Transport, &[(3, One), (5, Zero)])?;
@@ -84,8 +84,8 @@ fn transactions_are_taken_at_their_times(rt: HostRuntime) -> Result<(), Fail> {
     Ok(())
 }
 
-/// A driver that at each time from 0 to 7 is assigned a value 5 fs ahead, and takes what is due. The
-/// value is '1', or else it alternates, beginning with '0'.
+/// A driver that at each time from 0 to 7 is assigned a value 5 fs ahead, and takes what is due.
+/// The value is '1', or else it alternates, beginning with '0'.
 fn assigned_each_time(alloc: Global, delay: Delay, same: bool) -> Result<Driver, AllocError>
     requires { IsWithin delay 5 }
     ensures { IfOk result (λ driver. RisesFrom 8 driver.pending) }

@@ -1,4 +1,5 @@
-//! Tests of values and times, of drivers, and of sets and queues: each public call once, against values that were worked by hand.
+//! Tests of values and times, of drivers, and of sets and queues: each public call once, against
+//! values that were worked by hand.
 #![tactic(auto)]
 
 #[cfg(test)]

@@ -1,6 +1,6 @@
 ghost use Rattle.std.specs.Prelude.{◌≡◌, length, IfOk};
 
-use sim_queue::{NumberSet, TimeQueue};
+use sim_store_sets::{NumberSet, TimeQueue};
 use std::alloc::{AllocError, Global};
 use std::test::Fail;
 

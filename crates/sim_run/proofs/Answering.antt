@@ -2,10 +2,10 @@
 use Rattle.std.proofs.Common.{◌≡◌, true, Result, Ok, Err, sym, subst, ◌∙◌}
 use Rattle.std.specs.Prelude.{IfOk, IfErr}
 use Rattle.sim_store.specs.Store.{Store}
-use Rattle.sim_store.specs.Behaviour.{Behaviour}
-use Rattle.sim_store.specs.History.{History}
-use Rattle.sim_options.specs.declared.options.Options.{Options}
-use Rattle.sim_options.specs.Options.{are_in_range}
+use Rattle.sim_standard.specs.Behaviour.{Behaviour}
+use Rattle.sim_standard.specs.Histories.{History}
+use Rattle.sim_run_options.specs.declared.options.Options.{Options}
+use Rattle.sim_run_options.specs.Options.{are_in_range}
 use Rattle.sim_run.specs.declared.error.RunError.{RunError}
 use Rattle.sim_run.specs.declared.error.RunError.TheVariants as refusal
 use Rattle.sim_run.specs.Run.{Finishes, IsAnswer, IsRunRefusal, history_of}

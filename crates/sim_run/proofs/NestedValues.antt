@@ -5,13 +5,13 @@ use Rattle.std.specs.List.{AllZip}
 use Rattle.sim_logic.specs.declared.logic.Logic.{Logic}
 use Rattle.sim_logic.specs.Resolution.{resolved}
 use Rattle.sim_logic.specs.Sources.{SourceTree}
-use Rattle.sim_design.specs.declared.design.Source.{Source}
-use Rattle.sim_design.specs.declared.design.Source.TheVariants as source
-use Rattle.sim_design.specs.Designs.{Net, Design}
-use Rattle.sim_hierarchy.specs.declared.blocks.Block.{Block}
-use Rattle.sim_wave.specs.Driver.{Waveform}
-use Rattle.sim_exec.specs.State.{driver_at}
-use Rattle.sim_state.specs.Nets as cycle
+use Rattle.sim_flat_design.specs.declared.design.Source.{Source}
+use Rattle.sim_flat_design.specs.declared.design.Source.TheVariants as source
+use Rattle.sim_flat_design.specs.Designs.{Net, Design}
+use Rattle.sim_flat_blocks.specs.declared.parts.Block.{Block}
+use Rattle.sim_standard.specs.Drivers.{Waveform}
+use Rattle.sim_standard.specs.State.{driver_at}
+use Rattle.sim_standard.specs.Nets as cycle
 use Rattle.sim_flat.specs.declared.top.Top.{Top}
 use Rattle.sim_flat.specs.Hierarchies.{IsFlat}
 use Rattle.sim_flat.specs.Laws.{HasValueOf, trees}

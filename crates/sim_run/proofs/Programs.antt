@@ -2,15 +2,15 @@
 use Rattle.std.proofs.Common.{◌≡◌, ◌≢◌, ℕ, ◌≤◌, ◌<◌, subst, length-append, false, List, ◌++◌, length, Option, Some, None, inl, inr, refl, sym, ap}
 use Rattle.std.proofs.Common.{◌∙◌, append-nil, arith}
 use Rattle.std.specs.Prelude.{◌⊎◌, Result, Err}
-use Rattle.sim_token.specs.Limits.{most_bytes}
-use Rattle.sim_token.specs.declared.error.TextError.{TextError}
-use Rattle.sim_token.specs.declared.error.TextError.TheVariants as fault
+use Rattle.sim_text_tokens.specs.Limits.{most_bytes}
+use Rattle.sim_text_tokens.specs.declared.error.TextError.{TextError}
+use Rattle.sim_text_tokens.specs.declared.error.TextError.TheVariants as fault
 use Rattle.sim_text.specs.Texts.{IsFault}
 use Rattle.sim_flat.specs.declared.error.FlatError.{FlatError}
 use Rattle.sim_flat.specs.declared.error.FlatError.TheVariants as flat
-use Rattle.sim_options.specs.declared.options.Options.{Options}
-use Rattle.sim_options.specs.Asks.{Asks, AreRefused}
-use Rattle.sim_options.specs.Options.{are_in_range}
+use Rattle.sim_run_options.specs.declared.options.Options.{Options}
+use Rattle.sim_run_options.specs.Asks.{Asks, AreRefused}
+use Rattle.sim_run_options.specs.Options.{are_in_range}
 use Rattle.sim_run.specs.declared.error.RunError.{RunError}
 use Rattle.sim_run.specs.declared.error.RunError.TheVariants as refusal
 use Rattle.sim_run.specs.declared.program.Failure.{Failure}

@@ -1,12 +1,12 @@
 -- From the run of a design to that of a text.
 use Rattle.std.proofs.Common.{◌≡◌, ◌≢◌, ◌<◌, ℕ, inl, inr, List, Result, Ok, Err, refl, sym, subst}
 use Rattle.std.specs.Prelude.{◌⊎◌, MatchResult, IfOk, IfErr}
-use Rattle.sim_design.specs.Designs.{Design}
+use Rattle.sim_flat_design.specs.Designs.{Design}
 use Rattle.sim_store.specs.Store.{Store}
-use Rattle.sim_store.specs.Behaviour.{Behaviour, behaviour_of}
+use Rattle.sim_standard.specs.Behaviour.{Behaviour, behaviour_of}
 use Rattle.sim_run.specs.declared.error.RunError.{RunError}
 use Rattle.sim_run.specs.declared.error.RunError.TheVariants as refusal
-use Rattle.sim_options.specs.declared.options.Options.{Options}
+use Rattle.sim_run_options.specs.declared.options.Options.{Options}
 use Rattle.sim_run.specs.Run.{Finishes, IsRefusalAlone, history_of}
 use Rattle.sim_run.specs.Simulation.{IsDesignOf, HasDesign, IsRefusal}
 

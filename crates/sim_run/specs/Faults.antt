@@ -1,6 +1,6 @@
 -- What a run answers where its workers gave up.
-use Rattle.sim_workers.specs.declared.worker.Fault.{Fault}
-use Rattle.sim_workers.specs.declared.worker.Fault.TheVariants as fault
+use Rattle.sim_run_workers.specs.declared.worker.Fault.{Fault}
+use Rattle.sim_run_workers.specs.declared.worker.Fault.TheVariants as fault
 use Rattle.sim_run.specs.declared.error.RunError.{RunError}
 use Rattle.sim_run.specs.declared.error.RunError.TheVariants as refusal
 

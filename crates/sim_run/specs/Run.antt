@@ -1,18 +1,18 @@
 -- A run, whatever the design, by how the design behaves.
 use Rattle.std.specs.Prelude.{◌≡◌, ◌↔◌, ◌⊎◌, ◌<◌, ◌-◌, ℕ, suc, List, Option, Some, None, Result, Err, MatchResult, false}
-use Rattle.sim_design.specs.Designs.{Design}
+use Rattle.sim_flat_design.specs.Designs.{Design}
 use Rattle.sim_store.specs.Store.{Store}
 use Rattle.sim_store.specs.declared.store.Step.{Step}
 use Rattle.std.specs.Io.KnownBytes.{Appends}
-use Rattle.sim_store.specs.Behaviour.{Behaviour, behaviour_of}
-use Rattle.sim_store.specs.History.{History}
-use Rattle.sim_store.specs.Outcome.{FinishedAfter, LimitReached, HasOutcome}
-use Rattle.sim_options.specs.declared.options.Options.{Options}
-use Rattle.sim_options.specs.Options.{are_in_range}
+use Rattle.sim_standard.specs.Behaviour.{Behaviour, behaviour_of}
+use Rattle.sim_standard.specs.Histories.{History}
+use Rattle.sim_standard.specs.Outcome.{FinishedAfter, LimitReached, HasOutcome}
+use Rattle.sim_run_options.specs.declared.options.Options.{Options}
+use Rattle.sim_run_options.specs.Options.{are_in_range}
 use Rattle.sim_run.specs.declared.error.RunError.{RunError}
 use Rattle.sim_run.specs.declared.error.RunError.TheVariants as refusal
-use Rattle.sim_listing.specs.Listing.{listing}
-use Rattle.sim_listing.specs.Writing.{AppendsPart}
+use Rattle.sim_run_listing.specs.Listing.{listing}
+use Rattle.sim_run_listing.specs.Writing.{AppendsPart}
 
 -- The run is finished up to the stop time and within the limit, with this history (IEEE 1076-2008, 14.7.5.1).
 pub record Finishes (design : Behaviour) (options : Options) (history : History) : Type 0 where
@@ -54,7 +54,7 @@ pub record Lists (design : Behaviour) (options : Options) (old new : Option (Lis
   pub finishes : Finishes design options history
   pub written : Appends old new (listing history.names history.records)
 
--- The run is finished, and a proper front of its listing was written.
+-- The run is finished, and a proper prefix of its listing was written.
 pub record ListsPart (design : Behaviour) (options : Options) (old new : Option (List ℕ)) : Type 0 where
   pub history : History
   pub finishes : Finishes design options history

@@ -2,18 +2,18 @@
 use Rattle.std.specs.Prelude.{◌≡◌, ℕ, ◌+◌, List, length, Option, Some, None, ◌⊎◌}
 use Rattle.std.specs.String.{string_bytes}
 use Rattle.std.specs.Io.KnownBytes.{Appends, Keeps, Consumes, IsAtEnd}
-use Rattle.sim_token.specs.Limits.{most_bytes}
-use Rattle.sim_token.specs.declared.error.TextError.TheVariants as fault
+use Rattle.sim_text_tokens.specs.Limits.{most_bytes}
+use Rattle.sim_text_tokens.specs.declared.error.TextError.TheVariants as fault
 use Rattle.sim_flat.specs.declared.error.FlatError.TheVariants as flat
-use Rattle.sim_options.specs.declared.fault.CliFault.{CliFault}
-use Rattle.sim_options.specs.declared.fault.CliFault.TheVariants as cli
-use Rattle.sim_options.specs.declared.options.Options.{Options}
-use Rattle.sim_options.specs.Asks.{Asks, AsksForHelp}
+use Rattle.sim_run_options.specs.declared.fault.CliFault.{CliFault}
+use Rattle.sim_run_options.specs.declared.fault.CliFault.TheVariants as cli
+use Rattle.sim_run_options.specs.declared.options.Options.{Options}
+use Rattle.sim_run_options.specs.Asks.{Asks, AsksForHelp}
 use Rattle.sim_run.specs.declared.error.RunError.TheVariants as refusal
 use Rattle.sim_run.specs.declared.program.Failure.{Failure}
 use Rattle.sim_run.specs.declared.program.Failure.TheVariants as failure
 use Rattle.sim_run.specs.Simulation.{IsRefusal}
-use Rattle.sim_listing.specs.Writing.{AppendsPart}
+use Rattle.sim_run_listing.specs.Writing.{AppendsPart}
 
 -- the bytes that a reader had were these, if they are known
 abbrev pub IsWhole : Option (List ℕ) → List ℕ → Type 0
@@ -49,7 +49,7 @@ pub record HasHelp (words : List (List ℕ)) (Holds : List ℕ → Type 0) : Typ
   pub text : List ℕ
   pub holds : Holds text
 
--- What the program answers and writes where the words are no options: the text of the help with status 0, or a proper front of it with 4, where
+-- What the program answers and writes where the words are no options: the text of the help with status 0, or a proper prefix of it with 4, where
 -- a write failed; for other words nothing, with status 2, or with 4 where memory was short.
 abbrev pub IsAnswerTo : CliFault → ℕ → Option (List ℕ) → Option (List ℕ) → Type 0
 IsAnswerTo (cli.Help text) status old new = ((status ≡ 0) × Appends old new (string_bytes text)) ⊎ ((status ≡ 4) × AppendsPart old new (string_bytes text))

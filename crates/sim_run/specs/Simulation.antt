@@ -1,18 +1,18 @@
 -- What is simulated of a text, and why a text is not.
 use Rattle.std.specs.Prelude.{◌≡◌, ◌≢◌, ◌⊎◌, ◌<◌, ℕ, List, false}
 use Rattle.std.specs.String.{string_bytes}
-use Rattle.sim_tree.specs.DesignFile.{DesignFile}
+use Rattle.sim_text_tree.specs.DesignFile.{DesignFile}
 use Rattle.sim_text.specs.Texts.{IsText, IsFault, IsFaulty}
-use Rattle.sim_design.specs.Designs.{Design}
-use Rattle.sim_instance.specs.Libraries.{library_of}
+use Rattle.sim_flat_design.specs.Designs.{Design}
+use Rattle.sim_flat_instances.specs.Libraries.{library_of}
 use Rattle.sim_flat.specs.declared.error.FlatError.{FlatError}
 use Rattle.sim_flat.specs.declared.error.FlatError.TheVariants as flat
 use Rattle.sim_flat.specs.Elaboration as elaboration
-use Rattle.sim_store.specs.Behaviour.{Behaviour, behaviour_of}
+use Rattle.sim_standard.specs.Behaviour.{Behaviour, behaviour_of}
 use Rattle.sim_run.specs.declared.error.RunError.{RunError}
 use Rattle.sim_run.specs.declared.error.RunError.TheVariants as refusal
-use Rattle.sim_options.specs.declared.options.Options.{Options}
-use Rattle.sim_options.specs.Options.{are_in_range}
+use Rattle.sim_run_options.specs.declared.options.Options.{Options}
+use Rattle.sim_run_options.specs.Options.{are_in_range}
 use Rattle.sim_run.specs.Run.{ReachesLimit}
 
 -- The text is a file, and this is its design under the top.

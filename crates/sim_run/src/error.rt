@@ -4,9 +4,9 @@ ghost use Rattle.std.specs.Prelude.{◌≡◌};
 ghost use Rattle.sim_run.specs.declared.error.RunError.TheVariants as refusal;
 
 use sim_flat::FlatError;
-use sim_listing::WriteError;
+use sim_run_listing::WriteError;
 use sim_text::TextError;
-use sim_workers::Fault;
+use sim_run_workers::Fault;
 use std::alloc::{AllocError, AllocFailed};
 use thiserror::Error;
 
@@ -25,7 +25,8 @@ pub enum RunError {
     /// The run needs more cycles than the limit.
     #[error("CycleLimit {limit}")]
     CycleLimit { limit: u32 },
-    /// The store under the lock is not that of this run: its design, its stop time or its limit is another.
+    /// The store under the lock is not that of this run: its design, its stop time or its limit is
+    /// another.
     #[error("Stranger")]
     Stranger,
     /// A write failed, or took nothing.

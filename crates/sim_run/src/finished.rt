@@ -2,12 +2,12 @@
 
 ghost use Rattle.std.specs.Prelude.{◌≡◌, map, string_bytes, Err, IfOk, OnOk, OnErr};
 ghost use Rattle.std.specs.Io.KnownBytes.{Appends};
-ghost use Rattle.sim_listing.specs.Listing.{listing};
-ghost use Rattle.sim_listing.specs.Writing.{AppendsPart};
-ghost use Rattle.sim_store.specs.Behaviour.{behaviour_of};
+ghost use Rattle.sim_run_listing.specs.Listing.{listing};
+ghost use Rattle.sim_run_listing.specs.Writing.{AppendsPart};
+ghost use Rattle.sim_standard.specs.Behaviour.{behaviour_of};
 
 use crate::error::RunError;
-use sim_design::Net;
+use sim_flat_design::Net;
 use sim_store::{Record, WaveStore};
 use std::alloc::{AllocError, Global};
 use std::io::Write;
@@ -34,7 +34,7 @@ pub struct Finished {
 
 impl Model for Finished {
     ghost use Rattle.std.specs.Prelude.{◌≡◌, map, string_bytes};
-    ghost use Rattle.sim_store.specs.History.{History, IsHistory, event_count};
+    ghost use Rattle.sim_standard.specs.Histories.{History, IsHistory, event_count};
 
     ghost Value = { History };
 
@@ -45,8 +45,8 @@ impl Model for Finished {
 
 impl Finished {
     ghost use Rattle.std.specs.Prelude.{◌≡◌, ◌+◌, ◌<◌, ◌^◌, map, length, string_bytes, IfOk, IfErr};
-    ghost use Rattle.sim_store.specs.Behaviour.{behaviour_of};
-    ghost use Rattle.sim_store.specs.History.{IsHistory, event_count};
+    ghost use Rattle.sim_standard.specs.Behaviour.{behaviour_of};
+    ghost use Rattle.sim_standard.specs.Histories.{IsHistory, event_count};
     ghost use Rattle.sim_run.specs.declared.error.RunError.TheVariants as refusal;
 
     /// The run with these names and records, which had this many events after the initialization.
@@ -107,15 +107,16 @@ impl Finished {
     }
 }
 
-/// Writes the listing of a run: for each record, in order, a line `TIME DELTA NAME VALUE` for each of its changes, with the
-/// time in femtoseconds, and last `done CYCLES EVENTS`. The lines are gathered and go out in blocks of some KiB; nothing
-/// is allocated. `RunError::Write` comes where a write fails or takes nothing; a front of the listing is then written.
+/// Writes the listing of a run: for each record, in order, a line `TIME DELTA NAME VALUE` for each
+/// of its changes, with the time in femtoseconds, and last `done CYCLES EVENTS`. The lines are
+/// gathered and go out in blocks of some KiB; nothing is allocated. `RunError::Write` comes where a
+/// write fails or takes nothing; a front of the listing is then written.
 pub fn write_listing<W: Write>(finished: &Finished, out: &mut W) -> Result<(), RunError>
     ensures ok { OnOk result (Appends (W.contents out.old) (W.contents out.new) (listing finished.now.names finished.now.records)) }
     ensures part { OnErr result (AppendsPart (W.contents out.old) (W.contents out.new) (listing finished.now.names finished.now.records)) }
     ensures err { OnErr result (result ≡ Err RunError.Write) }
 {
     let records = finished.records();
-    sim_listing::write_listing(finished.names(), &records, finished.events(), out)?;
+    sim_run_listing::write_listing(finished.names(), &records, finished.events(), out)?;
     Ok(())
 }

@@ -2,22 +2,22 @@
 ghost use Rattle.std.specs.Prelude.{◌≡◌, ◌≢◌, ◌≤◌, ◌<◌, ◌⊎◌, false, codes, OnOk, IfOk, IfErr, [], ◌∷◌, map, string_bytes};
 ghost use Rattle.std.specs.Io.KnownBytes.{Appends, Keeps};
 ghost use Rattle.std.specs.Str.Parse.{starts_with_minus};
-ghost use Rattle.sim_token.specs.Pieces.{Text};
-ghost use Rattle.sim_options.specs.Asks.{AreRefused};
-ghost use Rattle.sim_options.specs.Options.{are_in_range};
+ghost use Rattle.sim_text_tokens.specs.Pieces.{Text};
+ghost use Rattle.sim_run_options.specs.Asks.{AreRefused};
+ghost use Rattle.sim_run_options.specs.Options.{are_in_range};
 ghost use Rattle.sim_run.specs.declared.error.RunError.TheVariants as refusal;
 ghost use Rattle.sim_run.specs.declared.program.Failure.TheVariants as failure;
 ghost use Rattle.sim_run.specs.Run.{IsCutShort, Lists, ListsPart};
 ghost use Rattle.sim_run.specs.Session.{ReadsSource, HasText, HasRun, HasOptions, HasHelp, IsAnswerTo, IsFailure, status_of};
 ghost use Rattle.sim_run.specs.Simulation.{HasDesign, IsRefusedText};
-ghost use Rattle.sim_listing.specs.Writing.{AppendsPart};
+ghost use Rattle.sim_run_listing.specs.Writing.{AppendsPart};
 
 use crate::error::RunError;
 use crate::simulation::simulate;
 use arrayvec::ArrayVec;
 use sim_flat::FlatError;
-use sim_listing::write_whole;
-use sim_options::{CliFault, Options, read_options};
+use sim_run_listing::write_whole;
+use sim_run_options::{CliFault, Options, read_options};
 use sim_text::TextError;
 use std::alloc::Global;
 use std::io::{Read, Write};
@@ -146,13 +146,15 @@ fn explain<W: Write, E: Write>(fault: &CliFault, out: &mut W, err: &mut E) -> u8
     }
 }
 
-/// The whole program: it takes its words, without its own name; reads the source from `input`; writes the listing to `out`, or
-/// a line `vsim: ` with the refusal's text to `err`; and answers its status. That is 0 where the listing was written, 1 where
-/// the text was refused, 2 where the words or the options were, 3 where the run needs more cycles than the limit (or where threads found a stranger's store), and 4 where
-/// memory was short, or reading or writing failed. It reads at most 1,048,577 bytes, by at most 2,097,154 reads.
+/// The whole program: it takes its words, without its own name; reads the source from `input`;
+/// writes the listing to `out`, or a line `vsim: ` with the refusal's text to `err`; and answers
+/// its status. That is 0 where the listing was written, 1 where the text was refused, 2 where the
+/// words or the options were, 3 where the run needs more cycles than the limit (or where threads
+/// found a stranger's store), and 4 where memory was short, or reading or writing failed. It reads
+/// at most 1,048,577 bytes, by at most 2,097,154 reads.
 ///
-/// Where the words ask for help, its text goes to `out`, with status 0; where they are refused, the lines of `clap` that say why go
-/// to `err`. Then nothing is read.
+/// Where the words ask for help, its text goes to `out`, with status 0; where they are refused, the
+/// lines of `clap` that say why go to `err`. Then nothing is read.
 pub fn session<T: Threads + Wait + Sync, R: Read, W: Write, E: Write>(
     rt: &T,
     alloc: Global,
@@ -174,7 +176,8 @@ pub fn session<T: Threads + Wait + Sync, R: Read, W: Write, E: Write>(
         HasRun (map string_bytes words.items) (R.remaining input.old) (λ text options.
         HasDesign text options (λ design. IsCutShort design options)) }
     ensures quiet { 0 < result → result < 4 → Keeps (W.contents out.old) (W.contents out.new) }
-    // Memory was short, or reading or writing failed: nothing was written, or a proper front of the listing or of the help.
+    // Memory was short, or reading or writing failed: nothing was written, or a proper prefix of
+    // the listing or of the help.
     ensures stopped { result ≡ 4 → Keeps (W.contents out.old) (W.contents out.new)
         ⊎ (HasRun (map string_bytes words.items) (R.remaining input.old) (λ text options.
         HasDesign text options (λ design. ListsPart design options (W.contents out.old) (W.contents out.new)))

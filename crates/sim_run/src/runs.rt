@@ -1,27 +1,28 @@
 //! A whole run of a design: on the calling thread, or by several that share its store.
 ghost use Rattle.std.specs.Prelude.{◌≡◌, ◌≢◌, ◌<◌, ◌≤◌, ◌⊎◌, ◌↔◌, IsTrue, None, Err, IfOk, IfErr, IfSome, OnOk, MatchResult};
 ghost use Rattle.std.specs.Io.KnownBytes.{Appends, Keeps};
-ghost use Rattle.sim_listing.specs.Listing.{listing};
-ghost use Rattle.sim_listing.specs.Writing.{AppendsPart};
+ghost use Rattle.sim_run_listing.specs.Listing.{listing};
+ghost use Rattle.sim_run_listing.specs.Writing.{AppendsPart};
 ghost use Rattle.sim_logic.specs.Time.{largest_time};
-ghost use Rattle.sim_store.specs.Behaviour.{behaviour_of};
+ghost use Rattle.sim_standard.specs.Behaviour.{behaviour_of};
 ghost use Rattle.sim_store.specs.Store as store;
 ghost use Rattle.sim_run.specs.declared.error.RunError.TheVariants as refusal;
 ghost use Rattle.sim_run.specs.Run.{Finishes, IsRefusalAlone, IsAnswer, IsRunOf, IsRunRefusal, IsSameRun, ReachesLimit, history_of, steps_left};
 
 use crate::error::RunError;
 use crate::finished::{Finished, names_of};
-use sim_design::Design;
-use sim_listing::write_listing;
-use sim_options::Options;
+use sim_flat_design::Design;
+use sim_run_listing::write_listing;
+use sim_run_options::Options;
 use sim_store::{Step, WaveStore};
-use sim_workers::{Gate, run_to_end};
+use sim_run_workers::{Gate, run_to_end};
 use std::alloc::Global;
 use std::io::Write;
 use std::sync::{Mutex, Wait};
 use std::thread::Threads;
 
-/// Carries out one cycle: executes all processes that are due, in place and in rising order, and goes on.
+/// Carries out one cycle: executes all processes that are due, in place and in rising order, and
+/// goes on.
 fn go_on(alloc: Global, run: WaveStore) -> Result<WaveStore, RunError>
     requires { store.IsOpen run }
     ensures bounds { IfOk result (IsSameRun run) }
@@ -49,7 +50,8 @@ fn begun_run(alloc: Global, design: Design, options: &Options) -> Result<WaveSto
     }
 }
 
-/// The store of a run that has ended, on the calling thread: nothing is copied, and no lock is taken.
+/// The store of a run that has ended, on the calling thread: nothing is copied, and no lock is
+/// taken.
 fn run_in_place(alloc: Global, design: Design, options: &Options) -> Result<WaveStore, RunError>
     requires { options.now.stop ≤ largest_time }
     ensures ok { IfOk result (λ run. IsRunOf design options.now run × (run.ended ≢ None)) }
@@ -89,7 +91,8 @@ fn own_run(run: WaveStore, design: &Design, options: &Options) -> Result<WaveSto
     }
 }
 
-/// What is in the lock once workers have carried a store on to its end: by what is known here, any store.
+/// What is in the lock once workers have carried a store on to its end: by what is known here, any
+/// store.
 fn carried_on<R: Threads + Wait + Sync, G: Gate + Sync>(
     rt: &R,
     alloc: Global,
@@ -104,7 +107,8 @@ fn carried_on<R: Threads + Wait + Sync, G: Gate + Sync>(
     Ok(store.into_inner())
 }
 
-/// The store of a run that has ended, by the workers of the options, who are told of by the gate.
+/// The store of a run that has ended, by the workers of the options, who are reported of by the
+/// gate.
 fn run_shared<R: Threads + Wait + Sync, G: Gate + Sync>(
     rt: &R,
     alloc: Global,
@@ -134,7 +138,8 @@ fn finished_run(run: WaveStore) -> Result<WaveStore, RunError>
     }
 }
 
-/// The run of a design on the calling thread, up to the stop time and within the limit: its store, once it is finished.
+/// The run of a design on the calling thread, up to the stop time and within the limit: its store,
+/// once it is finished.
 pub fn run_alone(alloc: Global, design: Design, options: &Options) -> Result<WaveStore, RunError>
     requires { options.now.stop ≤ largest_time }
     ensures finished { IfOk result (λ run. Finishes (behaviour_of design) options.now (history_of run)) }
@@ -144,7 +149,8 @@ pub fn run_alone(alloc: Global, design: Design, options: &Options) -> Result<Wav
     finished_run(run)
 }
 
-/// The run of a design by several workers, up to the stop time and within the limit: its store, once it is finished.
+/// The run of a design by several workers, up to the stop time and within the limit: its store,
+/// once it is finished.
 pub fn run_by_workers<R: Threads + Wait + Sync, G: Gate + Sync>(
     rt: &R,
     alloc: Global,
@@ -160,7 +166,8 @@ pub fn run_by_workers<R: Threads + Wait + Sync, G: Gate + Sync>(
     finished_run(run)
 }
 
-/// The history of a store under a lock, if its run has ended; none where it goes on. It is compared with the design and the options first.
+/// The history of a store under a lock, if its run has ended; none where it goes on. It is compared
+/// with the design and the options first.
 fn answer_of(
     alloc: Global,
     run: &WaveStore,
@@ -185,7 +192,8 @@ fn answer_of(
     }
 }
 
-/// Writes the listing of a store's history, from its log. Where there is no memory for the names of the nets, nothing is written.
+/// Writes the listing of a store's history, from its log. Where there is no memory for the names of
+/// the nets, nothing is written.
 pub fn write_run<W: Write>(alloc: Global, run: &WaveStore, out: &mut W) -> Result<(), RunError>
     ensures ok { OnOk result (Appends (W.contents out.old) (W.contents out.new) (listing (history_of run.now).names (history_of run.now).records)) }
     ensures part { result ≡ Err RunError.Write
@@ -198,7 +206,8 @@ pub fn write_run<W: Write>(alloc: Global, run: &WaveStore, out: &mut W) -> Resul
     Ok(())
 }
 
-/// The run of a design, by workers where there are several or the gate watches, and else on the calling thread: its store, once it is finished.
+/// The run of a design, by workers where there are several or the gate watches, and else on the
+/// calling thread: its store, once it is finished.
 fn run_either<R: Threads + Wait + Sync, G: Gate + Sync>(
     rt: &R,
     alloc: Global,
@@ -218,9 +227,11 @@ fn run_either<R: Threads + Wait + Sync, G: Gate + Sync>(
     }
 }
 
-/// Runs a design from its initialization to the end of its run, and answers its history. Its processes are executed by as many workers as the options say; the
-/// gate is told of each execution where it watches. With one worker and a gate that does not watch all is done on the calling thread, with no lock. The
-/// refusals: `Options` where an option is out of its range, `CycleLimit` where the run needs more cycles than the limit, `Memory`.
+/// Runs a design from its initialization to the end of its run, and answers its history. Its
+/// processes are executed by as many workers as the options say; the gate is reported of each
+/// execution where it watches. With one worker and a gate that does not watch all is done on the
+/// calling thread, with no lock. The refusals: `Options` where an option is out of its range,
+/// `CycleLimit` where the run needs more cycles than the limit, `Memory`.
 pub fn run<R: Threads + Wait + Sync, G: Gate + Sync>(
     rt: &R,
     alloc: Global,
@@ -237,10 +248,12 @@ pub fn run<R: Threads + Wait + Sync, G: Gate + Sync>(
     Finished::of(alloc, &run)
 }
 
-/// Carries on the run of a store under a lock from where it stands to its end, and answers its history. Others may look at the store meanwhile, or carry
-/// it on as well; it stays in the lock. Its design, stop time and limit are compared with the caller's under the first lock and under the last. The refusals:
-/// `Options` where an option is out of its range, `Stranger` where the store is not that of this run, `CycleLimit` where the run needs more
-/// cycles than the limit, `Memory`, after which the call may be made again.
+/// Carries on the run of a store under a lock from where it stands to its end, and answers its
+/// history. Others may look at the store meanwhile, or carry it on as well; it stays in the lock.
+/// Its design, stop time and limit are compared with the caller's under the first lock and under
+/// the last. The refusals: `Options` where an option is out of its range, `Stranger` where the
+/// store is not that of this run, `CycleLimit` where the run needs more cycles than the limit,
+/// `Memory`, after which the call may be made again.
 pub fn run_in<R: Threads + Wait + Sync, G: Gate + Sync>(
     rt: &R,
     alloc: Global,

@@ -1,24 +1,25 @@
 //! From the text of a design to its listing.
 ghost use Rattle.std.specs.Prelude.{◌≡◌, ◌≢◌, ◌↔◌, true, false, Err, OnOk, IfErr, MatchResult};
 ghost use Rattle.std.specs.Io.KnownBytes.{Keeps};
-ghost use Rattle.sim_options.specs.Options.{are_in_range};
+ghost use Rattle.sim_run_options.specs.Options.{are_in_range};
 ghost use Rattle.sim_run.specs.Run.{Finishes, Lists, ListsPart, history_of};
 ghost use Rattle.sim_run.specs.Simulation.{IsDesignOf, HasDesign, IsOfText, IsRefusal};
 
 use crate::error::RunError;
 use crate::runs::{run_alone, run_by_workers, write_run};
-use sim_design::Design;
+use sim_flat_design::Design;
 use sim_flat::flatten;
-use sim_options::Options;
+use sim_run_options::Options;
 use sim_store::WaveStore;
 use sim_text::parse;
-use sim_workers::Open;
+use sim_run_workers::Open;
 use std::alloc::Global;
 use std::io::Write;
 use std::sync::Wait;
 use std::thread::Threads;
 
-/// Reads a text and elaborates its design under the top of the options. Of the refusals of `simulate` `Text` and `Flat` come, in this order.
+/// Reads a text and elaborates its design under the top of the options. Of the refusals of
+/// `simulate` `Text` and `Flat` come, in this order.
 pub fn elaborate(alloc: Global, source: &[u8], options: &Options) -> Result<Design, RunError>
     ensures only { IfErr result IsOfText }
     ensures value { MatchResult result (λ design. IsDesignOf source.now options.now design) (λ e. IsRefusal source.now options.now e) }
@@ -47,12 +48,13 @@ fn run_text<R: Threads + Wait + Sync>(
     }
 }
 
-/// Simulates the design in a text and writes its listing. The refusals, in the order in which they are looked for: `Options`
-/// where the stop time, the limit or the workers are out of their ranges; `Text` where the text is at fault, or there was no
-/// memory to read it (`sim_text::parse` says when each fault comes); `Flat` where the design is at fault, or there was no memory to
-/// elaborate it (`sim_flat::flatten` says when each fault comes);
-/// `CycleLimit` where the run needs more cycles than the limit; `Write` where a write fails or takes nothing. With every
-/// refusal but `Write` nothing is written, and with that one a front of the listing.
+/// Simulates the design in a text and writes its listing. The refusals, in the order in which they
+/// are looked for: `Options` where the stop time, the limit or the workers are out of their ranges;
+/// `Text` where the text is at fault, or there was no memory to read it (`sim_text::parse` says
+/// when each fault comes); `Flat` where the design is at fault, or there was no memory to elaborate
+/// it (`sim_flat::flatten` says when each fault comes); `CycleLimit` where the run needs more
+/// cycles than the limit; `Write` where a write fails or takes nothing. With every refusal but
+/// `Write` nothing is written, and with that one a front of the listing.
 pub fn simulate<R: Threads + Wait + Sync, W: Write>(
     rt: &R,
     alloc: Global,
@@ -62,7 +64,7 @@ pub fn simulate<R: Threads + Wait + Sync, W: Write>(
 ) -> Result<(), RunError>
     ensures options { (result ≡ Err RunError.Options) ↔ (are_in_range options.now.stop options.now.limit options.now.workers ≡ false) }
     ensures listed { OnOk result (HasDesign source.now options.now (λ design. Lists design options.now (W.contents out.old) (W.contents out.new))) }
-    // Where a write failed, the run is finished, and a proper front of its listing was written.
+    // Where a write failed, the run is finished, and a proper prefix of its listing was written.
     ensures part { result ≡ Err RunError.Write → HasDesign source.now options.now (λ design.
         ListsPart design options.now (W.contents out.old) (W.contents out.new)) }
     // Any other refusal has its reason, and nothing was written.

@@ -7,16 +7,16 @@ use Rattle.std.proofs.lemmas.List.{get_or-replicate, get_or_past, length-append,
 use Rattle.std.proofs.lemmas.List.FromFn.{length-enumerate_from}
 use Rattle.std.proofs.lemmas.List.Sums.{count_by-le-length, length-filter}
 use Rattle.sim_logic.specs.declared.logic.Logic.{Logic}
-use Rattle.sim_exec.specs.declared.view.NetView.{NetView}
-use Rattle.sim_exec.specs.State.{net_at}
-use Rattle.sim_state.specs.declared.record.Record.{Record}
-use Rattle.sim_state.specs.Contents.{Contents}
-use Rattle.sim_state.specs.Log.{record_at}
-use Rattle.sim_state.specs.Records.{changes_from, numbered_value}
-use Rattle.sim_store.specs.Agreement.{is_of, total_of, value_by}
+use Rattle.sim_standard.specs.declared.net_view.NetView.{NetView}
+use Rattle.sim_standard.specs.State.{net_at}
+use Rattle.sim_standard.specs.declared.record.Record.{Record}
+use Rattle.sim_store_state.specs.Contents.{Contents}
+use Rattle.sim_store_state.specs.Log.{record_at}
+use Rattle.sim_standard.specs.Records.{changes_from, numbered_value}
+use Rattle.sim_standard.specs.Agreement.{is_of, total_of, value_by}
 use Rattle.sim_store.specs.Progress.{AreTotals, IsProgress, Progress, reached}
-use Rattle.sim_store.specs.Standard.{records_to}
-use Rattle.sim_store.proofs.Agreement.{records-give-values, total-few, total-more}
+use Rattle.sim_standard.specs.Histories.{records_to}
+use Rattle.sim_standard.proofs.Agreement.{records-give-values, total-few, total-more}
 use Rattle.sim_store.proofs.Going.{net-count}
 
 -- a number in the list that a test covers, or else what stands beyond it

@@ -6,32 +6,33 @@ use Rattle.std.proofs.lemmas.Bool.Decides.{nat_tests}
 use Rattle.std.proofs.lemmas.List.{get_or-set_same, get_or-set_other, length-set, length-map, length-append, get_or-map, get_or-replicate, length-replicate}
 use Rattle.std.proofs.lemmas.List.Elements.{All-map, All-weaker}
 use Rattle.std.proofs.lemmas.List.{drop-drop, length-take-le}
-use Rattle.sim_wave.specs.Driver.{RisesFrom, Transaction, Waveform}
-use Rattle.sim_design.specs.Bodies.{Body}
-use Rattle.sim_design.specs.declared.design.DriverOf.{DriverOf}
-use Rattle.sim_design.specs.Designs.{AreOwned, Design, most}
-use Rattle.sim_design.specs.Processes.{Process, IsProcess}
-use Rattle.sim_exec.specs.declared.view.NetView.{NetView}
+use Rattle.sim_standard.specs.Drivers.{RisesFrom, Transaction, Waveform, next_time}
+use Rattle.sim_flat_design.specs.Bodies.{Body}
+use Rattle.sim_flat_design.specs.declared.design.DriverOf.{DriverOf}
+use Rattle.sim_flat_design.specs.Designs.{AreOwned, Design, most}
+use Rattle.sim_flat_design.specs.Processes.{Process, IsProcess}
+use Rattle.sim_standard.specs.declared.net_view.NetView.{NetView}
 use Rattle.std.proofs.lemmas.List.Elements.{All-get_or}
-use Rattle.sim_exec.specs.State.{State, Owned, driver_values, net_at, owned_at, nothing_owned}
-use Rattle.sim_exec.specs.Statements.{executed}
-use Rattle.sim_exec.specs.Processes.{home, part, outcome}
-use Rattle.sim_exec.proofs.Frame.{same_outcome}
-use Rattle.sim_exec.proofs.ValuesKept.{values_kept}
+use Rattle.sim_standard.specs.State.{State, Owned, driver_values, net_at, owned_at, nothing_owned, waves}
+use Rattle.sim_standard.specs.Statements.{executed}
+use Rattle.sim_standard.specs.Processes.{object_net, part, outcome, no_process, process_at}
+use Rattle.sim_standard.proofs.Frame.{same_outcome}
+use Rattle.sim_standard.proofs.ValuesKept.{values_kept}
 use Rattle.sim_logic.specs.Time.{largest_time}
 use Rattle.sim_exec.specs.Jobs.{IsJob, IsReady, Job, holds_bit, result_of, scene}
-use Rattle.sim_state.specs.declared.record.Record.{Record}
-use Rattle.sim_state.specs.Drivers.{waves, own_taken, first_owned, idle, next_time}
-use Rattle.sim_design.specs.declared.design.Source.{Source}
-use Rattle.sim_state.specs.Contents.{Contents, contents_of, sources_of}
-use Rattle.sim_state.specs.Cycles.{no_process, process_at, is_resumed, first_state, updated, next_delta, has_event_in}
-use Rattle.sim_state.specs.Records.{first_record, changes_from}
-use Rattle.sim_store.specs.Order.{merged}
-use Rattle.sim_store.specs.Standard.{standard, state_of, or_first, onward, cycle_in_turn, executed_in_turn, executed_together, next_of, recorded, records_to}
+use Rattle.sim_standard.specs.declared.record.Record.{Record}
+use Rattle.sim_standard.specs.Cycle.{own_taken, is_resumed, updated, next_delta, has_event_in}
+use Rattle.sim_standard.specs.Initialization.{first_owned, idle, first_state}
+use Rattle.sim_flat_design.specs.declared.design.Source.{Source}
+use Rattle.sim_store_state.specs.Contents.{Contents, contents_of, sources_of}
+use Rattle.sim_standard.specs.Records.{first_record, changes_from}
+use Rattle.sim_standard.specs.Together.{merged, executed_together}
+use Rattle.sim_standard.specs.Cycle.{standard, state_of, or_first, onward, cycle_in_turn, executed_in_turn, next_cycle_time}
+use Rattle.sim_standard.specs.Histories.{recorded, records_to}
 use Rattle.sim_store.specs.Progress.{Progress, IsProgress, IsComplete, IsResult, those_in, reached, IsDue, IsMissing, IsOwn, is_due, kept_or, pending_from}
 use Rattle.sim_store.specs.Progress.{cleared, after, next_after, with_one}
-use Rattle.sim_store.proofs.Together.{also, length-merged, merged-same, merged-none, merged-out, merged-also}
-use Rattle.sim_store.proofs.Parallel.{FitsCycles, length-nets_updated, merged-below, in_turn_is_together, standard_all, standard_fits}
+use Rattle.sim_standard.proofs.Together.{also, length-merged, merged-same, merged-none, merged-out, merged-also}
+use Rattle.sim_standard.proofs.Parallel.{FitsCycles, length-nets_updated, merged-below, in_turn_is_together, standard_all, standard_fits}
 use Rattle.sim_store.proofs.Readiness.{ready_after}
 
 abbrev results : Progress → ℕ → Owned
@@ -170,11 +171,11 @@ module _ {h : Progress} {time delta : ℕ} {held : Contents} {records : List Rec
   unfolding standard
   standard-next =
       let x = executed_together h.design h.cycles (reached h) in
-      ap (cycle_in_turn h.design h.cycles) i.there ∙ (ap (λ (y : State). onward h.design y (next_of y)) in-turn
+      ap (cycle_in_turn h.design h.cycles) i.there ∙ (ap (λ (y : State). onward h.design y (next_cycle_time y)) in-turn
       ∙ ap (λ (os : List Owned). onward h.design x (next_time (waves os))) (sym present-complete))
 
   pub next-is : next_time (waves held.owned) ≡ next_after h
-  next-is = ap (λ (os : List Owned). next_time (waves os)) present-complete ∙ ap next_of (sym in-turn)
+  next-is = ap (λ (os : List Owned). next_time (waves os)) present-complete ∙ ap next_cycle_time (sym in-turn)
 
   -- the next cycle is at this time
   pub advanced-time : (t : ℕ) → next_time (waves held.owned) ≡ Some t → (state_of h.design (suc h.cycles)).time ≡ t
@@ -263,7 +264,7 @@ module _ {h : Progress} {time delta : ℕ} {held : Contents} {records : List Rec
 
   -- what its execution in place leaves is its result
   pub executed-result : (p : ℕ) → p < length h.design.processes → is_due h p ≡ true → those_in h.deposited p ≡ false
-      → IsResult h p (executed (λ object. net_at held.nets (home (process_at h.design.processes p) object)) time
+      → IsResult h p (executed (λ object. net_at held.nets (object_net (process_at h.design.processes p) object)) time
       (process_at h.design.processes p).body.statements (owned_at held.owned p))
   executed-result p lt resumed out =
       let q = process_at h.design.processes p in
@@ -305,19 +306,19 @@ module _ {h : Progress} {time delta : ℕ} {held : Contents} {records : List Rec
         sources = held.sources;
         nets = held.nets;
         owned = set held.owned p
-            (executed (λ object. net_at held.nets (home process object)) time process.body.statements (owned_at held.owned p));
+            (executed (λ object. net_at held.nets (object_net process object)) time process.body.statements (owned_at held.owned p));
       }
       → IsReady process.body time (owned_at held'.owned p) → IsProgress (with_one h p) time delta held' records due
   executed-keeps process held' same resumed now is =
       let q = process_at h.design.processes p in
-      let own : Owned = executed (λ object. net_at held.nets (home q object)) time q.body.statements (owned_at held.owned p) in
+      let own : Owned = executed (λ object. net_at held.nets (object_net q object)) time q.body.statements (owned_at held.owned p) in
       let there : p < length held.owned = omega (arith, lt, held-count i) in
       let e : held' ≡ record { sources = held.sources; nets = held.nets; owned = set held.owned p own } =
       now ∙ ap (λ (r : Process). record {
         sources = held.sources;
         nets = held.nets;
         owned = set held.owned p
-            (executed (λ object. net_at held.nets (home r object)) time r.body.statements (owned_at held.owned p));
+            (executed (λ object. net_at held.nets (object_net r object)) time r.body.statements (owned_at held.owned p));
       }) same in
       let mine : owned_at held'.owned p ≡ own = ap (λ (w : Contents). owned_at w.owned p) e ∙ get_or-set_same held.owned p own nothing_owned there in
       deposited-keeps i p own held' (executed-result i p lt resumed out)
@@ -386,7 +387,7 @@ module _ {h : Progress} {time delta : ℕ} {held : Contents} {records : List Rec
       let is : IsProcess q = All-get_or IsProcess h.design.processes job.number no_process d.number i.processes in
       let ran = same_outcome q job.number (reached h) is in
       let own = owned_at (reached h).owned job.number in
-      let look = λ (object : ℕ). net_at (reached h).nets (home q object) in
+      let look = λ (object : ℕ). net_at (reached h).nets (object_net q object) in
       ap (λ (w : Owned). driver_values w.drivers) (e ∙ ((own-result d).result ∙ sym ran))
       ∙ (values_kept look (reached h).time q.body.statements own
       ∙ ap (λ (w : Owned). driver_values w.drivers) (sym (still-owned i job.number out)))

@@ -1,13 +1,7 @@
-pub mod Agreement
 pub mod Counting
 pub mod Going
 pub mod Listing
-pub mod Parallel
 pub mod Readiness
-pub mod Records
-pub mod Selecting
 pub mod Stores
-pub mod Together
 pub mod Walks
-pub mod Weaves
 pub mod Crossing

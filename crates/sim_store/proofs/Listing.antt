@@ -1,9 +1,9 @@
 -- The numbers of those that are marked, one after another.
 use Rattle.std.proofs.Common.{ℕ, zero, suc, ◌+◌, ◌<◌, ◌≤◌, ◌≡◌, Bool, true, false, if◌then◌else◌, cond, List, ◌∷◌, length, refl, ap, subst, arith}
 use Rattle.std.specs.List.{filter, range_with_len}
-use Rattle.sim_queue.specs.Numbers.{is_in, members}
+use Rattle.sim_store_sets.specs.Numbers.{is_in, members}
 use Rattle.sim_store.specs.Progress.{listed}
-use Rattle.sim_store.specs.Standard.{those}
+use Rattle.sim_standard.specs.Cycle.{those}
 
 -- Two tests that agree on these numbers list the same.
 pub those-same : (f g : ℕ → Bool) (i n : ℕ) → ((k : ℕ) → i ≤ k → k < i + n → f k ≡ g k) → those f i n ≡ those g i n

@@ -5,12 +5,12 @@ use Rattle.std.specs.List.{All}
 use Rattle.std.proofs.lemmas.Bool.{eqb-false}
 use Rattle.std.proofs.lemmas.List.{length-map}
 use Rattle.std.proofs.lemmas.List.Elements.{All-cons, All-head, All-map, All-nil, All-tail}
-use Rattle.sim_wave.specs.Driver.{Transaction, Waveform, RisesFrom, taken}
-use Rattle.sim_design.specs.Bodies.{Body}
-use Rattle.sim_exec.specs.State.{Owned, owned_at}
+use Rattle.sim_standard.specs.Drivers.{Transaction, Waveform, RisesFrom, taken, pending_times, next_time, IsNext}
+use Rattle.sim_flat_design.specs.Bodies.{Body}
+use Rattle.sim_standard.specs.State.{Owned, owned_at, waves}
 use Rattle.sim_exec.specs.Jobs.{IsReady}
-use Rattle.sim_state.specs.Drivers.{waves, own_taken, pending_times, next_time, IsNext}
-use Rattle.sim_state.proofs.Times.{next_is_least}
+use Rattle.sim_standard.specs.Cycle.{own_taken}
+use Rattle.sim_store_state.proofs.Times.{next_is_least}
 
 -- each of these times is this or later
 abbrev pub AllFrom : ℕ → List ℕ → Type 0

@@ -2,10 +2,10 @@
 use Rattle.std.proofs.Common.{ℕ, suc, ◌<◌, ◌≤◌, ◌≡◌, ◌≢◌, eqb, Bool, true, false, List, Option, None, Some, MatchOption, refl, ap, sym, subst, arith}
 use Rattle.std.proofs.lemmas.Bool.Decides.{nat_tests}
 use Rattle.sim_logic.specs.Time.{largest_time}
-use Rattle.sim_store.specs.Outcome.{IsOver}
-use Rattle.sim_store.specs.Standard.{standard, state_of}
+use Rattle.sim_standard.specs.Outcome.{IsOver}
+use Rattle.sim_standard.specs.Cycle.{standard, state_of, next_in}
 use Rattle.sim_store.specs.declared.store.Step.{Step}
-use Rattle.sim_store.specs.Progress.{Progress, IsComplete, after, next_after, next_in, reached, with_marks}
+use Rattle.sim_store.specs.Progress.{Progress, IsComplete, after, next_after, reached, with_marks}
 use Rattle.sim_store.specs.Store.{Store, IsStore, HasEnd}
 
 -- a run that begins

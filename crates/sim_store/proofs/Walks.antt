@@ -2,10 +2,10 @@
 use Rattle.std.proofs.Common.{ℕ, ◌+◌, ◌<◌, ◌≡◌, ◌≢◌, eqb, Bool, true, false, List, length, refl, ◌∙◌, subst, arith}
 use Rattle.std.proofs.Math.Decide.{dec_lt}
 use Rattle.std.proofs.lemmas.Bool.Decides.{nat_tests}
-use Rattle.sim_queue.specs.Words.{IsNext, NoneFrom}
-use Rattle.sim_state.specs.declared.record.Record.{Record}
-use Rattle.sim_state.specs.Contents.{Contents}
-use Rattle.sim_state.proofs.Walks.{member_within, not_both}
+use Rattle.sim_store_sets.specs.Words.{IsNext, NoneFrom}
+use Rattle.sim_standard.specs.declared.record.Record.{Record}
+use Rattle.sim_store_state.specs.Contents.{Contents}
+use Rattle.sim_store_state.proofs.Walks.{member_within, not_both}
 use Rattle.sim_store.specs.Progress.{Progress, IsProgress, IsComplete, IsMissing, those_in}
 use Rattle.sim_store.proofs.Going.{complete-where-none}
 

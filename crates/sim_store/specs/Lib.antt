@@ -1,10 +1,3 @@
-pub mod Agreement
-pub mod Behaviour
-pub mod History
 pub mod Made
-pub mod Order
-pub mod Outcome
 pub mod Progress
-pub mod Standard
 pub mod Store
-pub mod Weaving

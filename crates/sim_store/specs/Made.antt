@@ -1,6 +1,7 @@
 -- What a simulation holds, and how far it has come by that.
+-- Of the implementation: what `simulate` promises does not rest on this file.
 use Rattle.std.specs.Prelude.{◌-◌, length}
-use Rattle.sim_design.specs.Designs.{Design}
+use Rattle.sim_flat_design.specs.Designs.{Design}
 use Rattle.sim_store.specs.declared.simulation.Made.{Made}
 use Rattle.sim_store.specs.Progress.{Progress, IsSimulation}
 
@@ -10,4 +11,4 @@ progress_of design m = record { design = design; cycles = length m.log.records -
 
 -- It is what the simulation of this design holds.
 abbrev pub IsOf : Design → Made → Type 0
-IsOf design m = IsSimulation (progress_of design m) m.wakes m.time m.delta m.state m.log.records m.due m.totals.items
+IsOf design m = IsSimulation (progress_of design m) m.sensitive m.time m.delta m.state m.log.records m.due m.totals.items

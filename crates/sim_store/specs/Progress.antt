@@ -1,21 +1,23 @@
 -- How far a simulation has come (IEEE 1076-2008, 14.7.5).
+-- Of the implementation: what `simulate` promises does not rest on this file.
 use Rattle.std.specs.Prelude.{ℕ, suc, ◌≡◌, ◌<◌, ◌≤◌, List, [], ◌∷◌, Bool, true, false, if◌then◌else◌, Option, None, Some, map, length, replicate}
 use Rattle.std.specs.Prelude.{slice_index_or, slice_set}
 use Rattle.std.specs.List.{All}
-use Rattle.sim_design.specs.Designs.{Design, most}
-use Rattle.sim_design.specs.Processes.{IsProcess}
-use Rattle.sim_exec.specs.State.{State, Owned, owned_at}
-use Rattle.sim_exec.specs.Processes.{part, outcome}
+use Rattle.sim_flat_design.specs.Designs.{Design, most}
+use Rattle.sim_flat_design.specs.Processes.{IsProcess}
+use Rattle.sim_standard.specs.State.{State, Owned, owned_at}
+use Rattle.sim_standard.specs.Processes.{part, outcome, process_at}
 use Rattle.sim_logic.specs.Time.{largest_time}
 use Rattle.sim_exec.specs.Jobs.{IsReady, Job, scene}
-use Rattle.sim_state.specs.declared.record.Record.{Record}
-use Rattle.sim_state.specs.Contents.{Contents, contents_of, sources_of}
-use Rattle.sim_state.specs.Records.{first_record}
-use Rattle.sim_state.specs.Wakes.{AreWakes}
-use Rattle.sim_state.specs.Cycles.{process_at, is_resumed, first_state}
-use Rattle.sim_store.specs.Agreement.{total_of}
-use Rattle.sim_store.specs.Order.{together}
-use Rattle.sim_store.specs.Standard.{standard, state_of, records_to, next_of, executed_in_turn, those}
+use Rattle.sim_standard.specs.declared.record.Record.{Record}
+use Rattle.sim_store_state.specs.Contents.{Contents, contents_of, sources_of}
+use Rattle.sim_standard.specs.Records.{first_record}
+use Rattle.sim_store_state.specs.Sensitive.{AreSensitive}
+use Rattle.sim_standard.specs.Cycle.{is_resumed, standard, state_of, next_cycle_time, executed_in_turn, those}
+use Rattle.sim_standard.specs.Initialization.{first_state}
+use Rattle.sim_standard.specs.Agreement.{total_of}
+use Rattle.sim_standard.specs.Together.{together}
+use Rattle.sim_standard.specs.Histories.{records_to}
 
 -- A simulation of a design, after a number of cycles, in which these processes have been executed since. All else follows.
 pub record Progress : Type 0 where
@@ -90,10 +92,10 @@ pub record IsResult (h : Progress) (p : ℕ) (own : Owned) : Type 0 where
   pub resumed : is_due h p ≡ true
   pub result : own ≡ outcome (process_at h.design.processes p) (part (process_at h.design.processes p) p (reached h))
 
--- The flat list that is made once is that of the design: for each net the processes that it wakes.
-pub record AreMade (design : Design) (wakes : List (List ℕ)) : Type 0 where
-  pub wakes_sized : length wakes ≡ length design.nets
-  pub wakes_are : AreWakes design.processes wakes
+-- The flat list that is made once is that of the design: for each net the processes that are sensitive to it.
+pub record AreMade (design : Design) (sensitive : List (List ℕ)) : Type 0 where
+  pub sensitive_sized : length sensitive ≡ length design.nets
+  pub sensitive_are : AreSensitive design.processes sensitive
 
 -- The totals are one for each net: how many changes it has in the records after the first.
 pub record AreTotals (nets : ℕ) (records : List Record) (totals : List ℕ) : Type 0 where
@@ -102,9 +104,9 @@ pub record AreTotals (nets : ℕ) (records : List Record) (totals : List ℕ) : 
 
 -- What is made of a design at first: that list, its first state with its record, that each process is due and none has been executed, and that no net
 -- had an event.
-pub record IsMade (design : Design) (wakes : List (List ℕ)) (held : Contents) (records : List Record) (due deposited : List Bool)
+pub record IsMade (design : Design) (sensitive : List (List ℕ)) (held : Contents) (records : List Record) (due deposited : List Bool)
     (totals : List ℕ) : Type 0 where
-  pub lists : AreMade design wakes
+  pub lists : AreMade design sensitive
   pub held_is : held ≡ contents_of design (first_state design)
   pub records_is : records ≡ first_record (first_state design) ∷ []
   pub due_is : due ≡ replicate (length design.processes) true
@@ -112,9 +114,9 @@ pub record IsMade (design : Design) (wakes : List (List ℕ)) (held : Contents) 
   pub totals_is : totals ≡ replicate (length design.nets) 0
 
 -- What a simulation holds: the list that was made once, the state, records and marks of its progress, and the totals of its nets.
-pub record IsSimulation (h : Progress) (wakes : List (List ℕ)) (time delta : ℕ) (held : Contents) (records : List Record)
+pub record IsSimulation (h : Progress) (sensitive : List (List ℕ)) (time delta : ℕ) (held : Contents) (records : List Record)
     (due : List Bool) (totals : List ℕ) : Type 0 where
-  pub made : AreMade h.design wakes
+  pub made : AreMade h.design sensitive
   pub progress : IsProgress h time delta held records due
   pub counts : AreTotals (length h.design.nets) records totals
 
@@ -131,11 +133,7 @@ pub record IsJobOf (h : Progress) (p : ℕ) (job : Job) : Type 0 where
 
 -- the time of the next cycle, once all that are due have been executed
 abbrev pub next_after : Progress → Option ℕ
-next_after h = next_of (executed_in_turn h.design h.cycles (reached h))
-
--- the time of the next cycle after a number of cycles of a design
-abbrev pub next_in : Design → ℕ → Option ℕ
-next_in design cycles = next_of (executed_in_turn design cycles (state_of design cycles))
+next_after h = next_cycle_time (executed_in_turn h.design h.cycles (reached h))
 
 -- The last cycle resumed this process.
 pub record IsDue (h : Progress) (p : ℕ) : Type 0 where

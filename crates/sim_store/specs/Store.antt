@@ -1,6 +1,7 @@
 -- The store of a run: a simulation, how far it may go, and how it ended (IEEE 1076-2008, 14.7.5.1).
+-- Of the implementation: what `simulate` promises does not rest on this file.
 use Rattle.std.specs.Prelude.{ℕ, suc, [], ◌≡◌, ◌≢◌, ◌<◌, ◌≤◌, List, Bool, true, false, Option, None, Some, MatchOption, length, replicate, slice_set}
-use Rattle.sim_design.specs.Designs.{Design}
+use Rattle.sim_flat_design.specs.Designs.{Design}
 use Rattle.sim_logic.specs.Time.{largest_time}
 use Rattle.sim_exec.specs.Jobs.{Job}
 use Rattle.sim_store.specs.declared.error.StoreError.{StoreError}
@@ -8,10 +9,10 @@ use Rattle.sim_store.specs.declared.error.StoreError.TheVariants as error
 use Rattle.sim_store.specs.declared.store.Step.{Step}
 use Rattle.sim_store.specs.declared.store.Step.TheVariants as step
 use Rattle.sim_store.specs.declared.store.Look.{Look}
-use Rattle.sim_store.specs.History.{event_count}
-use Rattle.sim_store.specs.Standard.{records_to, resumed, standard}
-use Rattle.sim_store.specs.Outcome.{FinishedAfter, LimitReached, HasOutcome, IsOver}
-use Rattle.sim_store.specs.Progress.{Progress, IsComplete, IsDue, IsMissing, IsLeastMissing, IsOwn, after, next_after, next_in, reached, those_in, with_marks}
+use Rattle.sim_standard.specs.Histories.{event_count, records_to}
+use Rattle.sim_standard.specs.Cycle.{resumed, standard, next_in}
+use Rattle.sim_standard.specs.Outcome.{FinishedAfter, LimitReached, HasOutcome, IsOver}
+use Rattle.sim_store.specs.Progress.{Progress, IsComplete, IsDue, IsMissing, IsLeastMissing, IsOwn, after, next_after, reached, those_in, with_marks}
 
 -- A store: its simulation, the stop time, the limit of cycles, and how the run ended.
 pub record Store : Type 0 where

@@ -1,19 +1,21 @@
 //! The processes that are due.
 
 ghost use Rattle.std.specs.Prelude.{ℕ, ◌≡◌, ◌<◌, List, length, replicate, true, ◌+◌, ◌^◌, IfOk, IfSome, MatchOption};
-ghost use Rattle.sim_design.specs.Processes.{Process};
-ghost use Rattle.sim_queue.specs.Words.{IsNext, NoneFrom};
-ghost use Rattle.sim_state.specs.Cycles.{has_event_in, process_at};
-ghost use Rattle.sim_state.specs.Wakes.{AreWakes};
+ghost use Rattle.sim_flat_design.specs.Processes.{Process};
+ghost use Rattle.sim_store_sets.specs.Words.{IsNext, NoneFrom};
+ghost use Rattle.sim_standard.specs.Cycle.{has_event_in};
+ghost use Rattle.sim_standard.specs.Processes.{process_at};
+ghost use Rattle.sim_store_state.specs.Sensitive.{AreSensitive};
 ghost use Rattle.sim_store.specs.Progress.{listed, those_in};
 
-use sim_queue::NumberSet;
-use sim_rows::Rows;
-use sim_state::FlatState;
+use sim_store_sets::NumberSet;
+use sim_store_sets::RowArray;
+use sim_store_state::FlatState;
 use std::alloc::{AllocError, Global};
 use std::marker::Model;
 
-/// Which processes the last cycle resumed, as a set and by their numbers. The contracts see for each process whether it is one.
+/// Which processes the last cycle resumed, as a set and by their numbers. The contracts see for
+/// each process whether it is one.
 #[derive(Drop)]
 pub struct Due {
     set: NumberSet,
@@ -64,14 +66,15 @@ impl Due {
         self.numbers.as_slice()
     }
 
-    /// Finds those that are due after a cycle: those that are sensitive to a net with an event. It takes no memory.
-    pub fn find(&mut self, state: &FlatState, wakes: &Rows<usize>)
-        requires { length wakes.now ≡ length state.now.nets }
+    /// Finds those that are due after a cycle: those that are sensitive to a net with an event. It
+    /// takes no memory.
+    pub fn find(&mut self, state: &FlatState, sensitive: &RowArray<usize>)
+        requires { length sensitive.now ≡ length state.now.nets }
         ensures sized { length self.new ≡ length self.old }
-        ensures found { (processes : List Process) (p : ℕ) → AreWakes processes wakes.now → p < length self.old
+        ensures found { (processes : List Process) (p : ℕ) → AreSensitive processes sensitive.now → p < length self.old
             → those_in self.new p ≡ has_event_in state.now.nets (process_at processes p).sensitivity }
     {
-        state.find_resumed(&mut self.set, wakes);
+        state.find_resumed(&mut self.set, sensitive);
         self.set.list(&mut self.numbers);
     }
 }

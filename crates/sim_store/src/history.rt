@@ -1,10 +1,10 @@
 //! Records of a log.
 
 ghost use Rattle.std.specs.Prelude.{◌≡◌, ◌≤◌, ◌<◌, length, drop, IfOk};
-ghost use Rattle.sim_state.specs.Log.{record_at};
+ghost use Rattle.sim_store_state.specs.Log.{record_at};
 
 use sim_logic::Logic;
-use sim_state::{Log, Record};
+use sim_store_state::{Log, Record};
 use sqlite_items::Items;
 use std::alloc::{AllocError, Global};
 

@@ -3,30 +3,30 @@
 ghost use Rattle.std.specs.Prelude.{ℕ, suc, ◌≡◌, ◌<◌, ◌≤◌, ◌^◌, ◌+◌, Some, None, Option, true, false, [], ◌∷◌, length, replicate, drop};
 ghost use Rattle.std.specs.Prelude.{slice_set, MatchOption, MatchResult, IfSome, IfOk, IfErr, OnOk, OnErr, ◌↔◌, IsTrue};
 ghost use Rattle.std.specs.List.{All};
-ghost use Rattle.sim_design.specs.Designs.{most};
-ghost use Rattle.sim_design.specs.Processes.{IsProcess};
-ghost use Rattle.sim_state.specs.Cycles as cycles;
-ghost use Rattle.sim_state.specs.Contents.{contents_of};
-ghost use Rattle.sim_state.specs.Records.{values_of};
-ghost use Rattle.sim_exec.specs.State.{driver_values, net_at, owned_at};
+ghost use Rattle.sim_flat_design.specs.Designs.{most};
+ghost use Rattle.sim_flat_design.specs.Processes.{IsProcess};
+ghost use Rattle.sim_standard.specs.Cycle as cycles;
+ghost use Rattle.sim_store_state.specs.Contents.{contents_of};
+ghost use Rattle.sim_standard.specs.Records.{values_of};
+ghost use Rattle.sim_standard.specs.State.{driver_values, net_at, owned_at};
 ghost use Rattle.sim_logic.specs.Time.{largest_time};
-ghost use Rattle.sim_store.specs.Agreement.{total_of, value_by};
-ghost use Rattle.sim_store.specs.History.{IsNamed, event_count};
+ghost use Rattle.sim_standard.specs.Agreement.{total_of, value_by};
+ghost use Rattle.sim_standard.specs.Histories.{IsNamed, event_count, records_to};
 ghost use Rattle.sim_store.specs.Made.{IsOf, progress_of};
 ghost use Rattle.sim_store.specs.Progress as spec;
-ghost use Rattle.sim_store.specs.Standard.{records_to, resumed, standard};
+ghost use Rattle.sim_standard.specs.Cycle.{resumed, standard};
 ghost use Rattle.sim_store.specs.Store as store;
 
 use crate::due::Due;
 use crate::error::StoreError;
 use crate::history::records_from;
 use crate::totals::{count_last, none};
-use sim_design::{Design, Process};
+use sim_flat_design::{Design, Process};
 use sim_exec::{Done, Job, Results};
 use sim_logic::Logic;
-use sim_queue::NumberSet;
-use sim_rows::Rows;
-use sim_state::{FlatState, Log, Record, wakes};
+use sim_store_sets::NumberSet;
+use sim_store_sets::RowArray;
+use sim_store_state::{FlatState, Log, Record, sensitive};
 use std::alloc::{AllocError, Global};
 use std::marker::Model;
 
@@ -56,7 +56,8 @@ fn are_processes(processes: &[Process])
     }
 }
 
-/// Puts what an executed process owns in the place of what it owned, where that is other than before. It takes no memory.
+/// Puts what an executed process owns in the place of what it owned, where that is other than
+/// before. It takes no memory.
 fn put_results(state: &mut FlatState, number: usize, results: Option<Results>)
     requires at { number < length state.old.owned }
     requires drivers { MatchOption results Unit (λ r. length r.drivers ≡ length (owned_at state.old.owned number).drivers) }
@@ -71,12 +72,13 @@ fn put_results(state: &mut FlatState, number: usize, results: Option<Results>)
     }
 }
 
-/// What is made of a design, and carried on from cycle to cycle: the time and the delta number of the last cycle, and the lists.
+/// What is made of a design, and carried on from cycle to cycle: the time and the delta number of
+/// the last cycle, and the lists.
 #[derive(Drop)]
 struct Made {
     time: u64,
     delta: u64,
-    wakes: Rows<usize>,
+    sensitive: RowArray<usize>,
     state: FlatState,
     log: Log,
     due: Due,
@@ -106,7 +108,8 @@ fn started(alloc: Global, design: &Design) -> Result<(FlatState, Log), AllocErro
     Ok((state, log))
 }
 
-/// That each of these processes is to be executed, none has been, and none of these nets had an event.
+/// That each of these processes is to be executed, none has been, and none of these nets had an
+/// event.
 fn marks(
     alloc: Global,
     processes: usize,
@@ -122,19 +125,20 @@ fn marks(
     Ok((due, deposited, totals))
 }
 
-/// What is made of a design: the flat lists of its nets, its first state with its record, that each process is to be executed, and that no net had an event.
+/// What is made of a design: the flat lists of its nets, its first state with its record, that each
+/// process is to be executed, and that no net had an event.
 fn prepared(alloc: Global, design: &Design) -> Result<Made, AllocError>
     ensures start { IfOk result (λ m. (m.time ≡ 0) × (m.delta ≡ 0)) }
-    ensures lists { IfOk result (λ m. spec.IsMade design.now m.wakes m.state m.log.records m.due m.deposited m.totals.items) }
+    ensures lists { IfOk result (λ m. spec.IsMade design.now m.sensitive m.state m.log.records m.due m.deposited m.totals.items) }
 {
     let nets = design.nets().len();
     let (due, deposited, totals) = marks(alloc, design.processes().len(), nets)?;
-    let wakes = wakes(alloc, design)?;
+    let sensitive = sensitive(alloc, design)?;
     let (state, log) = started(alloc, design)?;
     Ok(Made {
         time: 0,
         delta: 0,
-        wakes,
+        sensitive,
         state,
         log,
         due,
@@ -168,7 +172,8 @@ fn execute(alloc: Global, design: &Design, made: &mut Made, number: usize) -> Re
     Ok(())
 }
 
-/// Executes all that are due and have not been executed since the last cycle, in place and in rising order.
+/// Executes all that are due and have not been executed since the last cycle, in place and in
+/// rising order.
 fn execute_all(alloc: Global, design: &Design, made: &mut Made) -> Result<(), AllocError>
     requires { IsOf design.now made.old }
     ensures of { OnOk result (IsOf design.now made.new) }
@@ -183,7 +188,8 @@ fn execute_all(alloc: Global, design: &Design, made: &mut Made) -> Result<(), Al
     Ok(())
 }
 
-/// A simulation of a design, as far as it has come. By its type, what it holds is what the cycle gives.
+/// A simulation of a design, as far as it has come. By its type, what it holds is what the cycle
+/// gives.
 #[derive(Drop)]
 pub struct Simulation {
     design: Design,
@@ -192,9 +198,9 @@ pub struct Simulation {
 
 impl Model for Simulation {
     ghost use Rattle.std.specs.Coded.{codes};
-    ghost use Rattle.sim_design.specs.contracts.expression.LogicExpression as logic;
-    ghost use Rattle.sim_design.specs.contracts.expression.BooleanExpression as boolean;
-    ghost use Rattle.sim_design.specs.contracts.statement.Statement as statement;
+    ghost use Rattle.sim_flat_design.specs.contracts.expression.LogicExpression as logic;
+    ghost use Rattle.sim_flat_design.specs.contracts.expression.BooleanExpression as boolean;
+    ghost use Rattle.sim_flat_design.specs.contracts.statement.Statement as statement;
     ghost use Rattle.sim_store.specs.Progress.{Progress};
     ghost use Rattle.sim_store.specs.Made.{IsOf, progress_of};
 
@@ -211,7 +217,8 @@ impl Simulation {
     ghost use Rattle.std.specs.Prelude.{◌≡◌, ◌↔◌, IsTrue, Some, false, length, replicate};
     ghost use Rattle.std.specs.Prelude.{IfErr, IfOk, IfSome, OnOk, OnErr, MatchOption, MatchResult};
 
-    /// The simulation of a design at its start: the initialization is recorded, and each process is due. Where memory is refused, the design comes back.
+    /// The simulation of a design at its start: the initialization is recorded, and each process is
+    /// due. If allocation fails, the design comes back.
     pub fn begin(alloc: Global, design: Design) -> Result<Simulation, (AllocError, Design)>
         ensures ok { IfOk result (λ s. s ≡ record { design = design; cycles = 0; deposited = replicate (length design.processes) false }) }
         ensures err { IfErr result (λ e. e.1 ≡ design) }
@@ -225,7 +232,8 @@ impl Simulation {
         }
     }
 
-    /// The job of a process that has not been executed since the last cycle: a copy of its part of the state.
+    /// The job of a process that has not been executed since the last cycle: a copy of its part of
+    /// the state.
     pub fn job(&self, alloc: Global, number: usize) -> Result<Job, AllocError>
         requires at { number < length self.now.design.processes }
         requires fresh { spec.those_in self.now.deposited number ≡ false }
@@ -281,7 +289,8 @@ impl Simulation {
         self.made.deposited.contains(number)
     }
 
-    /// Whether a job is what its process would be handed out now, but for its cycle. It takes no memory.
+    /// Whether a job is what its process would be handed out now, but for its cycle. It takes no
+    /// memory.
     pub fn is_own(&self, job: &Job) -> bool
         requires at { job.now.number < length self.now.design.processes }
         requires fresh { spec.those_in self.now.deposited job.now.number ≡ false }
@@ -303,7 +312,8 @@ impl Simulation {
         )
     }
 
-    /// Takes the result of a process that is due and has not been executed: what it owns is what its execution gave. Nothing else changes.
+    /// Takes the result of a process that is due and has not been executed: what it owns is what
+    /// its execution gave. Nothing else changes.
     pub fn deposit(&mut self, done: Done)
         requires own { spec.IsOwn self.old done }
         requires missing { spec.IsMissing self.old done.number }
@@ -316,7 +326,8 @@ impl Simulation {
         self.made.deposited.insert(number);
     }
 
-    /// Carries out the cycle at the time of the next, once all that are due have been executed (14.7.5.3). Where memory is refused nothing changes.
+    /// Carries out the cycle at the time of the next, once all that are due have been executed
+    /// (14.7.5.3). If allocation fails nothing changes.
     pub fn go_on(&mut self, time: u64) -> Result<(), AllocError>
         requires complete { spec.IsComplete self.old }
         requires next { spec.next_after self.old ≡ Some time }
@@ -335,7 +346,7 @@ impl Simulation {
             .state
             .record(&mut self.made.log, time, self.made.delta);
         count_last(self.made.totals.as_mut_slice(), &self.made.log);
-        self.made.due.find(&self.made.state, &self.made.wakes);
+        self.made.due.find(&self.made.state, &self.made.sensitive);
         self.made.deposited.clear();
         Ok(())
     }
@@ -374,8 +385,9 @@ impl Simulation {
         None
     }
 
-    /// Executes all that are due and have not been executed since the last cycle, in place and in rising order. Where memory is refused the simulation
-    /// is gone: of the process that wanted it neither the state before its execution is left nor that after it.
+    /// Executes all that are due and have not been executed since the last cycle, in place and in
+    /// rising order. If allocation fails the simulation is gone: of the process that wanted it
+    /// neither the state before its execution is left nor that after it.
     pub fn execute_due(self, alloc: Global) -> Result<Simulation, AllocError>
         ensures same { IfOk result (λ s. s ≡ spec.with_marks self s.deposited) }
         ensures complete { IfOk result spec.IsComplete }
@@ -404,7 +416,8 @@ impl Simulation {
         (self.made.time, self.made.delta)
     }
 
-    /// The value of the net with a number; none beyond the last. It is also that of its last change in the records.
+    /// The value of the net with a number; none beyond the last. It is also that of its last change
+    /// in the records.
     pub fn value(&self, net: usize) -> Option<Logic>
         ensures value { MatchOption result (length self.now.design.nets ≤ net)
             (λ v. (net < length self.now.design.nets) × (v ≡ (net_at (spec.reached self.now).nets net).value)) }

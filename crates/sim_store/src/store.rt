@@ -2,14 +2,13 @@
 
 ghost use Rattle.std.specs.Prelude.{◌≡◌, ◌<◌, ◌≤◌, Ok, Err, Some, None, suc, drop, length};
 ghost use Rattle.std.specs.Prelude.{MatchOption, MatchResult, IfSome, IfOk, IfErr, OnOk, OnErr};
-ghost use Rattle.sim_design.specs.Designs.{most};
+ghost use Rattle.sim_flat_design.specs.Designs.{most};
 ghost use Rattle.sim_logic.specs.Time.{largest_time};
 ghost use Rattle.std.specs.List.{All};
-ghost use Rattle.sim_exec.specs.State.{net_at};
-ghost use Rattle.sim_store.specs.Agreement.{total_of, value_by};
-ghost use Rattle.sim_store.specs.History.{IsNamed};
-ghost use Rattle.sim_store.specs.Standard.{records_to};
-ghost use Rattle.sim_store.specs.Outcome.{IsOver};
+ghost use Rattle.sim_standard.specs.State.{net_at};
+ghost use Rattle.sim_standard.specs.Agreement.{total_of, value_by};
+ghost use Rattle.sim_standard.specs.Histories.{IsNamed, records_to};
+ghost use Rattle.sim_standard.specs.Outcome.{IsOver};
 ghost use Rattle.sim_store.specs.Progress as progress;
 ghost use Rattle.sim_store.specs.Store as spec;
 ghost use Rattle.sim_store.specs.declared.error.StoreError.TheVariants as refusal;
@@ -17,10 +16,10 @@ ghost use Rattle.sim_store.specs.declared.store.Step.TheVariants as step;
 
 use crate::error::StoreError;
 use crate::simulation::Simulation;
-use sim_design::Design;
+use sim_flat_design::Design;
 use sim_exec::{Done, Job};
 use sim_logic::{LATEST, Logic};
-use sim_state::{Log, Record};
+use sim_store_state::{Log, Record};
 use std::alloc::{AllocError, Global};
 use std::marker::Model;
 
@@ -61,8 +60,8 @@ fn next_within(simulation: &mut Simulation, stop: u64) -> Result<Option<u64>, Al
     }
 }
 
-/// The state of a run, and its history: by its type, what is recorded is what the simulation cycle of its design gives, one process at a time, and
-/// how the run ended is its outcome.
+/// The state of a run, and its history: by its type, what is recorded is what the simulation cycle
+/// of its design gives, one process at a time, and how the run ended is its outcome.
 #[derive(Drop)]
 pub struct WaveStore {
     simulation: Simulation,
@@ -73,9 +72,9 @@ pub struct WaveStore {
 
 impl Model for WaveStore {
     ghost use Rattle.std.specs.Coded.{codes};
-    ghost use Rattle.sim_design.specs.contracts.expression.LogicExpression as logic;
-    ghost use Rattle.sim_design.specs.contracts.expression.BooleanExpression as boolean;
-    ghost use Rattle.sim_design.specs.contracts.statement.Statement as statement;
+    ghost use Rattle.sim_flat_design.specs.contracts.expression.LogicExpression as logic;
+    ghost use Rattle.sim_flat_design.specs.contracts.expression.BooleanExpression as boolean;
+    ghost use Rattle.sim_flat_design.specs.contracts.statement.Statement as statement;
     ghost use Rattle.sim_store.specs.Store.{Store, IsStore};
 
     ghost Value = { Store };
@@ -88,9 +87,10 @@ impl Model for WaveStore {
 }
 
 impl WaveStore {
-    /// The store of a design that was initialized (14.7.5.2): record 0 has every net, and all processes are due. The stop time is in femtoseconds; the
-    /// run may go on for as many cycles as the limit says. The design comes back with `StopTooLate`, where the stop time is above 2^62 - 1, and
-    /// with `Memory`.
+    /// The store of a design that was initialized (14.7.5.2): record 0 has every net, and all
+    /// processes are due. The stop time is in femtoseconds; the run may go on for as many cycles as
+    /// the limit says. The design comes back with `StopTooLate`, where the stop time is above 2^62
+    /// - 1, and with `Memory`.
     pub fn new(
         alloc: Global,
         design: Design,
@@ -114,7 +114,8 @@ impl WaveStore {
         }
     }
 
-    /// The job of a process that is due and has not been executed since the last cycle. Refusals: `Ended`, `NotDue`, `Twice`, `Memory`, in this order.
+    /// The job of a process that is due and has not been executed since the last cycle. Refusals:
+    /// `Ended`, `NotDue`, `Twice`, `Memory`, in this order.
     pub fn job(&self, alloc: Global, process: usize) -> Result<Job, StoreError>
         ensures ok { IfOk result (λ job. spec.IsOpen self.now × progress.IsMissing self.now.progress process
             × progress.IsJobOf self.now.progress process job) }
@@ -128,8 +129,9 @@ impl WaveStore {
         Ok(job)
     }
 
-    /// Takes the result of a process: it owns what its execution gave, and nothing else changes. It takes no memory. Refusals: `Ended`, `Stale`, `NotDue`,
-    /// `Twice`, `Foreign`, in this order; the result then comes back.
+    /// Takes the result of a process: it owns what its execution gave, and nothing else changes. It
+    /// takes no memory. Refusals: `Ended`, `Stale`, `NotDue`, `Twice`, `Foreign`, in this order;
+    /// the result then comes back.
     pub fn deposit(&mut self, done: Done) -> Result<(), (StoreError, Done)>
         ensures ok { OnOk result (spec.IsTaken self.old done × (self.new ≡ spec.deposited self.old done.number)) }
         ensures err { IfErr result (λ e. spec.IsDepositRefusal self.old done e.0 × (e.1 ≡ done)) }
@@ -161,8 +163,9 @@ impl WaveStore {
         Ok(())
     }
 
-    /// Executes all that are due and have not been executed since the last cycle, in place and in rising order of their numbers, on this thread. Where
-    /// memory is refused the store is gone: of the process that wanted it neither the state before its execution is left nor that after it.
+    /// Executes all that are due and have not been executed since the last cycle, in place and in
+    /// rising order of their numbers, on this thread. Where memory is refused the store is gone: of
+    /// the process that wanted it neither the state before its execution is left nor that after it.
     pub fn execute_due(self, alloc: Global) -> Result<WaveStore, AllocError>
         ensures same { IfOk result (λ s. s ≡ spec.with_deposited self s.progress.deposited) }
         ensures complete { IfOk result (λ s. progress.IsComplete s.progress) }
@@ -185,9 +188,11 @@ impl WaveStore {
         })
     }
 
-    /// Goes on to the next cycle (14.7.5.3) once all that are due have been executed. It answers `Finished` where nothing is pending up to the stop time, and
-    /// `LimitReached` where the limit would be passed: then the run has ended and its records stay. Refusals: `Ended`, `Missing` with
-    /// the least process that has not been executed, `Memory`, in this order. What grows are the store's own lists, which keep their allocator.
+    /// Goes on to the next cycle (14.7.5.3) once all that are due have been executed. It answers
+    /// `Finished` where nothing is pending up to the stop time, and `LimitReached` where the limit
+    /// would be passed: then the run has ended and its records stay. Refusals: `Ended`, `Missing`
+    /// with the least process that has not been executed, `Memory`, in this order. What grows are
+    /// the store's own lists, which keep their allocator.
     pub fn advance(&mut self, _alloc: Global) -> Result<Step, StoreError>
         ensures ok { IfOk result (λ s. spec.IsAdvanced self.old self.new s) }
         ensures err { IfErr result (spec.IsAdvanceRefusal self.old) }
@@ -262,7 +267,8 @@ impl WaveStore {
         self.limit
     }
 
-    /// The numbers of the processes that the last cycle resumed, rising, whether or not they have been executed since; none where the run has ended.
+    /// The numbers of the processes that the last cycle resumed, rising, whether or not they have
+    /// been executed since; none where the run has ended.
     pub fn due(&self) -> &[usize]
         ensures value { result.now ≡ spec.due_of self.now }
         ensures few { length result.now ≤ most }
@@ -273,7 +279,8 @@ impl WaveStore {
         self.simulation.due()
     }
 
-    /// How far the run has come. Whoever has a store knows so too that it is within its bounds, and that its drivers' waveforms rise.
+    /// How far the run has come. Whoever has a store knows so too that it is within its bounds, and
+    /// that its drivers' waveforms rise.
     pub fn look(&self) -> Look
         ensures value { result ≡ spec.look_of self.now }
         ensures within { spec.IsWithin self.now }
@@ -288,7 +295,8 @@ impl WaveStore {
         }
     }
 
-    /// The value of the net with a number; none beyond the last. It is also that of its last change in the records.
+    /// The value of the net with a number; none beyond the last. It is also that of its last change
+    /// in the records.
     pub fn value(&self, net: usize) -> Option<Logic>
         ensures value { MatchOption result (length self.now.progress.design.nets ≤ net)
             (λ v. (net < length self.now.progress.design.nets) × (v ≡ (net_at (progress.reached self.now.progress).nets net).value)) }
@@ -297,7 +305,8 @@ impl WaveStore {
         self.simulation.value(net)
     }
 
-    /// How many events the net with a number had after the initialization; none beyond the last. They are its changes in the records after the first.
+    /// How many events the net with a number had after the initialization; none beyond the last.
+    /// They are its changes in the records after the first.
     pub fn total(&self, net: usize) -> Option<u64>
         ensures { MatchOption result (length self.now.progress.design.nets ≤ net)
             (λ t. (net < length self.now.progress.design.nets)
@@ -306,7 +315,8 @@ impl WaveStore {
         self.simulation.total(net)
     }
 
-    /// The log of all records, in which nothing is copied: for each when it is, and its changes in net order. Record 0 has every net.
+    /// The log of all records, in which nothing is copied: for each when it is, and its changes in
+    /// net order. Record 0 has every net.
     pub fn history(&self) -> &Log
         ensures records { result.now.records ≡ records_to self.now.progress.design self.now.progress.cycles }
         ensures named { All (IsNamed (length self.now.progress.design.nets)) result.now.records }
@@ -314,7 +324,8 @@ impl WaveStore {
         self.simulation.history()
     }
 
-    /// The records from a number on, none where that is how many there are. Refusals: `Behind` where there are fewer, `Memory`, in this order.
+    /// The records from a number on, none where that is how many there are. Refusals: `Behind`
+    /// where there are fewer, `Memory`, in this order.
     pub fn records_since(&self, alloc: Global, number: usize) -> Result<Vec<Record>, StoreError>
         ensures ok { IfOk result (λ v. (number ≤ suc self.now.progress.cycles)
             × (v.items ≡ drop number (records_to self.now.progress.design self.now.progress.cycles))) }

@@ -2,11 +2,11 @@
 
 ghost use Rattle.std.specs.Prelude.{ℕ, ◌≡◌, ◌==◌, ◌<◌, ◌+◌, ◌-◌, ◌^◌, length, replicate, slice_index_or, if◌then◌else◌, IfOk};
 ghost use Rattle.std.specs.List.{filter};
-ghost use Rattle.sim_state.specs.Log.{record_at};
-ghost use Rattle.sim_store.specs.Agreement.{is_of};
+ghost use Rattle.sim_store_state.specs.Log.{record_at};
+ghost use Rattle.sim_standard.specs.Agreement.{is_of};
 
 use sim_logic::Logic;
-use sim_state::Log;
+use sim_store_state::Log;
 use std::alloc::{AllocError, Global};
 
 /// This number of nets, none of which had an event.

@@ -11,7 +11,8 @@ use sim_store::{Look, Record, Step, StoreError, WaveStore};
 use std::alloc::Global;
 use std::test::Fail;
 
-/// The exchange of two flip-flops, whose results are handed in from the last to the first: whether the store answers so.
+/// The exchange of two flip-flops, whose results are handed in from the last to the first: whether
+/// the store answers so.
 fn exchanged(alloc: Global) -> Option<WaveStore> {
     let mut store = after(alloc, EXCHANGE, 10, 1)?;
     let mut kept = Vec::new(alloc);
@@ -58,7 +59,8 @@ fn who_is_sensitive_to_what_changed_is_due(rt: HostRuntime) -> Result<(), Fail> 
     Ok(())
 }
 
-/// Whether a store has ended after four records, two events and ten nanoseconds, and nothing is due.
+/// Whether a store has ended after four records, two events and ten nanoseconds, and nothing is
+/// due.
 fn has_ended(store: &WaveStore) -> bool {
     let look = Look {
         records: 4,

@@ -1,5 +1,5 @@
-//! Tests of the store on whole texts: results that are taken and refused, cycles that are carried out, and the readers, against answers that were worked by
-//! hand from the standard.
+//! Tests of the store on whole texts: results that are taken and refused, cycles that are carried
+//! out, and the readers, against answers that were worked by hand from the standard.
 #![tactic(auto)]
 
 #[cfg(test)]

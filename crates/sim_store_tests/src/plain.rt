@@ -1,8 +1,9 @@
-//! A store beside a plain program of the standard's cycle, which looks at every driver, net and process in each cycle.
+//! A store beside a plain program of the standard's cycle, which looks at every driver, net and
+//! process in each cycle.
 
 use crate::records::is_record;
 use crate::texts::{CHOICE, EXCHANGE, ONCE, PULSES, TOGGLE, TWO_DRIVERS, after, design};
-use sim_plain::{Snapshot, snapshots};
+use sim_store_reference::{Snapshot, snapshots};
 use sim_store::Record;
 use std::alloc::Global;
 use std::test::Fail;

@@ -1,6 +1,6 @@
 //! Texts, and their stores.
 
-use sim_design::Design;
+use sim_flat_design::Design;
 use sim_exec::Done;
 use sim_logic::LATEST;
 use sim_run::{Options, elaborate};
@@ -35,7 +35,8 @@ pub const CHOICE: &str =
     "entity t is end;architecture a of t is signal a,q:std_logic:='0';begin a <= '1' after 1 ns; \
 q <= '1' after 8 ns when a = '0' else '1' after 9 ns; end;";
 
-/// Pulses on a signal with two drivers, some of them rejected, through instances, with a delta cycle after each.
+/// Pulses on a signal with two drivers, some of them rejected, through instances, with a delta
+/// cycle after each.
 pub const PULSES: &str =
     "entity e is port (signal i : in std_logic; signal o : out std_logic); end;\
 architecture a of e is signal m : std_logic := '1'; begin m <= i; o <= transport not m after 3 ns, m after 4 ns; end;\

@@ -1,23 +1,23 @@
 -- The readers that the code reads in parts: each part is a function of its own, from whose answer the others go on.
 use Rattle.std.proofs.Common.{◌≡◌, refl, ℕ, Bool, true, false, if◌then◌else◌, List, [], Option}
-use Rattle.sim_token.specs.declared.kind.Kind.{Kind}
-use Rattle.sim_token.specs.declared.kind.Kind.TheVariants as k
-use Rattle.sim_tree.specs.Name.{Name}
-use Rattle.sim_tree.specs.Input.{Input, next}
-use Rattle.sim_tree.specs.declared.declaration.Declaration.{Declaration}
-use Rattle.sim_tree.specs.declared.declaration.ObjectDeclaration.{ObjectDeclaration}
-use Rattle.sim_tree.specs.declared.declaration.PortDeclaration.{PortDeclaration}
-use Rattle.sim_tree.specs.declared.unit.Sensitivity.{Sensitivity}
-use Rattle.sim_tree.specs.declared.unit.Instantiated.{Instantiated}
-use Rattle.sim_tree.specs.declared.unit.Instantiated.TheVariants as made
-use Rattle.sim_tree.specs.declared.unit.Concurrent.TheVariants as c
-use Rattle.sim_tree.specs.declared.unit.ContextItem.TheVariants as items
-use Rattle.sim_reading.specs.Readers.{Outcome, Parser, and_then, pure, eat, expect, word}
-use Rattle.sim_reading.specs.Declarations.{names, object, initial, ports, port_list, component, component_end, declarations, repeated, variables}
-use Rattle.sim_reading.specs.Statements.{statements, label_again}
-use Rattle.sim_reading.specs.Concurrents.{associations, chosen, concurrents, entity_named, instance, port_map, process, process_body, sensitivity}
-use Rattle.sim_reading.specs.Units.{entity, architecture, architecture_body, item_by, selected_names}
-use Rattle.sim_reading.proofs.Parts.{within, beyond}
+use Rattle.sim_text_tokens.specs.declared.kind.Kind.{Kind}
+use Rattle.sim_text_tokens.specs.declared.kind.Kind.TheVariants as k
+use Rattle.sim_text_tree.specs.Name.{Name}
+use Rattle.sim_text_tree.specs.Input.{Input, next}
+use Rattle.sim_text_tree.specs.declared.declaration.Declaration.{Declaration}
+use Rattle.sim_text_tree.specs.declared.declaration.ObjectDeclaration.{ObjectDeclaration}
+use Rattle.sim_text_tree.specs.declared.declaration.PortDeclaration.{PortDeclaration}
+use Rattle.sim_text_tree.specs.declared.unit.Sensitivity.{Sensitivity}
+use Rattle.sim_text_tree.specs.declared.unit.Instantiated.{Instantiated}
+use Rattle.sim_text_tree.specs.declared.unit.Instantiated.TheVariants as made
+use Rattle.sim_text_tree.specs.declared.unit.Concurrent.TheVariants as c
+use Rattle.sim_text_tree.specs.declared.unit.ContextItem.TheVariants as items
+use Rattle.sim_text_grammar.specs.Readers.{Outcome, Parser, and_then, pure, eat, expect, word}
+use Rattle.sim_text_grammar.specs.Declarations.{names, object, initial, ports, port_list, component, component_end, declarations, repeated, variables}
+use Rattle.sim_text_grammar.specs.Statements.{statements, label_again}
+use Rattle.sim_text_grammar.specs.Concurrents.{associations, chosen, concurrents, entity_named, instance, port_map, process, process_body, sensitivity}
+use Rattle.sim_text_grammar.specs.Units.{entity, architecture, architecture_body, item_by, selected_names}
+use Rattle.sim_text_grammar.proofs.Parts.{within, beyond}
 
 -- what was read, where a semicolon comes next, and so for a parenthesis
 abbrev ended : {A : Type 0} → Outcome A → Outcome A

@@ -5,16 +5,16 @@ use Rattle.std.specs.List.{slice_get, Contains}
 use Rattle.std.proofs.lemmas.List.Elements.{Contains-get_or, Contains-append_right}
 use Rattle.std.proofs.lemmas.Option.{slice_get_read, slice_get_cases}
 use Rattle.std.proofs.Math.Seq.{get_or-append_seam}
-use Rattle.sim_token.specs.Token.{Token}
-use Rattle.sim_reading.specs.declared.error.ParseError.{ParseError}
-use Rattle.sim_reading.specs.declared.error.ParseError.TheVariants as error
-use Rattle.sim_tree.specs.Input.{Input}
-use Rattle.sim_reading.specs.Readers.{Reads}
-use Rattle.sim_reading.specs.Faults.{IsTooLarge, IsOpening}
-use Rattle.sim_reading.specs.Units.{file}
-use Rattle.sim_reading.proofs.WholeFiles.{is_found, is_only, is_refused, large_time, deep_opening}
-use Rattle.sim_tree.specs.DesignFile.{DesignFile}
-use Rattle.sim_tree.specs.Grammar.{IsFile}
+use Rattle.sim_text_tokens.specs.Token.{Token}
+use Rattle.sim_text_grammar.specs.declared.error.ParseError.{ParseError}
+use Rattle.sim_text_grammar.specs.declared.error.ParseError.TheVariants as error
+use Rattle.sim_text_tree.specs.Input.{Input}
+use Rattle.sim_text_grammar.specs.Readers.{Reads}
+use Rattle.sim_text_grammar.specs.Faults.{IsTooLarge, IsOpening}
+use Rattle.sim_text_grammar.specs.Units.{file}
+use Rattle.sim_text_grammar.proofs.WholeFiles.{is_found, is_only, is_refused, large_time, deep_opening}
+use Rattle.sim_text_tree.specs.DesignFile.{DesignFile}
+use Rattle.sim_text_tree.specs.Grammar.{IsFile}
 use Rattle.sim_text.specs.Faults.{place_of, start_or, fault_of, HasLargeTime, OpensAt, IsPlace, AreNoFile, IsFaultOf}
 
 seam : {X : Type 0} (front : List X) (x : X) (rest : List X) → slice_get (front ++ x ∷ rest) (length front) ≡ Some x
@@ -78,12 +78,12 @@ place_at tokens n end = place_in tokens (length tokens - n) end (slice_get_cases
 no_file : (i m : Input) (e : ParseError) → e ≢ error.OutOfMemory → Reads (file i) (Err e) m → AreNoFile i
 no_file i m e some r = λ other w. is_refused i e other (r some) w
 
--- the fault that is told of the tokens is one that they have
-pub told_of : (i m : Input) (end : ℕ) (e : ParseError) → Reads (file i) (Err e) m → IsFaultOf i end (fault_of i end e)
-told_of i m end error.OutOfMemory r = tt
-told_of i m end (error.Syntax n) r = (no_file i m (error.Syntax n) (λ p. absurd cc) r, place_at i n end)
-told_of i m end (error.TooDeep n) r = (no_file i m (error.TooDeep n) (λ p. absurd cc) r, opens_at i n end (deep_opening i n (r (λ q. absurd cc))))
-told_of i m end (error.TimeRange n) r = (no_file i m (error.TimeRange n) (λ p. absurd cc) r, large_at i n end (large_time i n (r (λ q. absurd cc))))
+-- the fault that is reported of the tokens is one that they have
+pub reported_of : (i m : Input) (end : ℕ) (e : ParseError) → Reads (file i) (Err e) m → IsFaultOf i end (fault_of i end e)
+reported_of i m end error.OutOfMemory r = tt
+reported_of i m end (error.Syntax n) r = (no_file i m (error.Syntax n) (λ p. absurd cc) r, place_at i n end)
+reported_of i m end (error.TooDeep n) r = (no_file i m (error.TooDeep n) (λ p. absurd cc) r, opens_at i n end (deep_opening i n (r (λ q. absurd cc))))
+reported_of i m end (error.TimeRange n) r = (no_file i m (error.TimeRange n) (λ p. absurd cc) r, large_at i n end (large_time i n (r (λ q. absurd cc))))
 
 -- what the reader of a file answers of the tokens
 pub found_of : (i m : Input) (r : Result DesignFile ParseError) → Reads (file i) r m → IfOk r (λ f. IsFile f i)
@@ -97,4 +97,4 @@ only_of i m (Err e) h = tt
 pub refused_of : (i m : Input) (r : Result DesignFile ParseError) → Reads (file i) r m
     → IfErr r (λ e. (end : ℕ) → IsFaultOf i end (fault_of i end e))
 refused_of i m (Ok f) h = tt
-refused_of i m (Err e) h = λ end. told_of i m end e h
+refused_of i m (Err e) h = λ end. reported_of i m end e h

@@ -1,13 +1,13 @@
 -- The file of a text's tokens is the only one that the text is; and their fault is the text's, when they are cut again.
 use Rattle.std.proofs.Common.{◌≡◌, ℕ, List, length, Result, Ok, Err, IfOk, subst}
-use Rattle.sim_token.specs.Token.{Token}
-use Rattle.sim_token.specs.declared.error.TextError.{TextError}
-use Rattle.sim_token.specs.Cutting.{AreTokens}
-use Rattle.sim_token.proofs.Cuts.{one_cutting}
-use Rattle.sim_tree.specs.DesignFile.{DesignFile}
-use Rattle.sim_tree.specs.Grammar.{IsFile}
-use Rattle.sim_reading.specs.declared.error.ParseError.{ParseError}
-use Rattle.sim_reading.specs.declared.error.ParseError.TheVariants as error
+use Rattle.sim_text_tokens.specs.Token.{Token}
+use Rattle.sim_text_tokens.specs.declared.error.TextError.{TextError}
+use Rattle.sim_text_tokens.specs.Cutting.{AreTokens}
+use Rattle.sim_text_tokens.proofs.Cuts.{one_cutting}
+use Rattle.sim_text_tree.specs.DesignFile.{DesignFile}
+use Rattle.sim_text_tree.specs.Grammar.{IsFile}
+use Rattle.sim_text_grammar.specs.declared.error.ParseError.{ParseError}
+use Rattle.sim_text_grammar.specs.declared.error.ParseError.TheVariants as error
 use Rattle.sim_text.specs.Faults.{IsFaultOf, fault_of}
 use Rattle.sim_text.specs.Texts.{HasTokens, IsText, IsFault}
 
@@ -27,10 +27,10 @@ again text e ts are h = record {
   holds = subst (λ us. IsFaultOf us (length text) (fault_of us (length text) e)) (one_cutting text h.tokens ts h.are_tokens are) h.holds;
 }
 
--- The fault of the tokens, told of those that were cut again.
-pub told_again : (text : List ℕ) (e : ParseError) (ts : List Token) → AreTokens text ts
+-- The fault of the tokens, reported of those that were cut again.
+pub reported_again : (text : List ℕ) (e : ParseError) (ts : List Token) → AreTokens text ts
     → HasTokens text (λ us. IsFaultOf us (length text) (fault_of us (length text) e)) → IsFault text (fault_of ts (length text) e)
-told_again text error.OutOfMemory ts are h = tt
-told_again text (error.Syntax n) ts are h = again text (error.Syntax n) ts are h
-told_again text (error.TooDeep n) ts are h = again text (error.TooDeep n) ts are h
-told_again text (error.TimeRange n) ts are h = again text (error.TimeRange n) ts are h
+reported_again text error.OutOfMemory ts are h = tt
+reported_again text (error.Syntax n) ts are h = again text (error.Syntax n) ts are h
+reported_again text (error.TooDeep n) ts are h = again text (error.TooDeep n) ts are h
+reported_again text (error.TimeRange n) ts are h = again text (error.TimeRange n) ts are h

@@ -2,16 +2,16 @@
 use Rattle.std.specs.Prelude.{◌≡◌, ℕ, ◌-◌, ◌<◌, ◌⊎◌, List, ◌∷◌, ◌++◌, length, slice_get, Contains, Option, Some, None}
 use Rattle.sim_logic.specs.declared.time.Unit.{Unit as TimeUnit}
 use Rattle.sim_logic.specs.Time.{largest_time}
-use Rattle.sim_token.specs.declared.kind.Kind.TheVariants as k
-use Rattle.sim_token.specs.Token.{Token}
-use Rattle.sim_token.specs.declared.error.TextError.{TextError}
-use Rattle.sim_token.specs.declared.error.TextError.TheVariants as fault
-use Rattle.sim_reading.specs.declared.error.ParseError.{ParseError}
-use Rattle.sim_reading.specs.declared.error.ParseError.TheVariants as error
-use Rattle.sim_tree.specs.DesignFile.{DesignFile}
-use Rattle.sim_tree.specs.Grammar.{IsFile}
-use Rattle.sim_tree.specs.Times.{time_of}
-use Rattle.sim_tree.specs.Writing.{UnitWord, Stands}
+use Rattle.sim_text_tokens.specs.declared.kind.Kind.TheVariants as k
+use Rattle.sim_text_tokens.specs.Token.{Token}
+use Rattle.sim_text_tokens.specs.declared.error.TextError.{TextError}
+use Rattle.sim_text_tokens.specs.declared.error.TextError.TheVariants as fault
+use Rattle.sim_text_grammar.specs.declared.error.ParseError.{ParseError}
+use Rattle.sim_text_grammar.specs.declared.error.ParseError.TheVariants as error
+use Rattle.sim_text_tree.specs.DesignFile.{DesignFile}
+use Rattle.sim_text_tree.specs.Grammar.{IsFile}
+use Rattle.sim_text_tree.specs.Times.{time_of}
+use Rattle.sim_text_tree.specs.Writing.{UnitWord, Stands}
 
 abbrev pub start_or : Option Token → ℕ → ℕ
 start_or (Some t) end = t.start

@@ -1,12 +1,12 @@
 -- What a text is, and why it is at fault.
 use Rattle.std.specs.Prelude.{◌≢◌, ℕ, ◌<◌, ◌≤◌, List, length}
-use Rattle.sim_token.specs.Limits.{most_bytes}
-use Rattle.sim_token.specs.Token.{Token}
-use Rattle.sim_token.specs.declared.error.TextError.{TextError}
-use Rattle.sim_token.specs.declared.error.TextError.TheVariants as fault
-use Rattle.sim_token.specs.Cutting.{AreTokens, IsLexicalFault}
-use Rattle.sim_tree.specs.DesignFile.{DesignFile}
-use Rattle.sim_tree.specs.Grammar.{IsFile}
+use Rattle.sim_text_tokens.specs.Limits.{most_bytes}
+use Rattle.sim_text_tokens.specs.Token.{Token}
+use Rattle.sim_text_tokens.specs.declared.error.TextError.{TextError}
+use Rattle.sim_text_tokens.specs.declared.error.TextError.TheVariants as fault
+use Rattle.sim_text_tokens.specs.Cutting.{AreTokens, IsLexicalFault}
+use Rattle.sim_text_tree.specs.DesignFile.{DesignFile}
+use Rattle.sim_text_tree.specs.Grammar.{IsFile}
 use Rattle.sim_text.specs.Faults.{IsFaultOf}
 
 -- The text is not too long, it has tokens, and of them this is true.

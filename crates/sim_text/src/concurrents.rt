@@ -1,31 +1,31 @@
 //! Concurrent statements (IEEE 1076-2008, 11).
 
 ghost use Rattle.std.specs.Prelude.{◌≡◌};
-ghost use Rattle.sim_reading.specs.Concurrents as spec;
-ghost use Rattle.sim_tree.specs.Grammar.{is_named};
-ghost use Rattle.sim_tree.specs.Input.{kind};
-ghost use Rattle.sim_token.specs.declared.kind.Kind.TheVariants as k;
-ghost use Rattle.sim_reading.specs.Statements.{statements};
-ghost use Rattle.sim_reading.specs.Readers.{Reads, and_then, pure, expect};
-ghost use Rattle.sim_expression.specs.Cursors.{view};
+ghost use Rattle.sim_text_grammar.specs.Concurrents as spec;
+ghost use Rattle.sim_text_tree.specs.Grammar.{is_named};
+ghost use Rattle.sim_text_tree.specs.Input.{kind};
+ghost use Rattle.sim_text_tokens.specs.declared.kind.Kind.TheVariants as k;
+ghost use Rattle.sim_text_grammar.specs.Statements.{statements};
+ghost use Rattle.sim_text_grammar.specs.Readers.{Reads, and_then, pure, expect};
+ghost use Rattle.sim_text_reader.specs.Cursors.{view};
 
 use crate::declarations::{names, variables};
-use sim_expression::Cursor;
-use sim_expression::waveforms::assigned;
-use sim_reading::ParseError;
-use sim_statement::statements::{label_ended, statements};
-use sim_token::Kind;
-use sim_tree::declaration::ObjectDeclaration;
-use sim_tree::list::fitted;
-use sim_tree::name::Name;
-use sim_tree::sequential::Sequential;
-use sim_tree::unit::{
+use sim_text_reader::Cursor;
+use sim_text_reader::waveforms::assigned;
+use sim_text_grammar::ParseError;
+use sim_text_reader::statements::{label_ended, statements};
+use sim_text_tokens::Kind;
+use sim_text_tree::declaration::ObjectDeclaration;
+use sim_text_tree::list::fitted;
+use sim_text_tree::name::Name;
+use sim_text_tree::sequential::Sequential;
+use sim_text_tree::unit::{
     Actual, Association, Concurrent, Instance, Instantiated, Process, Sensitivity,
 };
 use sqlite_items::Items;
 use std::alloc::Global;
 
-#[tactic(auto, unfolding(sim_reading::specs::Concurrents::sensitivity))]
+#[tactic(auto, unfolding(sim_text_grammar::specs::Concurrents::sensitivity))]
 fn sensitivity(alloc: Global, tokens: &mut Cursor) -> Result<Sensitivity, ParseError>
     ensures { Reads (spec.sensitivity (view tokens.old)) result (view tokens.new) }
 {
@@ -87,7 +87,7 @@ fn process(alloc: Global, tokens: &mut Cursor, label: Option<Name>) -> Result<Pr
     process_body(alloc, tokens, label, sensitivity, is, variables)
 }
 
-#[tactic(auto, unfolding(sim_reading::specs::Concurrents::actual))]
+#[tactic(auto, unfolding(sim_text_grammar::specs::Concurrents::actual))]
 fn actual(tokens: &mut Cursor) -> Result<Actual, ParseError>
     ensures { Reads (spec.actual (view tokens.old)) result (view tokens.new) }
 {
@@ -101,7 +101,7 @@ fn actual(tokens: &mut Cursor) -> Result<Actual, ParseError>
     }
 }
 
-#[tactic(auto, unfolding(sim_reading::specs::Concurrents::associated))]
+#[tactic(auto, unfolding(sim_text_grammar::specs::Concurrents::associated))]
 fn associated(tokens: &mut Cursor, formal: Name) -> Result<Association, ParseError>
     ensures { Reads (spec.associated formal (view tokens.old)) result (view tokens.new) }
 {
@@ -112,7 +112,7 @@ fn associated(tokens: &mut Cursor, formal: Name) -> Result<Association, ParseErr
     })
 }
 
-#[tactic(auto, unfolding(sim_reading::specs::Concurrents::named_association))]
+#[tactic(auto, unfolding(sim_text_grammar::specs::Concurrents::named_association))]
 fn named_association(tokens: &mut Cursor) -> Result<Association, ParseError>
     ensures { Reads (spec.named_association (view tokens.old)) result (view tokens.new) }
 {
@@ -121,7 +121,7 @@ fn named_association(tokens: &mut Cursor) -> Result<Association, ParseError>
     associated(tokens, formal)
 }
 
-#[tactic(auto, unfolding(sim_reading::specs::Concurrents::free_association))]
+#[tactic(auto, unfolding(sim_text_grammar::specs::Concurrents::free_association))]
 fn free_association(tokens: &mut Cursor) -> Result<Association, ParseError>
     ensures { Reads (spec.free_association (view tokens.old)) result (view tokens.new) }
 {
@@ -147,7 +147,7 @@ fn free_association(tokens: &mut Cursor) -> Result<Association, ParseError>
     }
 }
 
-#[tactic(auto, unfolding(sim_reading::specs::Concurrents::association))]
+#[tactic(auto, unfolding(sim_text_grammar::specs::Concurrents::association))]
 fn association(tokens: &mut Cursor, named: bool) -> Result<Association, ParseError>
     ensures { Reads (spec.association named (view tokens.old)) result (view tokens.new) }
 {
@@ -167,7 +167,7 @@ fn is_named(formal: &Option<Name>) -> bool
     }
 }
 
-#[tactic(auto, unfolding(sim_reading::specs::Concurrents::associations))]
+#[tactic(auto, unfolding(sim_text_grammar::specs::Concurrents::associations))]
 fn associations(alloc: Global, tokens: &mut Cursor) -> Result<Items<Association>, ParseError>
     ensures { Reads (spec.associations (view tokens.old)) result (view tokens.new) }
 {
@@ -223,7 +223,7 @@ fn instance(
     }))
 }
 
-#[tactic(auto, unfolding(sim_reading::specs::Concurrents::chosen))]
+#[tactic(auto, unfolding(sim_text_grammar::specs::Concurrents::chosen))]
 fn chosen(tokens: &mut Cursor) -> Result<Option<Name>, ParseError>
     ensures { Reads (spec.chosen (view tokens.old)) result (view tokens.new) }
 {
@@ -250,7 +250,7 @@ fn entity_named(tokens: &mut Cursor) -> Result<Instantiated, ParseError>
     })
 }
 
-#[tactic(auto, unfolding(sim_reading::specs::Concurrents::concurrent_assigned))]
+#[tactic(auto, unfolding(sim_text_grammar::specs::Concurrents::concurrent_assigned))]
 fn concurrent_assigned(
     alloc: Global,
     tokens: &mut Cursor,
@@ -263,7 +263,7 @@ fn concurrent_assigned(
     Ok(Concurrent::Assignment(found))
 }
 
-#[tactic(auto, unfolding(sim_reading::specs::Concurrents::concurrent_process))]
+#[tactic(auto, unfolding(sim_text_grammar::specs::Concurrents::concurrent_process))]
 fn concurrent_process(
     alloc: Global,
     tokens: &mut Cursor,
@@ -298,7 +298,7 @@ fn after_name(
     }
 }
 
-#[tactic(auto, unfolding(sim_reading::specs::Concurrents::labelled))]
+#[tactic(auto, unfolding(sim_text_grammar::specs::Concurrents::labelled))]
 fn labelled(alloc: Global, tokens: &mut Cursor, label: Name) -> Result<Concurrent, ParseError>
     ensures { Reads (spec.labelled label (view tokens.old)) result (view tokens.new) }
 {
@@ -341,7 +341,7 @@ fn after_first(alloc: Global, tokens: &mut Cursor, first: Name) -> Result<Concur
     }
 }
 
-#[tactic(auto, unfolding(sim_reading::specs::Concurrents::concurrent))]
+#[tactic(auto, unfolding(sim_text_grammar::specs::Concurrents::concurrent))]
 fn concurrent(alloc: Global, tokens: &mut Cursor) -> Result<Concurrent, ParseError>
     ensures { Reads (spec.concurrent (view tokens.old)) result (view tokens.new) }
 {
@@ -361,7 +361,7 @@ fn begins_concurrent(kind: Kind) -> bool
 }
 
 /// Reads the statements of an architecture (IEEE 1076-2008, 11.1).
-#[tactic(auto, unfolding(sim_reading::specs::Concurrents::concurrents, sim_reading::specs::Readers::many))]
+#[tactic(auto, unfolding(sim_text_grammar::specs::Concurrents::concurrents, sim_text_grammar::specs::Readers::many))]
 pub fn concurrents(alloc: Global, tokens: &mut Cursor) -> Result<Items<Concurrent>, ParseError>
     ensures { Reads (spec.concurrents (view tokens.old)) result (view tokens.new) }
 {

@@ -1,24 +1,24 @@
 //! Declarations (IEEE 1076-2008, 6).
 
 ghost use Rattle.std.specs.Prelude.{◌≡◌, Ok};
-ghost use Rattle.sim_reading.specs.Declarations as spec;
-ghost use Rattle.sim_token.specs.declared.kind.Kind.TheVariants as k;
-ghost use Rattle.sim_reading.specs.Readers.{Reads, and_then, pure, expect};
-ghost use Rattle.sim_expression.specs.Cursors.{view};
+ghost use Rattle.sim_text_grammar.specs.Declarations as spec;
+ghost use Rattle.sim_text_tokens.specs.declared.kind.Kind.TheVariants as k;
+ghost use Rattle.sim_text_grammar.specs.Readers.{Reads, and_then, pure, expect};
+ghost use Rattle.sim_text_reader.specs.Cursors.{view};
 
-use sim_expression::Cursor;
-use sim_reading::ParseError;
-use sim_token::Kind;
-use sim_tree::declaration::{
+use sim_text_reader::Cursor;
+use sim_text_grammar::ParseError;
+use sim_text_tokens::Kind;
+use sim_text_tree::declaration::{
     ComponentDeclaration, Declaration, Initial, Mode, ObjectDeclaration, PortDeclaration,
 };
-use sim_tree::list::{Several, fitted, one};
-use sim_tree::name::Name;
+use sim_text_tree::list::{Several, fitted, one};
+use sim_text_tree::name::Name;
 use sqlite_items::Items;
 use std::alloc::Global;
 
 /// Reads one name, or several with commas between them.
-#[tactic(auto, unfolding(sim_reading::specs::Declarations::names, sim_reading::specs::Readers::separated))]
+#[tactic(auto, unfolding(sim_text_grammar::specs::Declarations::names, sim_text_grammar::specs::Readers::separated))]
 pub fn names(alloc: Global, tokens: &mut Cursor) -> Result<Several<Name>, ParseError>
     ensures { Reads (spec.names (view tokens.old)) result (view tokens.new) }
 {
@@ -33,8 +33,9 @@ pub fn names(alloc: Global, tokens: &mut Cursor) -> Result<Several<Name>, ParseE
     Ok(found.fitted())
 }
 
-/// Reads the name written again, where a word stands, and says whether one does. `Syntax` comes at another word.
-#[tactic(auto, unfolding(sim_reading::specs::Declarations::repeated))]
+/// Reads the name written again, where a word stands, and says whether one does. `Syntax` comes at
+/// another word.
+#[tactic(auto, unfolding(sim_text_grammar::specs::Declarations::repeated))]
 pub fn repeated(tokens: &mut Cursor, text: &[u8]) -> Result<bool, ParseError>
     ensures { Reads (spec.repeated text.now (view tokens.old)) result (view tokens.new) }
 {
@@ -46,7 +47,7 @@ pub fn repeated(tokens: &mut Cursor, text: &[u8]) -> Result<bool, ParseError>
     }
 }
 
-#[tactic(auto, unfolding(sim_reading::specs::Declarations::initial))]
+#[tactic(auto, unfolding(sim_text_grammar::specs::Declarations::initial))]
 fn initial(tokens: &mut Cursor) -> Result<Option<Initial>, ParseError>
     ensures { Reads (spec.initial (view tokens.old)) result (view tokens.new) }
 {
@@ -62,7 +63,7 @@ fn initial(tokens: &mut Cursor) -> Result<Option<Initial>, ParseError>
     }
 }
 
-#[tactic(auto, unfolding(sim_reading::specs::Declarations::mode))]
+#[tactic(auto, unfolding(sim_text_grammar::specs::Declarations::mode))]
 fn mode(tokens: &mut Cursor) -> Option<Mode>
     ensures { spec.mode (view tokens.old) ≡ Ok (result, view tokens.new) }
 {
@@ -83,7 +84,7 @@ fn mode(tokens: &mut Cursor) -> Option<Mode>
     }
 }
 
-#[tactic(auto, unfolding(sim_reading::specs::Declarations::port_of))]
+#[tactic(auto, unfolding(sim_text_grammar::specs::Declarations::port_of))]
 fn port_of(
     tokens: &mut Cursor,
     signal: bool,
@@ -104,7 +105,7 @@ fn port_of(
     })
 }
 
-#[tactic(auto, unfolding(sim_reading::specs::Declarations::port))]
+#[tactic(auto, unfolding(sim_text_grammar::specs::Declarations::port))]
 fn port(alloc: Global, tokens: &mut Cursor) -> Result<PortDeclaration, ParseError>
     ensures { Reads (spec.port (view tokens.old)) result (view tokens.new) }
 {
@@ -113,7 +114,7 @@ fn port(alloc: Global, tokens: &mut Cursor) -> Result<PortDeclaration, ParseErro
     port_of(tokens, signal, names)
 }
 
-#[tactic(auto, unfolding(sim_reading::specs::Declarations::port_list, sim_reading::specs::Readers::separated))]
+#[tactic(auto, unfolding(sim_text_grammar::specs::Declarations::port_list, sim_text_grammar::specs::Readers::separated))]
 fn port_list(alloc: Global, tokens: &mut Cursor) -> Result<Items<PortDeclaration>, ParseError>
     ensures { Reads (spec.port_list (view tokens.old)) result (view tokens.new) }
 {
@@ -128,7 +129,8 @@ fn port_list(alloc: Global, tokens: &mut Cursor) -> Result<Items<PortDeclaration
     Ok(fitted(found))
 }
 
-/// Reads a port clause, where one is written (IEEE 1076-2008, 6.5.6.3). Where none is, there are no ports.
+/// Reads a port clause, where one is written (IEEE 1076-2008, 6.5.6.3). Where none is, there are no
+/// ports.
 #[tactic(auto, using(crate::proofs::Parts::ports_in_parts))]
 pub fn ports(alloc: Global, tokens: &mut Cursor) -> Result<Items<PortDeclaration>, ParseError>
     ensures { Reads (spec.ports (view tokens.old)) result (view tokens.new) }
@@ -166,7 +168,7 @@ fn object(alloc: Global, tokens: &mut Cursor) -> Result<ObjectDeclaration, Parse
 }
 
 /// Reads the variable declarations of a process (IEEE 1076-2008, 6.4.2.4).
-#[tactic(auto, unfolding(sim_reading::specs::Declarations::variables, sim_reading::specs::Readers::many))]
+#[tactic(auto, unfolding(sim_text_grammar::specs::Declarations::variables, sim_text_grammar::specs::Readers::many))]
 pub fn variables(alloc: Global, tokens: &mut Cursor) -> Result<Items<ObjectDeclaration>, ParseError>
     ensures { Reads (spec.variables (view tokens.old)) result (view tokens.new) }
 {
@@ -181,9 +183,11 @@ pub fn variables(alloc: Global, tokens: &mut Cursor) -> Result<Items<ObjectDecla
     Ok(fitted(found))
 }
 
-/// Reads the name written again, where a word stands, and the semicolon after it; and says whether a word does.
+/// Reads the name written again, where a word stands, and the semicolon after it; and says whether
+/// a word does.
 fn name_ended(tokens: &mut Cursor, text: &[u8]) -> Result<bool, ParseError>
-    ensures { Reads (and_then (spec.repeated text.now (view tokens.old)) (λ again i. and_then (expect k.Semicolon i) (λ _. pure again))) result (view tokens.new) }
+    ensures { Reads (and_then (spec.repeated text.now (view tokens.old)) (λ again i. and_then (expect k.Semicolon i) (λ _. pure again))) result
+        (view tokens.new) }
 {
     let name_repeated = repeated(tokens, text)?;
     tokens.expect(Kind::Semicolon)?;
@@ -225,7 +229,7 @@ fn begins_declaration(kind: Kind) -> bool
     matches!(kind, Kind::Signal | Kind::Component)
 }
 
-#[tactic(auto, unfolding(sim_reading::specs::Declarations::declaration))]
+#[tactic(auto, unfolding(sim_text_grammar::specs::Declarations::declaration))]
 fn declaration(alloc: Global, tokens: &mut Cursor) -> Result<Declaration, ParseError>
     ensures { Reads (spec.declaration (view tokens.old)) result (view tokens.new) }
 {
@@ -239,7 +243,7 @@ fn declaration(alloc: Global, tokens: &mut Cursor) -> Result<Declaration, ParseE
 }
 
 /// Reads the declarations of an architecture (IEEE 1076-2008, 3.3.2).
-#[tactic(auto, unfolding(sim_reading::specs::Declarations::declarations, sim_reading::specs::Readers::many))]
+#[tactic(auto, unfolding(sim_text_grammar::specs::Declarations::declarations, sim_text_grammar::specs::Readers::many))]
 pub fn declarations(alloc: Global, tokens: &mut Cursor) -> Result<Items<Declaration>, ParseError>
     ensures { Reads (spec.declarations (view tokens.old)) result (view tokens.new) }
 {

@@ -6,6 +6,6 @@ pub mod declarations;
 mod text;
 mod units;
 
-pub use sim_token::{Kind, TextError, Token, tokens};
-pub use sim_tree as tree;
+pub use sim_text_tokens::{Kind, TextError, Token, tokens};
+pub use sim_text_tree as tree;
 pub use text::parse;

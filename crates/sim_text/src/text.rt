@@ -1,18 +1,18 @@
 //! The syntax tree of a text.
 
 ghost use Rattle.std.specs.Prelude.{◌≡◌, ◌<◌, ◌↔◌, ℕ, length, Err, IfOk, IfErr, MatchResult};
-ghost use Rattle.sim_token.specs.Limits.{most_bytes};
-ghost use Rattle.sim_token.specs.declared.error.TextError.TheVariants as fault;
-ghost use Rattle.sim_tree.specs.DesignFile.{DesignFile};
-ghost use Rattle.sim_tree.specs.Grammar.{IsFile};
+ghost use Rattle.sim_text_tokens.specs.Limits.{most_bytes};
+ghost use Rattle.sim_text_tokens.specs.declared.error.TextError.TheVariants as fault;
+ghost use Rattle.sim_text_tree.specs.DesignFile.{DesignFile};
+ghost use Rattle.sim_text_tree.specs.Grammar.{IsFile};
 ghost use Rattle.sim_text.specs.Faults.{place_of, fault_of, IsFaultOf};
 ghost use Rattle.sim_text.specs.Texts.{HasTokens, IsText, IsFault};
 
 use crate::units::file;
-use sim_expression::Cursor;
-use sim_reading::ParseError;
-use sim_token::{TextError, Token, tokens};
-use sim_tree::DesignFile;
+use sim_text_reader::Cursor;
+use sim_text_grammar::ParseError;
+use sim_text_tokens::{TextError, Token, tokens};
+use sim_text_tree::DesignFile;
 use std::alloc::Global;
 
 /// Where the token starts that has this many from it on; after the last one the text ends.
@@ -52,7 +52,8 @@ fn file_of(alloc: Global, tokens: Vec<Token>) -> Result<DesignFile, ParseError>
     file(alloc, &mut Cursor::new(tokens))
 }
 
-/// The fault of a text that a reader refused. The reader has used up its tokens, so they are cut again for the place.
+/// The fault of a text that a reader refused. The reader has used up its tokens, so they are cut
+/// again for the place.
 fn fault_in(alloc: Global, source: &[u8], error: ParseError) -> TextError
     requires { HasTokens source.now (λ tokens. IsFaultOf tokens (length source.now) (fault_of tokens (length source.now) error)) }
     ensures { IsFault source.now result }
@@ -68,9 +69,10 @@ fn fault_in(alloc: Global, source: &[u8], error: ParseError) -> TextError
 
 /// The file that a text is (IEEE 1076-2008, 13.1).
 ///
-/// `TooLong` comes first, then the leftmost `BadByte`, `OpenComment` or `BadLiteral` of the text, then the fault of
-/// its tokens: `Syntax` at the first token up to which no file goes on, or at the end of the text; `TooDeep` at a
-/// parenthesis or an `if` inside 64 others; `TimeRange` at the number of a time above 2^62 - 1 fs.
+/// `TooLong` comes first, then the leftmost `BadByte`, `OpenComment` or `BadLiteral` of the text,
+/// then the fault of its tokens: `Syntax` at the first token up to which no file goes on, or at the
+/// end of the text; `TooDeep` at a parenthesis or an `if` inside 64 others; `TimeRange` at the
+/// number of a time above 2^62 - 1 fs.
 pub fn parse(alloc: Global, source: &[u8]) -> Result<DesignFile, TextError>
     // The text is the file, or it is none, and this is why.
     ensures read { MatchResult result (λ file. IsText source.now file) (λ e. IsFault source.now e) }

@@ -1,29 +1,29 @@
 //! Design units and files (IEEE 1076-2008, 13.1).
 
 ghost use Rattle.std.specs.Prelude.{◌≡◌};
-ghost use Rattle.sim_token.specs.declared.kind.Kind.TheVariants as k;
-ghost use Rattle.sim_reading.specs.Units as spec;
-ghost use Rattle.sim_reading.specs.Declarations.{declarations, names, ports, repeated};
-ghost use Rattle.sim_reading.specs.Concurrents.{concurrents};
-ghost use Rattle.sim_reading.specs.Readers.{Reads, and_then, pure, eat, expect};
-ghost use Rattle.sim_expression.specs.Cursors.{view};
+ghost use Rattle.sim_text_tokens.specs.declared.kind.Kind.TheVariants as k;
+ghost use Rattle.sim_text_grammar.specs.Units as spec;
+ghost use Rattle.sim_text_grammar.specs.Declarations.{declarations, names, ports, repeated};
+ghost use Rattle.sim_text_grammar.specs.Concurrents.{concurrents};
+ghost use Rattle.sim_text_grammar.specs.Readers.{Reads, and_then, pure, eat, expect};
+ghost use Rattle.sim_text_reader.specs.Cursors.{view};
 
 use crate::concurrents::concurrents;
 use crate::declarations::{declarations, names, ports, repeated};
-use sim_expression::Cursor;
-use sim_reading::ParseError;
-use sim_token::Kind;
-use sim_tree::DesignFile;
-use sim_tree::declaration::{Declaration, PortDeclaration};
-use sim_tree::list::{Several, fitted};
-use sim_tree::name::Name;
-use sim_tree::unit::{
+use sim_text_reader::Cursor;
+use sim_text_grammar::ParseError;
+use sim_text_tokens::Kind;
+use sim_text_tree::DesignFile;
+use sim_text_tree::declaration::{Declaration, PortDeclaration};
+use sim_text_tree::list::{Several, fitted};
+use sim_text_tree::name::Name;
+use sim_text_tree::unit::{
     Architecture, Concurrent, ContextItem, DesignUnit, Entity, LibraryUnit, SelectedName,
 };
 use sqlite_items::Items;
 use std::alloc::Global;
 
-#[tactic(auto, unfolding(sim_reading::specs::Units::suffixes, sim_reading::specs::Readers::left))]
+#[tactic(auto, unfolding(sim_text_grammar::specs::Units::suffixes, sim_text_grammar::specs::Readers::left))]
 fn suffixes(alloc: Global, tokens: &mut Cursor) -> Result<(Items<Name>, bool), ParseError>
     ensures { Reads (spec.suffixes (view tokens.old)) result (view tokens.new) }
 {
@@ -41,7 +41,7 @@ fn suffixes(alloc: Global, tokens: &mut Cursor) -> Result<(Items<Name>, bool), P
     Err(ParseError::Syntax(tokens.left()))
 }
 
-#[tactic(auto, unfolding(sim_reading::specs::Units::selected))]
+#[tactic(auto, unfolding(sim_text_grammar::specs::Units::selected))]
 fn selected(alloc: Global, tokens: &mut Cursor) -> Result<SelectedName, ParseError>
     ensures { Reads (spec.selected (view tokens.old)) result (view tokens.new) }
 {
@@ -54,7 +54,7 @@ fn selected(alloc: Global, tokens: &mut Cursor) -> Result<SelectedName, ParseErr
     })
 }
 
-#[tactic(auto, unfolding(sim_reading::specs::Units::selected_names, sim_reading::specs::Readers::separated))]
+#[tactic(auto, unfolding(sim_text_grammar::specs::Units::selected_names, sim_text_grammar::specs::Readers::separated))]
 fn selected_names(alloc: Global, tokens: &mut Cursor) -> Result<Several<SelectedName>, ParseError>
     ensures { Reads (spec.selected_names (view tokens.old)) result (view tokens.new) }
 {
@@ -87,7 +87,8 @@ fn used_names(alloc: Global, tokens: &mut Cursor) -> Result<Several<SelectedName
     Ok(names)
 }
 
-#[tactic(auto, using(crate::proofs::Parts::library_clause_in_parts, crate::proofs::Parts::use_clause_in_parts), unfolding(sim_reading::specs::Units::context_item))]
+#[tactic(auto, using(crate::proofs::Parts::library_clause_in_parts, crate::proofs::Parts::use_clause_in_parts),
+    unfolding(sim_text_grammar::specs::Units::context_item))]
 fn context_item(alloc: Global, tokens: &mut Cursor) -> Result<ContextItem, ParseError>
     ensures { Reads (spec.context_item (view tokens.old)) result (view tokens.new) }
 {
@@ -111,7 +112,7 @@ fn begins_context(kind: Kind) -> bool
     matches!(kind, Kind::Library | Kind::Use)
 }
 
-#[tactic(auto, unfolding(sim_reading::specs::Units::context, sim_reading::specs::Readers::many))]
+#[tactic(auto, unfolding(sim_text_grammar::specs::Units::context, sim_text_grammar::specs::Readers::many))]
 fn context(alloc: Global, tokens: &mut Cursor) -> Result<Items<ContextItem>, ParseError>
     ensures { Reads (spec.context (view tokens.old)) result (view tokens.new) }
 {
@@ -211,7 +212,7 @@ fn architecture(alloc: Global, tokens: &mut Cursor) -> Result<Architecture, Pars
     architecture_body(alloc, tokens, name, entity, declarations)
 }
 
-#[tactic(auto, unfolding(sim_reading::specs::Units::library_unit))]
+#[tactic(auto, unfolding(sim_text_grammar::specs::Units::library_unit))]
 fn library_unit(alloc: Global, tokens: &mut Cursor) -> Result<LibraryUnit, ParseError>
     ensures { Reads (spec.library_unit (view tokens.old)) result (view tokens.new) }
 {
@@ -221,7 +222,7 @@ fn library_unit(alloc: Global, tokens: &mut Cursor) -> Result<LibraryUnit, Parse
     }
 }
 
-#[tactic(auto, unfolding(sim_reading::specs::Units::unit))]
+#[tactic(auto, unfolding(sim_text_grammar::specs::Units::unit))]
 fn unit(alloc: Global, tokens: &mut Cursor) -> Result<DesignUnit, ParseError>
     ensures { Reads (spec.unit (view tokens.old)) result (view tokens.new) }
 {
@@ -233,7 +234,7 @@ fn unit(alloc: Global, tokens: &mut Cursor) -> Result<DesignUnit, ParseError>
     })
 }
 
-#[tactic(auto, unfolding(sim_reading::specs::Units::units_of))]
+#[tactic(auto, unfolding(sim_text_grammar::specs::Units::units_of))]
 fn units_of(alloc: Global, tokens: &mut Cursor) -> Result<Several<DesignUnit>, ParseError>
     ensures { Reads (spec.units_of (view tokens.old)) result (view tokens.new) }
 {
@@ -247,7 +248,7 @@ fn units_of(alloc: Global, tokens: &mut Cursor) -> Result<Several<DesignUnit>, P
     Ok(found.fitted())
 }
 
-#[tactic(auto, unfolding(sim_reading::specs::Units::finish, sim_reading::specs::Readers::left))]
+#[tactic(auto, unfolding(sim_text_grammar::specs::Units::finish, sim_text_grammar::specs::Readers::left))]
 fn finish(tokens: &mut Cursor) -> Result<(), ParseError>
     ensures { Reads (spec.finish (view tokens.old)) result (view tokens.new) }
 {
@@ -259,7 +260,7 @@ fn finish(tokens: &mut Cursor) -> Result<(), ParseError>
 }
 
 /// Reads a file (IEEE 1076-2008, 13.1). Behind its units no token may be left.
-#[tactic(auto, unfolding(sim_reading::specs::Units::file))]
+#[tactic(auto, unfolding(sim_text_grammar::specs::Units::file))]
 pub fn file(alloc: Global, tokens: &mut Cursor) -> Result<DesignFile, ParseError>
     ensures { Reads (spec.file (view tokens.old)) result (view tokens.new) }
 {

@@ -2,8 +2,8 @@
 
 use crate::line::Line;
 use crate::written::waveforms::unit_name;
-use sim_expression::Cursor;
-use sim_reading::ParseError;
+use sim_text_reader::Cursor;
+use sim_text_grammar::ParseError;
 use sim_text::{Kind, tokens};
 use std::alloc::Global;
 use std::test::Fail;

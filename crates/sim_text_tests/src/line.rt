@@ -1,8 +1,8 @@
 //! A line, put together piece by piece.
 
 use sim_logic::Logic;
-use sim_reading::ParseError;
-use sim_tree::name::Name;
+use sim_text_grammar::ParseError;
+use sim_text_tree::name::Name;
 use std::alloc::{AllocError, Global};
 
 /// A line, and whether there was memory for all of it: so that only its end has to ask.

@@ -1,6 +1,6 @@
 //! Lists that are read item by item.
 
-use sim_tree::list::{Several, fitted, one};
+use sim_text_tree::list::{Several, fitted, one};
 use std::test::Fail;
 
 #[test]

@@ -1,7 +1,7 @@
 //! Times of literals.
 
 use sim_logic::Unit;
-use sim_tree::time::TimeLiteral;
+use sim_text_tree::time::TimeLiteral;
 use sqlite_items::Items;
 use std::alloc::{AllocError, Global};
 use std::test::Fail;

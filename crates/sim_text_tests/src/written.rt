@@ -1,4 +1,5 @@
-//! A tree as one line: its text without blanks that nobody needs, and after each token whose place the tree keeps `@` and the place.
+//! A tree as one line: its text without blanks that nobody needs, and after each token whose place
+//! the tree keeps `@` and the place.
 
 pub mod declarations;
 pub mod expressions;

@@ -3,7 +3,7 @@ use Rattle.std.proofs.Common.{◌≡◌, ◌↔◌, Bool, true, false, ◌&&◌,
 use Rattle.std.proofs.lemmas.Bool.Decides.{nat_tests}
 use denote.Enum.Bare.{sameb, same_true, true_same}
 use Rattle.sim_logic.specs.contracts.logic.Logic.{the_type}
-use Rattle.sim_wave.specs.Driver.{Transaction, Waveform}
+use Rattle.sim_standard.specs.Drivers.{Transaction, Waveform}
 
 both-true : (a b : Bool) → (a && b) ≡ true → (a ≡ true) × (b ≡ true)
 both-true true b e = (refl, e)

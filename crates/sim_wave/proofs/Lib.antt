@@ -1,5 +1,3 @@
 pub mod Rising
-pub mod Keeping
 pub mod Comparing
-pub mod Least
 pub mod Storing

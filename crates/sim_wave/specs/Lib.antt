@@ -1,4 +1,2 @@
-pub mod Driver
-pub mod Edit
 pub mod Run
 pub mod Pending

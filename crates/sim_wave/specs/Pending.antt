@@ -1,6 +1,7 @@
 -- The pending transactions of a driver, wherever they stand.
+-- Of the implementation: what `simulate` promises does not rest on this file.
 use Rattle.std.specs.Prelude.{List, [], ◌∷◌}
-use Rattle.sim_wave.specs.Driver.{Transaction, transaction_at}
+use Rattle.sim_standard.specs.Drivers.{Transaction, transaction_at}
 use Rattle.sim_wave.specs.declared.pending.Pending.{Pending}
 use Rattle.sim_wave.specs.declared.pending.Pending.TheVariants.{Nothing, One, Two, Many}
 

@@ -1,7 +1,8 @@
 -- Neighbours of equal value among transactions.
+-- Of the implementation: what `simulate` promises does not rest on this file.
 use Rattle.std.specs.Prelude.{ℕ, ◌≤◌, ◌<◌, ◌≡◌, List}
 use Rattle.sim_logic.specs.declared.logic.Logic.{Logic}
-use Rattle.sim_wave.specs.Driver.{Transaction, transaction_at}
+use Rattle.sim_standard.specs.Drivers.{Transaction, transaction_at}
 
 -- the transactions from a place up to another have this value
 abbrev pub IsRun : List Transaction → ℕ → ℕ → Logic → Type 0

@@ -1,11 +1,11 @@
 //! The driver of a process for a signal (IEEE 1076-2008, 14.7.2).
 
 ghost use Rattle.std.specs.Prelude.{suc, ◌≡◌, ◌↔◌, ◌<◌, ◌≤◌, [], length, All, Some, IsTrue, IfOk, IsOk, OnOk, OnErr};
-ghost use Rattle.sim_wave.specs.Driver.{next_of, taken, RisesFrom, Transaction as transaction};
-ghost use Rattle.sim_wave.specs.Edit.{edited, first_of, IsWithin};
+ghost use Rattle.sim_standard.specs.Drivers.{next_of, taken, RisesFrom, Transaction as transaction};
+ghost use Rattle.sim_standard.specs.Editing.{edited, first_element, IsWithin};
 ghost use Rattle.sim_logic.specs.Time.{largest_time};
 
-use crate::delay::Delay;
+use sim_standard::Delay;
 use crate::edit::keeps;
 use crate::pending::Pending;
 use sim_logic::Logic;
@@ -27,7 +27,7 @@ pub struct Driver {
 }
 
 impl Model for Driver {
-    ghost use Rattle.sim_wave.specs.Driver.{Waveform, RisesFrom};
+    ghost use Rattle.sim_standard.specs.Drivers.{Waveform, RisesFrom};
 
     ghost Value = { Waveform };
 
@@ -131,7 +131,7 @@ impl Driver {
         requires rise { RisesFrom 0 elements.now }
         requires delays { All (λ (element : transaction). element.0 ≤ largest_time) elements.now }
         requires now { now ≤ largest_time }
-        requires reject { IsWithin delay (first_of elements.now).0 }
+        requires reject { IsWithin delay (first_element elements.now).0 }
         requires later { RisesFrom now self.old.pending }
         ensures ok { OnOk result (self.new
             ≡ record self.old { pending = edited self.old.pending now delay elements.now }) }

@@ -4,12 +4,12 @@ ghost use Rattle.std.specs.Prelude.{ℕ, ◌≡◌, ◌≢◌, ◌+◌, ◌-◌,
 ghost use Rattle.std.specs.List.{remove_range};
 ghost use Rattle.sim_logic.specs.declared.logic.Logic as logic;
 ghost use Rattle.smallvec.specs.SmallVec.{small_vec_len, HasRoomFor};
-ghost use Rattle.sim_wave.specs.Driver.{RisesFrom, Transaction as transaction, transaction_at};
-ghost use Rattle.sim_wave.specs.Edit.{before, kept_of, scheduled, IsWithin};
+ghost use Rattle.sim_standard.specs.Drivers.{RisesFrom, Transaction as transaction, transaction_at};
+ghost use Rattle.sim_standard.specs.Editing.{before, kept_of, scheduled, IsWithin};
 ghost use Rattle.sim_wave.specs.Run.{IsRun};
 ghost use Rattle.sim_logic.specs.Time.{largest_time};
 
-use crate::delay::Delay;
+use sim_standard::Delay;
 use crate::driver::{IN_PLACE, Transaction};
 use sim_logic::Logic;
 use smallvec::SmallVec;

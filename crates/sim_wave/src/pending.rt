@@ -1,13 +1,13 @@
 //! The pending transactions of a driver: in the driver itself while there are at most two.
 
 ghost use Rattle.std.specs.Prelude.{◌≡◌, ◌+◌, ◌-◌, ◌<◌, ◌≤◌, [], ◌∷◌, ◌++◌, length, take, drop, All, IfOk, IsOk, OnOk, OnErr};
-ghost use Rattle.sim_wave.specs.Driver.{RisesFrom, Transaction as transaction, transaction_at};
+ghost use Rattle.sim_standard.specs.Drivers.{RisesFrom, Transaction as transaction, transaction_at};
 ghost use Rattle.std.specs.List.{remove_range};
-ghost use Rattle.sim_wave.specs.Edit.{edited, first_of, scheduled, IsWithin};
+ghost use Rattle.sim_standard.specs.Editing.{edited, first_element, scheduled, IsWithin};
 ghost use Rattle.sim_wave.specs.Pending.{transactions_of};
 ghost use Rattle.sim_logic.specs.Time.{largest_time};
 
-use crate::delay::Delay;
+use sim_standard::Delay;
 use crate::driver::{IN_PLACE, Transaction};
 use crate::edit::{Kept, Run, kept_by};
 use crate::stored::Stored;
@@ -104,8 +104,8 @@ impl Pending {
         }
     }
 
-    /// A signal assignment, as `Driver::edit` has it. It stays apart, so that the straight ways there
-    /// stay short.
+    /// A signal assignment, as `Driver::edit` has it. It stays apart, so that the straight ways
+    /// there stay short.
     #[inline(never)]
     pub(crate) fn edit(
         &mut self,
@@ -117,7 +117,7 @@ impl Pending {
         requires some { 0 < length elements.now }
         requires delays { All (λ (element : transaction). element.0 ≤ largest_time) elements.now }
         requires now { now ≤ largest_time }
-        requires reject { IsWithin delay (first_of elements.now).0 }
+        requires reject { IsWithin delay (first_element elements.now).0 }
         requires rises { RisesFrom 0 (transactions_of self.old) }
         ensures ok { OnOk result (transactions_of self.new
             ≡ edited (transactions_of self.old) now delay elements.now) }

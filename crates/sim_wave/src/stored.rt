@@ -2,11 +2,11 @@
 
 ghost use Rattle.std.specs.Prelude.{◌≡◌, ◌+◌, ◌-◌, ◌<◌, ◌≤◌, length, drop, All, IfOk, IsOk, OnOk, OnErr};
 ghost use Rattle.sim_logic.specs.declared.logic.Logic as logic;
-ghost use Rattle.sim_wave.specs.Driver.{RisesFrom, Transaction as transaction};
-ghost use Rattle.sim_wave.specs.Edit.{edited, first_of, IsWithin};
+ghost use Rattle.sim_standard.specs.Drivers.{RisesFrom, Transaction as transaction};
+ghost use Rattle.sim_standard.specs.Editing.{edited, first_element, IsWithin};
 ghost use Rattle.sim_logic.specs.Time.{largest_time};
 
-use crate::delay::Delay;
+use sim_standard::Delay;
 use crate::driver::{IN_PLACE, Transaction};
 use crate::edit::{Run, Transactions, close_gap, kept_by, rewrite};
 use smallvec::SmallVec;
@@ -15,8 +15,8 @@ use std::marker::Model;
 
 /// Pending transactions, earliest first: those of the list from `head` on. The ones before `head`
 /// were taken. They are removed once the others are no more than they, so that no more transactions
-/// are moved than were taken. A run of equal values is remembered, so that an inertial edit does not
-/// go over them again.
+/// are moved than were taken. A run of equal values is remembered, so that an inertial edit does
+/// not go over them again.
 #[derive(Drop)]
 pub(crate) struct Stored {
     list: Transactions,
@@ -27,7 +27,7 @@ pub(crate) struct Stored {
 impl Model for Stored {
     ghost use Rattle.std.specs.Prelude.{List, ◌+◌, ◌≤◌, drop};
     ghost use Rattle.smallvec.specs.SmallVec.{small_vec_len};
-    ghost use Rattle.sim_wave.specs.Driver.{Transaction};
+    ghost use Rattle.sim_standard.specs.Drivers.{Transaction};
     ghost use Rattle.sim_wave.specs.Run.{IsRun};
     ghost use Rattle.sim_wave.specs.declared.driver.TheConstants.{IN_PLACE};
 
@@ -88,7 +88,7 @@ impl Stored {
         requires some { 0 < length elements.now }
         requires delays { All (λ (element : transaction). element.0 ≤ largest_time) elements.now }
         requires now { now ≤ largest_time }
-        requires reject { IsWithin delay (first_of elements.now).0 }
+        requires reject { IsWithin delay (first_element elements.now).0 }
         requires rises { RisesFrom 0 self.old }
         ensures ok { OnOk result (self.new ≡ edited self.old now delay elements.now) }
         ensures err { OnErr result (self.new ≡ self.old) }

@@ -1,5 +1,5 @@
-//! Simulates a VHDL design: `vsim --top NAME` reads its text from standard input and writes the listing of its signal changes to
-//! standard output.
+//! Simulates a VHDL design: `vsim --top NAME` reads its text from standard input and writes the
+//! listing of its signal changes to standard output.
 #![tactic(auto)]
 
 use sim_run::session;
@@ -20,7 +20,7 @@ fn main(rt: HostRuntime) -> io::Result<ExitCode> {
     let words = match words(&rt, alloc) {
         Ok(words) => words,
         Err(fault) if fault.kind() == io::ErrorKind::OutOfMemory => {
-            let _told = err.write_all(b"vsim: Memory\n");
+            let _reported = err.write_all(b"vsim: Memory\n");
             return Ok(ExitCode::from(4));
         }
         Err(fault) => return Err(fault),

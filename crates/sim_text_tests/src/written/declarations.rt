@@ -1,5 +1,5 @@
 use crate::line::Line;
-use sim_tree::declaration::{
+use sim_text_tree::declaration::{
     ComponentDeclaration, Declaration, Initial, Mode, ObjectDeclaration, PortDeclaration,
 };
 

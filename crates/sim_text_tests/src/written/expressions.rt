@@ -1,6 +1,6 @@
 use crate::line::Line;
-use sim_tree::expression::{Expression, Logical, Operand, Relational};
-use sim_tree::name::Name;
+use sim_text_tree::expression::{Expression, Logical, Operand, Relational};
+use sim_text_tree::name::Name;
 
 fn put_call(line: &mut Line, function: &Name, argument: &Name) {
     line.put_name(function);

@@ -2,8 +2,8 @@ use crate::line::Line;
 use crate::written::declarations::{put_declarations, put_ports, put_variables};
 use crate::written::statements::put_statements;
 use crate::written::waveforms::put_assignment;
-use sim_tree::DesignFile;
-use sim_tree::unit::{
+use sim_text_tree::DesignFile;
+use sim_text_tree::unit::{
     Actual, Architecture, Association, Concurrent, ContextItem, Entity, Instance, Instantiated,
     LibraryUnit, Process, SelectedName, Sensitivity,
 };

@@ -1,8 +1,8 @@
 use crate::line::Line;
 use crate::written::expressions::put_expression;
 use sim_logic::Unit;
-use sim_tree::time::TimeLiteral;
-use sim_tree::waveform::{
+use sim_text_tree::time::TimeLiteral;
+use sim_text_tree::waveform::{
     ConcurrentSignalAssignment, ConditionalWaveforms, DelayMechanism, Element,
 };
 

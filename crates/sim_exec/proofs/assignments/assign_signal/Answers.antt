@@ -1,6 +1,6 @@
 use Rattle.std.proofs.Common.{ap}
 use Rattle.std.proofs.Math.Seq.{map-set_same}
-use Rattle.sim_wave.specs.Driver.{Waveform}
+use Rattle.sim_standard.specs.Drivers.{Waveform}
 use Rattle.sim_exec.proofs.assignments.assign_signal.Goals as goal
 
 pub returns-in-len1-clause-values : goal.returns-in-len1-clause-values

@@ -1,8 +1,8 @@
 use Rattle.std.proofs.Common.{◌≡◌, ◌≤◌, take}
 use Rattle.std.specs.List.{All}
 use Rattle.sim_logic.specs.Time.{largest_time}
-use Rattle.sim_wave.specs.Driver.{Transaction}
-use Rattle.sim_exec.specs.Values as values
+use Rattle.sim_standard.specs.Drivers.{Transaction}
+use Rattle.sim_standard.specs.Expressions as values
 use Rattle.sim_exec.proofs.assignments.element_values.Given as goal
 
 -- what was found are the elements so far, and none is later than there are times

@@ -1,5 +1,5 @@
 use Rattle.std.proofs.Common.{◌≡◌, drop}
-use Rattle.sim_exec.specs.Values as values
+use Rattle.sim_standard.specs.Expressions as values
 use Rattle.sim_exec.proofs.assignments.taken_waveform.Given as goal
 
 -- none so far is taken

@@ -1,10 +1,9 @@
 use Rattle.std.proofs.Common.{rules, ◌≡◌, true, sym, ◌∙◌, subst}
-use Rattle.sim_design.specs.declared.statement.Statement.{Statement}
-use Rattle.sim_design.specs.declared.statement.Branch.{Branch}
-use Rattle.sim_design.specs.declared.statement.Statement.{the_lemmas}
-use Rattle.sim_design.specs.Bodies.{branch_fits, statement_fits}
-use Rattle.sim_exec.specs.State.{Owned}
-use Rattle.sim_exec.specs.Statements.{own_steps}
+use Rattle.sim_flat_design.specs.declared.statement.Statement.{Statement, the_lemmas}
+use Rattle.sim_flat_design.specs.declared.statement.Branch.{Branch}
+use Rattle.sim_flat_design.specs.Bodies.{branch_fits, statement_fits}
+use Rattle.sim_standard.specs.State.{Owned}
+use Rattle.sim_standard.specs.Statements.{own_steps}
 use Rattle.sim_exec.proofs.Fits.{FitAll, FitBranches, branch_statements_fit, if_fits}
 use Rattle.sim_exec.proofs.Branches.{taken_now, not_taken}
 use Rattle.sim_exec.proofs.execution.+execution.Goals as goal

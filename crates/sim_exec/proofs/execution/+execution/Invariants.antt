@@ -1,7 +1,7 @@
 use Rattle.std.proofs.Common.{◌≡◌, map, drop}
 use Rattle.sim_exec.specs.Jobs.{IsReady}
-use Rattle.sim_exec.specs.State.{Owned, driver_values}
-use Rattle.sim_exec.specs.Statements.{own_steps, statement_done, branch_done, in_turn, first_taken}
+use Rattle.sim_standard.specs.State.{Owned, driver_values}
+use Rattle.sim_standard.specs.Statements.{own_steps, statement_done, branch_done, in_turn, first_taken}
 use Rattle.sim_exec.proofs.execution.+execution.Given as goal
 
 -- what is left, carried out now, gives what all give, carried out at first

@@ -1,6 +1,6 @@
 use Rattle.std.proofs.Common.{ℕ, ◌≡◌, map, drop}
-use Rattle.sim_exec.specs.State.{Owned}
-use Rattle.sim_exec.specs.Statements.{own_steps, statement_done, in_turn}
+use Rattle.sim_standard.specs.State.{Owned}
+use Rattle.sim_standard.specs.Statements.{own_steps, statement_done, in_turn}
 use Rattle.sim_exec.proofs.idle.+idle.Given as goal
 
 -- none so far assigns anything

@@ -1,9 +1,9 @@
 use Rattle.std.proofs.Common.{◌≡◌, List, true, false, ap, sym, ◌∙◌}
-use Rattle.sim_design.specs.declared.held.Held.{Held}
-use Rattle.sim_design.specs.declared.statement.Statement.TheViews as views
-use Rattle.sim_exec.specs.State.{Owned}
-use Rattle.sim_exec.specs.Values.{boolean_value}
-use Rattle.sim_exec.specs.Statements.{own_steps}
+use Rattle.sim_flat_design.specs.declared.held.Held.{Held}
+use Rattle.sim_flat_design.specs.declared.statement.Statement.TheViews as views
+use Rattle.sim_standard.specs.State.{Owned}
+use Rattle.sim_standard.specs.Expressions.{boolean_value}
+use Rattle.sim_standard.specs.Statements.{own_steps}
 use Rattle.sim_exec.proofs.Branches.{not_taken, held_now, not_held}
 use Rattle.sim_exec.proofs.idle.none_is_taken.Goals as goal
 

@@ -1,6 +1,6 @@
 use Rattle.std.proofs.Common.{ℕ, ◌≡◌, map, drop}
-use Rattle.sim_exec.specs.State.{Owned}
-use Rattle.sim_exec.specs.Statements.{own_steps, branch_done, first_taken, one_holds}
+use Rattle.sim_standard.specs.State.{Owned}
+use Rattle.sim_standard.specs.Statements.{own_steps, branch_done, first_taken, one_holds}
 use Rattle.sim_exec.proofs.idle.none_is_taken.Given as goal
 
 -- none so far is taken, and no condition of these holds

@@ -1,5 +1,5 @@
 use Rattle.std.proofs.Common.{◌≡◌, fold, map, drop}
-use Rattle.sim_exec.specs.Values as spec
+use Rattle.sim_standard.specs.Expressions as spec
 use Rattle.sim_exec.proofs.values.+logic_values.Given as goal
 
 -- what is left, folded onto the value so far, gives what all give

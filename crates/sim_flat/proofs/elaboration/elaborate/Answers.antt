@@ -1,6 +1,6 @@
 use Rattle.std.proofs.Common.{◌≡◌, ◌<◌, List, length, ap, sym, subst, arith, All}
-use Rattle.sim_hierarchy.specs.declared.blocks.Block.{Block}
-use Rattle.sim_hierarchy.specs.Blocks.{IsBlock}
+use Rattle.sim_flat_blocks.specs.declared.parts.Block.{Block}
+use Rattle.sim_flat_blocks.specs.Blocks.{IsBlock}
 use Rattle.sim_flat.specs.Tops.{folded}
 use Rattle.sim_flat.proofs.TopBlocks.{architecture_within}
 use Rattle.sim_flat.proofs.elaboration.elaborate.Goals as goal

@@ -1,6 +1,6 @@
 use Rattle.std.proofs.Common.{◌≡◌, map, take}
 use Rattle.std.specs.Prelude.{string_bytes}
-use Rattle.sim_design.specs.Designs.{Net}
+use Rattle.sim_flat_design.specs.Designs.{Net}
 use Rattle.sim_run.proofs.finished.names_of.Given as goal
 
 abbrev pub invariant-loop-net : goal.invariant-loop-net

@@ -1,6 +1,6 @@
 use Rattle.std.proofs.Common.{◌≡◌, true, rules}
-use Rattle.sim_store.specs.Behaviour.{behaviour_of}
-use Rattle.sim_options.specs.Options.{are_in_range}
+use Rattle.sim_standard.specs.Behaviour.{behaviour_of}
+use Rattle.sim_run_options.specs.Options.{are_in_range}
 use Rattle.sim_run.proofs.Answering.{answered}
 use Rattle.sim_run.proofs.runs.run.Goals as goal
 

@@ -2,7 +2,7 @@ use Rattle.std.proofs.Common.{List, arith, subst}
 use Rattle.std.specs.List.{All}
 use Rattle.std.proofs.lemmas.List.{take_all}
 use Rattle.std.proofs.lemmas.List.Elements.{All-more}
-use Rattle.sim_design.specs.Processes.{Process, IsProcess}
+use Rattle.sim_flat_design.specs.Processes.{Process, IsProcess}
 use Rattle.sim_store.proofs.simulation.are_processes.Goals as goal
 
 pub loop-process-preserved : goal.loop-process-preserved

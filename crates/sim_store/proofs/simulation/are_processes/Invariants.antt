@@ -1,6 +1,6 @@
 use Rattle.std.proofs.Common.{take}
 use Rattle.std.specs.List.{All}
-use Rattle.sim_design.specs.Processes.{IsProcess}
+use Rattle.sim_flat_design.specs.Processes.{IsProcess}
 use Rattle.sim_store.proofs.simulation.are_processes.Given as goal
 
 -- those so far are

@@ -1,9 +1,9 @@
 use Rattle.std.proofs.Common.{rules, tests, ◌≡◌, Bool, List, length, ap, sym, ◌∙◌, subst, arith}
 use Rattle.std.proofs.lemmas.List.{get_or_default}
-use Rattle.sim_design.specs.Processes.{Process}
+use Rattle.sim_flat_design.specs.Processes.{Process}
 use Rattle.sim_exec.specs.Jobs.{IsReady}
-use Rattle.sim_exec.specs.State.{owned_at}
-use Rattle.sim_state.specs.Cycles.{no_process, process_at}
+use Rattle.sim_standard.specs.State.{owned_at}
+use Rattle.sim_standard.specs.Processes.{no_process, process_at}
 use Rattle.sim_store.specs.Made.{progress_of}
 use Rattle.sim_store.specs.Progress.{IsProgress, with_marks}
 use Rattle.sim_store.proofs.Going.{executed-keeps, held-count, ready-here}

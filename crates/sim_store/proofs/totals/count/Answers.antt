@@ -1,4 +1,4 @@
-use Rattle.sim_store.specs.Agreement.{is_of}
+use Rattle.sim_standard.specs.Agreement.{is_of}
 use Rattle.sim_store.proofs.Counting.{room-for-one}
 use Rattle.sim_store.proofs.totals.count.Goals as goal
 

@@ -1,6 +1,6 @@
 use Rattle.std.proofs.Common.{ℕ, ◌≡◌, ◌<◌, ◌+◌, length, get_or, take}
 use Rattle.std.specs.List.{filter}
-use Rattle.sim_store.specs.Agreement.{is_of}
+use Rattle.sim_standard.specs.Agreement.{is_of}
 use Rattle.sim_store.proofs.totals.count.Given as goal
 
 -- those so far are counted

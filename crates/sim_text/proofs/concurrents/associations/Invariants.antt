@@ -1,6 +1,6 @@
-use Rattle.sim_expression.specs.Cursors.{view}
-use Rattle.sim_tree.proofs.Turns.{IsLeft}
-use Rattle.sim_reading.specs.Concurrents.{associations, associations_from}
+use Rattle.sim_text_reader.specs.Cursors.{view}
+use Rattle.sim_text_tree.proofs.Turns.{IsLeft}
+use Rattle.sim_text_grammar.specs.Concurrents.{associations, associations_from}
 use Rattle.sim_text.proofs.concurrents.associations.Given as goal
 
 abbrev pub invariant-loop-turn : goal.invariant-loop-turn

@@ -1,6 +1,6 @@
-use Rattle.sim_expression.specs.Cursors.{view}
-use Rattle.sim_reading.proofs.OneItemATurn.{AsManyAsCome}
-use Rattle.sim_reading.specs.Declarations.{declarations, declaration, begins_declaration}
+use Rattle.sim_text_reader.specs.Cursors.{view}
+use Rattle.sim_text_grammar.proofs.OneItemATurn.{AsManyAsCome}
+use Rattle.sim_text_grammar.specs.Declarations.{declarations, declaration, begins_declaration}
 use Rattle.sim_text.proofs.declarations.declarations.Given as goal
 
 abbrev pub invariant-loop-turn : goal.invariant-loop-turn

@@ -1,7 +1,7 @@
-use Rattle.sim_token.specs.declared.kind.Kind.TheVariants as k
-use Rattle.sim_expression.specs.Cursors.{view}
-use Rattle.sim_reading.proofs.OneItemATurn.{AfterEach}
-use Rattle.sim_reading.specs.Declarations.{port_list, port}
+use Rattle.sim_text_tokens.specs.declared.kind.Kind.TheVariants as k
+use Rattle.sim_text_reader.specs.Cursors.{view}
+use Rattle.sim_text_grammar.proofs.OneItemATurn.{AfterEach}
+use Rattle.sim_text_grammar.specs.Declarations.{port_list, port}
 use Rattle.sim_text.proofs.declarations.port_list.Given as goal
 
 abbrev pub invariant-loop-turn : goal.invariant-loop-turn

@@ -1,5 +1,5 @@
 use Rattle.std.proofs.Common.{rules}
-use Rattle.sim_reading.proofs.OneItemATurn.{one_after, none_after}
+use Rattle.sim_text_grammar.proofs.OneItemATurn.{one_after, none_after}
 use Rattle.sim_text.proofs.declarations.variables.Goals as goal
 
 pub returns-then-not-sees : goal.returns-then-not-sees

@@ -1,7 +1,7 @@
 use Rattle.std.proofs.Common.{subst}
-use Rattle.sim_reading.specs.Readers.{Reads}
-use Rattle.sim_expression.specs.Cursors.{view}
-use Rattle.sim_reading.specs.Units.{file}
+use Rattle.sim_text_grammar.specs.Readers.{Reads}
+use Rattle.sim_text_reader.specs.Cursors.{view}
+use Rattle.sim_text_grammar.specs.Units.{file}
 use Rattle.sim_text.proofs.Places.{found_of, only_of, refused_of}
 use Rattle.sim_text.proofs.text.file_of.Goals as goal
 

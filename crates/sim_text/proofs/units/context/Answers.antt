@@ -1,5 +1,5 @@
 use Rattle.std.proofs.Common.{rules}
-use Rattle.sim_reading.proofs.OneItemATurn.{one_more, no_more}
+use Rattle.sim_text_grammar.proofs.OneItemATurn.{one_more, no_more}
 use Rattle.sim_text.proofs.units.context.Goals as goal
 
 pub returns-then-not-begins_context : goal.returns-then-not-begins_context

@@ -1,5 +1,5 @@
-use Rattle.sim_expression.specs.Cursors.{view}
-use Rattle.sim_reading.proofs.WholeFiles.{units_read}
+use Rattle.sim_text_reader.specs.Cursors.{view}
+use Rattle.sim_text_grammar.proofs.WholeFiles.{units_read}
 use Rattle.sim_text.proofs.units.file.Goals as goal
 
 pub new-requires : goal.new-requires

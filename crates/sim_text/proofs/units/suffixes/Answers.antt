@@ -1,7 +1,7 @@
 use Rattle.std.proofs.Common.{rules}
-use Rattle.sim_reading.specs.Readers.{left}
-use Rattle.sim_reading.specs.Units.{suffixes_from}
-use Rattle.sim_tree.proofs.Turns.{one_more, no_more}
+use Rattle.sim_text_grammar.specs.Readers.{left}
+use Rattle.sim_text_grammar.specs.Units.{suffixes_from}
+use Rattle.sim_text_tree.proofs.Turns.{one_more, no_more}
 use Rattle.sim_text.proofs.units.suffixes.Goals as goal
 
 pub returns-in_err-expect : goal.returns-in_err-expect

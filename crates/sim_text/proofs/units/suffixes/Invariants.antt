@@ -1,6 +1,6 @@
-use Rattle.sim_expression.specs.Cursors.{view}
-use Rattle.sim_tree.proofs.Turns.{IsLeft}
-use Rattle.sim_reading.specs.Units.{suffixes, suffixes_from}
+use Rattle.sim_text_reader.specs.Cursors.{view}
+use Rattle.sim_text_tree.proofs.Turns.{IsLeft}
+use Rattle.sim_text_grammar.specs.Units.{suffixes, suffixes_from}
 use Rattle.sim_text.proofs.units.suffixes.Given as goal
 
 abbrev pub invariant-loop-turn : goal.invariant-loop-turn

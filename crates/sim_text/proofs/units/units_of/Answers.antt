@@ -1,6 +1,6 @@
 use Rattle.std.proofs.Common.{rules}
-use Rattle.sim_reading.specs.Readers.{sees}
-use Rattle.sim_reading.proofs.OneItemATurn.{one_more, no_more}
+use Rattle.sim_text_grammar.specs.Readers.{sees}
+use Rattle.sim_text_grammar.proofs.OneItemATurn.{one_more, no_more}
 use Rattle.sim_text.proofs.units.units_of.Goals as goal
 
 pub returns-then-sees : goal.returns-then-sees

@@ -1,6 +1,6 @@
 use Rattle.std.proofs.Common.{◌≤◌, ◌+◌, ◌-◌, ◌≡◌, ◌++◌, length, take}
 use Rattle.smallvec.specs.SmallVec.{small_vec_len}
-use Rattle.sim_wave.specs.Edit.{scheduled}
+use Rattle.sim_standard.specs.Editing.{scheduled}
 use Rattle.sim_wave.proofs.edit.append.Given as goal
 
 abbrev pub invariant-loop-delay : goal.invariant-loop-delay

@@ -1,5 +1,5 @@
 use Rattle.std.proofs.Common.{ℕ, ◌≡◌, ◌-◌, ◌≤◌, ◌⊎◌, inl, inr, ap, ◌∙◌, arith}
-use Rattle.sim_wave.specs.Driver.{transaction_at}
+use Rattle.sim_standard.specs.Drivers.{transaction_at}
 use Rattle.sim_wave.proofs.edit.chain_start.Goals as goal
 
 last_or_further : (p k : ℕ) → p - 1 ≤ k → (k ≡ p - 1) ⊎ (p ≤ k)

@@ -1,5 +1,5 @@
 use Rattle.std.proofs.Common.{ℕ, ◌≡◌, ◌≤◌, ◌<◌}
-use Rattle.sim_wave.specs.Driver.{transaction_at}
+use Rattle.sim_standard.specs.Drivers.{transaction_at}
 use Rattle.sim_wave.proofs.edit.chain_start.Given as goal
 
 abbrev pub invariant-loop-place : goal.invariant-loop-place

@@ -1,7 +1,7 @@
 use Rattle.std.proofs.Common.{◌≡◌, ◌-◌, take, arith}
 use Rattle.std.proofs.lemmas.List.{take-append-drop}
-use Rattle.sim_wave.specs.Edit.{before}
-use Rattle.sim_wave.proofs.Keeping.{kept_places-marked_of}
+use Rattle.sim_standard.specs.Editing.{before}
+use Rattle.sim_standard.proofs.Keeping.{kept_places-marked_of}
 use Rattle.sim_wave.proofs.Rising.{before-take}
 use Rattle.sim_wave.proofs.edit.kept_by.Goals as goal
 

@@ -1,7 +1,7 @@
 use Rattle.std.proofs.Common.{rules, ℕ, List, length, ap, sym, subst, arith}
 use Rattle.std.specs.List.{All}
-use Rattle.sim_design.specs.Designs.{AreOwned}
-use Rattle.sim_design.specs.Processes.{Process, IsProcess}
+use Rattle.sim_flat_design.specs.Designs.{AreOwned}
+use Rattle.sim_flat_design.specs.Processes.{Process, IsProcess}
 use Rattle.sim_store.specs.Made.{progress_of}
 use Rattle.sim_store.specs.Progress.{IsProgress}
 use Rattle.sim_store.proofs.Counting.{totals-begin}

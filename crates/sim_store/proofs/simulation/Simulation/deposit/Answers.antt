@@ -1,6 +1,6 @@
 use Rattle.std.proofs.Common.{ℕ, Bool, List, ◌≡◌, ◌<◌, true, length, set, MatchOption, ap, sym, ◌∙◌, subst, arith}
 use Rattle.sim_exec.specs.Jobs.{Job, result_of}
-use Rattle.sim_exec.specs.State.{Owned, driver_values, owned_at}
+use Rattle.sim_standard.specs.State.{Owned, driver_values, owned_at}
 use Rattle.sim_store.specs.Progress.{Progress, IsMissing, IsOwn, IsProgress, kept_or}
 use Rattle.sim_store.specs.contracts.simulation.Simulation.{the_view}
 use Rattle.sim_store.proofs.Going.{deposited-keeps, held-count, kept-result, kept-values, kept-variables, own-ready, own-result}

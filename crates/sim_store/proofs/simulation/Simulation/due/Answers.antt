@@ -1,7 +1,7 @@
 use Rattle.std.proofs.Common.{◌≡◌, ◌≤◌, length, subst, sym, ap, ◌∙◌, arith}
-use Rattle.sim_design.specs.Designs.{most}
+use Rattle.sim_flat_design.specs.Designs.{most}
 use Rattle.sim_store.specs.Progress.{Progress, is_due, reached, those_in}
-use Rattle.sim_store.specs.Standard.{resumed, those}
+use Rattle.sim_standard.specs.Cycle.{resumed, those}
 use Rattle.sim_store.specs.contracts.simulation.Simulation.{the_view}
 use Rattle.sim_store.proofs.Listing.{those-few, those-same}
 use Rattle.sim_store.proofs.simulation.Simulation.due.Goals as goal

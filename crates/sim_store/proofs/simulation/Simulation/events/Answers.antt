@@ -1,11 +1,10 @@
 use Rattle.std.proofs.Common.{◌≡◌, ◌-◌, length, List, ap, ◌∙◌, arith}
-use Rattle.sim_state.specs.declared.record.Record.{Record}
-use Rattle.sim_state.specs.Log.{all_changes}
-use Rattle.sim_store.specs.History.{event_count}
+use Rattle.sim_standard.specs.declared.record.Record.{Record}
+use Rattle.sim_standard.specs.Records.{all_changes}
+use Rattle.sim_standard.specs.Histories.{event_count, records_to}
 use Rattle.sim_store.specs.Progress.{Progress}
-use Rattle.sim_store.specs.Standard.{records_to}
 use Rattle.sim_store.specs.contracts.simulation.Simulation.{the_view}
-use Rattle.sim_store.proofs.Records.{change_count}
+use Rattle.sim_standard.proofs.Records.{change_count}
 use Rattle.sim_store.proofs.simulation.Simulation.events.Goals as goal
 
 pub overflow_sub-result : goal.overflow_sub-result

@@ -1,12 +1,12 @@
 use Rattle.std.proofs.Common.{ℕ, suc, ◌+◌, ◌-◌, ◌<◌, ◌≡◌, ◌++◌, [], ◌∷◌, List, Some, length, get_or, ap, sym, ◌∙◌, subst, arith}
 use Rattle.std.proofs.lemmas.List.{length-append}
 use Rattle.std.specs.List.{filter}
-use Rattle.sim_rows.proofs.Flat.{written_back}
-use Rattle.sim_state.specs.declared.record.Record.{Record}
-use Rattle.sim_state.specs.Log.{record_at}
-use Rattle.sim_state.specs.Records.{changes_from}
-use Rattle.sim_store.specs.Standard.{state_of}
-use Rattle.sim_store.specs.Agreement.{is_of}
+use Rattle.sim_store_sets.proofs.Flat.{written_back}
+use Rattle.sim_standard.specs.declared.record.Record.{Record}
+use Rattle.sim_store_state.specs.Log.{record_at}
+use Rattle.sim_standard.specs.Records.{changes_from}
+use Rattle.sim_standard.specs.Cycle.{state_of}
+use Rattle.sim_standard.specs.Agreement.{is_of}
 use Rattle.sim_store.specs.Progress.{AreTotals, Progress, IsComplete, after, next_after}
 use Rattle.sim_store.specs.contracts.simulation.Simulation.{the_view}
 use Rattle.sim_store.proofs.Counting.{changes-few, last-record, totals-few, totals-go-on}
@@ -42,7 +42,7 @@ pub find-requires : goal.find-requires
 find-requires c =
     let all = subst IsComplete (sym c.self.view_is) c.requires.complete in
     let count = advanced-count c.self.invariant.progress all c.args.time c.update.new.self c.in_ok-update.ensures.ok in
-    c.self.invariant.made.wakes_sized ∙ sym count
+    c.self.invariant.made.sensitive_sized ∙ sym count
 
 pub count_last-requires-clause-room : goal.count_last-requires-clause-room
 count_last-requires-clause-room c n =
@@ -82,7 +82,8 @@ invariant_of-self-2 c =
       made = c.self.invariant.made;
       progress = advanced-keeps i all c.args.time next c.requires.early c.next_delta-self-inside.result (length c.record.new.log.records - 1)
           c.update.new.self c.record.new.log.records c.find.new.self _ c.next_delta-self-inside.ensures
-          c.in_ok-update.ensures.ok records c.find.ensures.sized (λ p lt. c.find.ensures.found h.design.processes p c.self.invariant.made.wakes_are lt) marks
+          c.in_ok-update.ensures.ok records c.find.ensures.sized (λ p lt. c.find.ensures.found h.design.processes p c.self.invariant.made.sensitive_are
+              lt) marks
           (omega (arith, ap length records, length-append s.made.log.records (one ∷ []), cycle-count i));
       counts = subst (AreTotals (length s.design.nets) c.record.new.log.records) (sym written)
           (totals-go-on (length s.design.nets) s.made.log.records c.record.new.log.records one s.made.totals.items c.count_last.new.totals

@@ -1,10 +1,10 @@
 use Rattle.std.proofs.Common.{List, length, sym, subst}
 use Rattle.std.specs.List.{All}
-use Rattle.sim_state.specs.declared.record.Record.{Record}
-use Rattle.sim_store.specs.History.{IsNamed}
+use Rattle.sim_standard.specs.declared.record.Record.{Record}
+use Rattle.sim_standard.specs.Histories.{IsNamed}
 use Rattle.sim_store.specs.Progress.{Progress}
 use Rattle.sim_store.specs.contracts.simulation.Simulation.{the_view}
-use Rattle.sim_store.proofs.Records.{all_named}
+use Rattle.sim_standard.proofs.Records.{all_named}
 use Rattle.sim_store.proofs.simulation.Simulation.history.Goals as goal
 
 pub returns-clause-named : goal.returns-clause-named

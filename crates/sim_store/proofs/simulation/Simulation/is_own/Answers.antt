@@ -1,8 +1,8 @@
 use Rattle.std.proofs.Common.{rules, tests, IsTrue, ◌≡◌, ◌<◌, false, List, length, map, ap, sym, ◌∙◌, subst, arith}
 use Rattle.std.proofs.lemmas.List.{get_or_default}
-use Rattle.sim_design.specs.Processes.{Process}
-use Rattle.sim_state.specs.Cycles.{no_process, process_at}
-use Rattle.sim_exec.specs.State.{net_at, owned_at}
+use Rattle.sim_flat_design.specs.Processes.{Process}
+use Rattle.sim_standard.specs.Processes.{no_process, process_at}
+use Rattle.sim_standard.specs.State.{net_at, owned_at}
 use Rattle.sim_store.specs.Progress.{Progress, IsOwn, those_in}
 use Rattle.sim_store.specs.contracts.simulation.Simulation.{the_view}
 use Rattle.sim_store.proofs.Going.{fits-own, held-count, own-owned, own-views}

@@ -1,9 +1,9 @@
 use Rattle.std.proofs.Common.{◌≡◌, ◌<◌, List, length, map, false, arith, sym, ap, ◌∙◌, subst}
 use Rattle.std.proofs.lemmas.List.{get_or_default}
-use Rattle.sim_design.specs.Processes.{Process}
-use Rattle.sim_state.specs.Cycles.{no_process, process_at}
+use Rattle.sim_flat_design.specs.Processes.{Process}
+use Rattle.sim_standard.specs.Processes.{no_process, process_at}
 use Rattle.sim_exec.specs.Jobs.{Job, IsJob}
-use Rattle.sim_exec.specs.State.{Owned, net_at}
+use Rattle.sim_standard.specs.State.{Owned, net_at}
 use Rattle.sim_store.specs.Progress.{Progress, IsJobOf, IsOwn, those_in}
 use Rattle.sim_store.specs.contracts.simulation.Simulation.{the_view}
 use Rattle.sim_store.proofs.Going.{held-count, job-fits, length-records_to, part-is}

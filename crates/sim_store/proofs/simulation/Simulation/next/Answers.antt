@@ -1,6 +1,7 @@
 use Rattle.std.proofs.Common.{◌≡◌, ℕ, Option, sym, ap, ◌∙◌, subst}
 use Rattle.std.proofs.lemmas.Result.{IfOk-weaker}
-use Rattle.sim_state.specs.Drivers.{next_time, waves}
+use Rattle.sim_standard.specs.Drivers.{next_time}
+use Rattle.sim_standard.specs.State.{waves}
 use Rattle.sim_store.specs.Progress.{IsComplete, next_after}
 use Rattle.sim_store.specs.contracts.simulation.Simulation.{the_view}
 use Rattle.sim_store.proofs.Going.{next-is}

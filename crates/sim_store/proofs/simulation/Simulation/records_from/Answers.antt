@@ -1,12 +1,12 @@
 use Rattle.std.proofs.Common.{suc, ◌≤◌, List, length, sym, subst, arith}
 use Rattle.std.proofs.lemmas.List.Elements.{All-drop}
 use Rattle.std.specs.List.{All}
-use Rattle.sim_state.specs.declared.record.Record.{Record}
-use Rattle.sim_store.specs.History.{IsNamed}
+use Rattle.sim_standard.specs.declared.record.Record.{Record}
+use Rattle.sim_standard.specs.Histories.{IsNamed}
 use Rattle.sim_store.specs.Progress.{Progress}
 use Rattle.sim_store.specs.contracts.simulation.Simulation.{the_view}
 use Rattle.sim_store.proofs.Going.{cycle-count}
-use Rattle.sim_store.proofs.Records.{all_named}
+use Rattle.sim_standard.proofs.Records.{all_named}
 use Rattle.sim_store.proofs.simulation.Simulation.records_from.Goals as goal
 
 pub records_from-requires : goal.records_from-requires

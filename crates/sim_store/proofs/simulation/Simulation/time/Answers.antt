@@ -1,6 +1,6 @@
 use Rattle.std.proofs.Common.{◌≡◌, Some, subst}
 use Rattle.sim_store.specs.Progress.{Progress, AreRising, reached}
-use Rattle.sim_store.specs.Standard.{standard}
+use Rattle.sim_standard.specs.Cycle.{standard}
 use Rattle.sim_store.specs.contracts.simulation.Simulation.{the_view}
 use Rattle.sim_store.proofs.simulation.Simulation.time.Goals as goal
 

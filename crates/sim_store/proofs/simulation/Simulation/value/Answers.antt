@@ -1,9 +1,9 @@
 use Rattle.std.proofs.Common.{ℕ, ◌≡◌, ◌<◌, ◌≤◌, List, length, MatchOption, IfSome, Some, subst}
-use Rattle.sim_exec.specs.declared.view.NetView.{NetView}
-use Rattle.sim_exec.specs.State.{net_at}
+use Rattle.sim_standard.specs.declared.net_view.NetView.{NetView}
+use Rattle.sim_standard.specs.State.{net_at}
 use Rattle.sim_store.specs.Progress.{Progress, reached}
-use Rattle.sim_store.specs.Agreement.{value_by}
-use Rattle.sim_store.specs.Standard.{records_to}
+use Rattle.sim_standard.specs.Agreement.{value_by}
+use Rattle.sim_standard.specs.Histories.{records_to}
 use Rattle.sim_store.proofs.Counting.{known-value}
 use Rattle.sim_store.proofs.Going.{net-count}
 use Rattle.sim_store.proofs.simulation.Simulation.value.Goals as goal

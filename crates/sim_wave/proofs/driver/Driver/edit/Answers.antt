@@ -1,5 +1,5 @@
 use Rattle.std.proofs.Common.{◌≡◌, ap, arith}
-use Rattle.sim_wave.specs.Driver.{RisesFrom, Waveform}
+use Rattle.sim_standard.specs.Drivers.{RisesFrom, Waveform}
 use Rattle.sim_wave.specs.Pending.{transactions_of}
 use Rattle.sim_wave.proofs.Rising.{RisesFrom-earlier, edit-rises}
 use Rattle.sim_wave.proofs.driver.Driver.edit.Goals as goal

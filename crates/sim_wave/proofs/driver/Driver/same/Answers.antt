@@ -2,7 +2,7 @@ use Rattle.std.proofs.Common.{ap, sym, ◌∙◌, ◌≡◌}
 use denote.Enum.Bare.{same_true}
 use Rattle.std.proofs.lemmas.Slice.Eq.{slice_eq-Decides}
 use Rattle.sim_logic.specs.contracts.logic.Logic.{the_type}
-use Rattle.sim_wave.specs.Driver.{Waveform}
+use Rattle.sim_standard.specs.Drivers.{Waveform}
 use Rattle.sim_wave.proofs.Comparing.{are_same-Decides, same-pending}
 use Rattle.sim_wave.proofs.driver.Driver.same.Goals as goal
 

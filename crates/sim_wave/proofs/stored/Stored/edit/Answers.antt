@@ -1,8 +1,8 @@
 use Rattle.std.proofs.Common.{◌≡◌, ◌+◌, ◌-◌, ◌≤◌, ◌++◌, ◌∙◌, sym, ap, subst, List, length, take, drop, rules, arith, length-drop}
 use Rattle.std.specs.List.{remove_range}
 use Rattle.smallvec.specs.SmallVec.{small_vec_len}
-use Rattle.sim_wave.specs.Driver.{Transaction, transaction_at}
-use Rattle.sim_wave.specs.Edit.{edited, scheduled}
+use Rattle.sim_standard.specs.Drivers.{Transaction, transaction_at}
+use Rattle.sim_standard.specs.Editing.{edited, scheduled}
 use Rattle.sim_wave.specs.Run.{IsRun}
 use Rattle.sim_wave.proofs.Storing.{drop-remove_range, kept-edited, length-left, IsRun-edited}
 use Rattle.sim_wave.proofs.stored.Stored.edit.Goals as goal

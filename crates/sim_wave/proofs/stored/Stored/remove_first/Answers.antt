@@ -1,5 +1,5 @@
 use Rattle.std.proofs.Common.{◌<◌, ◌+◌, ◌∙◌, ap, List, length, drop, refl, arith, length-drop}
-use Rattle.sim_wave.specs.Driver.{Transaction}
+use Rattle.sim_standard.specs.Drivers.{Transaction}
 use Rattle.sim_wave.proofs.Storing.{drop_one-drop}
 use Rattle.sim_wave.proofs.stored.Stored.remove_first.Goals as goal
 

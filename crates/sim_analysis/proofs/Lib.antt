@@ -1,2 +1,0 @@
-pub mod KnownNames
-pub mod Turns

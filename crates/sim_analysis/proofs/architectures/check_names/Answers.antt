@@ -1,8 +1,0 @@
-use Rattle.sim_analysis.proofs.KnownNames.{names_step}
-use Rattle.sim_analysis.proofs.architectures.check_names.Goals as goal
-
-pub loop-architecture-preserved : goal.loop-architecture-preserved
-loop-architecture-preserved c =
-    names_step c.args.library.now c.loop-architecture.known _ c.loop-architecture.first _ _ c.args.architectures.now
-    c.loop-architecture.architecture-index c.architecture-item.result c.loop-architecture-test.true c.architecture-item.is
-    c.loop-architecture.invariant c.in_ok-check_name.ensures.faults c.in_ok-check_name.ensures.known

@@ -1,8 +1,0 @@
-use Rattle.std.proofs.Common.{◌≡◌, ◌++◌, drop}
-use Rattle.sim_instance.specs.Libraries.{entities_at}
-use Rattle.sim_analysis.specs.Entities.{entity_names}
-use Rattle.sim_analysis.proofs.entities.names_of.Given as goal
-
-abbrev pub invariant-loop-entity : goal.invariant-loop-entity
-invariant-loop-entity l =
-    l.names ++ entity_names (entities_at (drop l.entity-index l.entities)) ≡ entity_names (entities_at l.entities)

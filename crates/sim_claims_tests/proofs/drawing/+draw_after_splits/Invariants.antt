@@ -1,4 +1,0 @@
-use Rattle.sim_claims_tests.proofs.drawing.+draw_after_splits.Given as goal
-
-abbrev pub decreases-draw_after_splits : goal.decreases-draw_after_splits
-decreases-draw_after_splits l = l.splits

@@ -1,6 +1,0 @@
-use Rattle.sim_token.specs.declared.kind.Kind.TheVariants.{Word}
-use Rattle.sim_reading.proofs.Tokens.{same_is}
-use Rattle.sim_expression.proofs.cursor.Cursor.word.Goals as goal
-
-pub of-requires : goal.of-requires
-of-requires c = same_is c.in-Some.token.kind Word c.in-Some.ensures.some.1

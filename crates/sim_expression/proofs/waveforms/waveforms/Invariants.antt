@@ -1,7 +1,0 @@
-use Rattle.sim_expression.specs.Cursors.{view}
-use Rattle.sim_tree.proofs.Turns.{IsLeft}
-use Rattle.sim_reading.specs.Waveforms.{waveforms, alternatives_from}
-use Rattle.sim_expression.proofs.waveforms.waveforms.Given as goal
-
-abbrev pub invariant-loop-turn : goal.invariant-loop-turn
-invariant-loop-turn l = IsLeft (waveforms (view l.fn.tokens)) (λ n. alternatives_from n l.conditional.items (view l.tokens)) l._turn-end l._turn

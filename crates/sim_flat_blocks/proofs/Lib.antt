@@ -1,0 +1,15 @@
+pub mod Rises
+pub mod Added
+pub mod ByPlace
+pub mod KeptLinks
+pub mod KnownBlocks
+pub mod KnownInstances
+pub mod PutLinks
+pub mod References
+pub mod SharedPorts
+pub mod Sizes
+pub mod RegionLaws
+pub mod ReadRules
+pub mod ReadsBelow
+pub mod TargetsBelow
+pub mod FittingBlocks

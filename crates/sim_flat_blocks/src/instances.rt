@@ -1,0 +1,164 @@
+//! The instances of an architecture (IEEE 1076-2008, 6.5.7, 11.7).
+
+ghost use Rattle.std.specs.Prelude.{◌≡◌, ◌++◌, Some, IfOk, OnOk};
+ghost use Rattle.sim_flat_instances.specs.PortMaps.{port_of};
+ghost use Rattle.sim_flat_blocks.specs.Plans as spec;
+
+use crate::names::meaning;
+use crate::{Instance as BlockInstance, Link, Links};
+use sim_flat_instances::instance::{architecture_place, entity_name};
+use sim_flat_instances::port_map::port_of;
+use sim_flat_instances::{Interface, Library};
+use sim_flat_scope::{Meaning, Scope};
+use sim_text_tree::unit::{Actual, Association, Concurrent, Instance};
+use sqlite_items::Items;
+use std::alloc::{AllocError, Global};
+
+/// What a port is associated with, by what the name of its actual means.
+#[tactic(auto, unfolding(crate::specs::Plans::link_to))]
+fn link_to(meaning: Option<Meaning>) -> Link
+    ensures { result ≡ spec.link_to meaning }
+{
+    match meaning {
+        Some(Meaning::Port { object, .. }) => Link::To(object),
+        Some(Meaning::Signal { object, .. }) => Link::To(object),
+        _ => Link::Open,
+    }
+}
+
+/// What a port with this actual is associated with.
+#[tactic(auto, unfolding(crate::specs::Plans::link_of))]
+fn link(region: &Scope<'_>, actual: &Actual) -> Link
+    ensures { result ≡ spec.link_of (spec.seen region.now) (Some actual.now) }
+{
+    match actual {
+        Actual::Named(name) => link_to(meaning(region, name.text())),
+        Actual::Literal { value, .. } => Link::Constant(*value),
+        Actual::Open { .. } => Link::Open,
+    }
+}
+
+/// Associates the port of an association with its actual.
+fn put_link(
+    region: &Scope<'_>,
+    ports: &Interface<'_>,
+    at: usize,
+    association: &Association,
+    links: &mut Links,
+) -> Result<(), AllocError>
+    ensures { OnOk result (links.new
+        ≡ spec.put_at (port_of ports.now at association.now.formal) (spec.link_of (spec.seen region.now) (Some association.now.actual)) links.old) }
+{
+    match port_of(ports, at, &association.formal) {
+        None => Ok(()),
+        Some(place) => links.put(place, link(region, &association.actual)),
+    }
+}
+
+/// What each of these ports is associated with, by place: the first association of a port counts,
+/// and so it is put last.
+fn links(
+    alloc: Global,
+    region: &Scope<'_>,
+    ports: &Interface<'_>,
+    associations: &[Association],
+) -> Result<Links, AllocError>
+    ensures { IfOk result (λ r. r ≡ spec.links_of (spec.seen region.now) ports.now associations.now) }
+{
+    let mut links = Links::open(alloc, ports.ports().len(), associations.len())?;
+    for at in (0..associations.len()).rev() {
+        put_link(region, ports, at, &associations[at], &mut links)?;
+    }
+    Ok(links)
+}
+
+/// What the ports of an instance of the architecture at a place are associated with.
+#[tactic(auto, unfolding(crate::specs::Plans::links_at, crate::specs::Plans::links_of))]
+fn links_at(
+    alloc: Global,
+    library: &Library<'_>,
+    region: &Scope<'_>,
+    place: Option<usize>,
+    instance: &Instance,
+) -> Result<Links, AllocError>
+    ensures { IfOk result (λ r. r ≡ spec.links_at library.now (spec.seen region.now) place instance.now) }
+{
+    if place.is_none() {
+        return Links::open(alloc, 0, 0);
+    }
+    match library.interface(entity_name(&instance.unit).text()) {
+        None => Links::open(alloc, 0, 0),
+        Some(ports) => {
+            let links = links(alloc, region, ports, instance.associations.as_slice())?;
+            Ok(links)
+        }
+    }
+}
+
+/// The number of a block: an instance of nothing known is of the last one.
+#[tactic(auto, unfolding(crate::specs::Plans::block_number))]
+fn block_number(library: &Library<'_>, place: Option<usize>) -> usize
+    ensures { result ≡ spec.block_number library.now place }
+{
+    match place {
+        None => library.architectures().len(),
+        Some(place) => place,
+    }
+}
+
+/// An instance.
+#[tactic(auto, unfolding(crate::specs::Plans::instance_of))]
+fn instance(
+    alloc: Global,
+    library: &Library<'_>,
+    region: &Scope<'_>,
+    instance: &Instance,
+) -> Result<BlockInstance, AllocError>
+    ensures { IfOk result (λ i. i ≡ spec.instance_of library.now (spec.seen region.now) instance.now) }
+{
+    let place = architecture_place(library, &instance.unit);
+    let label = instance.label.try_copy(alloc)?;
+    let links = links_at(alloc, library, region, place, instance)?;
+    Ok(BlockInstance {
+        label,
+        at: entity_name(&instance.unit).at(),
+        block: block_number(library, place),
+        links,
+    })
+}
+
+/// Adds the instance that a concurrent statement is.
+fn add_instance(
+    alloc: Global,
+    library: &Library<'_>,
+    region: &Scope<'_>,
+    statement: &Concurrent,
+    found: &mut Vec<BlockInstance>,
+) -> Result<(), AllocError>
+    ensures { OnOk result (found.new.items ≡ found.old.items ++ spec.instance_in library.now (spec.seen region.now) statement.now) }
+{
+    match statement {
+        Concurrent::Assignment(_) | Concurrent::Process(_) => Ok(()),
+        Concurrent::Instance(each) => {
+            found.push(instance(alloc, library, region, each)?)?;
+            Ok(())
+        }
+    }
+}
+
+/// The instances of an architecture, in the order of its text.
+#[tactic(auto, unfolding(crate::specs::Plans::instances_of))]
+pub fn instances(
+    alloc: Global,
+    library: &Library<'_>,
+    region: &Scope<'_>,
+    statements: &[Concurrent],
+) -> Result<Items<BlockInstance>, AllocError>
+    ensures { IfOk result (λ r. r ≡ spec.instances_of library.now (spec.seen region.now) statements.now) }
+{
+    let mut found = Vec::new(alloc);
+    for each in statements {
+        add_instance(alloc, library, region, each, &mut found)?;
+    }
+    Ok(Items::from_vec(found))
+}

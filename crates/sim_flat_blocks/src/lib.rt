@@ -1,0 +1,20 @@
+//! The blocks of a design file: each architecture with its entity, translated once for all of its
+//! instances; in it, names are places.
+#![tactic(auto)]
+
+pub mod count;
+mod instances;
+pub mod links;
+mod names;
+mod objects;
+pub mod parts;
+mod plan;
+pub mod reads;
+pub mod rising;
+pub mod block_process;
+mod block_processes;
+pub mod variables;
+
+pub use links::{Link, Links};
+pub use parts::{Block, Instance, Object, Port, Ports, BlockProcess};
+pub use plan::blocks;

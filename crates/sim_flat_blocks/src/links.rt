@@ -1,0 +1,144 @@
+//! What the ports of an instance are associated with.
+
+ghost use Rattle.std.specs.Prelude.{ℕ, ◌≡◌, IfOk, OnOk, OnErr, replicate, slice_set};
+ghost use Rattle.sim_flat_blocks.specs.declared.links.Link.TheVariants.{Open};
+ghost use Rattle.sim_flat_blocks.specs.Links as spec;
+
+use indexmap::IndexMap;
+use sim_logic::Logic;
+use std::alloc::{AllocError, Global};
+use std::marker::Model;
+
+/// What a port of an instance is associated with (IEEE 1076-2008, 6.5.6.3).
+#[derive(Clone, Copy, Debug)]
+pub enum Link {
+    /// A port or signal of the architecture in which the instance stands.
+    To(usize),
+    Constant(Logic),
+    Open,
+}
+
+/// What each port of an instance is associated with, by place. It takes memory as its associations
+/// do: as many of the first ports stand in a list, and of the others those that an association
+/// names are kept by their places.
+#[derive(Drop)]
+pub struct Links {
+    ports: usize,
+    /// How many ports are associated with nothing that has a net.
+    unlinked: usize,
+    first: Vec<Link>,
+    others: IndexMap<usize, Link>,
+}
+
+impl Model for Links {
+    ghost use Rattle.std.specs.Prelude.{◌≡◌, List};
+    ghost use Rattle.sim_flat_blocks.specs.declared.links.Link.{Link};
+    ghost use Rattle.sim_flat_blocks.specs.Links as spec;
+
+    ghost Value = { List Link };
+
+    ghost view = { λ l. spec.by_place l.first.items l.others.entries l.ports };
+
+    ghost invariant = { λ l. l.unlinked ≡ spec.unlinked (spec.by_place l.first.items l.others.entries l.ports) };
+}
+
+/// How many nets a port with this association has of its own: one, or none.
+fn own(link: Link) -> usize
+    ensures { result ≡ spec.own link }
+{
+    match link {
+        Link::To(_) => 0,
+        Link::Constant(_) | Link::Open => 1,
+    }
+}
+
+/// A list of as many links, all of them open.
+fn all_open(alloc: Global, count: usize) -> Result<Vec<Link>, AllocError>
+    ensures { IfOk result (λ links. links.items ≡ replicate count Open) }
+{
+    let mut links = Vec::new(alloc);
+    links.resize(count, Link::Open)?;
+    Ok(links)
+}
+
+/// What is kept for a port that is not in the list.
+fn other(others: &IndexMap<usize, Link>, place: usize) -> Link
+    ensures { result ≡ spec.kept others.now.entries place }
+{
+    match others.get(&place) {
+        Some(link) => *link,
+        None => Link::Open,
+    }
+}
+
+/// Keeps the link of the port at a place.
+fn keep(
+    first: &mut Vec<Link>,
+    others: &mut IndexMap<usize, Link>,
+    place: usize,
+    link: Link,
+) -> Result<(), AllocError>
+    ensures kept { OnOk result ((ports : ℕ) → spec.by_place first.new.items others.new.entries ports
+        ≡ slice_set (spec.by_place first.old.items others.old.entries ports) place link) }
+    ensures left { OnErr result ((first.new.items ≡ first.old.items) × (others.new.entries ≡ others.old.entries)) }
+{
+    if place < first.len() {
+        first[place] = link;
+        return Ok(());
+    }
+    others.insert(place, link)?;
+    Ok(())
+}
+
+impl Links {
+    ghost use Rattle.std.specs.Prelude.{◌≡◌, IfOk, OnOk, replicate, slice_set};
+    ghost use Rattle.sim_flat_blocks.specs.Blocks.{link_at};
+    ghost use Rattle.sim_flat_blocks.specs.Links as spec;
+    ghost use Rattle.sim_flat_blocks.specs.declared.links.Link.TheVariants.{Open};
+
+    /// As many ports, all of them open, of which at most so many stand in the list.
+    pub fn open(alloc: Global, ports: usize, listed: usize) -> Result<Links, AllocError>
+        ensures { IfOk result (λ l. l ≡ replicate ports Open) }
+    {
+        let first = all_open(alloc, listed.min(ports))?;
+        Ok(Links {
+            ports,
+            unlinked: ports,
+            first,
+            others: IndexMap::new(alloc),
+        })
+    }
+
+    /// What the port at this place is associated with: nothing, where there is no such port.
+    pub fn get(&self, place: usize) -> Link
+        ensures { result ≡ link_at self.now place }
+    {
+        if place >= self.ports {
+            return Link::Open;
+        }
+        if place < self.first.len() {
+            return self.first[place];
+        }
+        other(&self.others, place)
+    }
+
+    /// Associates the port at this place, if there is one, whatever it was associated with.
+    pub fn put(&mut self, place: usize, link: Link) -> Result<(), AllocError>
+        ensures { OnOk result (self.new ≡ slice_set self.old place link) }
+    {
+        if place >= self.ports {
+            return Ok(());
+        }
+        let before = self.get(place);
+        keep(&mut self.first, &mut self.others, place, link)?;
+        self.unlinked = self.unlinked - own(before) + own(link);
+        Ok(())
+    }
+
+    /// How many ports are associated with nothing that has a net.
+    pub fn unlinked(&self) -> usize
+        ensures { result ≡ spec.unlinked self.now }
+    {
+        self.unlinked
+    }
+}

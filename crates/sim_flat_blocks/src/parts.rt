@@ -1,0 +1,99 @@
+//! Architectures whose names are places: a port or signal is known by its place, the ports first.
+
+use crate::links::Links;
+use sim_flat_design::Body;
+use sim_logic::Logic;
+use sim_text_tree::name::Name;
+use sqlite_items::Items;
+use std::alloc::{AllocError, Global};
+use std::marker::Model;
+use std::sync::Arc;
+
+/// A port or signal.
+#[derive(Drop)]
+pub struct Object {
+    pub name: Name,
+    /// Whether it is of type std_logic.
+    pub resolved: bool,
+    pub default: Logic,
+}
+
+#[derive(Drop)]
+pub struct Port {
+    pub object: Object,
+    /// Whether its mode is out or inout.
+    pub drives: bool,
+}
+
+/// The ports of an entity, by place, which all of its architectures share.
+#[derive(Drop)]
+pub struct Ports {
+    list: Arc<Items<Port>, Global>,
+}
+
+impl Model for Ports {
+    ghost use Rattle.std.specs.Prelude.{List};
+    ghost use Rattle.std.specs.Arc.{arc_value};
+    ghost use Rattle.sim_flat_blocks.specs.declared.parts.Port.{Port};
+
+    ghost Value = { List Port };
+
+    ghost view = { λ p. arc_value p.list };
+}
+
+impl Ports {
+    ghost use Rattle.std.specs.Prelude.{◌≡◌, IfOk};
+
+    /// The ports, by place.
+    pub fn as_slice(&self) -> &[Port]
+        ensures { result.now ≡ self.now }
+    {
+        self.list.as_slice()
+    }
+
+    /// The same ports, shared.
+    pub fn try_copy(&self) -> Result<Ports, AllocError>
+        ensures { IfOk result (λ p. p ≡ self.now) }
+    {
+        let list = Arc::try_clone(&self.list)?;
+        Ok(Ports { list })
+    }
+
+    /// These ports.
+    pub fn new(alloc: Global, ports: Items<Port>) -> Result<Ports, AllocError>
+        ensures { IfOk result (λ p. p ≡ ports) }
+    {
+        let list = Arc::new(alloc, ports)?;
+        Ok(Ports { list })
+    }
+}
+
+/// A process of an architecture.
+#[derive(Drop)]
+pub struct BlockProcess {
+    pub sensitivity: Items<usize>,
+    /// What its statements name, rising.
+    pub reads: Items<usize>,
+    /// The name of each driver, by its place.
+    pub targets: Items<usize>,
+    pub body: Body,
+}
+
+#[derive(Drop)]
+pub struct Instance {
+    pub label: Name,
+    /// Where the entity or the component is named.
+    pub at: usize,
+    pub block: usize,
+    /// One for each port of that block.
+    pub links: Links,
+}
+
+/// An architecture with its entity.
+#[derive(Drop)]
+pub struct Block {
+    pub ports: Ports,
+    pub signals: Items<Object>,
+    pub processes: Items<BlockProcess>,
+    pub instances: Items<Instance>,
+}

@@ -1,0 +1,42 @@
+-- What holds of a waveform without faults (IEEE 1076-2008, 10.5.2.1), and of names.
+use Rattle.std.specs.Prelude.{ℕ, ◌≡◌, ◌<◌, ◌≤◌, List, [], ◌∷◌, length, Bool, true, Option, Some, is_some}
+use Rattle.sim_flat_scope.specs.declared.scope.Meaning.{Meaning}
+use Rattle.sim_flat_scope.specs.declared.scope.Meaning.TheVariants as m
+use Rattle.sim_flat_scope.specs.Scopes.{Lookup}
+use Rattle.sim_text_tree.specs.Times.{time_of}
+use Rattle.sim_text_tree.specs.declared.waveform.Element.{Element}
+use Rattle.sim_text_tree.specs.declared.waveform.DelayMechanism.{DelayMechanism}
+use Rattle.sim_text_tree.specs.declared.waveform.DelayMechanism.TheVariants as delay
+use Rattle.sim_flat_check.specs.Waveforms.{delay_after, most_elements}
+
+-- Each delay is above that of the element before it, that of the first of these above this one.
+abbrev pub ElementsRise : ℕ → List Element → Type 0
+ElementsRise before [] = Unit {0}
+ElementsRise before (x ∷ xs) = (before < delay_after x.after) × ElementsRise (delay_after x.after) xs
+
+-- The delays rise strictly.
+abbrev pub Rises : List Element → Type 0
+Rises [] = Unit {0}
+Rises (x ∷ xs) = ElementsRise (delay_after x.after) xs
+
+-- A rejection limit is no larger than the first delay.
+abbrev pub IsLimited : DelayMechanism → List Element → Type 0
+IsLimited (delay.Reject t) (x ∷ xs) = time_of t.digits t.unit ≤ delay_after x.after
+IsLimited _ _ = Unit {0}
+
+-- A waveform whose elements are not too many, whose delays rise, and whose rejection limit is not too large.
+pub record IsSound (mechanism : DelayMechanism) (w : List Element) : Type 0 where
+  pub few : length w ≤ most_elements
+  pub rises : Rises w
+  pub limited : IsLimited mechanism w
+
+-- whether what a name means has a type, where it is a port, a signal or a variable: its type mark is not at fault
+abbrev pub has_type : Option Meaning → Bool
+has_type (Some (m.Port object mode t)) = is_some t
+has_type (Some (m.Signal object t)) = is_some t
+has_type (Some (m.Variable place t)) = is_some t
+has_type _ = true
+
+-- No type mark of a declaration is at fault.
+abbrev pub AllTyped : Lookup → Type 0
+AllTyped look = (n : List ℕ) → has_type (look n) ≡ true

@@ -1,0 +1,10 @@
+pub mod BodyNames
+pub mod Entities
+pub mod Concurrents
+pub mod Architectures
+pub mod Files
+pub mod Carried
+pub mod Laws
+pub mod Statements
+pub mod Types
+pub mod Waveforms

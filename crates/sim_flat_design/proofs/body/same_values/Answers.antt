@@ -1,0 +1,7 @@
+-- `==` of lists, from that of their items.
+use Rattle.std.proofs.Common.{rules, tests}
+use Rattle.std.proofs.lemmas.Slice.Eq.{slice_eq-Decides}
+use Rattle.sim_flat_design.proofs.body.same_values.Goals as goal
+
+pub returns : goal.returns
+returns c = slice_eq-Decides (λ a b. search (rules, tests)) _ _ _ c.eq.ensures

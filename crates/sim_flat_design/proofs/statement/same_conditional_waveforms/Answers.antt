@@ -1,0 +1,10 @@
+-- They are the same where each two items are, of two lists of one length.
+use Rattle.std.proofs.Common.{rules, tests}
+use Rattle.std.proofs.lemmas.Iterator.{YieldsList-from_slice, YieldsList-from_zip, same_from_all}
+use Rattle.sim_flat_design.proofs.statement.same_conditional_waveforms.Goals as goal
+
+pub returns-then-waveforms-others : goal.returns-then-waveforms-others
+returns-then-waveforms-others c =
+    same_from_all c.all.new.self _ _ _ _ c.all.ensures.ran
+    (YieldsList-from_zip (YieldsList-from_slice c.args.waveforms.now cc) (YieldsList-from_slice c.args.others.now cc))
+    (search rules) (λ x q k. search (rules, tests)) (λ x q k. search (rules, tests))

@@ -1,0 +1,16 @@
+//! The flat design that elaboration gives: nets, drivers, and processes whose bodies are laid out
+//! for execution.
+#![tactic(auto)]
+
+pub mod body;
+pub mod design;
+pub mod expression;
+pub mod held;
+pub mod process;
+pub mod statement;
+pub mod waveform;
+
+pub use body::Body;
+pub use design::{Design, DriverOf, Net, Source};
+pub use held::Held;
+pub use process::Process;

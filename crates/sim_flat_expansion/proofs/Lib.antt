@@ -1,0 +1,13 @@
+pub mod Made
+pub mod Sound
+pub mod Whole
+pub mod Scenes
+pub mod Collected
+pub mod Numbers
+pub mod ExpandedObjects
+pub mod Law
+pub mod Later
+pub mod Totals
+pub mod Steady
+pub mod Chains
+pub mod Within

@@ -1,0 +1,94 @@
+-- Each scene has its own path, so what stands before a path is what was expanded before it.
+use Rattle.std.proofs.Common.{◌≡◌, ℕ, zero, suc, ◌+◌, ◌<◌, ◌≤◌, List, [], ◌∷◌, ◌++◌, true, false, length, refl, ap, sym, ◌∙◌, arith, append_assoc}
+use Rattle.std.proofs.Common.{length-append, bytes_eq}
+use Rattle.std.proofs.lemmas.Slice.Eq.{bytes_eq-Decides}
+use Rattle.sim_text_tokens.proofs.Tests.{by_cases}
+use Rattle.sim_flat_blocks.specs.declared.parts.Instance.{Instance}
+use Rattle.sim_flat_blocks.specs.declared.parts.Block.{Block}
+use Rattle.sim_flat_blocks.specs.Blocks.{block_of}
+use Rattle.sim_flat_expansion.specs.Hierarchy.{Path, spots, Scene, inner, scenes, before}
+use Rattle.sim_flat_expansion.proofs.Sound.{Each, each_append, each_map}
+
+-- no scene's path is at or below this one
+abbrev pub Clear : List Scene → List ℕ → Type 0
+Clear made sp = (front : List ℕ) → Each (λ (s : Scene). spots s.path ≡ front ++ sp → ⊥) made
+
+-- a count over scenes
+abbrev pub counted : (Scene → ℕ) → List Scene → ℕ
+counted count [] = 0
+counted count (s ∷ ss) = count s + counted count ss
+
+pub counted_append : (count : Scene → ℕ) (xs ys : List Scene) → counted count (xs ++ ys) ≡ counted count xs + counted count ys
+counted_append count [] ys = omega arith
+counted_append count (x ∷ xs) ys = let m = counted_append count xs ys in omega arith
+
+-- what stands before a scene whose path is none of those before it
+pub before_is : (count : Scene → ℕ) (made rest : List Scene) (s : Scene) → Each (λ (x : Scene). spots x.path ≡ spots s.path → ⊥) made
+    → before count (made ++ s ∷ rest) s.path ≡ counted count made
+unfolding before
+before_is count [] rest s h = let e : bytes_eq (spots s.path) (spots s.path) ≡ true = (bytes_eq-Decides (spots s.path) (spots s.path)).1 refl in rw e refl
+before_is count (x ∷ xs) rest s h =
+    let e : bytes_eq (spots x.path) (spots s.path) ≡ false =
+    by_cases (bytes_eq (spots x.path) (spots s.path)) (λ t. absurd (h.0 ((bytes_eq-Decides (spots x.path) (spots s.path)).0 t))) (λ t. t) in
+    rw e (ap (λ (n : ℕ). count x + n) (before_is count xs rest s h.1))
+
+-- one tail after two different places is two lists
+no_longer : (front x : List ℕ) (i : ℕ) → x ≡ front ++ i ∷ x → ⊥
+no_longer front x i e = let k : length x ≡ length (front ++ i ∷ x) = ap (λ (ys : List ℕ). length ys) e in let m = length-append front (i ∷ x) in omega arith
+
+one_place : (a b x : List ℕ) (i j : ℕ) → a ++ i ∷ x ≡ b ++ j ∷ x → i ≡ j
+one_place [] [] x i j e = cc
+one_place [] (y ∷ b) x i j e = let t : x ≡ b ++ j ∷ x = cc in absurd (no_longer b x j t)
+one_place (y ∷ a) [] x i j e = let t : a ++ i ∷ x ≡ x = cc in absurd (no_longer a x i (sym t))
+one_place (y ∷ a) (z ∷ b) x i j e = let t : a ++ i ∷ x ≡ b ++ j ∷ x = cc in one_place a b x i j t
+
+-- where the paths of scenes lead
+abbrev Under : List ℕ → List Scene → Type 0
+Under sp ss = Each (λ (s : Scene). (front : List ℕ) × (spots s.path ≡ front ++ sp)) ss
+
+inner_under : (one : Path → Block → List Scene) → ((p : Path) (b : Block) → Under (spots p) (one p b)) → (blocks : List Block) (p : Path) (j : ℕ)
+    (is : List Instance) → Each (λ (s : Scene). (front : List ℕ) × (k : ℕ) × (j ≤ k) × (spots s.path ≡ front ++ k ∷ spots p)) (inner one blocks p j is)
+unfolding inner
+inner_under one h blocks p j [] = tt
+inner_under one h blocks p j (i ∷ is) =
+    let c : Path = record { instance = i; place = j } ∷ p in
+    each_append (λ (s : Scene). (front : List ℕ) × (k : ℕ) × (j ≤ k) × (spots s.path ≡ front ++ k ∷ spots p)) (one c (block_of blocks i))
+    (inner one blocks p (j + 1) is)
+    (each_map (λ (s : Scene). (front : List ℕ) × (spots s.path ≡ front ++ spots c)) (λ (s : Scene). (front : List ℕ) × (k : ℕ) × (j ≤ k) ×
+    (spots s.path ≡ front ++ k ∷ spots p))
+    (λ s u. (u.0, j, omega arith, u.1)) (one c (block_of blocks i)) (h c (block_of blocks i)))
+    (each_map (λ (s : Scene). (front : List ℕ) × (k : ℕ) × (j + 1 ≤ k) × (spots s.path ≡ front ++ k ∷ spots p)) (λ (s : Scene). (front : List ℕ) ×
+    (k : ℕ) × (j ≤ k) × (spots s.path ≡ front ++ k ∷ spots p))
+    (λ s u. (u.0, u.1, omega arith, u.3)) (inner one blocks p (j + 1) is) (inner_under one h blocks p (j + 1) is))
+
+pub scenes_under : (blocks : List Block) (k : ℕ) (p : Path) (b : Block) → Under (spots p) (scenes blocks k p b)
+unfolding scenes
+scenes_under blocks zero p b = tt
+scenes_under blocks (suc k) p b = (
+  ([], refl),
+  each_map (λ (s : Scene). (front : List ℕ) × (m : ℕ) × (0 ≤ m) × (spots s.path ≡ front ++ m ∷ spots p)) (λ (s : Scene). (front : List ℕ) ×
+      (spots s.path ≡ front ++ spots p))
+      (λ s u. (u.0 ++ u.1 ∷ [], u.3 ∙ sym (append_assoc u.0 (u.1 ∷ []) (spots p)))) (inner (scenes blocks k) blocks p 0 b.instances)
+      (inner_under (scenes blocks k) (scenes_under blocks k) blocks p 0 b.instances),
+)
+
+-- what is clear of a path is clear of the paths below it
+pub clear_below : (made : List Scene) (sp : List ℕ) (j : ℕ) → Clear made sp → Clear made (j ∷ sp)
+clear_below made sp j h front =
+    each_map (λ (s : Scene). spots s.path ≡ (front ++ j ∷ []) ++ sp → ⊥) (λ (s : Scene). spots s.path ≡ front ++ j ∷ sp → ⊥)
+    (λ s u e. u (e ∙ sym (append_assoc front (j ∷ []) sp))) made (h (front ++ j ∷ []))
+
+-- a scene is clear of the paths below it
+pub clear_self : (s : Scene) (j : ℕ) → Clear (s ∷ []) (j ∷ spots s.path)
+clear_self s j front = ((λ e. no_longer front (spots s.path) j e), tt)
+
+-- an instance's scenes are clear of a later instance's
+pub clear_sister : (blocks : List Block) (k : ℕ) (p : Path) (i : Instance) (b : Block) (j m : ℕ) → j < m
+    → Clear (scenes blocks k (record { instance = i; place = j } ∷ p) b) (m ∷ spots p)
+clear_sister blocks k p i b j m lt front =
+    let c : Path = record { instance = i; place = j } ∷ p in
+    each_map (λ (s : Scene). (f : List ℕ) × (spots s.path ≡ f ++ spots c)) (λ (s : Scene). spots s.path ≡ front ++ m ∷ spots p → ⊥)
+    (λ s u e. let d : j ≡ m = one_place u.0 front (spots p) j m (sym u.1 ∙ e) in omega arith) (scenes blocks k c b) (scenes_under blocks k c b)
+
+pub clear_both : (xs ys : List Scene) (sp : List ℕ) → Clear xs sp → Clear ys sp → Clear (xs ++ ys) sp
+clear_both xs ys sp h k front = each_append (λ (s : Scene). spots s.path ≡ front ++ sp → ⊥) xs ys (h front) (k front)

@@ -1,0 +1,13 @@
+use Rattle.std.proofs.Common.{rules, arith}
+use Rattle.std.proofs.lemmas.Grind.{common_steps}
+use Rattle.sim_flat_expansion.specs.Expanding.{block_expanded}
+use Rattle.sim_text_tree.proofs.Turns.{deeper}
+use Rattle.sim_flat_expansion.proofs.walk.+walk.Goals as goal
+
+pub block-returns : goal.block-returns
+unfolding block_expanded
+block-returns t c =
+    let e = deeper
+    (λ n. block_expanded c.args.blocks.now n c.args.prefix.now c.args.links.now c.args.outer.now c.args.at.now c.args.around.now c.args.flat.now)
+    c.args.levels (omega arith) in
+    first_of (search rules, grind (arith, common_steps))

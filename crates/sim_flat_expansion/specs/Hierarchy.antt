@@ -1,0 +1,103 @@
+-- Paths through the hierarchy, what stands where they lead, and the port or signal that has the net of each (IEEE 1076-2008, 14.7).
+use Rattle.std.specs.Prelude.{ℕ, zero, suc, ◌+◌, List, [], ◌∷◌, ◌++◌, Bool, true, false, if◌then◌else◌, map, length}
+use Rattle.std.specs.Str.{bytes_eq}
+use Rattle.sim_flat_blocks.specs.declared.links.Link.{Link}
+use Rattle.sim_flat_blocks.specs.declared.links.Link.TheVariants.{To, Constant, Open}
+use Rattle.sim_flat_blocks.specs.declared.parts.Object.{Object}
+use Rattle.sim_flat_blocks.specs.declared.parts.BlockProcess.{BlockProcess}
+use Rattle.sim_flat_blocks.specs.declared.parts.Instance.{Instance}
+use Rattle.sim_flat_blocks.specs.declared.parts.Block.{Block}
+use Rattle.sim_flat_blocks.specs.Blocks.{objects, block_of, link_at, targets_of}
+
+-- a step of a path: an instance, and which of its architecture it is
+pub record PathStep : Type 0 where
+  pub instance : Instance
+  pub place : ℕ
+
+-- from the last step to the first
+abbrev pub Path : Type 0
+Path = List PathStep
+
+abbrev pub spots : Path → List ℕ
+spots p = map (λ (s : PathStep). s.place) p
+
+-- ---- scenes: where a path leads, in order, each before what stands below it
+pub record Scene : Type 0 where
+  pub path : Path
+  pub block : Block
+  -- how many levels may stand below it
+  pub levels : ℕ
+
+module _ (one : Path → Block → List Scene) (blocks : List Block) where
+  -- what stands in these instances, in text order
+  unfoldable pub inner : Path → ℕ → List Instance → List Scene
+  inner p j [] = []
+  inner p j (i ∷ is) = one (record { instance = i; place = j } ∷ p) (block_of blocks i) ++ inner p (j + 1) is
+
+unfoldable pub scenes : List Block → ℕ → Path → Block → List Scene
+scenes blocks zero p b = []
+scenes blocks (suc k) p b = record { path = p; block = b; levels = k } ∷ inner (scenes blocks k) blocks p 0 b.instances
+
+-- ---- the object that has the net of a port or signal: associations are followed upward until there is none
+
+-- a port or signal where a path leads, by place
+pub record Named : Type 0 where
+  pub path : Path
+  pub place : ℕ
+
+-- what it is associated with
+abbrev pub link_of : Path → ℕ → Link
+link_of [] n = Open
+link_of (s ∷ up) n = link_at s.instance.links n
+
+abbrev pub led : Link → (ℕ → Named) → Named → Named
+led (To m) up own = up m
+led (Constant value) up own = own
+led Open up own = own
+
+unfoldable pub net_object : Path → ℕ → Named
+net_object [] n = record { path = []; place = n }
+net_object (s ∷ up) n = led (link_at s.instance.links n) (net_object up) (record { path = s ∷ up; place = n })
+
+-- ---- nets: the ports and signals that have nets of their own, as declared
+abbrev pub is_own : Link → Bool
+is_own (To m) = false
+is_own (Constant value) = true
+is_own Open = true
+
+pub record Own : Type 0 where
+  pub place : ℕ
+  pub object : Object
+
+-- those from this place on
+unfoldable pub own_from : Path → ℕ → List Object → List Own
+own_from p n [] = []
+own_from p n (o ∷ os) = if is_own (link_of p n) then record { place = n; object = o } ∷ own_from p (n + 1) os else own_from p (n + 1) os
+
+abbrev pub own_at : Scene → List Own
+own_at s = own_from s.path 0 (objects s.block)
+
+-- how many of the places before this one are nets
+unfoldable pub own_before : Path → ℕ → ℕ
+own_before p zero = 0
+own_before p (suc n) = if is_own (link_of p n) then own_before p n + 1 else own_before p n
+
+-- ---- numbers: how many there are before it
+
+abbrev pub net_count : Scene → ℕ
+net_count s = length (own_at s)
+
+abbrev pub process_count : Scene → ℕ
+process_count s = length s.block.processes
+
+abbrev pub driver_count : Scene → ℕ
+driver_count s = length (targets_of s.block.processes)
+
+-- how many there are in the scenes before this path's
+unfoldable pub before : (Scene → ℕ) → List Scene → Path → ℕ
+before count [] p = 0
+before count (s ∷ ss) p = if bytes_eq (spots s.path) (spots p) then 0 else count s + before count ss p
+
+-- the number of a net
+unfoldable pub net_number : List Scene → Named → ℕ
+net_number all o = before net_count all o.path + own_before o.path o.place

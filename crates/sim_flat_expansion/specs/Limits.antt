@@ -1,0 +1,18 @@
+-- The limits of a hierarchy.
+use Rattle.std.specs.Prelude.{ℕ, ◌≡◌, ◌≤◌, ◌&&◌, not, List, Bool, false, slice_index_or}
+use Rattle.sim_flat_design.specs.Designs.{most}
+use Rattle.sim_flat_blocks.specs.declared.parts.Block.{Block}
+use Rattle.sim_flat_expansion.specs.declared.counts.Kind.TheVariants.{Instances}
+use Rattle.sim_flat_blocks.specs.Blocks.{IsWithinLimits, no_block}
+use Rattle.sim_flat_expansion.specs.Counts.{number}
+use Rattle.sim_flat_expansion.specs.Depth.{has_chain}
+use Rattle.sim_flat_expansion.specs.Flat.{flat}
+
+-- The flat design has no more nets, processes and drivers than it may, there are no more instances, and none stands deeper than 32.
+pub record Fits (blocks : List Block) (top : ℕ) : Type 0 where
+  pub design : IsWithinLimits (flat blocks top)
+  pub instances : number Instances blocks top ≤ most
+  pub depth : has_chain blocks 33 (slice_index_or blocks top no_block) ≡ false
+
+abbrev pub all : Bool → Bool → Bool → Bool
+all first second third = first && (second && third)

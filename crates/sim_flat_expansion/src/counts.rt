@@ -1,0 +1,181 @@
+//! How much there is below a block, found level by level without laying it.
+
+ghost use Rattle.std.specs.Prelude.{◌≡◌, ◌<◌, IfOk, length};
+ghost use Rattle.std.specs.List.{All};
+ghost use Rattle.sim_flat_blocks.specs.Blocks.{IsBlock};
+ghost use Rattle.sim_flat_expansion.specs.Counts as spec;
+
+use sim_flat_blocks::parts::{Block, Instance, BlockProcess};
+use crate::object_nets::net_at;
+use sqlite_items::Items;
+use std::alloc::{AllocError, Global};
+
+/// What is counted.
+#[derive(Clone, Copy, Debug)]
+pub enum Kind {
+    Nets,
+    Processes,
+    Drivers,
+    /// The top is none.
+    Instances,
+}
+
+/// One more than a design may have.
+const ABOVE: usize = 16_385;
+
+/// How many levels of instances there are below the top.
+const LEVELS: usize = 32;
+
+/// No more than is above the limit.
+fn capped(number: usize) -> usize
+    ensures { result ≡ spec.capped number }
+{
+    number.min(ABOVE)
+}
+
+fn sum(left: usize, right: usize) -> usize
+    ensures { result ≡ spec.sum left right }
+{
+    capped(capped(left) + capped(right))
+}
+
+#[tactic(auto, unfolding(crate::specs::Counts::targets_counted))]
+fn targets(block_processes: &[BlockProcess]) -> usize
+    ensures { result ≡ spec.targets_counted block_processes.now 0 }
+{
+    let mut number = 0;
+    for block_process in block_processes {
+        number = sum(number, block_process.targets.as_slice().len());
+    }
+    number
+}
+
+/// What a block has by itself.
+fn own(kind: Kind, block: &Block) -> usize
+    ensures { result ≡ spec.own_counted kind block.now }
+{
+    match kind {
+        Kind::Nets => capped(block.signals.as_slice().len()),
+        Kind::Processes => capped(block.processes.as_slice().len()),
+        Kind::Drivers => targets(block.processes.as_slice()),
+        Kind::Instances => 0,
+    }
+}
+
+/// What an instance adds to its block.
+fn step(kind: Kind, instance: &Instance) -> usize
+    ensures { result ≡ spec.step_counted kind instance.now }
+{
+    match kind {
+        Kind::Nets => capped(instance.links.unlinked()),
+        Kind::Processes | Kind::Drivers => 0,
+        Kind::Instances => 1,
+    }
+}
+
+/// A number with what each of these instances adds to its block.
+#[tactic(auto, unfolding(crate::specs::Counts::steps_counted))]
+fn steps(kind: Kind, instances: &[Instance], own: usize) -> usize
+    ensures { result ≡ spec.steps_counted kind instances.now own }
+{
+    let mut number = own;
+    for instance in instances {
+        number = sum(number, step(kind, instance));
+    }
+    number
+}
+
+/// A number with those that the blocks of these instances have a level below.
+#[tactic(auto, unfolding(crate::specs::Counts::blocks_counted))]
+fn row(table: &[usize], instances: &[Instance], alone: usize) -> usize
+    ensures { result ≡ spec.blocks_counted table.now instances.now alone }
+{
+    let mut number = alone;
+    for instance in instances {
+        number = sum(number, net_at(table, instance.block));
+    }
+    number
+}
+
+#[tactic(auto, unfolding(crate::specs::Counts::first_table))]
+fn first(alloc: Global, kind: Kind, blocks: &[Block]) -> Result<Items<usize>, AllocError>
+    ensures { IfOk result (λ r. r ≡ spec.first_table kind blocks.now) }
+{
+    let mut table = Items::new(alloc);
+    for block in blocks {
+        table.push(own(kind, block))?;
+    }
+    Ok(table)
+}
+
+/// What each block has, the blocks of its instances aside.
+#[tactic(auto, unfolding(crate::specs::Counts::alone))]
+fn alone(alloc: Global, kind: Kind, blocks: &[Block]) -> Result<Items<usize>, AllocError>
+    ensures { IfOk result (λ r. r ≡ spec.alone kind blocks.now) }
+{
+    let mut numbers = Items::new(alloc);
+    for block in blocks {
+        numbers.push(steps(kind, block.instances.as_slice(), own(kind, block)))?;
+    }
+    Ok(numbers)
+}
+
+/// The numbers of the blocks a level up.
+#[tactic(auto, unfolding(crate::specs::Counts::level_counted))]
+fn next(
+    alloc: Global,
+    table: &[usize],
+    alone: &[usize],
+    blocks: &[Block],
+) -> Result<Items<usize>, AllocError>
+    ensures { IfOk result (λ r. r ≡ spec.level_counted table.now alone.now 0 blocks.now) }
+{
+    let mut rows = Items::new(alloc);
+    for (at, block) in blocks.iter().enumerate() {
+        rows.push(row(table, block.instances.as_slice(), net_at(alone, at)))?;
+    }
+    Ok(rows)
+}
+
+/// The numbers of the blocks with a number of levels below them. Where one level more changes none,
+/// no further one does.
+fn tables(
+    alloc: Global,
+    kind: Kind,
+    blocks: &[Block],
+    levels: usize,
+) -> Result<Items<usize>, AllocError>
+    ensures { IfOk result (λ r. r ≡ spec.table_at kind blocks.now levels) }
+{
+    let alone = alone(alloc, kind, blocks)?;
+    let mut table = first(alloc, kind, blocks)?;
+    for _turn in 0..levels {
+        let rows = next(alloc, table.as_slice(), alone.as_slice(), blocks)?;
+        if rows.as_slice() == table.as_slice() {
+            return Ok(table);
+        }
+        table = rows;
+    }
+    Ok(table)
+}
+
+/// What the top adds: each of its ports is a net.
+fn top_added(kind: Kind, block: &Block) -> usize
+    ensures { result ≡ spec.top_counted kind block.now }
+{
+    match kind {
+        Kind::Nets => capped(block.ports.as_slice().len()),
+        Kind::Processes | Kind::Drivers | Kind::Instances => 0,
+    }
+}
+
+/// How many nets, processes, drivers or instances the flat design has, if that is within the limit.
+pub fn count(alloc: Global, blocks: &[Block], top: usize, kind: Kind) -> Result<usize, AllocError>
+    requires known { All (IsBlock blocks.now) blocks.now }
+    requires top { top < length blocks.now }
+    ensures { IfOk result (λ n. n ≡ spec.capped (spec.number kind blocks.now top)) }
+{
+    let table = tables(alloc, kind, blocks, LEVELS)?;
+    let number = net_at(table.as_slice(), top);
+    Ok(sum(number, top_added(kind, &blocks[top])))
+}

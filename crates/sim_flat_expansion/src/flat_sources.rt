@@ -1,0 +1,194 @@
+//! The flat sources of the sources of each port and signal, from left to right.
+
+ghost use Rattle.std.specs.Prelude.{ℕ, ◌≡◌, ◌+◌, ◌++◌, ◌∷◌, ◌≤◌, [], IfOk, OnOk, slice_index_or, slice_set, length, replicate};
+ghost use Rattle.sim_flat_blocks.specs.Blocks.{constant_at};
+ghost use Rattle.sim_flat_expansion.specs.Expanding as spec;
+
+use sim_flat_blocks::parts::{Block, Object, Port};
+use crate::object_nets::next;
+use sim_flat_blocks::links::{Link, Links};
+use crate::names::joined;
+use sim_flat_design::{Net, Source};
+use sim_logic::Logic;
+use sqlite_items::Items;
+use std::alloc::{AllocError, Global};
+use std::mem;
+
+/// No flat sources for this number of ports and signals.
+pub fn none(alloc: Global, count: usize) -> Result<Vec<Items<Source>>, AllocError>
+    ensures { IfOk result (λ r. r.items ≡ replicate count []) }
+{
+    let mut lists = Vec::with_capacity(alloc, count)?;
+    for _turn in 0..count {
+        lists.push(Items::new(alloc))?;
+    }
+    Ok(lists)
+}
+
+/// Adds a flat source to those of the port or signal at this place.
+#[tactic(auto, using(sim_flat_blocks::proofs::Added::set_past), unfolding(crate::specs::Expanding::added))]
+pub fn add(flat_sources: &mut [Items<Source>], at: usize, flat_source: Source) -> Result<(), AllocError>
+    ensures { OnOk result (flat_sources.new ≡ spec.added flat_sources.old at (flat_source ∷ [])) }
+{
+    if at >= flat_sources.len() {
+        return Ok(());
+    }
+    flat_sources[at].push(flat_source)
+}
+
+/// Moves flat sources to the end of those of the port or signal at this place.
+#[tactic(auto, using(sim_flat_blocks::proofs::Added::set_past), unfolding(crate::specs::Expanding::added))]
+fn append(flat_sources: &mut [Items<Source>], at: usize, more: Items<Source>) -> Result<(), AllocError>
+    ensures { OnOk result (flat_sources.new ≡ spec.added flat_sources.old at more) }
+{
+    if at >= flat_sources.len() {
+        return Ok(());
+    }
+    flat_sources[at].append(more)
+}
+
+/// Hands flat sources on to the port or signal at this place, or this constant where there are
+/// none.
+fn hand_on(
+    outer: &mut [Items<Source>],
+    at: usize,
+    constant: Logic,
+    flat_sources: Items<Source>,
+) -> Result<(), AllocError>
+    ensures { OnOk result (outer.new ≡ spec.added outer.old at (spec.finished constant flat_sources)) }
+{
+    if flat_sources.is_empty() {
+        return add(outer, at, Source::Constant(constant));
+    }
+    append(outer, at, flat_sources)
+}
+
+/// The flat sources, or this constant where there are none.
+fn finished(
+    alloc: Global,
+    constant: Logic,
+    flat_sources: Items<Source>,
+) -> Result<Items<Source>, AllocError>
+    ensures { IfOk result (λ r. r ≡ spec.finished constant flat_sources) }
+{
+    if flat_sources.is_empty() {
+        return Items::from_slice(alloc, &[Source::Constant(constant)]);
+    }
+    Ok(flat_sources)
+}
+
+/// The flat sources at this place, which has none then.
+#[tactic(auto, using(sim_flat_blocks::proofs::Added::set_past))]
+fn taken(alloc: Global, flat_sources: &mut [Items<Source>], at: usize) -> Items<Source>
+    ensures value { result ≡ slice_index_or flat_sources.old at [] }
+    ensures rest { flat_sources.new ≡ slice_set flat_sources.old at [] }
+{
+    if at >= flat_sources.len() {
+        return Items::new(alloc);
+    }
+    mem::replace(&mut flat_sources[at], Items::new(alloc))
+}
+
+/// The net of a port or signal with these flat sources, or with this constant where there are none.
+fn net(
+    alloc: Global,
+    prefix: &str,
+    object: &Object,
+    constant: Logic,
+    flat_sources: Items<Source>,
+) -> Result<Net, AllocError>
+    ensures { IfOk result (λ n. n ≡ record { name = prefix.now ++ object.now.name.text; sources = spec.finished constant flat_sources }) }
+{
+    let name = joined(alloc, prefix, &object.name)?;
+    let sources = finished(alloc, constant, flat_sources)?;
+    Ok(Net::new(name, sources))
+}
+
+/// What becomes of the flat sources of a port: its net has them, or what it is associated with.
+fn expand_object(
+    alloc: Global,
+    prefix: &str,
+    link: Link,
+    port: &Port,
+    flat_sources: Items<Source>,
+    nets: &mut Items<Net>,
+    outer: &mut [Items<Source>],
+) -> Result<(), AllocError>
+    ensures { OnOk result ((nets.new, outer.new) ≡ spec.object_expanded prefix.now link port.now.drives port.now.object
+        (spec.finished (constant_at link port.now.object.default) flat_sources) nets.old outer.old) }
+{
+    let object = &port.object;
+    match link {
+        Link::To(place) => {
+            if port.drives {
+                hand_on(outer, place, object.default, flat_sources)
+            } else {
+                Ok(())
+            }
+        }
+        Link::Constant(value) => nets.push(net(alloc, prefix, object, value, flat_sources)?),
+        Link::Open => nets.push(net(alloc, prefix, object, object.default, flat_sources)?),
+    }
+}
+
+/// The nets of the ports that are associated with none; the flat sources of the others go to what
+/// they are associated with.
+#[tactic(auto, unfolding(crate::specs::Expanding::ports_expanded))]
+fn ports(
+    alloc: Global,
+    prefix: &str,
+    links: &Links,
+    own: &mut [Items<Source>],
+    ports: &[Port],
+    outer: &mut [Items<Source>],
+) -> Result<Items<Net>, AllocError>
+    ensures value { IfOk result (λ nets. (nets, outer.new) ≡ spec.ports_expanded prefix.now links.now own.old 0 ports.now [] outer.old) }
+    ensures later { OnOk result ((n : ℕ) → length ports.now ≤ n → slice_index_or own.new n [] ≡ slice_index_or own.old n []) }
+{
+    let mut nets = Items::new(alloc);
+    for (at, port) in ports.iter().enumerate() {
+        let flat_sources = taken(alloc, own, at);
+        expand_object(alloc, prefix, links.get(at), port, flat_sources, &mut nets, outer)?;
+    }
+    Ok(nets)
+}
+
+/// The nets of signals, of which the first has this place.
+#[tactic(auto, unfolding(crate::specs::Expanding::signals_expanded))]
+fn signals(
+    alloc: Global,
+    prefix: &str,
+    own: &mut [Items<Source>],
+    first: usize,
+    signals: &[Object],
+    nets: &mut Items<Net>,
+) -> Result<(), AllocError>
+    ensures { OnOk result (nets.new ≡ spec.signals_expanded prefix.now own.old first signals.now nets.old) }
+{
+    let mut at = first;
+    for signal in signals {
+        let flat_sources = taken(alloc, own, at);
+        nets.push(net(alloc, prefix, signal, signal.default, flat_sources)?)?;
+        at = next(at)?;
+    }
+    Ok(())
+}
+
+/// The nets of a block's ports and signals that are their own; the flat sources of the others go to
+/// what they are associated with.
+pub fn objects_expanded(
+    alloc: Global,
+    prefix: &str,
+    links: &Links,
+    own: &mut [Items<Source>],
+    at: &Block,
+    outer: &mut [Items<Source>],
+) -> Result<Items<Net>, AllocError>
+    ensures { IfOk result (λ nets. (nets, outer.new) ≡ spec.objects_expanded prefix.now links.now own.old at.now outer.old) }
+{
+    let of_ports = at.ports.as_slice();
+    let mut nets = ports(alloc, prefix, links, own, of_ports, outer)?;
+    let of_signals = at.signals.as_slice();
+    signals(alloc, prefix, own, of_ports.len(), of_signals, &mut nets)?;
+    Ok(nets)
+}

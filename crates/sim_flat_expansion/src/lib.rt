@@ -1,0 +1,13 @@
+//! The expansion of a hierarchy: from architectures whose names are places to the flat design.
+#![tactic(auto)]
+
+pub mod counts;
+pub mod depth;
+mod object_nets;
+mod flat_sources;
+pub mod limits;
+mod names;
+mod processes;
+mod walk;
+
+pub use walk::expand;

@@ -1,0 +1,15 @@
+use Rattle.std.proofs.Common.{ap, sym, ◌∙◌}
+use Rattle.sim_flat_instances.specs.Libraries.{Library}
+use Rattle.sim_flat_instances.proofs.Reading.{got}
+use Rattle.sim_flat_instances.proofs.ReferencePlaces.{interface_none, interface_some}
+use Rattle.sim_flat_instances.proofs.library.Library.interface.Goals as goal
+
+pub returns-in-None : goal.returns-in-None
+returns-in-None c = interface_none c.args.self.now _ c.args.entity.now (ap (λ (l : Library). l.entities) c.self.view_is)
+    (sym (c.self.invariant.2 c.args.entity.now) ∙ (sym c.find.ensures ∙ c.in-None.is))
+
+pub returns-in-Some : goal.returns-in-Some
+returns-in-Some c = got c.get.result c.deref.result.now c.in-Some.place c.get.ensures.lookup.3 c.get.ensures.lookup.1
+    ∙ interface_some c.args.self.now _ c.args.entity.now c.in-Some.place c.deref.result.now
+    (ap (λ (l : Library). l.entities) c.self.view_is)
+    (sym (c.self.invariant.2 c.args.entity.now) ∙ (sym c.find.ensures ∙ c.in-Some.is)) (c.deref.ensures.value ∙ c.self.invariant.0)

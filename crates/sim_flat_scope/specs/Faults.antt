@@ -1,0 +1,50 @@
+-- The faults of a design: as lists, in the order of the text or in any other, and the first of several.
+use Rattle.std.specs.Prelude.{ℕ, ◌==◌, ◌||◌, ◌&&◌, nat_lt, List, [], ◌∷◌, Bool, true, false, if◌then◌else◌, Option, Some, None}
+use Rattle.sim_flat_scope.specs.declared.fault.Kind.{Kind}
+use Rattle.sim_flat_scope.specs.declared.fault.Kind.TheVariants as k
+use Rattle.sim_flat_scope.specs.declared.fault.Fault.{Fault}
+
+-- the number of a kind: of two faults at one place the one with the lesser number is reported
+abbrev pub number_of : Kind → ℕ
+number_of k.Duplicate = 0
+number_of k.Predefined = 1
+number_of k.Unknown = 2
+number_of k.WrongKind = 3
+number_of k.TypeClash = 4
+number_of k.Ambiguous = 5
+number_of k.NotBoolean = 6
+number_of k.ReadOut = 7
+number_of k.WriteIn = 8
+number_of k.PortMissing = 9
+number_of k.PortTwice = 10
+number_of k.ModeClash = 11
+number_of k.ComponentDiffers = 12
+number_of k.NoArchitecture = 13
+number_of k.Recursive = 14
+number_of k.ManySources = 15
+number_of k.NotAscending = 16
+number_of k.RejectTooLong = 17
+number_of k.TooMany = 18
+
+-- whether a fault is reported in place of another: by place, then by number
+abbrev pub is_before : Fault → Fault → Bool
+is_before a b = nat_lt a.at b.at || ((a.at == b.at) && nat_lt (number_of a.kind) (number_of b.kind))
+
+-- the one of two that is reported
+abbrev pub sooner : Option Fault → Fault → Option Fault
+sooner None a = Some a
+sooner (Some b) a = if is_before a b then Some a else Some b
+
+-- the one that is reported of a known one and several
+unfoldable pub earliest : Option Fault → List Fault → Option Fault
+earliest known [] = known
+earliest known (f ∷ fs) = earliest (sooner known f) fs
+
+-- one fault
+abbrev pub fault : Kind → ℕ → List Fault
+fault kind at = record { kind = kind; at = at } ∷ []
+
+-- faults where something holds
+abbrev pub where_ : Bool → List Fault → List Fault
+where_ true faults = faults
+where_ false faults = []

@@ -1,0 +1,94 @@
+//! The ports of an entity with the region that they make, in which those of its architectures go on
+//! (IEEE 1076-2008, 12.1).
+
+ghost use Rattle.std.specs.Prelude.{◌≡◌, [], IfOk};
+ghost use Rattle.sim_flat_scope.specs.Regions as spec;
+
+use crate::names::Names;
+use crate::region;
+use crate::{DeclarativeRegion, Scope};
+use sim_text_tree::declaration::PortDeclaration;
+use std::alloc::{AllocError, Global};
+use std::marker::Model;
+
+/// The ports of an entity. Their region is made once, however many architectures there are.
+#[derive(Drop)]
+pub struct EntityPorts<'a> {
+    declarations: &'a [PortDeclaration],
+    labels: DeclarativeRegion<'a>,
+    region: DeclarativeRegion<'a>,
+    count: usize,
+}
+
+impl<'a> Model for EntityPorts<'a> {
+    ghost use Rattle.std.specs.Prelude.{◌≡◌, List, []};
+    ghost use Rattle.sim_text_tree.specs.declared.declaration.PortDeclaration.{PortDeclaration};
+    ghost use Rattle.sim_flat_scope.specs.Regions as spec;
+
+    ghost Value = { List PortDeclaration };
+
+    ghost view = { λ e. e.declarations.now };
+
+    ghost invariant = { λ e.
+        (e.labels ≡ spec.port_labels e.declarations.now)
+        × (e.region ≡ spec.ports_region [] e.declarations.now)
+        × (e.count ≡ spec.port_count e.declarations.now) };
+}
+
+/// The region of the ports of an entity, which stands in none.
+fn region_of<'a>(alloc: Global, declarations: &'a [PortDeclaration]) -> Result<DeclarativeRegion<'a>, AllocError>
+    ensures { IfOk result (λ part. part ≡ spec.ports_region [] declarations.now) }
+{
+    let nothing = Scope::new(alloc);
+    let part = region::ports(alloc, declarations, &nothing)?;
+    Ok(part)
+}
+
+impl<'a> EntityPorts<'a> {
+    /// The ports that an entity declares.
+    pub fn of(
+        alloc: Global,
+        declarations: &'a [PortDeclaration],
+    ) -> Result<EntityPorts<'a>, AllocError>
+        ensures { IfOk result (λ e. e ≡ declarations.now) }
+    {
+        let region = region_of(alloc, declarations)?;
+        let names = Names::of_ports(alloc, declarations)?;
+        let count = names.len();
+        let labels = region::labels(alloc, &names)?;
+        Ok(EntityPorts {
+            declarations,
+            labels,
+            region,
+            count,
+        })
+    }
+
+    /// Their declarations.
+    pub fn declarations(&self) -> &'a [PortDeclaration]
+        ensures { result.now ≡ self.now }
+    {
+        self.declarations
+    }
+
+    /// Their names, of which nothing else is known.
+    pub fn labels(&self) -> &DeclarativeRegion<'a>
+        ensures { result.now ≡ spec.port_labels self.now }
+    {
+        &self.labels
+    }
+
+    /// What their names mean.
+    pub fn region(&self) -> &DeclarativeRegion<'a>
+        ensures { result.now ≡ spec.ports_region [] self.now }
+    {
+        &self.region
+    }
+
+    /// How many ports there are.
+    pub fn count(&self) -> usize
+        ensures { result ≡ spec.port_count self.now }
+    {
+        self.count
+    }
+}

@@ -1,0 +1,395 @@
+//! The declarative regions of a design (IEEE 1076-2008, 12.1), from its declarations.
+
+ghost use Rattle.std.specs.Prelude.{◌≡◌, ◌+◌, [], length, OnOk, IfOk};
+ghost use Rattle.sim_flat_scope.specs.Scopes.{declaring, means};
+ghost use Rattle.sim_flat_scope.specs.DeclaredNames.{concurrent_labels, named_by, process_names, statement_labels};
+ghost use Rattle.sim_flat_scope.specs.Regions as spec;
+
+use crate::entity::EntityPorts;
+use crate::names::Names;
+use crate::port::mode_of;
+use crate::scope::{Declare, Meaning, DeclarativeRegion, Scope, Type, look_up};
+use sim_text_tree::declaration::{Declaration, Mode, ObjectDeclaration, PortDeclaration};
+use sim_text_tree::name::Name;
+use sim_text_tree::sequential::Sequential;
+use sim_text_tree::unit::{Concurrent, Process};
+use std::alloc::{AllocError, Global};
+
+/// What an object is that is declared: all but its place. Its type is absent where the type mark is
+/// at fault.
+#[derive(Clone, Copy)]
+pub enum Object {
+    Port { mode: Mode, type_: Option<Type> },
+    Signal { type_: Option<Type> },
+    Variable { type_: Option<Type> },
+}
+
+impl Object {
+    /// What its name means, by its place.
+    fn meaning(self, place: usize) -> Meaning
+        ensures { result ≡ spec.meaning_of self place }
+    {
+        match self {
+            Object::Port { mode, type_ } => Meaning::Port {
+                object: place,
+                mode,
+                type_,
+            },
+            Object::Signal { type_ } => Meaning::Signal {
+                object: place,
+                type_,
+            },
+            Object::Variable { type_ } => Meaning::Variable { place, type_ },
+        }
+    }
+}
+
+/// Where the next signal and the next component of an architecture stand.
+#[derive(Clone, Copy)]
+struct Places {
+    signal: usize,
+    component: usize,
+}
+
+/// The type that a mark of this meaning stands for: boolean only where an object may be boolean.
+pub fn type_marked(may_be_boolean: bool, meaning: Option<Meaning>) -> Option<Type>
+    ensures { result ≡ spec.type_marked may_be_boolean meaning }
+{
+    match meaning {
+        Some(Meaning::LogicMark { resolved: _ }) => Some(Type::Logic),
+        Some(Meaning::BooleanMark) if may_be_boolean => Some(Type::Boolean),
+        _ => None,
+    }
+}
+
+/// The next place: there is one for each name that memory can hold.
+fn next(place: usize) -> Result<usize, AllocError>
+    ensures { IfOk result (λ n. n ≡ place + 1) }
+{
+    let next = place.checked_add(1).ok_or(AllocError)?;
+    Ok(next)
+}
+
+/// Declares names of which nothing else is known.
+#[tactic(auto, unfolding(crate::specs::Regions::labels, crate::specs::DeclaredNames::named_by, crate::specs::Scopes::declaring))]
+fn declare_each<'a, D: Declare<'a>>(region: &mut D, names: &[&'a Name]) -> Result<(), AllocError>
+    ensures { OnOk result (D.declared region.new ≡ spec.naming (D.declared region.old) (named_by names.now)) }
+{
+    for name in names {
+        region.declare(name.text(), Meaning::Label)?;
+    }
+    Ok(())
+}
+
+/// Declares names of which nothing else is known, as labels.
+fn declare_labels<'a, D: Declare<'a>>(region: &mut D, names: &Names<'a>) -> Result<(), AllocError>
+    ensures { OnOk result (D.declared region.new ≡ spec.naming (D.declared region.old) names.now) }
+{
+    declare_each(region, names.as_slice())?;
+    Ok(())
+}
+
+/// Declares objects in a row, the first at this place, and gives the place after the last.
+#[tactic(auto, using(crate::proofs::Declaring::in_pieces), unfolding(crate::specs::Regions::objects, crate::specs::Scopes::declaring))]
+fn declare_objects<'a, D: Declare<'a>>(
+    region: &mut D,
+    object: Object,
+    first: usize,
+    names: &'a [Name],
+) -> Result<usize, AllocError>
+    ensures declared { OnOk result (D.declared region.new ≡ declaring (D.declared region.old) (spec.objects object first names.now)) }
+    ensures place { IfOk result (λ place. place ≡ first + length names.now) }
+{
+    let mut place = first;
+    for name in names {
+        region.declare(name.text(), object.meaning(place))?;
+        place = next(place)?;
+    }
+    Ok(place)
+}
+
+/// The type that the mark of objects names, where one region stands in another.
+fn mark_type(
+    inner: &Scope<'_>,
+    outer: &Scope<'_>,
+    may_be_boolean: bool,
+    mark: &Name,
+) -> Option<Type>
+    ensures { result ≡ spec.mark_type (means inner.now outer.now) may_be_boolean mark.now }
+{
+    type_marked(may_be_boolean, look_up(inner, outer, mark.text()))
+}
+
+/// Declares ports, the first at place 0. A mark is looked up in two regions.
+#[tactic(auto, using(crate::proofs::Declaring::in_pieces), unfolding(crate::specs::Regions::ports, crate::specs::Scopes::declaring))]
+fn declare_ports<'a>(
+    part: &mut DeclarativeRegion<'a>,
+    inner: &Scope<'_>,
+    outer: &Scope<'_>,
+    ports: &'a [PortDeclaration],
+) -> Result<(), AllocError>
+    ensures { OnOk result (part.new ≡ declaring part.old (spec.ports (means inner.now outer.now) 0 ports.now)) }
+{
+    let mut place = 0;
+    for port in ports {
+        let object = Object::Port {
+            mode: mode_of(port.mode),
+            type_: mark_type(inner, outer, false, &port.mark),
+        };
+        place = declare_objects(part, object, place, port.names.as_slice())?;
+    }
+    Ok(())
+}
+
+/// Declares the variables of a process, whose region stands in that of its architecture, the first
+/// at place 0.
+#[tactic(auto, using(crate::proofs::Declaring::in_pieces), unfolding(crate::specs::Regions::variables, crate::specs::Scopes::declaring))]
+fn declare_variables<'a>(
+    part: &mut DeclarativeRegion<'a>,
+    inner: &Scope<'_>,
+    outer: &Scope<'_>,
+    variables: &'a [ObjectDeclaration],
+) -> Result<(), AllocError>
+    ensures { OnOk result (part.new ≡ declaring part.old (spec.variables (means inner.now outer.now) 0 variables.now)) }
+{
+    let mut place = 0;
+    for variable in variables {
+        let type_ = mark_type(inner, outer, true, &variable.mark);
+        let object = Object::Variable { type_ };
+        place = declare_objects(part, object, place, variable.names.as_slice())?;
+    }
+    Ok(())
+}
+
+/// Declares the signals of a declaration, or its component, and gives the places after them.
+#[tactic(auto, using(crate::proofs::Declaring::in_pieces))]
+fn declare_declaration<'a>(
+    scope: &mut Scope<'a>,
+    inner: &Scope<'_>,
+    outer: &Scope<'_>,
+    places: Places,
+    declaration: &'a Declaration,
+) -> Result<Places, AllocError>
+    ensures names { OnOk result (scope.new ≡ declaring scope.old (spec.declared (means inner.now outer.now) places.signal places.component declaration.now)) }
+    ensures signal { IfOk result (λ after. after.signal ≡ places.signal + spec.signal_count declaration.now) }
+    ensures component { IfOk result (λ after. after.component ≡ places.component + spec.component_count declaration.now) }
+{
+    match declaration {
+        Declaration::Signal(signals) => {
+            let object = Object::Signal {
+                type_: mark_type(inner, outer, false, &signals.mark),
+            };
+            let signal = declare_objects(scope, object, places.signal, signals.names.as_slice())?;
+            Ok(Places {
+                signal,
+                component: places.component,
+            })
+        }
+        Declaration::Component(component) => {
+            let meaning = Meaning::Component {
+                place: places.component,
+            };
+            scope.declare(component.name.text(), meaning)?;
+            Ok(Places {
+                signal: places.signal,
+                component: next(places.component)?,
+            })
+        }
+    }
+}
+
+/// Declares signals and components, the first signal at this place. A mark is looked up in two
+/// regions.
+#[tactic(auto, using(crate::proofs::Declaring::in_pieces), unfolding(crate::specs::Regions::declarations, crate::specs::Scopes::declaring))]
+fn declare_declarations<'a>(
+    scope: &mut Scope<'a>,
+    inner: &Scope<'_>,
+    outer: &Scope<'_>,
+    signal: usize,
+    declarations: &'a [Declaration],
+) -> Result<(), AllocError>
+    ensures { OnOk result (scope.new ≡ declaring scope.old (spec.declarations (means inner.now outer.now) signal 0 declarations.now)) }
+{
+    let mut places = Places {
+        signal,
+        component: 0,
+    };
+    for declaration in declarations {
+        places = declare_declaration(scope, inner, outer, places, declaration)?;
+    }
+    Ok(())
+}
+
+/// Names of which nothing else is known, as a region.
+pub fn labels<'a>(alloc: Global, names: &Names<'a>) -> Result<DeclarativeRegion<'a>, AllocError>
+    ensures { IfOk result (λ part. part ≡ spec.naming [] names.now) }
+{
+    let mut part = DeclarativeRegion::new(alloc);
+    declare_labels(&mut part, names)?;
+    Ok(part)
+}
+
+/// The names of ports, of which nothing else is known, as a region.
+fn port_labels<'a>(alloc: Global, ports: &'a [PortDeclaration]) -> Result<Scope<'a>, AllocError>
+    ensures { IfOk result (λ s. s ≡ spec.port_labels ports.now) }
+{
+    let names = Names::of_ports(alloc, ports)?;
+    let part = labels(alloc, &names)?;
+    Ok(Scope::of(part))
+}
+
+/// Ports as a region of their own, the first at place 0. A mark is looked up in two regions.
+fn declared_ports<'a>(
+    alloc: Global,
+    inner: &Scope<'_>,
+    outer: &Scope<'_>,
+    ports: &'a [PortDeclaration],
+) -> Result<DeclarativeRegion<'a>, AllocError>
+    ensures { IfOk result (λ part. part ≡ declaring [] (spec.ports (means inner.now outer.now) 0 ports.now)) }
+{
+    let mut part = DeclarativeRegion::new(alloc);
+    declare_ports(&mut part, inner, outer, ports)?;
+    Ok(part)
+}
+
+/// The region of the ports of an entity, in an empty one, or of a component, in that of its
+/// architecture.
+#[tactic(auto, unfolding(crate::specs::Regions::ports_region))]
+pub fn ports<'a>(
+    alloc: Global,
+    ports: &'a [PortDeclaration],
+    outer: &Scope<'_>,
+) -> Result<DeclarativeRegion<'a>, AllocError>
+    ensures { IfOk result (λ part. part ≡ spec.ports_region outer.now ports.now) }
+{
+    let own = port_labels(alloc, ports)?;
+    let part = declared_ports(alloc, &own, outer, ports)?;
+    Ok(part)
+}
+
+/// The names that an architecture of an entity sees, of which nothing else is known.
+fn architecture_labels<'a>(
+    alloc: Global,
+    entity: &'a EntityPorts<'a>,
+    declarations: &'a [Declaration],
+    statements: &'a [Concurrent],
+) -> Result<Scope<'a>, AllocError>
+    ensures { IfOk result (λ s. s ≡ spec.architecture_labels entity.now declarations.now statements.now) }
+{
+    let names = Names::of_body(alloc, declarations, statements)?;
+    let mut scope = Scope::after(alloc, entity.labels());
+    declare_labels(&mut scope, &names)?;
+    Ok(scope)
+}
+
+/// Declares the signals and components of an architecture, whose region stands in none, the first
+/// signal at this place.
+fn declare_own<'a>(
+    alloc: Global,
+    scope: &mut Scope<'a>,
+    own: &Scope<'_>,
+    signal: usize,
+    declarations: &'a [Declaration],
+) -> Result<(), AllocError>
+    ensures { OnOk result (scope.new ≡ declaring scope.old (spec.declarations (means own.now []) signal 0 declarations.now)) }
+{
+    let nothing = Scope::new(alloc);
+    declare_declarations(scope, own, &nothing, signal, declarations)?;
+    Ok(())
+}
+
+/// The region of an architecture without its labels.
+fn declared<'a>(
+    alloc: Global,
+    entity: &'a EntityPorts<'a>,
+    declarations: &'a [Declaration],
+    statements: &'a [Concurrent],
+) -> Result<Scope<'a>, AllocError>
+    ensures { IfOk result (λ s. s ≡ declaring (spec.ports_region [] entity.now)
+        (spec.declarations (means (spec.architecture_labels entity.now declarations.now statements.now) []) (spec.port_count entity.now) 0 declarations.now)) }
+{
+    let own = architecture_labels(alloc, entity, declarations, statements)?;
+    let mut scope = Scope::after(alloc, entity.region());
+    declare_own(alloc, &mut scope, &own, entity.count(), declarations)?;
+    Ok(scope)
+}
+
+/// Declares the labels of concurrent statements.
+fn declare_concurrents<'a>(
+    alloc: Global,
+    scope: &mut Scope<'a>,
+    statements: &'a [Concurrent],
+) -> Result<(), AllocError>
+    ensures { OnOk result (scope.new ≡ spec.naming scope.old (concurrent_labels statements.now)) }
+{
+    let labels = Names::of_concurrents(alloc, statements)?;
+    declare_labels(scope, &labels)?;
+    Ok(())
+}
+
+/// The region of an architecture: it goes on from that of the ports of its entity with its
+/// declarations and its labels.
+#[tactic(auto, unfolding(crate::specs::Regions::architecture_region))]
+pub fn architecture<'a>(
+    alloc: Global,
+    entity: &'a EntityPorts<'a>,
+    declarations: &'a [Declaration],
+    statements: &'a [Concurrent],
+) -> Result<Scope<'a>, AllocError>
+    ensures { IfOk result (λ s. s ≡ spec.architecture_region entity.now declarations.now statements.now) }
+{
+    let mut scope = declared(alloc, entity, declarations, statements)?;
+    declare_concurrents(alloc, &mut scope, statements)?;
+    Ok(scope)
+}
+
+/// The names that a process declares, of which nothing else is known, as a region.
+fn process_labels<'a>(alloc: Global, process: &'a Process) -> Result<Scope<'a>, AllocError>
+    ensures { IfOk result (λ s. s ≡ spec.naming [] (process_names process.now)) }
+{
+    let names = Names::of_process(alloc, process)?;
+    let part = labels(alloc, &names)?;
+    Ok(Scope::of(part))
+}
+
+/// The region of a process without its labels.
+fn process_variables<'a>(
+    alloc: Global,
+    outer: &Scope<'_>,
+    process: &'a Process,
+) -> Result<DeclarativeRegion<'a>, AllocError>
+    ensures { IfOk result (λ part. part
+        ≡ declaring [] (spec.variables (means (spec.naming [] (process_names process.now)) outer.now) 0 process.now.variables)) }
+{
+    let own = process_labels(alloc, process)?;
+    let mut part = DeclarativeRegion::new(alloc);
+    declare_variables(&mut part, &own, outer, process.variables.as_slice())?;
+    Ok(part)
+}
+
+/// Declares the labels of sequential statements, of those in ifs too.
+fn declare_statements<'a>(
+    alloc: Global,
+    part: &mut DeclarativeRegion<'a>,
+    statements: &'a [Sequential],
+) -> Result<(), AllocError>
+    ensures { OnOk result (part.new ≡ spec.naming part.old (statement_labels statements.now)) }
+{
+    let labels = Names::of_statements(alloc, statements)?;
+    declare_labels(part, &labels)?;
+    Ok(())
+}
+
+/// The region of a process, which stands in that of its architecture.
+#[tactic(auto, unfolding(crate::specs::Regions::process_region))]
+pub fn process<'a>(
+    alloc: Global,
+    outer: &Scope<'_>,
+    process: &'a Process,
+) -> Result<Scope<'a>, AllocError>
+    ensures { IfOk result (λ s. s ≡ spec.process_region outer.now process.now) }
+{
+    let mut part = process_variables(alloc, outer, process)?;
+    declare_statements(alloc, &mut part, process.statements.as_slice())?;
+    Ok(Scope::of(part))
+}

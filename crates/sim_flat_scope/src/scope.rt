@@ -1,0 +1,215 @@
+//! Declarative regions: what the names that are declared in one mean (IEEE 1076-2008, 12).
+
+ghost use Rattle.std.specs.Prelude.{◌≡◌, [], OnOk, OnErr, IfOk, is_none};
+ghost use Rattle.sim_flat_scope.specs.Scopes as spec;
+
+use crate::predefined::predefined;
+use indexmap::IndexMap;
+use sim_text_tree::declaration::Mode;
+use std::alloc::{AllocError, Global};
+use std::marker::Model;
+
+/// A type of expressions: std_ulogic, of which std_logic is a subtype, or boolean (5.2.3).
+#[derive(Clone, Copy, Debug, PartialEq, Eq)]
+pub enum Type {
+    Logic,
+    Boolean,
+}
+
+/// What a name means. A type is absent where the type mark is at fault.
+#[derive(Clone, Copy, Debug)]
+pub enum Meaning {
+    /// A port, with its place among the ports and signals of its architecture, the ports first.
+    Port {
+        object: usize,
+        mode: Mode,
+        type_: Option<Type>,
+    },
+    /// A signal, with its place among the ports and signals of its architecture.
+    Signal {
+        object: usize,
+        type_: Option<Type>,
+    },
+    /// A variable, with its place among the variables of its process.
+    Variable {
+        place: usize,
+        type_: Option<Type>,
+    },
+    /// A component, with its place among the components of its architecture.
+    Component {
+        place: usize,
+    },
+    /// The label of a statement.
+    Label,
+    /// A type mark: `std_logic`, whose signals are resolved, or `std_ulogic`.
+    LogicMark {
+        resolved: bool,
+    },
+    /// The type mark `boolean`.
+    BooleanMark,
+    /// `true` or `false`.
+    Truth(bool),
+    /// `rising_edge`, or else `falling_edge`.
+    Edge {
+        rising: bool,
+    },
+}
+
+/// A declarative region, or a part of one, to which names are added.
+pub trait Declare<'a> {
+    /// Its names, each with what its first declaration says.
+    ghost declared: { Self → spec.Region };
+
+    /// Declares a name, unless it is declared already, and says whether it is new.
+    fn declare(&mut self, name: &'a [u8], meaning: Meaning) -> Result<bool, AllocError>
+        ensures declared { OnOk result (declared self.new ≡ spec.with_first (declared self.old) name.now meaning) }
+        ensures is_new { IfOk result (λ b. b ≡ is_none (spec.found (declared self.old) name.now)) }
+        ensures kept { OnErr result (declared self.new ≡ declared self.old) };
+}
+
+/// A part of a declarative region by itself: the ports of an entity, which go on in each of its
+/// architectures.
+#[derive(Drop)]
+pub struct DeclarativeRegion<'a> {
+    meanings: IndexMap<&'a [u8], Meaning>,
+}
+
+impl<'a> Model for DeclarativeRegion<'a> {
+    ghost use Rattle.std.specs.Prelude.{ℕ, List, map};
+    ghost use Rattle.sim_flat_scope.specs.declared.scope.Meaning.{Meaning};
+
+    ghost Value = { List (List ℕ × Meaning) };
+
+    ghost view = { λ s. map (λ e. (e.0.now, e.1)) s.meanings.entries };
+}
+
+impl<'a> DeclarativeRegion<'a> {
+    /// A part without names.
+    pub fn new(alloc: Global) -> DeclarativeRegion<'a>
+        ensures { result ≡ [] }
+    {
+        DeclarativeRegion {
+            meanings: IndexMap::new(alloc),
+        }
+    }
+
+    /// What a name means, where it is declared in this part.
+    pub fn find(&self, name: &[u8]) -> Option<Meaning>
+        ensures { result ≡ spec.found self.now name.now }
+    {
+        self.meanings.get(name).copied()
+    }
+}
+
+impl<'a> Declare<'a> for DeclarativeRegion<'a> {
+    ghost use Rattle.sim_flat_scope.specs.Scopes.{Region};
+
+    ghost declared = { λ (part : Region). part };
+
+    fn declare(&mut self, name: &'a [u8], meaning: Meaning) -> Result<bool, AllocError> {
+        if self.meanings.contains_key(name) {
+            return Ok(false);
+        }
+        self.meanings.insert(name, meaning)?;
+        Ok(true)
+    }
+}
+
+/// What a name means in the part from which a region goes on, where there is one.
+#[tactic(auto, unfolding(crate::specs::Scopes::found))]
+fn found_in(part: Option<&DeclarativeRegion<'_>>, name: &[u8]) -> Option<Meaning>
+    ensures { result ≡ spec.found (spec.part_at part.entry) name.now }
+{
+    match part {
+        None => None,
+        Some(part) => part.find(name),
+    }
+}
+
+/// The names of a declarative region, each with what its first declaration says. Where it goes on
+/// from another part, as an architecture does from its entity, that part is shared.
+#[derive(Drop)]
+pub struct Scope<'a> {
+    first: Option<&'a DeclarativeRegion<'a>>,
+    own: DeclarativeRegion<'a>,
+}
+
+impl<'a> Model for Scope<'a> {
+    ghost use Rattle.std.specs.Prelude.{ℕ, List, ◌++◌};
+    ghost use Rattle.sim_flat_scope.specs.declared.scope.Meaning.{Meaning};
+    ghost use Rattle.sim_flat_scope.specs.Scopes as spec;
+
+    ghost Value = { List (List ℕ × Meaning) };
+
+    ghost view = { λ s. spec.part_at s.first ++ s.own };
+}
+
+impl<'a> Scope<'a> {
+    /// A region without names.
+    pub fn new(alloc: Global) -> Scope<'a>
+        ensures { result ≡ [] }
+    {
+        Scope {
+            first: None,
+            own: DeclarativeRegion::new(alloc),
+        }
+    }
+
+    /// The region of one part.
+    pub fn of(part: DeclarativeRegion<'a>) -> Scope<'a>
+        ensures { result ≡ part.entry }
+    {
+        Scope {
+            first: None,
+            own: part,
+        }
+    }
+
+    /// The region that goes on from a part.
+    pub fn after(alloc: Global, part: &'a DeclarativeRegion<'a>) -> Scope<'a>
+        ensures { result ≡ part.now }
+    {
+        Scope {
+            first: Some(part),
+            own: DeclarativeRegion::new(alloc),
+        }
+    }
+
+    /// What a name means, where it is declared in this region.
+    pub fn find(&self, name: &[u8]) -> Option<Meaning>
+        ensures { result ≡ spec.found self.now name.now }
+    {
+        match found_in(self.first, name) {
+            Some(meaning) => Some(meaning),
+            None => self.own.find(name),
+        }
+    }
+}
+
+impl<'a> Declare<'a> for Scope<'a> {
+    ghost use Rattle.sim_flat_scope.specs.Scopes.{Region};
+
+    ghost declared = { λ (region : Region). region };
+
+    fn declare(&mut self, name: &'a [u8], meaning: Meaning) -> Result<bool, AllocError> {
+        if found_in(self.first, name).is_some() {
+            return Ok(false);
+        }
+        let is_new = self.own.declare(name, meaning)?;
+        Ok(is_new)
+    }
+}
+
+/// What a name means where one region stands in another; what neither declares may be predefined.
+#[tactic(auto, unfolding(crate::specs::Scopes::means))]
+pub fn look_up(inner: &Scope<'_>, outer: &Scope<'_>, name: &[u8]) -> Option<Meaning>
+    ensures { result ≡ spec.means inner.now outer.now name.now }
+{
+    if let Some(meaning) = inner.find(name) {
+        return Some(meaning);
+    }
+    if let Some(meaning) = outer.find(name) {
+        return Some(meaning);
+    }
+    predefined(name)
+}

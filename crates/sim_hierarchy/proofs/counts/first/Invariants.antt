@@ -1,6 +1,0 @@
-use Rattle.std.proofs.Common.{◌≡◌, ◌++◌, drop}
-use Rattle.sim_hierarchy.specs.Counts as spec
-use Rattle.sim_hierarchy.proofs.counts.first.Given as goal
-
-abbrev pub invariant-loop-block : goal.invariant-loop-block
-invariant-loop-block l = l.table ++ spec.first_table l.kind (drop l.block-index l.blocks) ≡ spec.first_table l.kind l.blocks

@@ -1,5 +1,0 @@
-use Rattle.std.proofs.Common.{rules, tests}
-use Rattle.sim_instance.proofs.instance.architecture_place.Goals as goal
-
-pub returns-in-Entity : goal.returns-in-Entity
-returns-in-Entity c = search (rules, tests)

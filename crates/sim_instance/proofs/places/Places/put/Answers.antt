@@ -1,5 +1,0 @@
-use Rattle.sim_instance.proofs.Maps.{put}
-use Rattle.sim_instance.proofs.places.Places.put.Goals as goal
-
-pub returns : goal.returns
-returns c = put c.args.name c.args.place c.self.inside.places.entries c.insert.new.self.entries c.args.self.now c.in_ok-insert.ensures.entries c.self.view_is

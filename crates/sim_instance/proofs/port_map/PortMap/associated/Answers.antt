@@ -1,7 +1,0 @@
-use Rattle.std.proofs.Common.{rules, tests}
-use Rattle.sim_instance.specs.PortMaps.{associated}
-use Rattle.sim_instance.proofs.port_map.PortMap.associated.Goals as goal
-
-pub returns-in-Some : goal.returns-in-Some
-unfolding associated
-returns-in-Some c = search (rules, tests)

@@ -1,6 +1,0 @@
-pub mod KnownBlocks
-pub mod KnownInstances
-pub mod PutLinks
-pub mod References
-pub mod SharedPorts
-pub mod Sizes

@@ -1,9 +1,0 @@
-use Rattle.std.proofs.Common.{rules}
-use Rattle.sim_plan.specs.Plans.{blocks_of}
-use Rattle.sim_plan.proofs.KnownBlocks.{blocks_known}
-use Rattle.sim_plan.proofs.plan.blocks.Goals as goal
-
-pub returns-clause-known : goal.returns-clause-known
-unfolding blocks_of
-returns-clause-known c =
-    blocks_known c.args.library.now c.in_ok-found.found.items c.from_vec.result c.in_ok-found.ensures.known (search rules) (search rules)

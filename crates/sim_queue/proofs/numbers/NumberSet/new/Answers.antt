@@ -1,5 +1,0 @@
-use Rattle.sim_queue.proofs.Sets.{no_members}
-use Rattle.sim_queue.proofs.numbers.NumberSet.new.Goals as goal
-
-pub returns : goal.returns
-returns c = no_members _ c.args.count c.in_ok-words.ensures.none

@@ -1,5 +1,0 @@
-use Rattle.std.proofs.Common.{rules}
-use Rattle.sim_queue.proofs.times.TimeQueue.take_due.Goals as goal
-
-pub returns-clause-drivers : goal.returns-clause-drivers
-returns-clause-drivers c = search rules

@@ -1,4 +1,0 @@
-pub mod Words
-pub mod Numbers
-pub mod Times
-pub mod Entries

@@ -1,6 +1,0 @@
-use Rattle.sim_reach.specs.Least.{IsLeast}
-use Rattle.sim_reach.proofs.Recursions.{Below}
-use Rattle.sim_reach.proofs.recursion.least_recursive.Given as goal
-
-abbrev pub invariant-loop-number : goal.invariant-loop-number
-invariant-loop-number l = IsLeast (Below l.blocks l.top l.number) l.least

@@ -1,6 +1,0 @@
-use Rattle.sim_reach.specs.Least.{IsLeast}
-use Rattle.sim_reach.proofs.SourcePlaces.{Below}
-use Rattle.sim_reach.proofs.sources.first_with_many_sources.Given as goal
-
-abbrev pub invariant-loop-number : goal.invariant-loop-number
-invariant-loop-number l = IsLeast (Below l.blocks l.top l.number) l.least

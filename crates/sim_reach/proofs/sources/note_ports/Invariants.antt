@@ -1,8 +1,0 @@
-use Rattle.std.proofs.Common.{◌≡◌, drop}
-use Rattle.sim_reach.specs.Sources as spec
-use Rattle.sim_reach.proofs.sources.note_ports.Given as goal
-
-abbrev pub invariant-loop-at : goal.invariant-loop-at
-invariant-loop-at l =
-    spec.all_noted l.counts.items (spec.driven_by_ports l.links l.at (drop l.at l.ports))
-    ≡ spec.all_noted l.fn.counts.items (spec.driven_by_ports l.links 0 l.ports)

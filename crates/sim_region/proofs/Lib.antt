@@ -1,4 +1,0 @@
-pub mod Declaring
-pub mod FaultLoops
-pub mod LabelRules
-pub mod NameLists

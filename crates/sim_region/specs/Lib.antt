@@ -1,4 +1,0 @@
-pub mod DeclaredNames
-pub mod Regions
-pub mod Ports
-pub mod DeclarationFaults

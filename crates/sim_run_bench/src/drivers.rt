@@ -1,0 +1,187 @@
+//! `drivers N`: N steps on one driver, in each of several ways and with each of several numbers of
+//! pending transactions. In a step the driver takes its first transactions and is assigned as many
+//! new ones, so that the number of those pending stays.
+
+ghost use Rattle.std.specs.Prelude.{◌≤◌, IfSome};
+ghost use Rattle.sim_standard.specs.Drivers.{RisesFrom};
+ghost use Rattle.sim_standard.specs.Editing.{IsWithin};
+
+use anyhow::Result;
+use sim_logic::LATEST;
+use sim_logic::Logic::{One, X, Zero};
+use sim_wave::{Delay, Driver};
+use std::alloc::{AllocError, Global};
+use std::rt::Clock;
+use std::time::Instant;
+
+/// The numbers of pending transactions.
+const PENDING: [u64; 4] = [1, 2, 16, 100_000];
+
+/// The most pending transactions.
+const MOST: u64 = 1_000_000;
+
+/// What is assigned in a step.
+#[derive(Clone, Copy)]
+enum Way {
+    /// One element with transport delay, of the other value.
+    Transport,
+    /// One element with inertial delay, of the value of all that is pending, so that all of it
+    /// stays.
+    Equal,
+    /// A pulse with transport delay, and then an element that rejects both its edges.
+    Rejection,
+    /// A pulse with transport delay, and then an element that rejects its rise and keeps its fall:
+    /// a gap closes. Two transactions are taken.
+    Gap,
+}
+
+impl Way {
+    fn name(self) -> &'static str {
+        match self {
+            Way::Transport => "transport",
+            Way::Equal => "equal values",
+            Way::Rejection => "rejections",
+            Way::Gap => "gaps",
+        }
+    }
+}
+
+/// A driver with transactions of the value '1' at 4, 8, 12 and so on.
+fn filled(alloc: Global, count: u64) -> Result<Driver, AllocError>
+    requires { count ≤ MOST }
+{
+    let mut driver = Driver::new(alloc, Zero);
+    for place in 0..count {
+        driver.edit(0, Delay::Transport, &[(4 * place + 4, One)])?;
+    }
+    Ok(driver)
+}
+
+/// Takes the first transaction and answers its time; `None` where there is none up to `LATEST`.
+fn take_next(driver: &mut Driver) -> Option<u64>
+    ensures time { IfSome result (λ now. now ≤ LATEST) }
+    ensures later { IfSome result (λ now. RisesFrom now driver.new.pending) }
+{
+    let now = driver.next()?;
+    if now > LATEST {
+        return None;
+    }
+    driver.take(now);
+    Some(now)
+}
+
+/// One element in each step, of the value that was taken or of the other.
+fn assign_each(
+    driver: &mut Driver,
+    mechanism: Delay,
+    delay: u64,
+    other: bool,
+    count: u64,
+) -> Result<(), AllocError>
+    requires reject { IsWithin mechanism delay }
+    requires delay { delay ≤ LATEST }
+{
+    for _step in 0..count {
+        let Some(now) = take_next(driver) else {
+            break;
+        };
+        let value = if other {
+            driver.value().not()
+        } else {
+            driver.value()
+        };
+        driver.edit(now, mechanism, &[(delay, value)])?;
+    }
+    Ok(())
+}
+
+/// A pulse in each step, and an element after it that rejects both its edges.
+fn reject_pulses(driver: &mut Driver, delay: u64, count: u64) -> Result<(), AllocError>
+    requires above { 4 ≤ delay }
+    requires delay { delay ≤ LATEST }
+{
+    for _step in 0..count {
+        let Some(now) = take_next(driver) else {
+            break;
+        };
+        driver.edit(now, Delay::Transport, &[(delay - 2, Zero), (delay - 1, X)])?;
+        driver.edit(now, Delay::Inertial { reject: 3 }, &[(delay, One)])?;
+    }
+    Ok(())
+}
+
+/// A pulse in each step, and an element after it that rejects its first edge and keeps its second.
+fn close_gaps(driver: &mut Driver, delay: u64, count: u64) -> Result<(), AllocError>
+    requires above { 8 ≤ delay }
+    requires delay { delay ≤ LATEST }
+{
+    for _step in 0..count {
+        let _ = take_next(driver);
+        let Some(now) = take_next(driver) else {
+            break;
+        };
+        driver.edit(
+            now,
+            Delay::Transport,
+            &[(delay - 6, Zero), (delay - 4, One)],
+        )?;
+        driver.edit(now, Delay::Inertial { reject: 7 }, &[(delay, One)])?;
+    }
+    Ok(())
+}
+
+/// `count` steps with this number of pending transactions.
+fn make_steps(driver: &mut Driver, way: Way, pending: u64, count: u64) -> Result<(), AllocError>
+    requires some { 1 ≤ pending }
+    requires most { pending ≤ MOST }
+{
+    let delay = 4 * pending;
+    match way {
+        Way::Transport => assign_each(driver, Delay::Transport, delay, true, count),
+        Way::Equal => assign_each(
+            driver,
+            Delay::Inertial { reject: delay },
+            delay,
+            false,
+            count,
+        ),
+        Way::Rejection => reject_pulses(driver, delay, count),
+        Way::Gap => close_gaps(driver, delay.max(8), count),
+    }
+}
+
+/// Times one way with one number of pending transactions.
+fn report<R: Print + Eprint + Clock + AllocGlobal>(
+    rt: &R,
+    way: Way,
+    pending: u64,
+    count: u64,
+) -> Result<()>
+    requires some { 1 ≤ pending }
+    requires most { pending ≤ MOST }
+{
+    let name = way.name();
+    let mut driver = filled(rt.alloc(), pending)?;
+    let start = Instant::now(rt)?;
+    make_steps(&mut driver, way, pending, count)?;
+    let took = start.elapsed(rt)?;
+    eprintln!(rt; "{name}, {pending} pending: {took:?}")?;
+    let left = driver.pending().len();
+    let next = driver.next();
+    println!(rt; "{name}, {pending} pending: {left} left, the next at {next:?}")?;
+    Ok(())
+}
+
+/// Times each way with each number of pending transactions; a gap needs two.
+pub fn run<R: Print + Eprint + Clock + AllocGlobal>(rt: &R, count: u64) -> Result<()> {
+    for pending in PENDING {
+        let pending = pending.clamp(1, MOST);
+        report(rt, Way::Transport, pending, count)?;
+        report(rt, Way::Equal, pending, count)?;
+        report(rt, Way::Rejection, pending, count)?;
+        if pending > 1 {
+            report(rt, Way::Gap, pending, count)?;
+        }
+    }
+    Ok(())
+}

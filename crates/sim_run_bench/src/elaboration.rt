@@ -1,0 +1,74 @@
+//! `elaboration N TOP`: N times the text on standard input is read as a design file and flattened
+//! under its entity TOP, and what was made of it is dropped.
+
+use crate::reading::source;
+use anyhow::{Result, bail};
+use sim_flat::{FlatError, flatten};
+use sim_text::parse;
+use sim_text::tree::DesignFile;
+use std::alloc::Global;
+use std::rt::Clock;
+use std::time::Instant;
+
+/// How much there is in a flat design.
+#[derive(Clone, Copy)]
+struct Size {
+    nets: usize,
+    processes: usize,
+    drivers: usize,
+}
+
+/// Flattens a design file, and drops the design.
+fn flattened(alloc: Global, file: &DesignFile, top: &str) -> Result<Size, FlatError> {
+    let design = flatten(alloc, file, top)?;
+    Ok(Size {
+        nets: design.nets().len(),
+        processes: design.processes().len(),
+        drivers: design.drivers().len(),
+    })
+}
+
+/// Times the flattening of a file whose reading was begun at this time.
+fn report_file<R: Print + Eprint + Clock + AllocGlobal>(
+    rt: &R,
+    start: Instant,
+    file: &DesignFile,
+    top: &str,
+) -> Result<()> {
+    let parsing = start.elapsed(rt)?.as_micros();
+    let start = Instant::now(rt)?;
+    let found = flattened(rt.alloc(), file, top);
+    let flattening = start.elapsed(rt)?.as_micros();
+    eprintln!(rt; "parse: {parsing} us, flatten: {flattening} us")?;
+    match found {
+        Ok(size) => println!(rt;
+            "{} nets, {} processes, {} drivers",
+            size.nets, size.processes, size.drivers
+        )?,
+        Err(fault) => println!(rt; "refused: {fault}")?,
+    }
+    Ok(())
+}
+
+/// Times one reading and one flattening, each by itself. The design is dropped within its time, the
+/// tree after both.
+fn report<R: Print + Eprint + Clock + AllocGlobal>(rt: &R, text: &[u8], top: &str) -> Result<()> {
+    let start = Instant::now(rt)?;
+    match parse(rt.alloc(), text) {
+        Ok(file) => report_file(rt, start, &file, top),
+        Err(fault) => bail!("no design file: {fault}"),
+    }
+}
+
+/// Times the parser and elaboration after it.
+pub fn run<R: Print + Eprint + Input + Clock + AllocGlobal>(
+    rt: &R,
+    count: u64,
+    top: &str,
+) -> Result<()> {
+    let text = source(rt)?;
+    for _ in 0..count {
+        report(rt, text.as_slice(), top)?;
+    }
+    Ok(())
+}

@@ -1,0 +1,32 @@
+//! Times parts of the simulator: `sim_bench SUBJECT COUNT`, and of `elaboration` also the top. The
+//! times go to standard error, and what was computed to standard output.
+#![tactic(auto)]
+
+mod drivers;
+mod elaboration;
+mod execution;
+mod listing;
+mod reading;
+
+use anyhow::{Context, Result, bail};
+use reading::Step;
+use std::env;
+
+fn main(rt: HostRuntime) -> Result<()> {
+    let mut words = env::args(&rt)?.skip(1);
+    let subject = words.next().context("no subject")?;
+    let count = words.next().context("no count")?;
+    let count = count.parse::<u64>().context("the count is no number")?;
+    match subject.as_str() {
+        "drivers" => drivers::run(&rt, count),
+        "elaboration" => {
+            let top = words.next().context("no top")?;
+            elaboration::run(&rt, count, top.as_str())
+        }
+        "execution" => execution::run(&rt, count),
+        "listing" => listing::run(&rt, count),
+        "tokens" => reading::run(&rt, Step::Tokens, count),
+        "parse" => reading::run(&rt, Step::Parse, count),
+        _ => bail!("no such subject"),
+    }
+}

@@ -1,0 +1,115 @@
+//! A case: what the program is given, and what it is to answer.
+
+use crate::repeated::{number, put_blanks, put_line, put_numbered, put_times};
+use std::alloc::{AllocError, Global};
+use std::str;
+
+/// What the program is given, and what it is to answer.
+#[derive(Drop)]
+pub struct Case {
+    pub name: String,
+    pub words: Vec<String>,
+    pub text: Vec<u8>,
+    pub output: Vec<u8>,
+    pub compares_output: bool,
+    pub error: Vec<u8>,
+    pub compares_error: bool,
+    pub status: u32,
+}
+
+/// A word of a command line.
+fn push_word(alloc: Global, words: &mut Vec<String>, word: &str) -> Result<(), AllocError> {
+    words.push(String::from_str(alloc, word)?)?;
+    Ok(())
+}
+
+/// The words that a line has, parted by blanks; bytes that are no text are no words.
+fn words_of(alloc: Global, line: &[u8]) -> Result<Vec<String>, AllocError> {
+    let mut words = Vec::new(alloc);
+    if let Ok(line) = str::from_utf8(line) {
+        for word in line.split_whitespace() {
+            push_word(alloc, &mut words, word)?;
+        }
+    }
+    Ok(words)
+}
+
+impl Case {
+    /// The case of an empty text that has no listing, for the top `t`.
+    pub fn new(alloc: Global, name: &[u8]) -> Result<Case, AllocError> {
+        let name = match str::from_utf8(name) {
+            Ok(name) => String::from_str(alloc, name)?,
+            Err(_) => String::new(alloc),
+        };
+        Ok(Case {
+            name,
+            words: words_of(alloc, b"--top t")?,
+            text: Vec::new(alloc),
+            output: Vec::new(alloc),
+            compares_output: true,
+            error: Vec::new(alloc),
+            compares_error: true,
+            status: 0,
+        })
+    }
+
+    /// Begins a line of the text.
+    fn put_text(&mut self, line: &[u8]) -> Result<bool, AllocError> {
+        if !self.text.is_empty() {
+            self.text.push(b'\n')?;
+        }
+        self.put_more(line)
+    }
+
+    /// Goes on with the last line of the text.
+    fn put_more(&mut self, line: &[u8]) -> Result<bool, AllocError> {
+        self.text.extend_from_slice(line)?;
+        Ok(true)
+    }
+
+    /// What the words are.
+    fn put_words(&mut self, alloc: Global, line: &[u8]) -> Result<bool, AllocError> {
+        self.words = words_of(alloc, line)?;
+        Ok(true)
+    }
+
+    /// What the status is to be.
+    fn put_status(&mut self, line: &[u8]) -> bool {
+        match number(line) {
+            Some(status) => {
+                self.status = status;
+                true
+            }
+            None => false,
+        }
+    }
+
+    /// What is not to be compared.
+    fn put_spared(&mut self, line: &[u8]) -> bool {
+        match line {
+            b">" => self.compares_output = false,
+            b"!" => self.compares_error = false,
+            _ => return false,
+        }
+        true
+    }
+
+    /// Reads a line of the case: its mark, and what follows the blank after it. `false` where it is
+    /// none.
+    pub fn put(&mut self, alloc: Global, mark: u8, line: &[u8]) -> Result<bool, AllocError> {
+        match mark {
+            b'$' => self.put_words(alloc, line),
+            b'<' => self.put_text(line),
+            b'+' => self.put_more(line),
+            b'*' => put_times(&mut self.text, line),
+            b'_' => put_blanks(&mut self.text, line),
+            b'@' => put_numbered(alloc, &mut self.text, line, b""),
+            b'>' => put_line(&mut self.output, line),
+            b'&' => put_numbered(alloc, &mut self.output, line, b"\n"),
+            b'!' => put_line(&mut self.error, line),
+            b'?' => Ok(self.put_status(line)),
+            b'~' => Ok(self.put_spared(line)),
+            _ => Ok(false),
+        }
+    }
+}

@@ -1,0 +1,22 @@
+-- What callers may know of claims and their seats.
+-- Of the implementation: what `simulate` promises does not rest on this file.
+use Rattle.std.specs.Prelude.{◌≡◌, ℕ, ◌+◌}
+use Rattle.sim_run_claims.specs.declared.view.View.{View}
+use Rattle.sim_run_claims.specs.declared.drawing.Claims.{Claims}
+use Rattle.sim_run_claims.specs.declared.drawing.ClaimSeat.{ClaimSeat}
+
+-- how many numbers there are to draw
+abbrev pub count_of : Claims → ℕ
+count_of claims = claims.count
+
+-- the view of a seat
+abbrev pub seen : ClaimSeat → View
+seen seat = seat.seat.me.0
+
+-- the seat's allowance, used or not
+abbrev pub balance : ClaimSeat → ℕ
+balance seat = (seen seat).allowance + (seen seat).overdraws
+
+-- The seat is one of these claims.
+abbrev pub IsOf : Claims → ClaimSeat → Type 0
+IsOf claims seat = (seat.seat.table_id ≡ claims.table.shared.table_id) × ((seen seat).limit ≡ count_of claims)

@@ -1,0 +1,45 @@
+//! The rule of the table with the word, and what its steps are called.
+
+ghost use Rattle.sim_run_claims.specs.Rule.{Holds, Drew, Looked};
+ghost use Rattle.sim_run_claims.specs.Views.{first_view, kept_half, handed_half, joined, spent_view};
+
+use crate::view::View;
+use atomic_table::{Join, Play, Split, TableRule};
+
+/// The numbers drawn are those below some number, each by one seat and once.
+pub struct EachOnce;
+
+impl TableRule<u8, View, usize> for EachOnce {
+    ghost holds = { Holds };
+
+    ghost first = { first_view };
+}
+
+/// One is added to the word: what was found there is drawn.
+pub struct Draws;
+
+impl Play<u8, View> for Draws {
+    ghost then = { Drew };
+}
+
+/// The word is read, and nothing changes.
+pub struct Looks;
+
+impl Play<u8, View> for Looks {
+    ghost then = { Looked };
+}
+
+/// Half of an allowance goes to a new seat, or all that a seat has to another.
+pub struct Halves;
+
+impl Split<View> for Halves {
+    ghost left = { kept_half };
+
+    ghost right = { handed_half };
+}
+
+impl Join<View> for Halves {
+    ghost both = { joined };
+
+    ghost spent = { spent_view };
+}

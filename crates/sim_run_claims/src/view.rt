@@ -1,0 +1,19 @@
+//! What is known of a seat.
+
+ghost use Rattle.std.specs.Prelude.{ℕ, List};
+ghost use Rattle.std.specs.Borrow.{ftrue};
+
+use std::marker::Model;
+
+/// The numbers that a seat has drawn, how often it may still draw in vain, how often it did, and
+/// the number below which all draws are. It stands in proofs alone: no value of it is made.
+pub struct View {
+    pub ghost drawn: { List ℕ },
+    pub ghost allowance: { ℕ },
+    pub ghost overdraws: { ℕ },
+    pub ghost limit: { ℕ },
+}
+
+impl Model for View {
+    ghost also_owns = { λ _. ftrue };
+}

@@ -1,0 +1,202 @@
+//! The listing of a run.
+ghost use Rattle.std.specs.Prelude.{◌≡◌, ◌++◌, ◌<◌, ◌≤◌, ◌+◌, length, OnOk, OnErr, All, map, flat_map, string_bytes, decimal, codes, ℕ};
+ghost use Rattle.std.specs.Io.KnownBytes.{Appends};
+ghost use Rattle.arrayvec.specs.ArrayVec.{array_vec_len};
+ghost use Rattle.sim_logic.specs.declared.logic.Logic as logic;
+ghost use Rattle.sim_store_state.specs.Log.{record_at};
+ghost use Rattle.sim_standard.specs.Histories.{IsHistory, IsNamed, event_count};
+ghost use Rattle.sim_run_listing.specs.Listing.{line_of, pieces_of, lines_of, end_of, listing};
+ghost use Rattle.sim_run_listing.specs.Writing.{AppendsPart, Gathers};
+
+use crate::block::{Block, SIZE, put_all, write_out};
+use crate::error::WriteError;
+use crate::history::{Change, Records};
+use arrayvec::ArrayVec;
+use itoa::Buffer;
+use sim_logic::Logic;
+use std::io::Write;
+
+/// How each line of a cycle begins, of two numbers.
+type Head = ArrayVec<u8, 96>;
+
+/// How many bytes a line has after the name.
+const TAIL: usize = 3;
+
+/// `TIME DELTA `.
+fn head_at(time: u64, delta: u64) -> Head
+    ensures { result.items ≡ decimal time ++ codes " " ++ decimal delta ++ codes " " }
+{
+    let mut time_text = Buffer::new();
+    let mut delta_text = Buffer::new();
+    let mut head = Head::new();
+    head.try_extend_from_slice(time_text.format(time).as_bytes())
+        .unwrap();
+    head.push(b' ');
+    head.try_extend_from_slice(delta_text.format(delta).as_bytes())
+        .unwrap();
+    head.push(b' ');
+    head
+}
+
+/// Gathers a line, where there is room for it.
+fn gather_line(block: &mut Block, head: &Head, name: &[u8], value: Logic)
+    requires { array_vec_len block.old + array_vec_len head.now + length name.now + TAIL ≤ SIZE }
+    ensures { block.new.items ≡ block.old.items ++ pieces_of head.now.items name.now value }
+{
+    block.try_extend_from_slice(head.as_slice()).unwrap();
+    block.try_extend_from_slice(name).unwrap();
+    block
+        .try_extend_from_slice(&[b' ', value.to_byte(), b'\n'])
+        .unwrap();
+}
+
+/// Gathers a line, and writes each block that is full.
+#[inline(never)]
+fn put_pieces<W: Write>(
+    out: &mut W,
+    block: &mut Block,
+    head: &[u8],
+    name: &[u8],
+    value: Logic,
+) -> Result<(), WriteError>
+    ensures ok { OnOk result (Gathers (W.contents out.old) block.old.items (W.contents out.new) block.new.items (pieces_of head.now name.now value)) }
+    ensures part { OnErr result (AppendsPart (W.contents out.old) (W.contents out.new) (block.old.items ++ pieces_of head.now name.now value)) }
+{
+    let tail = [b' ', value.to_byte(), b'\n'];
+    put_all(out, block, &[head, name, &tail])
+}
+
+/// A line of how it begins, a name and a value.
+fn put_named<W: Write>(
+    out: &mut W,
+    block: &mut Block,
+    head: &Head,
+    name: &[u8],
+    value: Logic,
+) -> Result<(), WriteError>
+    ensures ok { OnOk result (Gathers (W.contents out.old) block.old.items (W.contents out.new) block.new.items (pieces_of head.now.items name.now value)) }
+    ensures part { OnErr result (AppendsPart (W.contents out.old) (W.contents out.new) (block.old.items ++ pieces_of head.now.items name.now value)) }
+{
+    if head.len() + name.len() + TAIL > block.remaining_capacity() {
+        return put_pieces(out, block, head.as_slice(), name, value);
+    }
+    gather_line(block, head, name, value);
+    Ok(())
+}
+
+/// The line of a change: `TIME DELTA NAME VALUE`.
+fn put_line<W: Write>(
+    out: &mut W,
+    block: &mut Block,
+    names: &[String],
+    head: &Head,
+    net: usize,
+    value: Logic,
+) -> Result<(), WriteError>
+    requires { net < length names.now }
+    ensures ok { OnOk result (Gathers (W.contents out.old) block.old.items (W.contents out.new) block.new.items
+        (line_of head.now.items (map string_bytes names.now) (net, value))) }
+    ensures part { OnErr result (AppendsPart (W.contents out.old) (W.contents out.new) (block.old.items ++
+        line_of head.now.items (map string_bytes names.now) (net, value))) }
+{
+    put_named(out, block, head, names[net].as_str().as_bytes(), value)
+}
+
+/// The lines of a cycle's changes.
+fn put_changes<C: Change, W: Write>(
+    out: &mut W,
+    block: &mut Block,
+    names: &[String],
+    head: &Head,
+    changes: &[C],
+) -> Result<(), WriteError>
+    requires { All (λ (c : ℕ × logic.Logic). c.0 < length names.now) (map C.change_of changes.now) }
+    ensures ok { OnOk result (Gathers (W.contents out.old) block.old.items (W.contents out.new) block.new.items
+        (flat_map (line_of head.now.items (map string_bytes names.now)) (map C.change_of changes.now))) }
+    ensures part { OnErr result (AppendsPart (W.contents out.old) (W.contents out.new) (block.old.items ++
+        flat_map (line_of head.now.items (map string_bytes names.now)) (map C.change_of changes.now))) }
+{
+    for change in changes {
+        let (net, value) = change.to_change();
+        put_line(out, block, names, head, net, value)?;
+    }
+    Ok(())
+}
+
+/// The lines of a cycle.
+fn put_record<R: Records, W: Write>(
+    out: &mut W,
+    block: &mut Block,
+    names: &[String],
+    records: &R,
+    number: usize,
+) -> Result<(), WriteError>
+    requires number { number < length (R.contents records.now) }
+    requires named { IsNamed (length names.now) (record_at (R.contents records.now) number) }
+    ensures ok { OnOk result (Gathers (W.contents out.old) block.old.items (W.contents out.new) block.new.items
+        (lines_of (map string_bytes names.now) (record_at (R.contents records.now) number))) }
+    ensures part { OnErr result (AppendsPart (W.contents out.old) (W.contents out.new) (block.old.items ++
+        lines_of (map string_bytes names.now) (record_at (R.contents records.now) number))) }
+{
+    let (time, delta) = records.time(number);
+    let head = head_at(time, delta);
+    put_changes(out, block, names, &head, records.changes(number))
+}
+
+/// The lines of all cycles.
+fn put_records<R: Records, W: Write>(
+    out: &mut W,
+    block: &mut Block,
+    names: &[String],
+    records: &R,
+) -> Result<(), WriteError>
+    requires { All (IsNamed (length names.now)) (R.contents records.now) }
+    ensures ok { OnOk result (Gathers (W.contents out.old) block.old.items (W.contents out.new) block.new.items
+        (flat_map (lines_of (map string_bytes names.now)) (R.contents records.now))) }
+    ensures part { OnErr result (AppendsPart (W.contents out.old) (W.contents out.new)
+        (block.old.items ++ flat_map (lines_of (map string_bytes names.now)) (R.contents records.now))) }
+{
+    for number in 0..records.len() {
+        put_record(out, block, names, records, number)?;
+    }
+    Ok(())
+}
+
+/// The last line: `done CYCLES EVENTS`.
+fn put_last<W: Write>(
+    out: &mut W,
+    block: &mut Block,
+    cycles: usize,
+    events: u64,
+) -> Result<(), WriteError>
+    ensures ok { OnOk result (Gathers (W.contents out.old) block.old.items (W.contents out.new) block.new.items (end_of cycles events)) }
+    ensures part { OnErr result (AppendsPart (W.contents out.old) (W.contents out.new) (block.old.items ++ end_of cycles events)) }
+{
+    let mut cycles_text = Buffer::new();
+    let mut events_text = Buffer::new();
+    let cycles = cycles_text.format(cycles).as_bytes();
+    let events = events_text.format(events).as_bytes();
+    put_all(out, block, &[b"done ", cycles, b" ", events, b"\n"])
+}
+
+/// Writes the listing of a run: for each record, in order, a line `TIME DELTA NAME VALUE` for each
+/// of its changes, with the time in femtoseconds, and last `done CYCLES EVENTS`. Names are those of
+/// the nets by number; `events_in` counts the events of a `Log`. The lines are gathered and go out
+/// in blocks of 8 KiB; nothing is allocated. The error comes where a write fails or takes nothing;
+/// a front of the listing is then written.
+pub fn write_listing<R: Records, W: Write>(
+    names: &[String],
+    records: &R,
+    events: u64,
+    out: &mut W,
+) -> Result<(), WriteError>
+    requires history { IsHistory (map string_bytes names.now) (R.contents records.now) }
+    requires events { events ≡ event_count (R.contents records.now) }
+    ensures ok { OnOk result (Appends (W.contents out.old) (W.contents out.new) (listing (map string_bytes names.now) (R.contents records.now))) }
+    ensures part { OnErr result (AppendsPart (W.contents out.old) (W.contents out.new) (listing (map string_bytes names.now) (R.contents records.now))) }
+{
+    let mut block = Block::new();
+    put_records(out, &mut block, names, records)?;
+    put_last(out, &mut block, records.len() - 1, events)?;
+    write_out(out, &mut block)
+}

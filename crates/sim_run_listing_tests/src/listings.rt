@@ -1,0 +1,137 @@
+//! Listings to a writer that takes a byte at a time, and records in both of the forms that a
+//! listing reads.
+
+ghost use Rattle.std.specs.Prelude.{◌≡◌, ◌<◌, length, All, IfOk, ℕ};
+ghost use Rattle.sim_logic.specs.declared.logic.Logic as logic;
+ghost use Rattle.sim_standard.specs.Histories.{IsNamed, event_count};
+
+use sim_run_listing::{Change, Records, WriteError, write_listing, write_whole};
+use sim_logic::Logic;
+use sim_store_state::{Log, Record};
+use sqlite_items::Items;
+use std::alloc::{AllocError, Global};
+use std::io;
+use std::io::Write;
+use std::test::Fail;
+
+/// A writer that takes a byte at a time, and a number of them in all.
+#[derive(Drop)]
+struct Narrow {
+    bytes: Vec<u8>,
+    room: usize,
+}
+
+impl Write for Narrow {
+    fn write(&mut self, buf: &[u8]) -> io::Result<usize> {
+        if buf.is_empty() || self.bytes.len() >= self.room {
+            return Ok(0);
+        }
+        self.bytes.push(buf[0])?;
+        Ok(1)
+    }
+
+    fn flush(&mut self) -> io::Result<()> {
+        Ok(())
+    }
+}
+
+/// Net 0 has this value.
+fn changes(alloc: Global, value: Logic) -> Result<Items<(usize, Logic)>, AllocError>
+    ensures length { IfOk result (λ found. length found ≡ 1) }
+    ensures named { IfOk result (λ found. All (λ (c : ℕ × logic.Logic). c.0 < 1) found) }
+{
+    let mut found = Items::new(alloc);
+    found.push((0, value))?;
+    Ok(found)
+}
+
+/// A record in which net 0 gets this value.
+fn record(alloc: Global, time: u64, value: Logic) -> Result<Record, AllocError>
+    ensures length { IfOk result (λ r. length r.changes ≡ 1) }
+    ensures named { IfOk result (λ r. All (λ (c : ℕ × logic.Logic). c.0 < 1) r.changes) }
+{
+    Ok(Record {
+        time,
+        delta: 0,
+        changes: changes(alloc, value)?,
+    })
+}
+
+/// The name of net 0.
+fn names(alloc: Global) -> Result<Vec<String>, AllocError>
+    ensures { IfOk result (λ v. length v.items ≡ 1) }
+{
+    let name = String::from_str(alloc, "s")?;
+    let names = vec![in alloc; name]?;
+    Ok(names)
+}
+
+/// Two records, with one event.
+fn records(alloc: Global) -> Result<Vec<Record>, AllocError>
+    ensures begun { IfOk result (λ v. 0 < length v.items) }
+    ensures named { IfOk result (λ v. All (IsNamed 1) v.items) }
+    ensures events { IfOk result (λ v. event_count v.items ≡ 1) }
+{
+    let first = record(alloc, 0, Logic::Zero)?;
+    let second = record(alloc, 5_000_000, Logic::One)?;
+    let records = vec![in alloc; first, second]?;
+    Ok(records)
+}
+
+/// What is written of these records to a writer with this room, and how it ended.
+fn listed(alloc: Global, room: usize) -> Result<(Vec<u8>, Result<(), WriteError>), AllocError> {
+    let names = names(alloc)?;
+    let records = records(alloc)?;
+    let mut out = Narrow {
+        bytes: Vec::new(alloc),
+        room,
+    };
+    let ended = write_listing(names.as_slice(), &records.as_slice(), 1, &mut out);
+    Ok((out.bytes, ended))
+}
+
+/// How much a writer takes in all, what it then has, and how the listing ends.
+static LISTINGS: [(usize, &[u8], Result<(), WriteError>); 4] = [
+    (1_000, b"0 0 s 0\n5000000 0 s 1\ndone 1 1\n", Ok(())),
+    (31, b"0 0 s 0\n5000000 0 s 1\ndone 1 1\n", Ok(())),
+    (10, b"0 0 s 0\n50", Err(WriteError)),
+    (0, b"", Err(WriteError)),
+];
+
+#[test]
+fn each_change_has_a_line_as_far_as_there_is_room(rt: HostRuntime) -> Result<(), Fail> {
+    for (room, bytes, ended) in &LISTINGS {
+        let (written, end) = listed(rt.alloc(), *room)?;
+        assert_eq!(rt; end, *ended, "{room}");
+        assert_eq!(rt; written.as_slice(), *bytes, "{room}");
+    }
+    Ok(())
+}
+
+#[test]
+fn bytes_go_out_whole(rt: HostRuntime) {
+    let mut out = Vec::new(rt.alloc());
+    assert_eq!(rt; write_whole(&mut out, b"done"), Ok(()));
+    assert_eq!(rt; out.as_slice(), b"done".as_slice());
+}
+
+#[test]
+fn records_of_a_slice_are_read(rt: HostRuntime) -> Result<(), Fail> {
+    let records = vec![in rt.alloc(); record(rt.alloc(), 7, Logic::H)?]?;
+    let records = records.as_slice();
+    assert_eq!(rt; Records::len(&records), 1);
+    assert_eq!(rt; Records::time(&records, 0), (7, 0));
+    assert_eq!(rt; Records::changes(&records, 0), [(0, Logic::H)].as_slice());
+    Ok(())
+}
+
+#[test]
+fn a_log_begins_with_no_records(rt: HostRuntime) {
+    assert_eq!(rt; Records::len(&Log::new(rt.alloc())), 0);
+}
+
+#[test]
+fn changes_name_a_net_and_a_value(rt: HostRuntime) {
+    assert_eq!(rt; (3u32, Logic::H).to_change(), (3, Logic::H));
+    assert_eq!(rt; (4usize, Logic::Z).to_change(), (4, Logic::Z));
+}

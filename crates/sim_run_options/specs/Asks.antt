@@ -1,0 +1,90 @@
+-- What the words of the command line ask for, by the model that `clap` has of its own parse.
+use Rattle.std.specs.Prelude.{◌≡◌, ◌≢◌, ℕ, List, [], ◌∷◌, Option, Some, codes, option_map, true}
+use Rattle.std.specs.String.{string_bytes}
+use Rattle.std.specs.Str.Parse.{digits_value, without_leading_plus}
+use Rattle.clap.specs.Walk.{Rule, Text, first_of, one_of}
+use Rattle.clap.specs.Simple.{App, matches_of, new_app, new_rule, on_top, with_rule}
+use Rattle.clap.specs.Faults.{fault_of}
+use Rattle.clap.specs.Kinds.{IsAmong}
+use Rattle.clap.specs.declared.builder.action.ArgAction.TheVariants.{Set}
+use Rattle.clap.specs.declared.builder.value_parser.ValueParser.TheVariants as parser
+use Rattle.clap.specs.declared.error.kind.ErrorKind.{ErrorKind}
+use Rattle.clap.specs.declared.error.kind.ErrorKind.TheVariants as kinds
+use Rattle.sim_run_options.specs.declared.options.Options.{Options}
+use Rattle.sim_run_options.specs.declared.fault.CliFault.{CliFault}
+use Rattle.sim_run_options.specs.declared.fault.CliFault.TheVariants as fault
+use Rattle.std.specs.Prelude.{pos}
+
+-- ---- the command line
+
+-- an option with one value: its long name is its id
+abbrev valued : Text → Rule
+valued id = record (new_rule id) { long = Some id; action = Some Set; value_names = 1 }
+
+-- `--top NAME`, which may not be left out
+abbrev pub top_rule : Rule
+top_rule = record (valued (codes "top")) { required = true }
+
+-- `--stop FS`, a number below 2^64
+abbrev pub stop_rule : Rule
+stop_rule = record (valued (codes "stop")) {
+  parser = Some (parser.Unsigned 0 18446744073709551615);
+  defaults = codes "4611686018427387903" ∷ [];
+}
+
+-- `--limit N`, a number below 2^32
+abbrev pub limit_rule : Rule
+limit_rule = record (valued (codes "limit")) { parser = Some (parser.Signed (pos 0) (pos 4294967295)); defaults = codes "10000" ∷ [] }
+
+-- `--workers N`, a number below 2^64
+abbrev pub workers_rule : Rule
+workers_rule = record (valued (codes "workers")) { parser = Some (parser.Unsigned 0 18446744073709551615); defaults = codes "1" ∷ [] }
+
+-- the four options; `clap` adds `--help` and `-h`, and the words come without the program's name
+abbrev pub program : App
+program =
+    with_rule (with_rule (with_rule (with_rule (on_top (λ s. record s { no_binary_name = true }) (new_app (codes "vsim")))
+    top_rule) stop_rule) limit_rule) workers_rule
+
+-- ---- words
+
+-- the number that the words give for an option, or its default, in decimal
+abbrev pub number_of : Text → List Text → Option ℕ
+number_of id words = option_map (λ t. digits_value 10 (without_leading_plus t)) (one_of id (matches_of program words))
+
+-- The words ask for a run with these options.
+pub record Asks (words : List Text) (options : Options) : Type 0 where
+  pub taken : fault_of program words ≡ []
+  pub top : first_of (codes "top") (matches_of program words) ≡ Some (string_bytes options.top)
+  pub stop : number_of (codes "stop") words ≡ Some options.stop
+  pub limit : number_of (codes "limit") words ≡ Some options.limit
+  pub workers : number_of (codes "workers") words ≡ Some options.workers
+
+-- The options are this top and the defaults.
+pub record IsDefault (name : Text) (options : Options) : Type 0 where
+  pub top : string_bytes options.top ≡ name
+  pub stop : options.stop ≡ 4611686018427387903
+  pub limit : options.limit ≡ 10000
+  pub workers : options.workers ≡ 1
+
+-- what a kind of error is to the program
+abbrev pub Tells : ErrorKind → CliFault → Type 0
+Tells k (fault.Help text) = k ≡ kinds.DisplayHelp
+Tells k (fault.Refused text) = (k ≢ kinds.DisplayHelp) × (k ≢ kinds.OutOfMemory)
+Tells k fault.Memory = Unit {0}
+
+-- A parse of the words ends with help.
+pub record AsksForHelp (words : List Text) : Type 0 where
+  pub among : IsAmong kinds.DisplayHelp (fault_of program words)
+
+-- A parse of the words ends with a mistake, and this is its kind.
+pub record AreRefused (words : List Text) : Type 0 where
+  pub kind : ErrorKind
+  pub among : IsAmong kind (fault_of program words)
+  pub other : kind ≢ kinds.DisplayHelp
+
+-- why words are no options
+abbrev pub Explains : List Text → CliFault → Type 0
+Explains words (fault.Help text) = AsksForHelp words
+Explains words (fault.Refused text) = AreRefused words
+Explains words fault.Memory = Unit {0}

@@ -1,0 +1,115 @@
+//! The command line, as `clap` has it.
+ghost use Rattle.std.specs.Prelude.{◌≡◌, IfOk, false};
+ghost use Rattle.clap.specs.Words.{rule_of, app_of};
+ghost use Rattle.sim_run_options.specs.Asks.{top_rule, stop_rule, limit_rule, workers_rule, program};
+
+use clap::{Arg, ArgAction, Command, value_parser};
+use std::alloc::{AllocError, Global};
+
+/// What the program does.
+const ABOUT: &str = "Reads a design in a subset of VHDL from standard input, simulates it, and lists
+every change of a signal on standard output.";
+
+/// The part of the help after the options.
+const MORE: &str = "Input:
+  One design file of at most 1048576 bytes. The word --top names the entity to
+  simulate; its last architecture is taken.
+
+Listing:
+  First a line for each signal with its value at time 0, then a line for each
+  change of a value:
+      TIME DELTA NAME VALUE
+  TIME is in femtoseconds. DELTA counts the simulation cycles at one time, from 0.
+  NAME is in lower case, after the labels of the instances that it lies in, as
+  u1.u2.s. VALUE is one of U X 0 1 Z W L H and -. The last line is
+      done CYCLES EVENTS
+  with the number of simulation cycles and of changes after the initialization.
+
+Status:
+  0  the run is finished, or help was asked for
+  1  the text or its design is refused
+  2  the command line is refused, or an option is out of its range
+  3  the run needs more simulation cycles than the limit
+  4  no memory, or reading or writing failed
+  A refusal is reported on standard error, as in 'vsim: Syntax at 77': the number is
+  a place in the input, in bytes from its start.
+
+Example:
+  With the file pulse.vhd
+      entity t is end;
+      architecture a of t is
+        signal s : std_logic := '0';
+      begin
+        s <= '1' after 5 ns;
+      end;
+  the command
+      vsim --top t < pulse.vhd
+  prints
+      0 0 s 0
+      5000000 0 s 1
+      done 1 1";
+
+fn top_argument<'a>(alloc: Global) -> Arg<'a>
+    ensures rule { rule_of result ≡ top_rule }
+    ensures local { result.global ≡ false }
+{
+    Arg::new(alloc, "top")
+        .long("top")
+        .action(ArgAction::Set)
+        .required(true)
+        .value_name("NAME")
+        .help("The entity at the top of the design, in any case")
+}
+
+fn stop_argument<'a>(alloc: Global) -> Arg<'a>
+    ensures rule { rule_of result ≡ stop_rule }
+    ensures local { result.global ≡ false }
+{
+    Arg::new(alloc, "stop")
+        .long("stop")
+        .action(ArgAction::Set)
+        .value_parser(value_parser!(u64))
+        .default_value("4611686018427387903")
+        .value_name("FS")
+        .help("The last time that is simulated, in femtoseconds, at most the default")
+}
+
+fn limit_argument<'a>(alloc: Global) -> Arg<'a>
+    ensures rule { rule_of result ≡ limit_rule }
+    ensures local { result.global ≡ false }
+{
+    Arg::new(alloc, "limit")
+        .long("limit")
+        .action(ArgAction::Set)
+        .value_parser(value_parser!(u32))
+        .default_value("10000")
+        .value_name("N")
+        .help("The most simulation cycles, 1 to 1000000")
+}
+
+fn workers_argument<'a>(alloc: Global) -> Arg<'a>
+    ensures rule { rule_of result ≡ workers_rule }
+    ensures local { result.global ≡ false }
+{
+    Arg::new(alloc, "workers")
+        .long("workers")
+        .action(ArgAction::Set)
+        .value_parser(value_parser!(usize))
+        .default_value("1")
+        .value_name("N")
+        .help("How many threads execute processes, 1 to 16")
+}
+
+/// The command line of the program, whose words come without its name.
+pub(crate) fn command_line<'a>(alloc: Global) -> Result<Command<'a>, AllocError>
+    ensures { IfOk result (λ c. app_of c ≡ program) }
+{
+    Command::new(alloc, "vsim")
+        .about(ABOUT)
+        .after_help(MORE)
+        .no_binary_name(true)
+        .arg(top_argument(alloc))?
+        .arg(stop_argument(alloc))?
+        .arg(limit_argument(alloc))?
+        .arg(workers_argument(alloc))
+}

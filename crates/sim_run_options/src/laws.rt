@@ -1,0 +1,27 @@
+//! Laws of the command line.
+
+ghost use Rattle.std.specs.Prelude.{◌≡◌, List, string_bytes};
+ghost use Rattle.clap.specs.Walk.{Text};
+ghost use Rattle.sim_run_options.specs.Asks.{Asks, AreRefused, AsksForHelp};
+ghost use Rattle.sim_run_options.specs.declared.options.Options.{Options};
+
+/// Words ask for one run.
+pub fn words_ask_for_one_run()
+    ensures { (words : List Text) (a b : Options) → Asks words a → Asks words b →
+        (string_bytes a.top ≡ string_bytes b.top) × (a.stop ≡ b.stop) × (a.limit ≡ b.limit) × (a.workers ≡ b.workers) }
+{}
+
+/// Words that ask for a run are not refused.
+pub fn a_run_is_not_refused()
+    ensures { (words : List Text) (options : Options) → Asks words options → AreRefused words → ⊥ }
+{}
+
+/// Words that ask for a run ask for no help.
+pub fn a_run_is_no_help()
+    ensures { (words : List Text) (options : Options) → Asks words options → AsksForHelp words → ⊥ }
+{}
+
+/// Words that ask for help are not refused.
+pub fn help_is_not_refused()
+    ensures { (words : List Text) → AsksForHelp words → AreRefused words → ⊥ }
+{}

@@ -1,0 +1,149 @@
+//! What no clause says: that words which are meant are taken, with these values, and what refusals
+//! and the help say.
+
+use sim_run_options::{CliFault, Options, read_options};
+use std::alloc::{AllocError, Global};
+use std::test::Fail;
+
+/// A line of words; the top, the time to stop at, the limit and the number of workers that it asks
+/// for; whether these are in range.
+type Row<'a> = (&'a str, &'a str, u64, u32, usize, bool);
+
+/// Lines that are taken.
+static TAKEN: [Row<'_>; 5] = [
+    ("--top t", "t", 4_611_686_018_427_387_903, 10_000, 1, true),
+    (
+        "--top t --stop 12000000 --limit 2 --workers 16",
+        "t",
+        12_000_000,
+        2,
+        16,
+        true,
+    ),
+    (
+        "--limit=7 --top=Adder",
+        "Adder",
+        4_611_686_018_427_387_903,
+        7,
+        1,
+        true,
+    ),
+    ("--top=", "", 4_611_686_018_427_387_903, 10_000, 1, true),
+    (
+        "--top t --stop 18446744073709551615 --limit 0 --workers 17",
+        "t",
+        18_446_744_073_709_551_615,
+        0,
+        17,
+        false,
+    ),
+];
+
+/// Lines that are refused, and parts of what the refusal says.
+static REFUSED: [(&str, &[&str]); 13] = [
+    ("", &[]),
+    ("t", &[]),
+    ("--top", &[]),
+    ("--top t u", &[]),
+    ("--top t --top t", &[]),
+    (
+        "--top t --limit 5000000000",
+        &["'5000000000'", "'--limit <N>'"],
+    ),
+    ("--top t --limit ten", &[]),
+    ("--top t --stop -1", &[]),
+    ("--top t --stop 18446744073709551616", &[]),
+    ("--top t --workers 1.5", &[]),
+    ("--top -t", &[]),
+    ("--top t --version", &[]),
+    ("--stop 5", &[]),
+];
+
+/// Lines that ask for the help.
+static HELP: [&str; 3] = ["--help", "-h", "--top t --help"];
+
+/// Parts of the help.
+static PARTS: [&str; 8] = [
+    "Usage: vsim [OPTIONS] --top <NAME>\n",
+    "--stop <FS>",
+    "--limit <N>",
+    "--workers <N>",
+    "TIME DELTA NAME VALUE",
+    "done CYCLES EVENTS",
+    "3  the run needs more simulation cycles than the limit",
+    "vsim --top t < pulse.vhd",
+];
+
+/// What is made of a line of words.
+fn read(alloc: Global, line: &str) -> Result<Result<Options, CliFault>, AllocError> {
+    let mut words = Vec::new(alloc);
+    for word in line.split_ascii_whitespace() {
+        words.push(String::from_str(alloc, word)?)?;
+    }
+    Ok(read_options(alloc, words))
+}
+
+/// Whether the line of a row is taken, with its values.
+fn is_taken(alloc: Global, row: &Row<'_>) -> Result<bool, AllocError> {
+    let (line, top, stop, limit, workers, in_range) = *row;
+    match read(alloc, line)? {
+        Ok(options) => Ok(
+            options.top.as_str() == top
+                && options.stop == stop
+                && options.limit == limit
+                && options.workers == workers
+                && options.are_in_range() == in_range,
+        ),
+        Err(_) => Ok(false),
+    }
+}
+
+/// Whether each of these parts stands in a text.
+fn has_all(text: &str, parts: &[&str]) -> bool {
+    for part in parts {
+        if !text.contains(*part) {
+            return false;
+        }
+    }
+    true
+}
+
+/// Whether a line is refused, by a text with these parts.
+fn is_refused(alloc: Global, line: &str, parts: &[&str]) -> Result<bool, AllocError> {
+    match read(alloc, line)? {
+        Err(CliFault::Refused(text)) => Ok(has_all(text.as_str(), parts)),
+        _ => Ok(false),
+    }
+}
+
+/// Whether a line asks for the help, which has its parts.
+fn is_help(alloc: Global, line: &str) -> Result<bool, AllocError> {
+    match read(alloc, line)? {
+        Err(CliFault::Help(text)) => Ok(has_all(text.as_str(), &PARTS)),
+        _ => Ok(false),
+    }
+}
+
+#[test]
+fn words_that_are_meant_are_taken(rt: HostRuntime) -> Result<(), Fail> {
+    for row in &TAKEN {
+        assert!(rt; is_taken(rt.alloc(), row)?, "{}", row.0);
+    }
+    Ok(())
+}
+
+#[test]
+fn other_words_are_refused(rt: HostRuntime) -> Result<(), Fail> {
+    for (line, parts) in &REFUSED {
+        assert!(rt; is_refused(rt.alloc(), line, parts)?, "{line}");
+    }
+    Ok(())
+}
+
+#[test]
+fn help_comes_where_it_is_asked_for(rt: HostRuntime) -> Result<(), Fail> {
+    for line in &HELP {
+        assert!(rt; is_help(rt.alloc(), line)?, "{line}");
+    }
+    Ok(())
+}

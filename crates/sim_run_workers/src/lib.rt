@@ -1,0 +1,13 @@
+//! The workers of a run: threads that share a store under a lock and execute the processes that a
+//! cycle resumed.
+#![tactic(auto)]
+
+mod cycle;
+mod gate;
+mod round;
+mod run;
+mod worker;
+
+pub use gate::{Gate, Open};
+pub use run::run_to_end;
+pub use worker::Fault;

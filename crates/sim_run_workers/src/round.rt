@@ -1,0 +1,71 @@
+//! The processes of one cycle, to be drawn.
+
+ghost use Rattle.std.specs.Prelude.{◌≤◌, vec_len};
+ghost use Rattle.sim_run_claims.specs.Seats.{count_of};
+
+use sim_run_claims::{ClaimSeat, Claims};
+use std::alloc::{AllocError, Global};
+
+/// The processes that a cycle resumed, each of which one worker draws.
+#[derive(Drop)]
+pub struct Round {
+    due: Vec<usize>,
+    claims: Claims,
+    ghost places: { count_of claims ≤ vec_len due },
+}
+
+impl Round {
+    ghost use Rattle.std.specs.Prelude.{◌≡◌, ◌≤◌, ◌+◌, vec_len, IfOk, OnErr};
+    ghost use Rattle.sim_run_claims.specs.Seats.{IsOf, balance};
+    ghost use Rattle.sim_flat_design.specs.Designs.{most};
+
+    /// The round of these processes, and its first seat, which has the whole allowance.
+    pub fn new(alloc: Global, due: Vec<usize>) -> Result<(Round, ClaimSeat), AllocError>
+        requires { vec_len due ≤ most }
+        ensures of { IfOk result (λ made. IsOf made.0.claims made.1) }
+        ensures whole { IfOk result (λ made. balance made.1 ≡ 64) }
+    {
+        let (claims, seat) = Claims::new(alloc, due.len())?;
+        Ok((Round { due, claims }, seat))
+    }
+
+    /// The number of a process that no other worker draws; none where all are drawn.
+    pub fn draw(&self, seat: &mut ClaimSeat) -> Option<usize>
+        requires { IsOf self.now.claims seat.old }
+        ensures of { IsOf self.now.claims seat.new }
+        ensures balance { balance seat.new ≡ balance seat.old }
+    {
+        let place = self.claims.draw(seat)?;
+        Some(self.due[place])
+    }
+
+    /// A seat for another worker, with half of the allowance.
+    pub fn split(&self, alloc: Global, seat: &mut ClaimSeat) -> Result<ClaimSeat, AllocError>
+        requires { IsOf self.now.claims seat.old }
+        ensures of { IsOf self.now.claims seat.new }
+        ensures err { OnErr result (balance seat.new ≡ balance seat.old) }
+        ensures ok { IfOk result (λ other. IsOf self.now.claims other × (balance seat.new + balance other ≡ balance seat.old)) }
+    {
+        self.claims.split(alloc, seat)
+    }
+
+    /// Takes the seat of another worker back in.
+    pub fn join(&self, seat: &mut ClaimSeat, other: ClaimSeat)
+        requires seat { IsOf self.now.claims seat.old }
+        requires other { IsOf self.now.claims other }
+        ensures of { IsOf self.now.claims seat.new }
+        ensures balance { balance seat.new ≡ balance seat.old + balance other }
+    {
+        self.claims.join(seat, other)
+    }
+
+    /// How many processes were drawn, once all seats are joined in one.
+    pub fn close(self, seat: ClaimSeat) -> usize
+        requires of { IsOf self.claims seat }
+        requires whole { balance seat ≡ 64 }
+        ensures { result ≤ vec_len self.due }
+    {
+        let Round { due: _due, claims } = self;
+        claims.close(seat)
+    }
+}

@@ -1,2 +1,0 @@
-pub mod FirstFaults
-pub mod Regions

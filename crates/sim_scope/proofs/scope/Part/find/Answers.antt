@@ -1,8 +1,0 @@
-use Rattle.std.proofs.Common.{◌∙◌, ap}
-use Rattle.sim_scope.specs.Scopes.{Region, found}
-use Rattle.sim_scope.proofs.Regions.{found-lookup}
-use Rattle.sim_scope.proofs.scope.Part.find.Goals as goal
-
-pub returns : goal.returns
-returns c = c.copied.ensures ∙ (c.get.ensures.value ∙ (found-lookup c.args.name.now c.self.inside.meanings.entries
-    ∙ ap (λ (ds : Region). found ds c.args.name.now) c.self.view_is))

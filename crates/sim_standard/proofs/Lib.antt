@@ -1,0 +1,15 @@
+pub mod Alongside
+pub mod Owning
+pub mod Frame
+pub mod Seeing
+pub mod StatementRules
+pub mod ValuesKept
+pub mod Agreement
+pub mod Parallel
+pub mod Records
+pub mod Selecting
+pub mod Together
+pub mod Weaves
+pub mod Keeping
+pub mod Least
+pub mod Ends

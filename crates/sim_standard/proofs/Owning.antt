@@ -1,0 +1,58 @@
+-- A process changes nothing of a state but what it owns, and that as statements change it alone.
+use Rattle.std.proofs.Common.{◌≡◌, ◌<◌, ℕ, zero, List, length, sym, ap, ◌∙◌}
+use Rattle.std.proofs.lemmas.List.{get_or-set_same, set-set, set-get_or}
+use Rattle.sim_flat_design.specs.declared.statement.Statement.{Statement}
+use Rattle.sim_flat_design.specs.Processes.{Process}
+use Rattle.sim_flat_design.specs.Bodies.{objects_of}
+use Rattle.sim_standard.specs.declared.net_view.NetView.{NetView}
+use Rattle.sim_standard.specs.State.{State, Owned, owned_at, with_owned, nothing_owned}
+use Rattle.sim_standard.specs.Expressions.{boolean_value}
+use Rattle.sim_standard.specs.Statements.{own_steps, carried_out, executed}
+use Rattle.sim_standard.specs.Processes.{Names, seen, owned_of, stepped, state_steps, part_names, outcome}
+use Rattle.sim_standard.proofs.Alongside.{Keeps, each_of_all, all_go}
+
+-- what was put there is owned
+pub owned-with : (p : ℕ) (own : Owned) (s : State) → p < length s.owned → owned_at (with_owned p own s).owned p ≡ own
+owned-with p own s h = get_or-set_same s.owned p own nothing_owned h
+
+with-twice : (p : ℕ) (a b : Owned) (s : State) → with_owned p b (with_owned p a s) ≡ with_owned p b s
+with-twice p a b s = ap (λ (os : List Owned). record s { owned = os }) (set-set s.owned p a b)
+
+pub with-itself : (p : ℕ) (s : State) → s ≡ with_owned p (owned_at s.owned p) s
+with-itself p s = ap (λ (os : List Owned). record s { owned = os }) (sym (set-get_or s.owned p nothing_owned))
+
+module _ (n : Names) (s : State) (h : n.process < length s.owned) where
+  -- the state is this one but for what the process owns
+  abbrev pub Only : State → Owned → Type 0
+  Only u own = u ≡ with_owned n.process own s
+
+  step_keeps : (f : (ℕ → NetView) → ℕ → Owned → Owned) (u : State) (own : Owned) → Only u own → Only (stepped n f u) (f (seen n s) s.time own)
+  step_keeps f u own is =
+      ap (stepped n f) is
+      ∙ (ap (λ (o : Owned). with_owned n.process (f (seen n s) s.time o) (with_owned n.process own s)) (owned-with n.process own s h)
+      ∙ with-twice n.process own (f (seen n s) s.time own) s)
+
+  keeps : Keeps (state_steps n) (own_steps (seen n s) s.time) (λ k. Unit {0}) Only
+  keeps = record {
+    holds = λ c e u own is.
+        ap (λ (w : State). boolean_value (seen n w) (owned_of n w).variables c) is
+        ∙ ap (λ (o : Owned). boolean_value (seen n s) o.variables c) (owned-with n.process own s h);
+    signal = λ a e u own is. step_keeps (λ look now. (own_steps look now).signal a) u own is;
+    logic_variable = λ place x e u own is. step_keeps (λ look now. (own_steps look now).logic_variable place x) u own is;
+    boolean_variable = λ place x e u own is. step_keeps (λ look now. (own_steps look now).boolean_variable place x) u own is;
+  }
+
+  -- statements on the whole state
+  pub only_owned : (xs : List Statement) → carried_out (state_steps n) xs s ≡ with_owned n.process (executed (seen n s) s.time xs (owned_of n s)) s
+  unfolding executed
+  only_owned xs =
+      all_go (state_steps n) (own_steps (seen n s) s.time) (λ k. Unit {0}) Only keeps xs (each_of_all (λ k. Unit {0}) (λ k. tt) (objects_of xs))
+      s (owned_of n s) (with-itself n.process s)
+
+-- on a part, what the process owns afterwards
+pub outcome_is : (p : Process) (s : State) → zero < length s.owned → outcome p s
+    ≡ executed (seen (part_names p) s) s.time p.body.statements (owned_at s.owned 0)
+unfolding outcome
+outcome_is p s h =
+    ap (λ (u : State). owned_at u.owned 0) (only_owned (part_names p) s h p.body.statements)
+    ∙ owned-with 0 (executed (seen (part_names p) s) s.time p.body.statements (owned_at s.owned 0)) s h

@@ -1,0 +1,54 @@
+-- Drivers, their transactions, and the time of the next one (IEEE 1076-2008, 14.7.2, 14.7.5.1).
+use Rattle.std.specs.Prelude.{ℕ, suc, ◌≡◌, ◌≤◌, ◌==◌, min, List, [], ◌∷◌, ⊤, Option, None, Some, MatchOption, map, slice_index_or, if◌then◌else◌}
+use Rattle.std.specs.List.{All, Contains, flat_map, reduce}
+use Rattle.sim_logic.specs.declared.logic.Logic.{Logic}
+use Rattle.sim_logic.specs.declared.logic.Logic.TheVariants.{U}
+
+-- a transaction: its time and its value (14.7.2)
+abbrev pub Transaction : Type 0
+Transaction = ℕ × Logic
+
+-- the transaction at a place
+abbrev pub transaction_at : List Transaction → ℕ → Transaction
+transaction_at transactions place = slice_index_or transactions place (0, U)
+
+-- a driver's projected output waveform: its current value and its pending transactions, the earliest first (14.7.2)
+pub record Waveform : Type 0 where
+  pub value : Logic
+  pub pending : List Transaction
+
+-- The times rise strictly, none below a time.
+abbrev pub RisesFrom : ℕ → List Transaction → Type 0
+RisesFrom time [] = ⊤
+RisesFrom time (x ∷ xs) = (time ≤ x.0) × RisesFrom (suc x.0) xs
+
+-- the first pending time
+abbrev pub next_of : List Transaction → Option ℕ
+next_of [] = None
+next_of (x ∷ xs) = Some x.0
+
+-- ---- an active driver takes its transaction
+
+-- a waveform once its first transaction has become the value, if that one is at this time (14.7.3.2)
+abbrev pub taken_at : ℕ → Logic → List Transaction → Waveform
+taken_at time value [] = record { value = value; pending = [] }
+taken_at time value (x ∷ xs) =
+    if x.0 == time then record { value = x.1; pending = xs } else record { value = value; pending = x ∷ xs }
+
+abbrev pub taken : ℕ → Waveform → Waveform
+taken time waveform = taken_at time waveform.value waveform.pending
+
+-- ---- the time of the next cycle (14.7.5.1)
+
+-- the times of all pending transactions
+abbrev pub pending_times : List Waveform → List ℕ
+pending_times drivers = flat_map (λ (d : Waveform). map (λ (x : Transaction). x.0) d.pending) drivers
+
+-- The time of the next cycle: the least of all pending times, or none where nothing is pending.
+abbrev pub IsNext : List Waveform → Option ℕ → Type 0
+IsNext drivers next =
+    MatchOption next (pending_times drivers ≡ []) (λ time. Contains (pending_times drivers) time × All (λ (t : ℕ). time ≤ t) (pending_times drivers))
+
+-- that time, as a function
+unfoldable pub next_time : List Waveform → Option ℕ
+next_time drivers = reduce min (pending_times drivers)

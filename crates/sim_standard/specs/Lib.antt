@@ -1,0 +1,17 @@
+pub mod Drivers
+pub mod Editing
+pub mod State
+pub mod Nets
+pub mod Expressions
+pub mod Statements
+pub mod Processes
+pub mod Orders
+pub mod Initialization
+pub mod Cycle
+pub mod Records
+pub mod Histories
+pub mod Outcome
+pub mod Behaviour
+pub mod Agreement
+pub mod Together
+pub mod Weaving

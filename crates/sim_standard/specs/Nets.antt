@@ -1,0 +1,38 @@
+-- Nets and their values (IEEE 1076-2008, 14.7.3).
+use Rattle.std.specs.Prelude.{List, [], ◌∷◌, false, not, map}
+use Rattle.sim_logic.specs.declared.logic.Logic.{Logic}
+use Rattle.sim_logic.specs.Logic.{is_same}
+use Rattle.sim_logic.specs.Resolution.{resolved}
+use Rattle.sim_flat_design.specs.declared.design.Source.{Source}
+use Rattle.sim_flat_design.specs.declared.design.Source.TheVariants as source
+use Rattle.sim_flat_design.specs.Designs.{Net}
+use Rattle.sim_standard.specs.Drivers.{Waveform}
+use Rattle.sim_standard.specs.declared.net_view.NetView.{NetView}
+use Rattle.sim_standard.specs.State.{driver_at}
+
+-- the value of a source: a driver's current value, or a constant
+abbrev pub source_value : List Waveform → Source → Logic
+source_value drivers (source.Driver n) = (driver_at drivers n).value
+source_value drivers (source.Constant value) = value
+
+-- the value of a net: the resolution of the values of its sources, from left to right (14.7.3.2)
+abbrev pub net_value : List Waveform → Net → Logic
+net_value drivers net = resolved (map (source_value drivers) net.sources)
+
+-- a net with this value, whose last value was this: there is an event where they differ (14.7.3.4)
+abbrev pub changed_to : Logic → Logic → NetView
+changed_to value last = record { value = value; event = not (is_same last value); last = last }
+
+-- a net at first: no cycle has changed it
+abbrev pub net_started : List Waveform → Net → NetView
+net_started drivers net = let value = net_value drivers net in record { value = value; event = false; last = value }
+
+-- a net once it is updated: it has the value of its sources, and its old value is its last (14.7.3.4)
+abbrev pub net_updated : List Waveform → Net → NetView → NetView
+net_updated drivers net old = changed_to (net_value drivers net) old.value
+
+-- each net, updated
+unfoldable pub nets_updated : List Waveform → List Net → List NetView → List NetView
+nets_updated drivers [] olds = []
+nets_updated drivers (net ∷ nets) [] = []
+nets_updated drivers (net ∷ nets) (old ∷ olds) = net_updated drivers net old ∷ nets_updated drivers nets olds

@@ -1,0 +1,25 @@
+-- Processes of one cycle, executed one after another in some order (IEEE 1076-2008, 14.7.5.3): the standard leaves the order open.
+use Rattle.std.specs.Prelude.{ℕ, ◌≡◌, ◌==◌, ◌<◌, ◌||◌, List, [], ◌∷◌, Bool, false}
+use Rattle.sim_flat_design.specs.Processes.{Process}
+use Rattle.sim_standard.specs.State.{State}
+use Rattle.sim_standard.specs.Processes.{meaning, process_at}
+
+-- one after another, in this order, each on the whole state that the one before it left
+unfoldable pub one_by_one : List Process → List ℕ → State → State
+one_by_one processes [] s = s
+one_by_one processes (p ∷ order) s = one_by_one processes order (meaning (process_at processes p) p s)
+
+-- whether a number is among these
+abbrev pub is_among : List ℕ → ℕ → Bool
+is_among [] n = false
+is_among (m ∷ ms) n = (m == n) || is_among ms n
+
+-- None is in the list twice.
+abbrev pub NoRepeats : List ℕ → Type 0
+NoRepeats [] = Unit {0}
+NoRepeats (n ∷ ns) = (is_among ns n ≡ false) × NoRepeats ns
+
+-- Each is below this.
+abbrev pub AllBelow : ℕ → List ℕ → Type 0
+AllBelow high [] = Unit {0}
+AllBelow high (n ∷ ns) = (n < high) × AllBelow high ns

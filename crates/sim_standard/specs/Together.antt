@@ -1,0 +1,30 @@
+-- The processes of one cycle executed together, each on its own part of the state (IEEE 1076-2008, 14.7.5.3): what a store carries out, and by law the
+-- same as one after another.
+use Rattle.std.specs.Prelude.{ℕ, zero, suc, List, [], ◌∷◌, Bool, if◌then◌else◌, Option, None, Some}
+use Rattle.sim_flat_design.specs.Processes.{Process}
+use Rattle.sim_flat_design.specs.Designs.{Design}
+use Rattle.sim_standard.specs.State.{State, Owned}
+use Rattle.sim_standard.specs.Processes.{part, outcome, process_at}
+use Rattle.sim_standard.specs.Initialization.{first_state}
+use Rattle.sim_standard.specs.Cycle.{is_resumed, next_cycle_time, onward}
+
+-- what each process owns, from a number on: those of a set own their results, the others what they had
+unfoldable pub merged : (ℕ → Bool) → (ℕ → Owned) → ℕ → List Owned → List Owned
+merged set results n [] = []
+merged set results n (own ∷ owned) = (if set n then results n else own) ∷ merged set results (suc n) owned
+
+-- each process of a set on its own part of one state
+abbrev pub together : List Process → (ℕ → Bool) → State → State
+together processes set s = record s { owned = merged set (λ p. outcome (process_at processes p) (part (process_at processes p) p s)) 0 s.owned }
+
+abbrev pub executed_together : Design → ℕ → State → State
+executed_together design cycles s = together design.processes (is_resumed design cycles s) s
+
+abbrev pub cycle_together : Design → ℕ → Option State → Option State
+cycle_together design cycles None = None
+cycle_together design cycles (Some s) = let x = executed_together design cycles s in onward design x (next_cycle_time x)
+
+-- the state after a number of cycles in which all that are resumed are executed together
+unfoldable pub parallel : Design → ℕ → Option State
+parallel design zero = Some (first_state design)
+parallel design (suc cycles) = cycle_together design cycles (parallel design cycles)

@@ -1,0 +1,24 @@
+//! Laws of the execution of a process: each is what an empty function ensures.
+
+ghost use Rattle.std.specs.Prelude.{ℕ, List, ◌≡◌, ◌<◌, length};
+ghost use Rattle.sim_flat_design.specs.Processes.{Process, IsProcess};
+ghost use Rattle.sim_flat_design.specs.declared.statement.Statement.{Statement};
+ghost use Rattle.sim_standard.specs.declared.net_view.NetView.{NetView};
+ghost use Rattle.sim_standard.specs.State.{State, Owned, driver_values, with_owned};
+ghost use Rattle.sim_standard.specs.Processes.{meaning, part, outcome};
+ghost use Rattle.sim_standard.specs.Statements.{executed};
+
+/// A process that is executed on the whole state changes nothing of it but its own drivers and
+/// variables, and leaves of these what it leaves of them when it is executed on its part: the time,
+/// the nets that it reads, and what it owns.
+pub fn a_process_keeps_to_its_part()
+    ensures { (p : Process) (number : ℕ) (s : State) → IsProcess p → number < length s.owned
+        → meaning p number s ≡ with_owned number (outcome p (part p number s)) s }
+{}
+
+/// Statements that are carried out leave the current value of each driver as it was: only a
+/// simulation cycle changes one (IEEE 1076-2008, 14.7.3.2).
+pub fn no_execution_changes_a_current_value()
+    ensures { (look : ℕ → NetView) (now : ℕ) (statements : List Statement) (own : Owned)
+        → driver_values (executed look now statements own).drivers ≡ driver_values own.drivers }
+{}

@@ -1,0 +1,13 @@
+//! A net in a simulation cycle.
+
+use sim_logic::Logic;
+
+/// A net as processes see it in a cycle (IEEE 1076-2008, 14.7.3, 16.2).
+#[derive(Clone, Copy, Debug, PartialEq, Eq)]
+pub struct NetView {
+    pub value: Logic,
+    /// Whether this cycle changed the value.
+    pub event: bool,
+    /// The value before this cycle.
+    pub last: Logic,
+}

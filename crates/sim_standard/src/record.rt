@@ -1,0 +1,15 @@
+//! What a simulation cycle changed.
+
+use sim_logic::Logic;
+use sqlite_items::Items;
+
+/// The time and the delta number of a simulation cycle, and the nets that have an event in it, each
+/// with its new value, in net order. Record 0 is the initialization: it has every net.
+#[derive(Debug, Drop)]
+pub struct Record {
+    /// In femtoseconds.
+    pub time: u64,
+    /// How many cycles at this time came before.
+    pub delta: u64,
+    pub changes: Items<(usize, Logic)>,
+}

@@ -1,6 +1,0 @@
-use Rattle.std.proofs.Common.{◌≡◌, take, map}
-use Rattle.sim_state.specs.Nets.{net_value}
-use Rattle.sim_state.proofs.start.values.Given as goal
-
-abbrev pub invariant-loop-net : goal.invariant-loop-net
-invariant-loop-net l = l.values.items ≡ map (net_value l.drivers) (take l.net-index l.nets)

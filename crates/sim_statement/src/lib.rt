@@ -1,4 +1,0 @@
-//! Sequential statements, read from tokens.
-#![tactic(auto)]
-
-pub mod statements;

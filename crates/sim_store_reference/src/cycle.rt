@@ -1,0 +1,243 @@
+//! The cycle (IEEE 1076-2008, 14.7.5).
+
+use crate::nets::{values_in, values_of, views_of};
+use crate::process::{executed, is_resumed, put};
+use sim_flat_design::{Design, Held, Process};
+use sim_exec::{Done, NetView};
+use sim_logic::Logic;
+use sim_wave::Driver;
+use std::alloc::Global;
+
+/// A design as it stands in a cycle.
+#[derive(Drop)]
+pub struct Snapshot {
+    /// The time in femtoseconds.
+    pub time: u64,
+    /// The number of cycles before this one at the same time.
+    pub delta: u64,
+    /// The nets with an event and their values; at the start all nets.
+    pub changes: Vec<(usize, Logic)>,
+}
+
+/// The state of a design.
+#[derive(Drop)]
+struct State {
+    time: u64,
+    delta: u64,
+    views: Vec<NetView>,
+    drivers: Vec<Driver>,
+    variables: Vec<Vec<Held>>,
+}
+
+/// The drivers at first.
+fn first_drivers(alloc: Global, design: &Design) -> Option<Vec<Driver>> {
+    let mut drivers = Vec::new(alloc);
+    for driver in design.drivers() {
+        drivers.push(Driver::new(alloc, driver.first)).ok()?;
+    }
+    Some(drivers)
+}
+
+/// The variables of each process at first.
+fn first_variables(alloc: Global, design: &Design) -> Option<Vec<Vec<Held>>> {
+    let mut variables = Vec::new(alloc);
+    for process in design.processes() {
+        let own = Vec::from_slice(alloc, process.body().variables()).ok()?;
+        variables.push(own).ok()?;
+    }
+    Some(variables)
+}
+
+/// How the nets are seen at the start, by the drivers.
+fn first_views(alloc: Global, design: &Design, drivers: &[Driver]) -> Option<Vec<NetView>> {
+    let values = values_of(alloc, drivers, design.nets())?;
+    views_of(alloc, values.as_slice(), values.as_slice())
+}
+
+/// The state at the start (14.7.5.2).
+fn first_state(alloc: Global, design: &Design) -> Option<State> {
+    let drivers = first_drivers(alloc, design)?;
+    let variables = first_variables(alloc, design)?;
+    let views = first_views(alloc, design, drivers.as_slice())?;
+    Some(State {
+        time: 0,
+        delta: 0,
+        views,
+        drivers,
+        variables,
+    })
+}
+
+/// The drivers of a process.
+fn drivers_of<'a>(state: &'a State, process: &Process) -> Option<&'a [Driver]> {
+    let first = process.first_driver();
+    let end = first.checked_add(process.body().drivers())?;
+    state.drivers.as_slice().get(first..end)
+}
+
+/// The execution of a process in this state.
+fn done_in(alloc: Global, state: &State, process: &Process, number: usize) -> Option<Done> {
+    let drivers = drivers_of(state, process)?;
+    let variables = state.variables.get(number)?.as_slice();
+    let views = state.views.as_slice();
+    executed(
+        alloc, state.time, number, process, views, drivers, variables,
+    )
+}
+
+/// Puts what an execution of a process leaves in place of what the process owned.
+fn put_done(
+    alloc: Global,
+    state: &mut State,
+    first_driver: usize,
+    done: &Done,
+    number: usize,
+) -> Option<()> {
+    put(
+        alloc,
+        state.drivers.as_mut_slice(),
+        first_driver,
+        done.drivers(),
+    )?;
+    *state.variables.get_mut(number)? = Vec::from_slice(alloc, done.variables()).ok()?;
+    Some(())
+}
+
+/// Executes a process.
+fn execute(alloc: Global, design: &Design, state: &mut State, number: usize) -> Option<()> {
+    let process = design.processes().get(number)?;
+    let done = done_in(alloc, state, process, number)?;
+    put_done(alloc, state, process.first_driver(), &done, number)
+}
+
+/// Whether a process is due.
+fn is_due(design: &Design, state: &State, number: usize, all: bool) -> bool {
+    match design.processes().get(number) {
+        Some(process) => all || is_resumed(state.views.as_slice(), process.sensitivity()),
+        None => false,
+    }
+}
+
+/// Executes those that are due, one after another.
+fn execute_due(alloc: Global, design: &Design, state: &mut State, all: bool) -> Option<()> {
+    for number in 0..design.processes().len() {
+        if is_due(design, state, number, all) {
+            execute(alloc, design, state, number)?;
+        }
+    }
+    Some(())
+}
+
+/// The earlier of two times.
+fn earlier(time: Option<u64>, other: Option<u64>) -> Option<u64> {
+    match (time, other) {
+        (Some(time), Some(other)) => Some(time.min(other)),
+        (Some(time), None) => Some(time),
+        (None, other) => other,
+    }
+}
+
+/// The time of the next cycle (14.7.5.1).
+fn next_time(drivers: &[Driver]) -> Option<u64> {
+    let mut next = None;
+    for driver in drivers {
+        next = earlier(next, driver.next());
+    }
+    next
+}
+
+/// All drivers take what is due.
+fn take(drivers: &mut [Driver], time: u64) {
+    for driver in drivers.iter_mut() {
+        driver.take(time);
+    }
+}
+
+/// The nets that are listed: all of them, or those with an event.
+fn changes(alloc: Global, views: &[NetView], all: bool) -> Option<Vec<(usize, Logic)>> {
+    let mut changes = Vec::new(alloc);
+    for (number, view) in views.iter().enumerate() {
+        if all || view.event {
+            changes.push((number, view.value)).ok()?;
+        }
+    }
+    Some(changes)
+}
+
+/// The state as it is reported.
+fn taken(alloc: Global, state: &State, all: bool) -> Option<Snapshot> {
+    let changes = changes(alloc, state.views.as_slice(), all)?;
+    Some(Snapshot {
+        time: state.time,
+        delta: state.delta,
+        changes,
+    })
+}
+
+/// The number of the cycle among those of its time.
+fn next_delta(state: &State, time: u64) -> Option<u64> {
+    if time == state.time {
+        state.delta.checked_add(1)
+    } else {
+        Some(0)
+    }
+}
+
+/// How the nets are seen once the drivers have taken what is due.
+fn next_views(alloc: Global, design: &Design, state: &State) -> Option<Vec<NetView>> {
+    let values = values_of(alloc, state.drivers.as_slice(), design.nets())?;
+    let last_values = values_in(alloc, state.views.as_slice())?;
+    views_of(alloc, values.as_slice(), last_values.as_slice())
+}
+
+/// The cycle at a time: drivers first, then nets (14.7.5.3).
+fn update(alloc: Global, design: &Design, state: &mut State, time: u64) -> Option<()> {
+    state.delta = next_delta(state, time)?;
+    state.time = time;
+    take(state.drivers.as_mut_slice(), time);
+    state.views = next_views(alloc, design, state)?;
+    Some(())
+}
+
+/// Executes what is due and carries out the cycle after it, if anything is pending; says whether
+/// there was one. In the first cycle all are due.
+fn go_on(alloc: Global, design: &Design, state: &mut State, is_first: bool) -> Option<bool> {
+    execute_due(alloc, design, state, is_first)?;
+    let Some(time) = next_time(state.drivers.as_slice()) else {
+        return Some(false);
+    };
+    update(alloc, design, state, time)?;
+    Some(true)
+}
+
+/// Adds the state as it is reported.
+fn add(alloc: Global, snapshots: &mut Vec<Snapshot>, state: &State, all: bool) -> Option<()> {
+    snapshots.push(taken(alloc, state, all)?).ok()
+}
+
+/// Carries out this many cycles, or until nothing is pending.
+fn run(
+    alloc: Global,
+    design: &Design,
+    state: &mut State,
+    cycles: usize,
+    snapshots: &mut Vec<Snapshot>,
+) -> Option<()> {
+    for cycle in 0..cycles {
+        if !go_on(alloc, design, state, cycle == 0)? {
+            return Some(());
+        }
+        add(alloc, snapshots, state, false)?;
+    }
+    Some(())
+}
+
+/// What a design leaves at the start and in each of the cycles after it, up to this number of them
+/// or until nothing is pending. `None` comes where memory lacks.
+pub fn snapshots(alloc: Global, design: &Design, cycles: usize) -> Option<Vec<Snapshot>> {
+    let mut state = first_state(alloc, design)?;
+    let mut snapshots = Vec::new(alloc);
+    add(alloc, &mut snapshots, &state, true)?;
+    run(alloc, design, &mut state, cycles, &mut snapshots)?;
+    Some(snapshots)
+}

@@ -1,0 +1,9 @@
+//! The standard's cycle as a plain program that looks at every driver, net and process in each
+//! cycle, for tests to compare with.
+#![tactic(auto)]
+
+mod cycle;
+mod nets;
+mod process;
+
+pub use cycle::{Snapshot, snapshots};

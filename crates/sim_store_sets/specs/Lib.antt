@@ -1,0 +1,5 @@
+pub mod Words
+pub mod Numbers
+pub mod Times
+pub mod Entries
+pub mod RowArray

@@ -1,0 +1,12 @@
+//! Lists of lists held flat, sets of numbers, and the times at which drivers are due.
+#![tactic(auto)]
+
+mod entries;
+mod numbers;
+mod row_array;
+mod times;
+mod words;
+
+pub use numbers::NumberSet;
+pub use row_array::{RowArray, bounds};
+pub use times::TimeQueue;

@@ -1,0 +1,131 @@
+//! Lists of lists, held flat: one list of all items, and where each of the lists starts in it.
+#![tactic(auto)]
+
+ghost use Rattle.std.specs.Prelude.{◌≡◌, ◌<◌, ◌≤◌, ◌+◌, ◌++◌, ◌∷◌, [], List, length, slice_index_or, slice_set, slice_index, slice_range, take, drop, IfOk};
+ghost use Rattle.std.specs.Prelude.{OnOk, OnErr};
+ghost use Rattle.sim_store_sets.specs.RowArray.{joined};
+
+use std::alloc::{AllocError, Global};
+use std::marker::Model;
+
+/// Lists, one after another in one flat list. Who works in place on one of them uses its bounds,
+/// and owes that the others stay.
+#[derive(Drop)]
+pub struct RowArray<T> {
+    pub starts: Vec<usize>,
+    pub flat: Vec<T>,
+}
+
+impl<T> Model for RowArray<T> {
+    ghost use Rattle.std.specs.Prelude.{List};
+    ghost use Rattle.sim_store_sets.specs.RowArray.{rows, IsFlat};
+
+    ghost Value = { List (List T) };
+
+    ghost view = { λ r. rows r.starts.items r.flat.items };
+
+    ghost invariant = { λ r. IsFlat (rows r.starts.items r.flat.items) r.starts.items r.flat.items };
+}
+
+impl<T> RowArray<T> {
+    /// No lists.
+    pub fn new(alloc: Global) -> Result<RowArray<T>, AllocError>
+        ensures { IfOk result (λ r. r ≡ []) }
+    {
+        let mut starts = Vec::new(alloc);
+        starts.push(0)?;
+        Ok(RowArray {
+            starts,
+            flat: Vec::new(alloc),
+        })
+    }
+
+    /// Copies a list to the end. If allocation fails, nothing changes.
+    pub fn push_row(&mut self, row: &[T]) -> Result<(), AllocError>
+    where
+        T: Copy,
+        ensures ok { OnOk result (self.new ≡ self.old ++ row.now ∷ []) }
+        ensures err { OnErr result (self.new ≡ self.old) }
+    {
+        self.starts.reserve(1)?;
+        self.flat.extend_from_slice(row)?;
+        self.starts.push_reserved(self.flat.len());
+        Ok(())
+    }
+
+    /// Moves a list to the end. If allocation fails, nothing changes.
+    pub fn append(&mut self, row: Vec<T>) -> Result<(), AllocError>
+    where
+        T: Drop,
+        ensures ok { OnOk result (self.new ≡ self.old ++ row.items ∷ []) }
+        ensures err { OnErr result (self.new ≡ self.old) }
+    {
+        let mut row = row;
+        self.starts.reserve(1)?;
+        self.flat.append(&mut row)?;
+        self.starts.push_reserved(self.flat.len());
+        Ok(())
+    }
+
+    /// How many lists there are.
+    pub fn len(&self) -> usize
+        ensures { result ≡ length self.now }
+    {
+        self.starts.len() - 1
+    }
+
+    /// The list at a place.
+    pub fn row(&self, place: usize) -> &[T]
+        requires { place < length self.now }
+        ensures { result.now ≡ slice_index_or self.now place [] }
+    {
+        let (start, end) = bounds(self.starts.as_slice(), place);
+        part(self.flat.as_slice(), start, end)
+    }
+
+    /// Puts a list in the place of one as long, and hands that one back. It takes no memory.
+    pub fn put(&mut self, place: usize, row: &mut [T])
+        requires at { place < length self.old }
+        requires long { length row.old ≡ length (slice_index_or self.old place []) }
+        ensures new { self.new ≡ slice_set self.old place row.old }
+        ensures row { row.new ≡ slice_index_or self.old place [] }
+    {
+        let (start, _end) = bounds(self.starts.as_slice(), place);
+        replace(self.flat.as_mut_slice(), start, row);
+    }
+
+    /// All items, of one list after another.
+    pub fn flat(&self) -> &[T]
+        ensures { result.now ≡ joined self.now }
+    {
+        self.flat.as_slice()
+    }
+}
+
+/// Where the list at a place starts, and where it ends.
+pub fn bounds(starts: &[usize], place: usize) -> (usize, usize)
+    requires { place + 1 < length starts.now }
+    ensures start { result.0 ≡ slice_index starts.now place }
+    ensures end { result.1 ≡ slice_index starts.now (place + 1) }
+{
+    (starts[place], starts[place + 1])
+}
+
+/// A part of a list.
+fn part<T>(flat: &[T], start: usize, end: usize) -> &[T]
+    requires order { start ≤ end }
+    requires within { end ≤ length flat.now }
+    ensures { result.now ≡ slice_range flat.now start end }
+{
+    &flat[start..end]
+}
+
+/// Puts items in the place of as many, and hands those back.
+fn replace<T>(flat: &mut [T], start: usize, row: &mut [T])
+    requires { start + length row.old ≤ length flat.old }
+    ensures new { flat.new ≡ take start flat.old ++ row.old ++ drop (start + length row.old) flat.old }
+    ensures row { row.new ≡ take (length row.old) (drop start flat.old) }
+{
+    let end = start + row.len();
+    flat[start..end].swap_with_slice(row);
+}

@@ -1,0 +1,16 @@
+pub mod Times
+pub mod Views
+pub mod Contents
+pub mod Starting
+pub mod Sensitivity
+pub mod Logged
+pub mod Parts
+pub mod Walks
+pub mod Reaching
+pub mod Due
+pub mod Putting
+pub mod Updating
+pub mod Skips
+pub mod Ranges
+pub mod Taking
+pub mod Values

@@ -1,0 +1,121 @@
+-- One process owns other drivers with the values of its old ones.
+use Rattle.std.proofs.Common.{ℕ, zero, suc, ◌+◌, ◌<◌, ◌≤◌, ◌≡◌, ◌++◌, ◌⊎◌, inl, inr, Bool, false, List, [], ◌∷◌, length, get_or, set, take, drop}
+use Rattle.std.proofs.Common.{Option, refl, ap, sym, ◌∙◌, arith}
+use Rattle.std.proofs.lemmas.List.{length-map, length-set, map-append}
+use Rattle.sim_logic.specs.declared.logic.Logic.{Logic}
+use Rattle.sim_flat_design.specs.declared.held.Held.{Held}
+use Rattle.sim_flat_design.specs.declared.design.Source.{Source}
+use Rattle.sim_standard.specs.Drivers.{Waveform, next_time}
+use Rattle.sim_store_sets.specs.RowArray.{joined, starts_from, IsFlat}
+use Rattle.sim_store_sets.proofs.Flat.{cut, cut-set, start-at}
+use Rattle.sim_store_sets.specs.Numbers.{is_in}
+use Rattle.sim_standard.specs.State.{driver_at, driver_values}
+use Rattle.sim_store_state.specs.Changes.{AreTimes, IsHeld, value_at}
+use Rattle.sim_store_state.proofs.Reaching.{same_rows}
+
+same-behind : (r s after : List Waveform) (d : ℕ) → length r ≡ length s → length r ≤ d → driver_at (r ++ after) d ≡ driver_at (s ++ after) d
+same-behind [] [] after d l le = refl
+same-behind [] (y ∷ s) after d l le = absurd (omega arith)
+same-behind (x ∷ r) [] after d l le = absurd (omega arith)
+same-behind (x ∷ r) (y ∷ s) after zero l le = absurd (omega arith)
+same-behind (x ∷ r) (y ∷ s) after (suc d) l le = same-behind r s after d (omega arith) (omega arith)
+
+-- outside of a part that is replaced nothing changes
+same-outside : (before r s after : List Waveform) (d : ℕ) → length r ≡ length s → (d < length before) ⊎ (length before + length r ≤ d)
+    → driver_at (before ++ (r ++ after)) d ≡ driver_at (before ++ (s ++ after)) d
+same-outside [] r s after d l (inl h) = absurd (omega arith)
+same-outside [] r s after d l (inr h) = same-behind r s after d l (omega arith)
+same-outside (b ∷ before) r s after zero l h = refl
+same-outside (b ∷ before) r s after (suc d) l (inl h) = same-outside before r s after d l (inl (omega arith))
+same-outside (b ∷ before) r s after (suc d) l (inr h) = same-outside before r s after d l (inr (omega arith))
+
+pub set-outside : (dss : List (List Waveform)) (p : ℕ) (ds : List Waveform) (d a b : ℕ) → p < length dss → length ds ≡ length (get_or dss p [])
+    → a ≡ length (joined (take p dss)) → b ≡ a + length (get_or dss p []) → (d < a) ⊎ (b ≤ d)
+    → driver_at (joined (set dss p ds)) d ≡ driver_at (joined dss) d
+set-outside dss p ds d a b lt l ea eb side =
+    let front = joined (take p dss) in
+    let back = joined (drop (suc p) dss) in
+    ap (λ w. driver_at w d) (cut-set dss p ds lt) ∙ (same-outside front ds (get_or dss p []) back d l (at side)
+    ∙ ap (λ w. driver_at w d) (sym (cut dss p lt)))
+  where
+    at : (d < a) ⊎ (b ≤ d) → (d < length (joined (take p dss))) ⊎ (length (joined (take p dss)) + length ds ≤ d)
+    at (inl h) = inl (omega (arith, h, ea))
+    at (inr h) = inr (omega (arith, h, ea, eb, l))
+
+-- where the drivers of a process stand
+pub start-is : {dss ess : List (List Waveform)} {starts : List ℕ} {flat : List Waveform} → IsFlat dss starts flat → dss ≡ ess → (p a : ℕ) (starts₂ : List ℕ)
+    → p < length ess → starts₂ ≡ starts → a ≡ get_or starts₂ p 0 → a ≡ length (joined (take p ess))
+start-is {dss} {ess} {starts} i e p a starts₂ lt es ea =
+    ea ∙ (ap (λ w. get_or w p 0) (es ∙ i.starting) ∙ (ap (λ w. get_or (starts_from 0 w) p 0) e ∙ (start-at 0 ess p 0 (omega arith) ∙ omega arith)))
+
+-- ---- values
+
+value-of : (ds : List Waveform) (d : ℕ) → (driver_at ds d).value ≡ value_at (driver_values ds) d
+value-of [] d = refl
+value-of (w ∷ ds) zero = refl
+value-of (w ∷ ds) (suc d) = value-of ds d
+
+pub values-each : (ds es : List Waveform) → driver_values ds ≡ driver_values es → (d : ℕ) → (driver_at ds d).value ≡ (driver_at es d).value
+values-each ds es e d = value-of ds d ∙ (ap (λ w. value_at w d) e ∙ sym (value-of es d))
+
+abbrev value_of : Waveform → Logic
+value_of w = w.value
+
+pub values-count : (ds es : List Waveform) → driver_values ds ≡ driver_values es → length ds ≡ length es
+values-count ds es e = omega (arith, ap length e, length-map ds value_of, length-map es value_of)
+
+values-set : (dss : List (List Waveform)) (p : ℕ) (ds : List Waveform) → driver_values ds ≡ driver_values (get_or dss p [])
+    → driver_values (joined (set dss p ds)) ≡ driver_values (joined dss)
+values-set [] p ds e = refl
+values-set (xs ∷ dss) zero ds e =
+    map-append value_of ds (joined dss) ∙ (ap (λ w. w ++ driver_values (joined dss)) e ∙ sym (map-append value_of xs (joined dss)))
+values-set (xs ∷ dss) (suc p) ds e =
+    map-append value_of xs (joined (set dss p ds)) ∙ (ap (λ w. driver_values xs ++ w) (values-set dss p ds e) ∙ sym (map-append value_of xs (joined dss)))
+
+-- ---- what is kept stays right, where the drivers of the process are stale
+
+abbrev pub AreMarked : List Bool → List Bool → List (List Waveform) → ℕ → Type 0
+AreMarked stale stale' dss p = (row : List Waveform) (d : ℕ) → length row ≡ length (get_or dss p []) → is_in stale' d ≡ false
+    → (is_in stale d ≡ false) × (driver_at (joined (set dss p row)) d ≡ driver_at (joined dss) d)
+
+pub put-keeps : {values last_values : List Logic} {dss : List (List Waveform)} {vss : List (List Held)} {sources : List (List Source)} {fan_out : List (List ℕ)}
+    {times : List (Option ℕ)} {stale touched : List Bool} → IsHeld values last_values dss vss sources fan_out times stale touched → (p : ℕ) (ds : List Waveform)
+    (vs : List Held) (dss' : List (List Waveform)) (vss' : List (List Held)) (stale' : List Bool) → dss' ≡ set dss p ds → vss' ≡ set vss p vs
+    → driver_values ds ≡ driver_values (get_or dss p []) → length stale' ≡ length stale → AreMarked stale stale' dss p
+    → IsHeld values last_values dss' vss' sources fan_out times stale' touched
+put-keeps {values} {last_values} {dss} {vss} {sources} {fan_out} {times} {stale} {touched} i p ds vs dss' vss' stale' ed ev e l marked =
+    let long : length ds ≡ length (get_or dss p []) = values-count ds (get_or dss p []) e in
+    let same : driver_values (joined dss') ≡ driver_values (joined dss) = ap (λ w. driver_values (joined w)) ed ∙ values-set dss p ds e in
+    let count : length (joined dss') ≡ length (joined dss) = values-count (joined dss') (joined dss) same in
+    record {
+      lists = record {
+        nets = i.lists.nets;
+        owned = omega (arith, ap length ed, ap length ev, length-set dss p ds, length-set vss p vs, i.lists.owned);
+      };
+      timed = record {
+        sized = i.timed.sized ∙ sym count;
+        marked = l ∙ (i.timed.marked ∙ sym count);
+        current = λ d fresh.
+            let m = marked ds d long fresh in
+            i.timed.current d m.0 ∙ ap (λ (w : Waveform). next_time (w ∷ [])) (sym m.1 ∙ ap (λ w. driver_at (joined w) d) (sym ed));
+      };
+      fan_out_count = i.fan_out_count ∙ sym count;
+      driving = i.driving;
+      resolving = i.resolving ∙ same_rows (joined dss) (joined dss') sources (values-each (joined dss) (joined dss') (sym same));
+      touching = i.touching;
+    }
+
+-- the queue alone changes, or what is stale
+pub times-keep : {values last_values : List Logic} {dss : List (List Waveform)} {vss : List (List Held)} {sources : List (List Source)} {fan_out : List
+    (List ℕ)}
+    {times : List (Option ℕ)} {stale touched : List Bool} → IsHeld values last_values dss vss sources fan_out times stale touched
+    → (times' : List (Option ℕ)) (stale' : List Bool) → AreTimes times' stale' (joined dss)
+      → IsHeld values last_values dss vss sources fan_out times' stale' touched
+times-keep i times' stale' t = record {
+  lists = i.lists;
+  timed = t;
+  fan_out_count = i.fan_out_count;
+  driving = i.driving;
+  resolving = i.resolving;
+  touching = i.touching;
+}

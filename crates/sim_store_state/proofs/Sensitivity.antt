@@ -1,0 +1,232 @@
+-- Those that are resumed are those that are sensitive to a net with an event.
+use Rattle.std.proofs.Common.{ℕ, zero, suc, ◌+◌, ◌<◌, ◌≤◌, ◌≡◌, ◌≢◌, ◌==◌, ◌++◌, ◌||◌, ◌&&◌, eqb, Bool, true, false, List, [], ◌∷◌, length, get_or, set}
+use Rattle.std.proofs.Common.{take, add-one, refl, ap, sym, ◌∙◌, arith, ◌⊎◌, inl, inr}
+use Rattle.std.proofs.lemmas.Bool.Decides.{nat_tests}
+use Rattle.std.proofs.lemmas.List.{get_or-set_same, get_or-set_other, take_more}
+use Rattle.sim_flat_design.specs.Processes.{Process}
+use Rattle.sim_standard.specs.declared.net_view.NetView.{NetView}
+use Rattle.sim_standard.specs.State.{net_at}
+use Rattle.sim_standard.specs.Cycle.{has_event_in}
+use Rattle.sim_standard.specs.Processes.{process_at}
+use Rattle.sim_store_state.specs.Sensitive.{AreSensitive, is_sensitive}
+use Rattle.sim_standard.specs.Orders.{is_among}
+
+-- ---- truth values
+
+or_true : (a b : Bool) → (a || b) ≡ true → (a ≡ true) ⊎ (b ≡ true)
+or_true true b e = inl refl
+or_true false b e = inr e
+
+pub or_left : (a b : Bool) → a ≡ true → (a || b) ≡ true
+or_left a b e = rw e refl
+
+pub or_right : (a b : Bool) → b ≡ true → (a || b) ≡ true
+or_right true b e = refl
+or_right false b e = e
+
+and_left : (a b : Bool) → (a && b) ≡ true → a ≡ true
+and_left true b e = refl
+and_left false b e = absurd cc
+
+and_right : (a b : Bool) → (a && b) ≡ true → b ≡ true
+and_right true b e = e
+and_right false b e = absurd cc
+
+both_true : (a b : Bool) → a ≡ true → b ≡ true → (a && b) ≡ true
+both_true a b e f = rw (e, f) refl
+
+same_bools : (a b : Bool) → (a ≡ true → b ≡ true) → (b ≡ true → a ≡ true) → a ≡ b
+same_bools true b f g = sym (f refl)
+same_bools false true f g = g refl
+same_bools false false f g = refl
+
+pub or_false : (b : Bool) → (b || false) ≡ b
+or_false true = refl
+or_false false = refl
+
+pub or-assoc : (a b c : Bool) → ((a || b) || c) ≡ (a || (b || c))
+or-assoc true b c = refl
+or-assoc false b c = refl
+
+pub or-turn : (a b c : Bool) → (a || (b || c)) ≡ ((b || a) || c)
+or-turn true true c = refl
+or-turn true false c = refl
+or-turn false true c = refl
+or-turn false false c = refl
+
+pub and-or : (a b c : Bool) → ((a && c) || (b && c)) ≡ ((a || b) && c)
+and-or true true true = refl
+and-or true true false = refl
+and-or true false true = refl
+and-or true false false = refl
+and-or false true true = refl
+and-or false true false = refl
+and-or false false c = refl
+
+-- ---- numbers in a list
+
+pub among-append : (xs ys : List ℕ) (n : ℕ) → is_among (xs ++ ys) n ≡ (is_among xs n || is_among ys n)
+among-append [] ys n = refl
+among-append (x ∷ xs) ys n = ap (λ b. (x == n) || b) (among-append xs ys n) ∙ sym (or-assoc (x == n) (is_among xs n) (is_among ys n))
+
+pub among-more : (xs : List ℕ) (i n : ℕ) → i < length xs → is_among (take (i + 1) xs) n ≡ (is_among (take i xs) n || (get_or xs i 0 == n))
+among-more xs i n lt =
+    ap (λ w. is_among w n) (take_more xs i 0 lt) ∙ (among-append (take i xs) (get_or xs i 0 ∷ []) n ∙ ap (λ b. is_among (take i xs) n || b)
+    (or_false (get_or xs i 0 == n)))
+
+-- ---- who is sensitive to a net with an event
+
+abbrev has_event : List NetView → ℕ → Bool
+has_event nets n = (net_at nets n).event
+
+-- a net with an event to which a process is sensitive
+record Waker (nets : List NetView) (sensitive : List (List ℕ)) (p : ℕ) : Type 0 where
+  net : ℕ
+  there : net < length sensitive
+  event : has_event nets net ≡ true
+  sensitive_it : is_among (get_or sensitive net []) p ≡ true
+
+woken-waker : (nets : List NetView) (sensitive : List (List ℕ)) (p : ℕ) → is_sensitive nets sensitive p ≡ true → Waker nets sensitive p
+woken-waker [] sensitive p e = absurd cc
+woken-waker (v ∷ nets) [] p e = absurd cc
+woken-waker (v ∷ nets) (ps ∷ sensitive) p e = elim (or_true (v.event && is_among ps p) (is_sensitive nets sensitive p) e) [
+  | inl h ↦ record { net = 0; there = omega arith; event = and_left v.event (is_among ps p) h; sensitive_it = and_right v.event (is_among ps p) h }
+  | inr h ↦ (let w = woken-waker nets sensitive p h in record { net = suc w.net; there = omega (arith,
+      w.there); event = w.event; sensitive_it = w.sensitive_it })
+]
+
+waker-woken : (nets : List NetView) (sensitive : List (List ℕ)) (p n : ℕ) → has_event nets n ≡ true → is_among (get_or sensitive n []) p ≡ true
+    → is_sensitive nets sensitive p ≡ true
+waker-woken [] sensitive p n e f = e
+waker-woken (v ∷ nets) [] p n e f = f
+waker-woken (v ∷ nets) (ps ∷ sensitive) p zero e f = or_left (v.event && is_among ps p) (is_sensitive nets sensitive p) (both_true v.event (is_among ps p) e f)
+waker-woken (v ∷ nets) (ps ∷ sensitive) p (suc n) e f = or_right (v.event && is_among ps p) (is_sensitive nets sensitive p) (waker-woken nets sensitive p n e f)
+
+-- a net of a list with an event
+record Changed (nets : List NetView) (ns : List ℕ) : Type 0 where
+  net : ℕ
+  among : is_among ns net ≡ true
+  event : has_event nets net ≡ true
+
+event-changed : (nets : List NetView) (ns : List ℕ) → has_event_in nets ns ≡ true → Changed nets ns
+unfolding has_event_in
+event-changed nets [] e = absurd cc
+event-changed nets (n ∷ ns) e = elim (or_true (has_event nets n) (has_event_in nets ns) e) [
+  | inl h ↦ (let t : eqb n n ≡ true = grind (arith, nat_tests) in record { net = n; among = or_left (n == n) (is_among ns n) t; event = h })
+  | inr h ↦ (let w = event-changed nets ns h in record { net = w.net; among = or_right (n == w.net) (is_among ns w.net) w.among; event = w.event })
+]
+
+changed-event : (nets : List NetView) (ns : List ℕ) (n : ℕ) → is_among ns n ≡ true → has_event nets n ≡ true → has_event_in nets ns ≡ true
+unfolding has_event_in
+changed-event nets [] n e f = e
+changed-event nets (m ∷ ns) n e f = elim (or_true (m == n) (is_among ns n) e) [
+  | inl h ↦ (let t : m ≡ n = grind (arith, nat_tests) in or_left (has_event nets m) (has_event_in nets ns) (ap (has_event nets) t ∙ f))
+  | inr h ↦ or_right (has_event nets m) (has_event_in nets ns) (changed-event nets ns n h f)
+]
+
+-- a net with an event is there
+event-there : (nets : List NetView) (n : ℕ) → has_event nets n ≡ true → n < length nets
+event-there [] n e = absurd cc
+event-there (v ∷ nets) zero e = omega arith
+event-there (v ∷ nets) (suc n) e = let h = event-there nets n e in omega (arith, h)
+
+pub woken-event : (nets : List NetView) (sensitive : List (List ℕ)) (processes : List Process) (p : ℕ) → length sensitive ≡ length nets
+    → AreSensitive processes sensitive
+    → is_sensitive nets sensitive p ≡ has_event_in nets (process_at processes p).sensitivity
+woken-event nets sensitive processes p same w = same_bools _ _
+    (λ e. let k = woken-waker nets sensitive p e in changed-event nets (process_at processes p).sensitivity k.net (sym (w k.net p k.there)
+        ∙ k.sensitive_it) k.event)
+    (λ e. let k = event-changed nets (process_at processes p).sensitivity e in
+    let there : k.net < length sensitive = omega (arith, same, event-there nets k.net k.event) in
+    waker-woken nets sensitive p k.net k.event (w k.net p there ∙ k.among))
+
+-- ---- resuming
+
+-- one more is resumed, after those before it in the list
+pub resumed-more : (numbers : List ℕ) (i p n : ℕ) (was now new : Bool) → i < length numbers → n ≡ get_or numbers i 0 → now ≡
+    (is_among (take i numbers) p || was)
+    → new ≡ ((n == p) || now) → new ≡ (is_among (take (i + 1) numbers) p || was)
+resumed-more numbers i p n was now new lt is e f =
+    f ∙ (ap (λ b. (n == p) || b) e ∙ (or-turn (n == p) (is_among (take i numbers) p) was
+    ∙ ap (λ b. b || was) (ap (λ m. is_among (take i numbers) p || (m == p)) is ∙ sym (among-more numbers i p lt))))
+
+-- ---- who is sensitive to nets
+
+-- one process more at one net
+pub added : (sensitive : List (List ℕ)) (net number n p : ℕ) → n < length sensitive
+    → is_among (get_or (set sensitive net (get_or sensitive net [] ++ number ∷ [])) n []) p
+      ≡ (is_among (get_or sensitive n []) p || ((net == n) && (number == p)))
+added sensitive net number n p lt = go (eqb net n) refl
+  where
+    go : (b : Bool) → eqb net n ≡ b → is_among (get_or (set sensitive net (get_or sensitive net [] ++ number ∷ [])) n []) p ≡
+        (is_among (get_or sensitive n []) p || (b && (number == p)))
+    go true e =
+        let at : net ≡ n = grind (arith, nat_tests) in
+        rw at (ap (λ w. is_among w p) (get_or-set_same sensitive n (get_or sensitive n [] ++ number ∷ []) [] lt)
+        ∙ (among-append (get_or sensitive n []) (number ∷ []) p ∙ ap (λ b. is_among (get_or sensitive n []) p || b) (or_false (number == p))))
+    go false e =
+        let apart : n ≢ net = grind (arith, nat_tests) in
+        ap (λ w. is_among w p) (get_or-set_other sensitive net n (get_or sensitive net [] ++ number ∷ []) [] apart)
+            ∙ sym (or_false (is_among (get_or sensitive n []) p))
+
+pub past-added : (sensitive : List (List ℕ)) (net number n p : ℕ) → n < length sensitive → length sensitive ≤ net
+    → is_among (get_or sensitive n []) p ≡ (is_among (get_or sensitive n []) p || ((net == n) && (number == p)))
+past-added sensitive net number n p lt le = let apart : eqb net n ≡ false = grind (arith,
+    nat_tests) in rw apart (sym (or_false (is_among (get_or sensitive n []) p)))
+
+-- one net more of a sensitivity
+pub sensitivity-more : (sensitivity : List ℕ) (i n net : ℕ) (is_it was now new : Bool) → i < length sensitivity → net ≡ get_or sensitivity i 0
+    → now ≡ (was || (is_among (take i sensitivity) n && is_it)) → new ≡ (now || ((net == n) && is_it)) → new ≡
+    (was || (is_among (take (i + 1) sensitivity) n && is_it))
+sensitivity-more sensitivity i n net is_it was now new lt is e f =
+    let front = is_among (take i sensitivity) n in
+    f ∙ (ap (λ b. b || ((net == n) && is_it)) e ∙ (or-assoc was (front && is_it) ((net == n) && is_it)
+    ∙ ap (λ b. was || b) (and-or front (net == n) is_it ∙ ap (λ b. b && is_it) (ap (λ m. front || (m == n)) is ∙ sym (among-more sensitivity i n lt)))))
+
+and_true : (b : Bool) → (b && true) ≡ b
+and_true true = refl
+and_true false = refl
+
+and_false : (b : Bool) → (b && false) ≡ false
+and_false true = refl
+and_false false = refl
+
+-- an equality of places, where it is known
+pub at_same : (a : Bool) (i p : ℕ) → i ≡ p → (a && (i == p)) ≡ a
+at_same a i p e = let t : eqb i p ≡ true = grind (arith, nat_tests) in rw t (and_true a)
+
+pub at_other : (a : Bool) (i p : ℕ) → i ≢ p → (a && (i == p)) ≡ false
+at_other a i p e = let t : eqb i p ≡ false = grind (arith, nat_tests) in rw t (and_false a)
+
+pub eqb-suc : (i p : ℕ) → (suc i == suc p) ≡ (i == p)
+eqb-suc i p = go (eqb i p) refl
+  where
+    go : (b : Bool) → eqb i p ≡ b → (suc i == suc p) ≡ b
+    go true e = let t : i ≡ p = grind (arith, nat_tests) in let u : eqb (suc i) (suc p) ≡ true = grind (arith, nat_tests) in u
+    go false e = let t : i ≢ p = grind (arith, nat_tests) in let u : eqb (suc i) (suc p) ≡ false = grind (arith, nat_tests) in u
+
+-- one process more
+process-step : (processes : List Process) (i p n : ℕ) (q : Process) → i < length processes → q ≡ get_or processes i q
+    → is_among (process_at (take (suc i) processes) p).sensitivity n ≡ (is_among (process_at (take i processes) p).sensitivity n ||
+    (is_among q.sensitivity n && (i == p)))
+process-step [] i p n q lt is = absurd (omega arith)
+process-step (x ∷ processes) zero zero n q lt is = ap (λ (y : Process). is_among y.sensitivity n) (sym is) ∙ sym (at_same (is_among q.sensitivity n) 0 0 refl)
+process-step (x ∷ processes) zero (suc p) n q lt is = sym (at_other (is_among q.sensitivity n) 0 (suc p) (omega arith))
+process-step (x ∷ processes) (suc i) zero n q lt is =
+    sym (ap (λ b. is_among x.sensitivity n || b) (at_other (is_among q.sensitivity n) (suc i) 0 (omega arith)) ∙ or_false (is_among x.sensitivity n))
+process-step (x ∷ processes) (suc i) (suc p) n q lt is =
+    process-step processes i p n q (omega arith) is ∙ ap (λ b. is_among (process_at (take i processes) p).sensitivity n || (is_among q.sensitivity n && b))
+    (sym (eqb-suc i p))
+
+process-more : (processes : List Process) (i p n : ℕ) (q : Process) → i < length processes → q ≡ get_or processes i q
+    → is_among (process_at (take (i + 1) processes) p).sensitivity n ≡ (is_among (process_at (take i processes) p).sensitivity n ||
+    (is_among q.sensitivity n && (i == p)))
+process-more processes i p n q lt is = rw add-one (process-step processes i p n q lt is)
+
+pub processes-more : (processes : List Process) (i p n : ℕ) (q : Process) (was now new : Bool) → i < length processes → q ≡ get_or processes i q
+    → now ≡ (was || is_among (process_at (take i processes) p).sensitivity n) → new ≡ (now || (is_among q.sensitivity n && (i == p)))
+    → new ≡ (was || is_among (process_at (take (i + 1) processes) p).sensitivity n)
+processes-more processes i p n q was now new lt is e f =
+    let front = is_among (process_at (take i processes) p).sensitivity n in
+    f ∙ (ap (λ b. b || (is_among q.sensitivity n && (i == p))) e ∙ (or-assoc was front (is_among q.sensitivity n && (i == p))
+    ∙ ap (λ b. was || b) (sym (process-more processes i p n q lt is))))

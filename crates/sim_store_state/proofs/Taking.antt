@@ -1,0 +1,102 @@
+-- Drivers take their transactions, one by one, and touch nets.
+use Rattle.std.proofs.Common.{ℕ, ◌+◌, ◌<◌, ◌≤◌, ◌≡◌, ◌≢◌, ◌||◌, Bool, true, false, not, List, [], length, get_or, set, map, refl, ap, sym, ◌∙◌, subst, arith}
+use Rattle.std.proofs.Math.Decide.{dec_lt}
+use Rattle.std.proofs.lemmas.List.{get_or-set_same, get_or-set_other, get_or_past, length-map, same_lists, get_or_default}
+use Rattle.sim_logic.specs.declared.logic.Logic.{Logic}
+use Rattle.sim_logic.specs.Logic.{is_same}
+use Rattle.sim_logic.proofs.SameValues.{same_from_is_same}
+use Rattle.sim_standard.specs.Drivers.{Waveform, taken}
+use Rattle.sim_store_sets.specs.Numbers.{is_in}
+use Rattle.sim_store_sets.specs.Words.{IsNext}
+use Rattle.sim_standard.specs.State.{driver_at, no_driver}
+use Rattle.sim_standard.specs.Orders.{is_among}
+use Rattle.sim_store_state.specs.Changes.{AreReached}
+use Rattle.sim_store_state.proofs.Sensitivity.{or_left, or_right}
+use Rattle.sim_store_state.proofs.Walks.{Walked, not_both, walk_start, walk_more}
+use Rattle.sim_store_state.proofs.Due.{driver-taken}
+
+-- A driver took its transaction of a time, and its nets are touched if it has another value.
+pub record IsTaken (time : ℕ) (old : List Waveform) (fan_out : List (List ℕ)) (now : List Waveform) (touched : List Bool) (d : ℕ) : Type 0 where
+  pub driver : driver_at now d ≡ taken time (driver_at old d)
+  pub nets : AreReached touched (get_or fan_out d []) (driver_at old d).value (taken time (driver_at old d)).value
+
+pub none-taken : (time : ℕ) (drivers : List Waveform) (fan_out : List (List ℕ)) (touched due : List Bool)
+    → ((d : ℕ) → is_in due d ≡ false → taken time (driver_at drivers d) ≡ driver_at drivers d)
+    → Walked due 0 (IsTaken time drivers fan_out drivers touched)
+none-taken time drivers fan_out touched due others = walk_start due (λ d e. record {
+  driver = sym (others d e);
+  nets = λ n lt no_net among. ap (λ (w : Waveform). w.value) (others d e);
+})
+
+-- who is touched stays so
+pub still-reached : (touched touched' : List Bool) (nets : List ℕ) (before now : Logic) → length touched' ≡ length touched
+    → ((n : ℕ) → is_in touched' n ≡ false → is_in touched n ≡ false) → AreReached touched nets before now → AreReached touched' nets before now
+still-reached touched touched' nets before now l kept r n lt e among = r n (omega arith) (kept n e) among
+
+pub taken-more : (time : ℕ) (old : List Waveform) (fan_out : List (List ℕ)) (now now' : List Waveform) (touched touched' due : List Bool) (from k : ℕ)
+    → Walked due from (IsTaken time old fan_out now touched) → IsNext (is_in due) from k → k < length now → driver_at now k ≡ driver_at old k
+    → now' ≡ set now k (taken time (driver_at now k)) → length touched' ≡ length touched
+    → ((n : ℕ) → is_in touched' n ≡ false → is_in touched n ≡ false)
+    → AreReached touched' (get_or fan_out k []) (driver_at now k).value (taken time (driver_at now k)).value
+    → Walked due (k + 1) (IsTaken time old fan_out now' touched')
+taken-more time old fan_out now now' touched touched' due from k w next lt was en l kept reached =
+    walk_more w next
+    (λ d apart i. record {
+      driver = ap (λ w. driver_at w d) en ∙ (get_or-set_other now k d (taken time (driver_at now k)) no_driver apart ∙ i.driver);
+      nets = still-reached touched touched' (get_or fan_out d []) (driver_at old d).value (taken time (driver_at old d)).value l kept i.nets;
+    })
+    (record {
+      driver = ap (λ w. driver_at w k) en ∙ (get_or-set_same now k (taken time (driver_at now k)) no_driver lt ∙ ap (taken time) was);
+      nets = subst (λ (d : Waveform). AreReached touched' (get_or fan_out k []) d.value (taken time d).value) was reached;
+    })
+
+pub rest-more : (time : ℕ) (old now now' : List Waveform) (from k : ℕ) → from ≤ k → ((d : ℕ) → from ≤ d → driver_at now d ≡ driver_at old d)
+    → now' ≡ set now k (taken time (driver_at now k)) → (d : ℕ) → k + 1 ≤ d → driver_at now' d ≡ driver_at old d
+rest-more time old now now' from k le rest en d lt =
+    let apart : d ≢ k = omega arith in
+    ap (λ w. driver_at w d) en ∙ (get_or-set_other now k d (taken time (driver_at now k)) no_driver apart ∙ rest d (omega arith))
+
+-- lists of drivers are equal where each driver is
+pub all-same : (now old : List Waveform) (time : ℕ) → length now ≡ length old → ((d : ℕ) → driver_at now d ≡ taken time (driver_at old d))
+    → now ≡ map (taken time) old
+all-same now old time l same =
+    same_lists now (map (taken time) old) (l ∙ sym (length-map old (taken time)))
+    (λ d x lt. get_or_default now d x no_driver lt ∙ (same d ∙ (sym (driver-taken time old d)
+    ∙ get_or_default (map (taken time) old) d no_driver x (omega (arith, l, lt, length-map old (taken time))))))
+
+-- ---- one driver
+
+-- nets that were made members are
+pub all-reached : (touched touched' : List Bool) (nets : List ℕ) (before now : Logic) → length touched' ≡ length touched
+    → ((n : ℕ) → n < length touched → is_in touched' n ≡ (is_among nets n || is_in touched n)) → AreReached touched' nets before now
+all-reached touched touched' nets before now l members n lt e among =
+    absurd (not_both (is_in touched' n) e (members n (omega arith) ∙ or_left (is_among nets n) (is_in touched n) among))
+
+pub all-kept : (touched touched' : List Bool) (nets : List ℕ) → length touched' ≡ length touched
+    → ((n : ℕ) → n < length touched → is_in touched' n ≡ (is_among nets n || is_in touched n)) → (n : ℕ) → is_in touched' n ≡ false → is_in touched n ≡ false
+all-kept touched touched' nets l members n e = elim (dec_lt n (length touched)) [
+  | yes h ↦ go (is_in touched n) refl h
+  | no h ↦ get_or_past touched n false (omega (arith, h))
+]
+  where
+    go : (b : Bool) → is_in touched n ≡ b → n < length touched → is_in touched n ≡ false
+    go false f h = f
+    go true f h = absurd (not_both (is_in touched' n) e (members n h ∙ or_right (is_among nets n) (is_in touched n) f))
+
+pub one-taken : (time : ℕ) (drivers : List Waveform) (k : ℕ) (d new : Waveform) → k < length drivers → new ≡ taken time (get_or drivers k d)
+    → new ≡ taken time (driver_at drivers k)
+one-taken time drivers k d new lt e = e ∙ ap (taken time) (get_or_default drivers k d no_driver lt)
+
+not-changed : (a b : Logic) (changed : Bool) → changed ≡ not (is_same a b) → changed ≡ false → a ≡ b
+not-changed a b changed e f = same_from_is_same a b (go (is_same a b) (sym e ∙ f))
+  where
+    go : (t : Bool) → not t ≡ false → t ≡ true
+    go true g = refl
+    go false g = absurd cc
+
+pub one-kept : (time : ℕ) (drivers : List Waveform) (k : ℕ) (d new : Waveform) (changed : Bool) → k < length drivers → new ≡ taken time (get_or drivers k d)
+    → changed ≡ not (is_same (get_or drivers k d).value new.value) → changed ≡ false
+    → (taken time (driver_at drivers k)).value ≡ (driver_at drivers k).value
+one-kept time drivers k d new changed lt e f none =
+    ap (λ (w : Waveform). w.value) (sym (one-taken time drivers k d new lt e))
+    ∙ (sym (not-changed (get_or drivers k d).value new.value changed f none) ∙ ap (λ (w : Waveform). w.value) (get_or_default drivers k d no_driver lt))

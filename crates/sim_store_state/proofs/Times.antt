@@ -1,0 +1,107 @@
+-- Pending times: the least of them.
+use Rattle.std.proofs.Common.{◌≡◌, ℕ, zero, suc, ◌<◌, ◌≤◌, min, List, [], ◌∷◌, ◌++◌, length}
+use Rattle.std.proofs.Common.{get_or, map, Option, Some, None, refl, ap, sym, ◌∙◌, arith}
+use Rattle.std.proofs.Common.{unwrap_or, MatchOption, fold, ◌⊎◌, inl, inr}
+use Rattle.std.proofs.Math.Decide.{dec_lt}
+use Rattle.std.specs.List.{All, Contains, reduce}
+use Rattle.std.specs.Prelude.{slice_get}
+use Rattle.std.proofs.lemmas.List.Concat.{flat_map-append}
+use Rattle.std.proofs.lemmas.List.Sums.{fold-append}
+use Rattle.sim_standard.specs.Drivers.{RisesFrom, Transaction, Waveform, next_of, next_time, pending_times, IsNext}
+use Rattle.sim_store_sets.specs.Times.{earlier}
+
+abbrev pub times : List Transaction → List ℕ
+times xs = map (λ (x : Transaction). x.0) xs
+
+-- ---- the least of a list
+
+append_none : {X : Type 0} (xs : List X) → xs ++ [] ≡ xs
+append_none [] = refl
+append_none (x ∷ xs) = ap (λ l. x ∷ l) (append_none xs)
+
+fold_min : (m n : ℕ) (xs : List ℕ) → fold min (min m n) xs ≡ min m (fold min n xs)
+fold_min m n [] = refl
+fold_min m n (x ∷ xs) = ap (λ k. fold min k xs) (omega arith) ∙ fold_min m (min n x) xs
+
+reduce_append : (xs ys : List ℕ) → reduce min (xs ++ ys) ≡ earlier (reduce min xs) (reduce min ys)
+reduce_append [] ys = refl
+reduce_append (x ∷ xs) [] = ap (λ (l : List ℕ). reduce min l) (append_none (x ∷ xs))
+reduce_append (x ∷ xs) (y ∷ ys) = ap (λ k. Some k) (fold-append min x xs (y ∷ ys) ∙ fold_min (fold min x xs) y ys)
+
+rises_earlier : (low high : ℕ) (xs : List Transaction) → low ≤ high → RisesFrom high xs → RisesFrom low xs
+rises_earlier low high [] le r = tt
+rises_earlier low high (x ∷ xs) le r = (omega arith, r.1)
+
+fold_low : (m : ℕ) (xs : List Transaction) → RisesFrom m xs → fold min m (times xs) ≡ m
+fold_low m [] r = refl
+fold_low m (x ∷ xs) r =
+    let same : min m x.0 ≡ m = omega arith in
+    ap (λ k. fold min k (times xs)) same ∙ fold_low m xs (rises_earlier m (suc x.0) xs (omega arith) r.1)
+
+first_is_least : (low : ℕ) (xs : List Transaction) → RisesFrom low xs → reduce min (times xs) ≡ next_of xs
+first_is_least low [] r = refl
+first_is_least low (x ∷ xs) r = ap (λ k. Some k) (fold_low x.0 xs (rises_earlier x.0 (suc x.0) xs (omega arith) r.1))
+
+pub none_next : next_time [] ≡ None
+unfolding next_time
+none_next = refl
+
+-- a driver alone
+pub only_next : (low : ℕ) (d : Waveform) (xs : List Transaction) → xs ≡ d.pending → RisesFrom low xs → next_time (d ∷ []) ≡ next_of xs
+unfolding next_time
+only_next low d xs is r =
+    ap (λ (l : List ℕ). reduce min l) (append_none (times d.pending)) ∙ (ap (λ l. reduce min (times l)) (sym is) ∙ first_is_least low xs r)
+
+-- the drivers of two lists
+pub next_append : (ds es : List Waveform) → next_time (ds ++ es) ≡ earlier (next_time ds) (next_time es)
+unfolding next_time
+next_append ds es =
+    ap (λ (l : List ℕ). reduce min l) (flat_map-append (λ (w : Waveform). times w.pending) ds es) ∙ reduce_append (pending_times ds) (pending_times es)
+
+-- ---- the function gives what the relation says
+
+pub least_bound : (m : ℕ) (xs : List ℕ) → fold min m xs ≤ m
+least_bound m [] = omega arith
+least_bound m (x ∷ xs) = let h = least_bound (min m x) xs in omega (arith, h)
+
+least_each : (m : ℕ) (xs : List ℕ) (k d : ℕ) → k < length (m ∷ xs) → fold min m xs ≤ get_or (m ∷ xs) k d
+least_each m xs zero d lt = least_bound m xs
+least_each m [] (suc k) d lt = absurd (omega arith)
+least_each m (x ∷ xs) (suc zero) d lt = let h = least_bound (min m x) xs in omega (arith, h)
+least_each m (x ∷ xs) (suc (suc k)) d lt = least_each (min m x) xs (suc k) d (omega arith)
+
+lesser : (m x : ℕ) → (min m x ≡ m) ⊎ (min m x ≡ x)
+lesser m x = elim (dec_lt m x) [ yes h ↦ inl (omega arith) | no h ↦ inr (omega arith) ]
+
+contains_least : (m : ℕ) (xs : List ℕ) → Contains (m ∷ xs) (fold min m xs)
+contains_least m [] = (0, omega arith, refl)
+contains_least m (x ∷ xs) = go (contains_least (min m x) xs)
+  where
+    go : Contains (min m x ∷ xs) (fold min (min m x) xs) → Contains (m ∷ x ∷ xs) (fold min (min m x) xs)
+    go (zero, lt, e) = elim (lesser m x) [ inl h ↦ (0, omega arith, sym h ∙ e) | inr h ↦ (1, omega arith, sym h ∙ e) ]
+    go (suc k, lt, e) = (suc (suc k), omega arith, e)
+
+is_least : (xs : List ℕ) → MatchOption (reduce min xs) (xs ≡ []) (λ t. Contains xs t × All (λ (u : ℕ). t ≤ u) xs)
+is_least [] = refl
+is_least (x ∷ xs) = (contains_least x xs, λ k d lt. least_each x xs k d lt)
+
+pub next_is_least : (ds : List Waveform) → IsNext ds (next_time ds)
+unfolding next_time
+next_is_least ds = is_least (pending_times ds)
+
+-- ---- the first pending time
+
+pub none_first : (d : Waveform) (xs : List Transaction) → xs ≡ d.pending → RisesFrom 0 xs → None ≡ slice_get xs 0 → None ≡ next_time (d ∷ [])
+none_first d xs is r e = first_none xs e ∙ sym (only_next 0 d xs is r)
+  where
+    first_none : (xs : List Transaction) → None ≡ slice_get xs 0 → None ≡ next_of xs
+    first_none [] e = refl
+    first_none (x ∷ xs) e = absurd cc
+
+pub some_first : (d : Waveform) (xs : List Transaction) (x : Transaction) → xs ≡ d.pending → RisesFrom 0 xs → Some x ≡ slice_get xs 0 → Some x.0 ≡ next_time
+    (d ∷ [])
+some_first d xs x is r e = first_some xs e ∙ sym (only_next 0 d xs is r)
+  where
+    first_some : (xs : List Transaction) → Some x ≡ slice_get xs 0 → Some x.0 ≡ next_of xs
+    first_some [] e = absurd cc
+    first_some (y ∷ xs) e = ap (λ (z : Transaction). Some z.0) (ap (λ (o : Option Transaction). unwrap_or o x) e)

@@ -1,0 +1,15 @@
+use Rattle.std.proofs.Common.{ℕ, ◌≡◌, ◌≤◌, ◌-◌, length}
+use Rattle.sim_store_sets.specs.Times.{time_of}
+use Rattle.sim_store_state.specs.Changes.{time_at}
+use Rattle.sim_store_state.proofs.Walks.{Walked}
+use Rattle.sim_store_state.proofs.drivers.bring_up_to_date.Given as goal
+
+abbrev pub invariant-loop-number : goal.invariant-loop-number
+invariant-loop-number l = record {
+  sized : length l.queue ≡ length l.drivers;
+  within : l.from ≤ length l.drivers;
+  walked : Walked l.stale l.from (λ (d : ℕ). time_of l.queue d ≡ time_at l.drivers d);
+}
+
+abbrev pub decreases-loop-number : goal.decreases-loop-number
+decreases-loop-number l = length l.drivers - l.from

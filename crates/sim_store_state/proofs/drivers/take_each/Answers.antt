@@ -1,0 +1,52 @@
+use Rattle.std.proofs.Common.{arith, refl, ap, length, ◌∙◌}
+use Rattle.std.proofs.lemmas.List.{length-set}
+use Rattle.sim_standard.specs.Drivers.{taken}
+use Rattle.sim_standard.specs.State.{driver_at}
+use Rattle.sim_store_state.proofs.Walks.{member_within, walk_done}
+use Rattle.sim_store_state.proofs.Taking.{none-taken, taken-more, rest-more, all-same}
+use Rattle.sim_store_state.proofs.drivers.take_each.Goals as goal
+
+pub loop-number-init : goal.loop-number-init
+loop-number-init c = record {
+  sized = refl;
+  long = refl;
+  within = omega arith;
+  rest = λ d le. refl;
+  walked = none-taken c.args.time c.args.drivers.now c.args.fan_out.now c.args.touched.now c.args.due.now c.requires.others;
+}
+
+pub row-requires : goal.row-requires
+row-requires c =
+    omega (arith, member_within c.args.due.now c.in-Some.number c.in-Some.ensures.passes, c.requires.due, c.requires.fan_out)
+
+pub take_one-requires : goal.take_one-requires
+take_one-requires c =
+    omega (arith, member_within c.args.due.now c.in-Some.number c.in-Some.ensures.passes, c.requires.due, c.loop-number.invariant.long)
+
+pub loop-number-preserved : goal.loop-number-preserved
+loop-number-preserved c =
+    let k = c.in-Some.number in
+    let old = c.args.drivers.now in
+    let now = c.loop-number.drivers in
+    let i = c.loop-number.invariant in
+    let e = c.take_one.ensures in
+    let within = member_within c.args.due.now k c.in-Some.ensures.passes in
+    record {
+      sized = e.sized ∙ i.sized;
+      long = ap length e.drivers ∙ (length-set now k (taken c.args.time (driver_at now k)) ∙ i.long);
+      within = omega (arith, within, c.requires.due);
+      rest = rest-more c.args.time old now c.take_one.new.drivers c.loop-number.from k c.in-Some.ensures.further i.rest e.drivers;
+      walked = taken-more c.args.time old c.args.fan_out.now now c.take_one.new.drivers c.loop-number.touched c.take_one.new.touched c.args.due.now
+          c.loop-number.from k i.walked c.in-Some.ensures (omega (arith, within, c.requires.due, i.long)) (i.rest k c.in-Some.ensures.further) e.drivers
+          e.sized e.kept (rw c.row.ensures at e.reached);
+    }
+
+pub returns : goal.returns
+returns c =
+    let i = c.loop-number.invariant in
+    let each = walk_done i.walked c.in_default.ensures in
+    record {
+      drivers = all-same c.loop-number.drivers c.args.drivers.now c.args.time i.long (λ d. (each d).driver);
+      sized = i.sized;
+      reached = λ d. (each d).nets;
+    }

@@ -1,0 +1,26 @@
+use Rattle.std.proofs.Common.{ℕ, sym, ◌++◌, ◌∷◌, [], List, ap, length, arith, ◌∙◌}
+use Rattle.std.specs.List.{enumerate_from}
+use Rattle.sim_logic.specs.declared.logic.Logic.{Logic}
+use Rattle.sim_standard.specs.Records.{values_of}
+use Rattle.sim_store_state.proofs.Logged.{all_values}
+use Rattle.sim_store_state.specs.Contents.{Contents}
+use Rattle.sim_store_state.proofs.Contents.{net-count}
+use Rattle.sim_store_state.proofs.flat_state.FlatState.record_all.Goals as goal
+
+pub append_all-requires : goal.append_all-requires
+append_all-requires c =
+    let n = net-count c.self.view_is c.self.invariant.lists in
+    let v = ap length c.as_slice.ensures.value in
+    record {
+      few = omega (arith, c.requires.few, n, v);
+      mark = c.requires.mark;
+      changes = omega (arith, c.requires.changes, n, v);
+    }
+
+pub returns : goal.returns
+returns c =
+    let s = c.self.inside in
+    let as_record = λ (changes : List (ℕ × Logic)). c.args.log.now.records ++ record { time = c.args.time; delta = c.args.delta; changes = changes } ∷ [] in
+    c.append_all.ensures ∙ (ap (λ v. as_record (enumerate_from 0 v)) c.as_slice.ensures.value
+    ∙ (ap as_record (sym (all_values 0 s.values.items s.last_values.items c.self.invariant.lists.nets)) ∙ ap
+    (λ (h : Contents). as_record (values_of h.nets)) c.self.view_is))

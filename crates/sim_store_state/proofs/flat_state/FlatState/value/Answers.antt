@@ -1,0 +1,21 @@
+use Rattle.std.proofs.Common.{◌<◌, length, ap, ◌∙◌, arith}
+use Rattle.sim_logic.specs.declared.logic.Logic.TheVariants.{U}
+use Rattle.sim_standard.specs.declared.net_view.NetView.{NetView}
+use Rattle.sim_standard.specs.State.{net_at}
+use Rattle.sim_store_state.specs.Contents.{Contents}
+use Rattle.sim_store_state.proofs.Contents.{net-count}
+use Rattle.sim_store_state.proofs.Views.{view_here}
+use Rattle.sim_store_state.proofs.flat_state.FlatState.value.Goals as goal
+
+pub returns-then-net-len : goal.returns-then-net-len
+returns-then-net-len c =
+    let s = c.self.inside in
+    let here : c.args.net < length s.values.items = omega (arith, c.len.ensures, c.if-net-len.true) in
+    let last : c.args.net < length s.last_values.items = omega (arith, here, c.self.invariant.lists.nets) in (
+      omega (arith, here, net-count c.self.view_is c.self.invariant.lists),
+      c.index.ensures ∙ (ap (λ (v : NetView). v.value) (view_here s.values.items s.last_values.items c.args.net _ U here last)
+          ∙ ap (λ (g : Contents). (net_at g.nets c.args.net).value) c.self.view_is),
+    )
+
+pub returns-else-net-len : goal.returns-else-net-len
+returns-else-net-len c = omega (arith, c.len.ensures, c.if-net-len.false, net-count c.self.view_is c.self.invariant.lists)

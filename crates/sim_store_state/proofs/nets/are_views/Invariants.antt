@@ -1,0 +1,8 @@
+use Rattle.std.proofs.Common.{◌≡◌, map, take}
+use Rattle.sim_standard.specs.State.{net_at}
+use Rattle.sim_store_state.specs.Contents.{views_of}
+use Rattle.sim_store_state.proofs.nets.are_views.Given as goal
+
+-- they are seen so, as far as this
+abbrev pub invariant-loop-i : goal.invariant-loop-i
+invariant-loop-i l = take l.i l.views ≡ map (net_at (views_of l.values l.last_values)) (take l.i l.numbers)

@@ -1,0 +1,37 @@
+use Rattle.std.proofs.Common.{refl, set, sym, arith, ◌∙◌}
+use Rattle.std.proofs.lemmas.List.{length-set}
+use Rattle.sim_store_state.specs.Changes.{value_at}
+use Rattle.sim_store_state.proofs.Walks.{member_within, walk_start, walk_done}
+use Rattle.sim_store_state.proofs.Values.{same-everywhere, walk-each}
+use Rattle.sim_store_state.proofs.nets.settle.Goals as goal
+
+pub loop-net-init : goal.loop-net-init
+loop-net-init c = record {
+  long = c.requires.sized;
+  within = omega arith;
+  walked = walk_start c.args.touched.now (λ n e. sym (c.requires.touched.still n e));
+}
+
+pub bounds-values-net : goal.bounds-values-net
+bounds-values-net c = omega (arith, member_within c.args.touched.now c.in-Some.net c.in-Some.ensures.passes, c.requires.touched.sized)
+
+pub bounds-last_values-net : goal.bounds-last_values-net
+bounds-last_values-net c =
+    omega (arith, member_within c.args.touched.now c.in-Some.net c.in-Some.ensures.passes, c.requires.touched.sized, c.loop-net.invariant.long)
+
+pub loop-net-preserved : goal.loop-net-preserved
+loop-net-preserved c =
+    let n = c.in-Some.net in
+    let values = c.args.values.now in
+    let within = member_within c.args.touched.now n c.in-Some.ensures.passes in
+    record {
+      long = length-set c.loop-net.last_values n (value_at values n) ∙ c.loop-net.invariant.long;
+      within = omega (arith, within, c.requires.touched.sized);
+      walked = walk-each c.loop-net.last_values (set c.loop-net.last_values n (value_at values n)) (value_at values n)
+          (value_at values) c.loop-net.invariant.walked
+          c.in-Some.ensures (omega (arith, within, c.requires.touched.sized, c.loop-net.invariant.long)) refl refl;
+    }
+
+pub returns : goal.returns
+returns c = same-everywhere c.loop-net.last_values c.args.values.now c.loop-net.invariant.long
+    (λ n _. walk_done c.loop-net.invariant.walked c.in_default.ensures n)

@@ -1,0 +1,81 @@
+-- What is kept beside a state, so that a cycle touches only what changed (IEEE 1076-2008, 14.7.3, 14.7.5).
+-- Of the implementation: what `simulate` promises does not rest on this file.
+use Rattle.std.specs.Prelude.{ℕ, ◌≡◌, ◌<◌, ◌==◌, ◌||◌, List, [], ◌∷◌, Bool, true, false, Option, map, length, slice_index_or}
+use Rattle.sim_logic.specs.declared.logic.Logic.{Logic}
+use Rattle.sim_logic.specs.declared.logic.Logic.TheVariants.{U}
+use Rattle.sim_logic.specs.Resolution.{resolved}
+use Rattle.sim_flat_design.specs.declared.held.Held.{Held}
+use Rattle.sim_flat_design.specs.declared.design.Source.{Source}
+use Rattle.sim_flat_design.specs.declared.design.Source.TheVariants as source
+use Rattle.sim_standard.specs.Drivers.{Waveform, next_time}
+use Rattle.sim_store_sets.specs.RowArray.{joined}
+use Rattle.sim_store_sets.specs.Numbers.{is_in}
+use Rattle.sim_store_sets.specs.Times.{time_of}
+use Rattle.sim_standard.specs.State.{driver_at}
+use Rattle.sim_standard.specs.Nets.{source_value}
+use Rattle.sim_standard.specs.Orders.{is_among}
+use Rattle.sim_store_state.specs.Contents.{AreLists}
+
+-- ---- the times of the drivers
+
+-- the first pending time of the driver with a number
+abbrev pub time_at : List Waveform → ℕ → Option ℕ
+time_at drivers d = next_time (driver_at drivers d ∷ [])
+
+-- and of each driver
+abbrev pub first_times : List Waveform → List (Option ℕ)
+first_times drivers = map (λ (d : Waveform). next_time (d ∷ [])) drivers
+
+-- There is a time for each driver; it is its first pending time, but for those that are stale.
+pub record AreTimes (times : List (Option ℕ)) (stale : List Bool) (drivers : List Waveform) : Type 0 where
+  pub sized : length times ≡ length drivers
+  pub marked : length stale ≡ length drivers
+  pub current : (d : ℕ) → is_in stale d ≡ false → time_of times d ≡ time_at drivers d
+
+-- ---- the nets of the drivers
+
+-- whether a source is the driver with a number
+abbrev pub is_driver : Source → ℕ → Bool
+is_driver (source.Driver number) d = number == d
+is_driver (source.Constant value) d = false
+
+-- whether the driver with a number is among these sources
+abbrev pub is_source : List Source → ℕ → Bool
+is_source [] d = false
+is_source (s ∷ sources) d = is_driver s d || is_source sources d
+
+-- The nets of each driver, by its number, are those that have it as a source.
+abbrev pub AreFanOut : List (List Source) → List (List ℕ) → Type 0
+AreFanOut sources fan_out =
+    (net driver : ℕ) → driver < length fan_out → is_among (slice_index_or fan_out driver []) net ≡ is_source (slice_index_or sources net []) driver
+
+-- ---- the values of the nets
+
+-- the value of a net with these sources (14.7.3.2)
+abbrev pub row_value : List Waveform → List Source → Logic
+row_value drivers row = resolved (map (source_value drivers) row)
+
+-- the value at a place
+abbrev pub value_at : List Logic → ℕ → Logic
+value_at values n = slice_index_or values n U
+
+-- A net that is not touched has the value that it had last: it has no event.
+pub record AreTouched (values last_values : List Logic) (touched : List Bool) : Type 0 where
+  pub sized : length touched ≡ length values
+  pub still : (n : ℕ) → is_in touched n ≡ false → value_at values n ≡ value_at last_values n
+
+-- Where a driver had one value and has another one now, these nets are touched.
+abbrev pub AreReached : List Bool → List ℕ → Logic → Logic → Type 0
+AreReached touched nets before now = (n : ℕ) → n < length touched → is_in touched n ≡ false → is_among nets n ≡ true → now ≡ before
+
+-- ---- all of it
+
+-- These lists hold a state: each net has the value of its sources, and what is kept beside it is right.
+pub record IsHeld (values last_values : List Logic) (drivers : List (List Waveform)) (variables : List (List Held)) (sources : List (List Source))
+    (fan_out : List (List ℕ)) (times : List (Option ℕ)) (stale touched : List Bool) : Type 0 where
+  pub lists : AreLists values last_values drivers variables
+  pub timed : AreTimes times stale (joined drivers)
+  pub fan_out_count : length fan_out ≡ length (joined drivers)
+  pub driving : AreFanOut sources fan_out
+  pub resolving : values ≡ map (row_value (joined drivers)) sources
+  pub touching : AreTouched values last_values touched

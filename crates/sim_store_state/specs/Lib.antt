@@ -1,0 +1,4 @@
+pub mod Contents
+pub mod Sensitive
+pub mod Changes
+pub mod Log

@@ -1,0 +1,82 @@
+//! The execution of a process in place, on its part of flat lists.
+
+ghost use Rattle.std.specs.Prelude.{◌≡◌, ◌<◌, ◌≤◌, ◌++◌, [], length, take, drop, slice_range, slice_index_or, slice_set, OnOk};
+ghost use Rattle.sim_logic.specs.Time.{largest_time};
+ghost use Rattle.sim_exec.specs.Jobs.{IsReady};
+ghost use Rattle.sim_standard.specs.State.{driver_values};
+ghost use Rattle.sim_standard.specs.Statements.{executed};
+
+use sim_flat_design::{Body, Held};
+use sim_exec::Nets;
+use sim_store_sets::{RowArray, bounds};
+use sim_wave::Driver;
+use std::alloc::{AllocError, Global};
+
+/// Executes a body, where what its process owns stands between these bounds.
+fn execute_between<N: Nets>(
+    alloc: Global,
+    nets: &N,
+    now: u64,
+    body: &Body,
+    drivers: &mut [Driver],
+    owned: (usize, usize),
+    variables: &mut [Held],
+    held: (usize, usize),
+) -> Result<(), AllocError>
+    requires now { now ≤ largest_time }
+    requires owned { (owned.0 ≤ owned.1) × (owned.1 ≤ length drivers.old) }
+    requires held { (held.0 ≤ held.1) × (held.1 ≤ length variables.old) }
+    requires ready { IsReady body.now now (record { drivers = slice_range drivers.old owned.0 owned.1; variables = slice_range variables.old held.0 held.1 }) }
+    ensures drivers { drivers.new ≡ take owned.0 drivers.old ++ slice_range drivers.new owned.0 owned.1 ++ drop owned.1 drivers.old }
+    ensures variables { variables.new ≡ take held.0 variables.old ++ slice_range variables.new held.0 held.1 ++ drop held.1 variables.old }
+    ensures ok { OnOk result (record { drivers = slice_range drivers.new owned.0 owned.1; variables = slice_range variables.new held.0 held.1 }
+        ≡ executed (N.look nets.now) now body.now.statements
+        (record { drivers = slice_range drivers.old owned.0 owned.1; variables = slice_range variables.old held.0 held.1 })) }
+    ensures ready { IsReady body.now now (record { drivers = slice_range drivers.new owned.0 owned.1; variables = slice_range variables.new held.0 held.1 }) }
+    ensures values { driver_values (slice_range drivers.new owned.0 owned.1) ≡ driver_values (slice_range drivers.old owned.0 owned.1) }
+{
+    sim_exec::execute(
+        alloc,
+        nets,
+        now,
+        body,
+        &mut drivers[owned.0..owned.1],
+        &mut variables[held.0..held.1],
+    )
+}
+
+/// Executes the body of the process with a number.
+pub fn execute_at<N: Nets>(
+    alloc: Global,
+    nets: &N,
+    now: u64,
+    body: &Body,
+    number: usize,
+    drivers: &mut RowArray<Driver>,
+    variables: &mut RowArray<Held>,
+) -> Result<(), AllocError>
+    requires now { now ≤ largest_time }
+    requires drivers { number < length drivers.old }
+    requires variables { number < length variables.old }
+    requires ready { IsReady body.now now (record { drivers = slice_index_or drivers.old number []; variables = slice_index_or variables.old number [] }) }
+    ensures drivers { drivers.new ≡ slice_set drivers.old number (slice_index_or drivers.new number []) }
+    ensures variables { variables.new ≡ slice_set variables.old number (slice_index_or variables.new number []) }
+    ensures ok { OnOk result (record { drivers = slice_index_or drivers.new number []; variables = slice_index_or variables.new number [] }
+        ≡ executed (N.look nets.now) now body.now.statements
+        (record { drivers = slice_index_or drivers.old number []; variables = slice_index_or variables.old number [] })) }
+    ensures ready { IsReady body.now now (record { drivers = slice_index_or drivers.new number []; variables = slice_index_or variables.new number [] }) }
+    ensures values { driver_values (slice_index_or drivers.new number []) ≡ driver_values (slice_index_or drivers.old number []) }
+{
+    let owned = bounds(drivers.starts.as_slice(), number);
+    let held = bounds(variables.starts.as_slice(), number);
+    execute_between(
+        alloc,
+        nets,
+        now,
+        body,
+        drivers.flat.as_mut_slice(),
+        owned,
+        variables.flat.as_mut_slice(),
+        held,
+    )
+}

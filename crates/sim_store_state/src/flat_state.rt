@@ -1,0 +1,302 @@
+//! What is held of the state of a design.
+
+ghost use Rattle.std.specs.Prelude.{ℕ, ◌≡◌, ◌↔◌, IsTrue, ◌<◌, ◌≤◌, ◌^◌, ◌++◌, ◌∷◌, [], List, Some, length, map, slice_set, MatchOption};
+ghost use Rattle.std.specs.Prelude.{IfOk, OnOk, OnErr};
+ghost use Rattle.std.specs.Bool.{Decides};
+ghost use Rattle.sim_logic.specs.Time.{largest_time};
+ghost use Rattle.sim_flat_design.specs.Designs.{Design as design_value};
+ghost use Rattle.sim_flat_design.specs.Processes.{Process as process_value};
+ghost use Rattle.sim_store_sets.specs.Numbers.{is_in};
+ghost use Rattle.sim_exec.specs.Jobs.{IsReady};
+ghost use Rattle.sim_standard.specs.Processes.{object_net, process_at};
+ghost use Rattle.sim_standard.specs.State.{State, driver_values, net_at, owned_at};
+ghost use Rattle.sim_standard.specs.Statements.{executed};
+ghost use Rattle.sim_standard.specs.Drivers as spec;
+ghost use Rattle.sim_standard.specs.State as states;
+ghost use Rattle.sim_standard.specs.Initialization.{first_state};
+ghost use Rattle.sim_standard.specs.Cycle.{has_event_in, updated};
+ghost use Rattle.sim_store_state.specs.Contents.{contents_of};
+ghost use Rattle.sim_standard.specs.Records.{changes_from, values_of};
+ghost use Rattle.sim_store_state.specs.Sensitive.{AreSensitive};
+
+use crate::drivers::{are_same, bring_up_to_date, copied, mark_stale, take_due};
+use crate::execution::execute_at;
+use crate::log::Log;
+use crate::nets::{Seen, are_views, resolve_touched, settle, views_at};
+use crate::resumption::find_resumed;
+use crate::start::{connections, first_contents, nothing_pending};
+use sim_flat_design::{Design, Held, Process, Source};
+use sim_exec::NetView;
+use sim_logic::Logic;
+use sim_store_sets::{NumberSet, TimeQueue};
+use sim_store_sets::RowArray;
+use sim_wave::Driver;
+use std::alloc::{AllocError, Global};
+use std::marker::Model;
+
+/// The nets of a design, and what its processes own, in flat lists: values and last values by net,
+/// drivers and variables by process and place. Beside these it holds what a cycle has to look at,
+/// so that it costs no more for what is as it was: a net that is not touched has no event, and the
+/// time in the queue of a driver that is not stale is its own.
+#[derive(Drop)]
+pub struct FlatState {
+    values: Vec<Logic>,
+    last_values: Vec<Logic>,
+    drivers: RowArray<Driver>,
+    variables: RowArray<Held>,
+    /// Of each net.
+    sources: RowArray<Source>,
+    /// The nets of each driver.
+    fan_out: RowArray<usize>,
+    /// The first pending time of each driver that is not stale.
+    queue: TimeQueue,
+    stale: NumberSet,
+    /// The nets that may have an event.
+    touched: NumberSet,
+}
+
+impl Model for FlatState {
+    ghost use Rattle.sim_store_state.specs.Contents.{Contents, views_of, owned_lists};
+    ghost use Rattle.sim_store_state.specs.Changes.{IsHeld};
+
+    ghost Value = { Contents };
+
+    ghost view = { λ s. record {
+      sources = s.sources;
+      nets = views_of s.values.items s.last_values.items;
+      owned = owned_lists s.drivers s.variables;
+    } };
+
+    ghost invariant = { λ s. IsHeld s.values.items s.last_values.items s.drivers s.variables s.sources s.fan_out s.queue s.stale s.touched };
+}
+
+/// The part of a state that a process sees: the nets that it reads, and what it owns.
+#[derive(Drop)]
+pub struct Part {
+    pub views: Vec<NetView>,
+    pub drivers: Vec<Driver>,
+    pub variables: Vec<Held>,
+}
+
+/// Whether these variables hold the same.
+fn are_equal(variables: &[Held], others: &[Held]) -> bool
+    ensures { Decides result (variables.now ≡ others.now) }
+{
+    variables == others
+}
+
+impl FlatState {
+    /// The state of a design before any process is executed: each driver has its first value, each
+    /// net the value of its sources (14.7.5.2).
+    pub fn first(alloc: Global, design: &Design) -> Result<FlatState, AllocError>
+        ensures { IfOk result (λ s. s ≡ contents_of design.now (first_state design.now)) }
+    {
+        let first = first_contents(alloc, design)?;
+        let count = first.drivers.flat().len();
+        let (sources, fan_out) = connections(alloc, design, count)?;
+        let (queue, stale, touched) = nothing_pending(alloc, count, first.values.len())?;
+        Ok(FlatState {
+            values: first.values,
+            last_values: first.last_values,
+            drivers: first.drivers,
+            variables: first.variables,
+            sources,
+            fan_out,
+            queue,
+            stale,
+            touched,
+        })
+    }
+
+    /// The value of the net with a number; none beyond the last.
+    pub fn value(&self, net: usize) -> Option<Logic>
+        ensures { MatchOption result (length self.now.nets ≤ net) (λ v. (net < length self.now.nets) × (v ≡ (net_at self.now.nets net).value)) }
+    {
+        if net < self.values.len() {
+            Some(self.values[net])
+        } else {
+            None
+        }
+    }
+
+    /// Copies the part of the process with a number, which reads these nets. For an empty list it
+    /// takes no memory.
+    pub fn part(&self, alloc: Global, number: usize, reads: &[usize]) -> Result<Part, AllocError>
+        requires { number < length self.now.owned }
+        ensures views { IfOk result (λ r. r.views.items ≡ map (net_at self.now.nets) reads.now) }
+        ensures owned { IfOk result (λ r. record { drivers = r.drivers.items; variables = r.variables.items } ≡ owned_at self.now.owned number) }
+    {
+        let views = views_at(alloc, self.values.as_slice(), self.last_values.as_slice(), reads)?;
+        let drivers = copied(alloc, self.drivers.row(number))?;
+        let variables = Vec::from_slice(alloc, self.variables.row(number))?;
+        Ok(Part {
+            views,
+            drivers,
+            variables,
+        })
+    }
+
+    /// Whether this is the part of the process with a number, which reads these nets. It takes no
+    /// memory.
+    pub fn is_part(
+        &self,
+        number: usize,
+        reads: &[usize],
+        views: &[NetView],
+        variables: &[Held],
+        drivers: &[Driver],
+    ) -> bool
+        requires { number < length self.now.owned }
+        ensures { IsTrue result ↔ ((views.now ≡ map (net_at self.now.nets) reads.now)
+            × (record { drivers = drivers.now; variables = variables.now } ≡ owned_at self.now.owned number)) }
+    {
+        if !are_views(self.values.as_slice(), self.last_values.as_slice(), reads, views) {
+            return false;
+        }
+        if !are_same(drivers, self.drivers.row(number)) {
+            return false;
+        }
+        are_equal(variables, self.variables.row(number))
+    }
+
+    /// Puts what the process with a number owns in the place of what it owned: its drivers have the
+    /// values that they had. It takes no memory.
+    pub fn put(&mut self, number: usize, drivers: Vec<Driver>, variables: Vec<Held>)
+        requires at { number < length self.old.owned }
+        requires drivers { length drivers.items ≡ length (owned_at self.old.owned number).drivers }
+        requires values { driver_values drivers.items ≡ driver_values (owned_at self.old.owned number).drivers }
+        requires variables { length variables.items ≡ length (owned_at self.old.owned number).variables }
+        ensures { self.new ≡ record self.old { owned = slice_set self.old.owned number (record { drivers = drivers.items; variables = variables.items }) } }
+    {
+        let mut drivers = drivers;
+        let mut variables = variables;
+        mark_stale(&mut self.stale, &self.drivers, number);
+        self.drivers.put(number, drivers.as_mut_slice());
+        self.variables.put(number, variables.as_mut_slice());
+    }
+
+    /// The time of the next cycle (14.7.5.1). It looks only at drivers that may have another first
+    /// transaction than at the call before.
+    pub fn next(&mut self) -> Result<Option<u64>, AllocError>
+        ensures same { self.new ≡ self.old }
+        ensures value { IfOk result (λ next. next ≡ spec.next_time (states.waves self.old.owned)) }
+        ensures least { IfOk result (λ next. spec.IsNext (states.waves self.old.owned) next) }
+    {
+        bring_up_to_date(&mut self.queue, &self.stale, self.drivers.flat())?;
+        self.stale.clear();
+        Ok(self.queue.least())
+    }
+
+    /// The cycle at the time of the next: drivers take what is pending then, and nets the values of
+    /// their sources (14.7.5.3). It looks only at drivers that take a transaction, and at nets that
+    /// have one with another value as a source. If allocation fails nothing changes.
+    pub fn update(&mut self, time: u64) -> Result<(), AllocError>
+        requires next { spec.next_time (states.waves self.old.owned) ≡ Some time }
+        ensures ok { OnOk result ((design : design_value) (s : State) → self.old ≡ contents_of design s
+            → self.new ≡ contents_of design (updated design s time)) }
+        ensures err { OnErr result (self.new ≡ self.old) }
+    {
+        bring_up_to_date(&mut self.queue, &self.stale, self.drivers.flat())?;
+        settle(
+            self.last_values.as_mut_slice(),
+            self.values.as_slice(),
+            &self.touched,
+        );
+        self.touched.clear();
+        self.queue.take(time, &mut self.stale);
+        take_due(
+            &mut self.drivers,
+            time,
+            &self.stale,
+            &self.fan_out,
+            &mut self.touched,
+        );
+        resolve_touched(
+            self.values.as_mut_slice(),
+            &self.touched,
+            &self.sources,
+            self.drivers.flat(),
+        );
+        Ok(())
+    }
+
+    /// Executes a process, which has this number, in place. If allocation fails, what it owns must
+    /// not be executed again.
+    pub fn execute(
+        &mut self,
+        alloc: Global,
+        number: usize,
+        process: &Process,
+        time: u64,
+    ) -> Result<(), AllocError>
+        requires at { number < length self.old.owned }
+        requires time { time ≤ largest_time }
+        requires ready { IsReady process.now.body time (owned_at self.old.owned number) }
+        ensures alone { self.new ≡ record self.old { owned = slice_set self.old.owned number (owned_at self.new.owned number) } }
+        ensures ok { OnOk result (self.new ≡ record self.old {
+          owned = slice_set self.old.owned number
+              (executed (λ object. net_at self.old.nets (object_net process.now object)) time process.now.body.statements (owned_at self.old.owned number));
+        }) }
+        ensures ready { IsReady process.now.body time (owned_at self.new.owned number) }
+    {
+        let seen = Seen {
+            object_nets: process.nets(),
+            values: self.values.as_slice(),
+            last_values: self.last_values.as_slice(),
+        };
+        mark_stale(&mut self.stale, &self.drivers, number);
+        execute_at(
+            alloc,
+            &seen,
+            time,
+            process.body(),
+            number,
+            &mut self.drivers,
+            &mut self.variables,
+        )
+    }
+
+    /// Finds the processes that the next step executes, where the last cycle is done: those that
+    /// are sensitive to a net with an event.
+    pub fn find_resumed(&self, resumed: &mut NumberSet, sensitive: &RowArray<usize>)
+        requires { length sensitive.now ≡ length self.now.nets }
+        ensures sized { length resumed.new ≡ length resumed.old }
+        ensures found { (processes : List process_value) (p : ℕ) → AreSensitive processes sensitive.now → p < length resumed.old
+            → is_in resumed.new p ≡ has_event_in self.now.nets (process_at processes p).sensitivity }
+    {
+        find_resumed(
+            resumed,
+            self.values.as_slice(),
+            self.last_values.as_slice(),
+            &self.touched,
+            sensitive,
+        );
+    }
+
+    /// Appends what the last cycle changed to a log that has room for it.
+    pub fn record(&self, log: &mut Log, time: u64, delta: u64)
+        requires few { length self.now.nets < 2 ^ 32 }
+        requires mark { 0 < log.old.marks_room }
+        requires changes { length self.now.nets ≤ log.old.changes_room }
+        ensures { log.new.records ≡ log.old.records ++ record { time = time; delta = delta; changes = changes_from 0 self.now.nets } ∷ [] }
+    {
+        log.append(
+            time,
+            delta,
+            self.values.as_slice(),
+            self.last_values.as_slice(),
+            &self.touched,
+        );
+    }
+
+    /// Appends the value of each net to a log that has room for it, as the record of the
+    /// initialization.
+    pub fn record_all(&self, log: &mut Log, time: u64, delta: u64)
+        requires few { length self.now.nets < 2 ^ 32 }
+        requires mark { 0 < log.old.marks_room }
+        requires changes { length self.now.nets ≤ log.old.changes_room }
+        ensures { log.new.records ≡ log.old.records ++ record { time = time; delta = delta; changes = values_of self.now.nets } ∷ [] }
+    {
+        log.append_all(time, delta, self.values.as_slice());
+    }
+}

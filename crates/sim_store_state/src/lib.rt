@@ -1,0 +1,18 @@
+//! What a simulation holds between two cycles, in flat lists.
+#![tactic(auto)]
+
+mod drivers;
+mod execution;
+mod flat_state;
+pub mod laws;
+mod lists;
+mod log;
+mod nets;
+mod resumption;
+mod sets;
+mod start;
+
+pub use flat_state::{FlatState, Part};
+pub use log::{Log, Mark};
+pub use resumption::sensitive;
+pub use sim_standard::Record;

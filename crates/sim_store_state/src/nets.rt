@@ -1,0 +1,189 @@
+//! Nets: their values (IEEE 1076-2008, 14.7.3), and how processes see them.
+
+ghost use Rattle.std.specs.Prelude.{ℕ, [], ◌≡◌, ◌<◌, false, length, map, fold, slice_index_or, ◌↔◌, IsTrue, IfOk};
+ghost use Rattle.sim_logic.specs.declared.logic.Logic as logic;
+ghost use Rattle.sim_logic.specs.Tables.{resolution_table};
+ghost use Rattle.sim_logic.specs.Resolution.{resolved};
+ghost use Rattle.sim_standard.specs.State.{driver_at, net_at};
+ghost use Rattle.sim_store_sets.specs.Numbers.{is_in};
+ghost use Rattle.sim_store_state.specs.Changes.{AreTouched, row_value, value_at};
+ghost use Rattle.sim_standard.specs.Nets as spec;
+ghost use Rattle.sim_store_state.specs.Contents.{views_of};
+
+use sim_flat_design::Source;
+use sim_exec::{NetView, Nets};
+use sim_logic::{Logic, resolve_two};
+use sim_store_sets::NumberSet;
+use sim_store_sets::RowArray;
+use sim_wave::Driver;
+use std::alloc::{AllocError, Global};
+
+/// The value of the driver with a number.
+fn driver_value(drivers: &[Driver], number: usize) -> Logic
+    ensures { result ≡ (driver_at drivers.now number).value }
+{
+    match drivers.get(number) {
+        Some(driver) => driver.value(),
+        None => Logic::U,
+    }
+}
+
+/// The value of a source.
+fn source_value(source: Source, drivers: &[Driver]) -> Logic
+    ensures { result ≡ spec.source_value drivers.now source }
+{
+    match source {
+        Source::Driver(number) => driver_value(drivers, number),
+        Source::Constant(value) => value,
+    }
+}
+
+/// The values of the sources, resolved from the left.
+fn merged(sources: &[Source], drivers: &[Driver]) -> Logic
+    ensures { result ≡ fold resolution_table logic.Logic.Z (map (spec.source_value drivers.now) sources.now) }
+{
+    let mut value = Logic::Z;
+    for source in sources {
+        value = resolve_two(value, source_value(*source, drivers));
+    }
+    value
+}
+
+/// The value of a net with these sources.
+pub fn net_value(sources: &[Source], drivers: &[Driver]) -> Logic
+    ensures { result ≡ resolved (map (spec.source_value drivers.now) sources.now) }
+{
+    match sources {
+        [only] => source_value(*only, drivers),
+        sources => merged(sources, drivers),
+    }
+}
+
+/// The last values of the nets that are touched become their values; those of the others are.
+pub fn settle(last_values: &mut [Logic], values: &[Logic], touched: &NumberSet)
+    requires sized { length last_values.old ≡ length values.now }
+    requires touched { AreTouched values.now last_values.old touched.now }
+    ensures { last_values.new ≡ values.now }
+{
+    let mut from = 0;
+    while let Some(net) = touched.next(from) {
+        last_values[net] = values[net];
+        from = net + 1;
+    }
+}
+
+/// The nets that are touched get the values of their sources; the others have them.
+pub fn resolve_touched(
+    values: &mut [Logic],
+    touched: &NumberSet,
+    sources: &RowArray<Source>,
+    drivers: &[Driver],
+)
+    requires touched { length touched.now ≡ length values.old }
+    requires sources { length sources.now ≡ length values.old }
+    requires others { (n : ℕ) → is_in touched.now n ≡ false → n < length values.old
+        → value_at values.old n ≡ row_value drivers.now (slice_index_or sources.now n []) }
+    ensures { values.new ≡ map (row_value drivers.now) sources.now }
+{
+    let mut from = 0;
+    while let Some(net) = touched.next(from) {
+        values[net] = net_value(sources.row(net), drivers);
+        from = net + 1;
+    }
+}
+
+/// A net with this value, whose last value was this.
+fn changed_to(value: Logic, last: Logic) -> NetView
+    ensures { result ≡ spec.changed_to value last }
+{
+    NetView {
+        value,
+        event: last != value,
+        last,
+    }
+}
+
+/// The net with a number.
+fn view_at(values: &[Logic], last_values: &[Logic], number: usize) -> NetView
+    ensures { result ≡ net_at (views_of values.now last_values.now) number }
+{
+    if number >= values.len() || number >= last_values.len() {
+        return NetView {
+            value: Logic::U,
+            event: false,
+            last: Logic::U,
+        };
+    }
+    changed_to(values[number], last_values[number])
+}
+
+/// The nets with these numbers.
+pub fn views_at(
+    alloc: Global,
+    values: &[Logic],
+    last_values: &[Logic],
+    numbers: &[usize],
+) -> Result<Vec<NetView>, AllocError>
+    ensures { IfOk result (λ v. v.items ≡ map (net_at (views_of values.now last_values.now)) numbers.now) }
+{
+    let mut views = Vec::with_capacity(alloc, numbers.len())?;
+    for number in numbers {
+        views.push(view_at(values, last_values, *number))?;
+    }
+    Ok(views)
+}
+
+/// How a process sees all nets, where these are the nets of its ports and signals.
+#[derive(Clone, Copy)]
+pub struct Seen<'a> {
+    pub object_nets: &'a [usize],
+    pub values: &'a [Logic],
+    pub last_values: &'a [Logic],
+}
+
+/// The number of the net of a port or signal.
+fn object_net(object_nets: &[usize], object: usize) -> usize
+    ensures { result ≡ slice_index_or object_nets.now object 0 }
+{
+    match object_nets.get(object) {
+        Some(number) => *number,
+        None => 0,
+    }
+}
+
+impl<'a> Nets for Seen<'a> {
+    ghost look = { λ s object. net_at (views_of s.values.now s.last_values.now) (slice_index_or s.object_nets.now object 0) };
+
+    fn view(&self, object: usize) -> NetView {
+        view_at(self.values, self.last_values, object_net(self.object_nets, object))
+    }
+}
+
+/// Whether two views are one.
+fn are_one(view: NetView, other: NetView) -> bool
+    ensures { IsTrue result ↔ (view ≡ other) }
+{
+    view.value == other.value && view.event == other.event && view.last == other.last
+}
+
+/// Whether the net with a number is seen so.
+fn is_seen(values: &[Logic], last_values: &[Logic], number: usize, view: NetView) -> bool
+    ensures { IsTrue result ↔ (view ≡ net_at (views_of values.now last_values.now) number) }
+{
+    are_one(view, view_at(values, last_values, number))
+}
+
+/// Whether the nets with these numbers are seen so.
+pub fn are_views(values: &[Logic], last_values: &[Logic], numbers: &[usize], views: &[NetView]) -> bool
+    ensures { IsTrue result ↔ (views.now ≡ map (net_at (views_of values.now last_values.now)) numbers.now) }
+{
+    if views.len() != numbers.len() {
+        return false;
+    }
+    for i in 0..views.len() {
+        if !is_seen(values, last_values, numbers[i], views[i]) {
+            return false;
+        }
+    }
+    true
+}

@@ -1,0 +1,40 @@
+//! Many members of a set at once.
+
+ghost use Rattle.std.specs.Prelude.{ℕ, ◌≡◌, ◌<◌, ◌≤◌, ◌⊎◌, ◌||◌, ◌==◌, false, length};
+ghost use Rattle.sim_store_sets.specs.Numbers.{is_in};
+ghost use Rattle.sim_standard.specs.Orders.{is_among};
+
+use sim_store_sets::NumberSet;
+
+/// Makes a number a member, if it is below the bound.
+fn insert_below(set: &mut NumberSet, number: usize)
+    ensures sized { length set.new ≡ length set.old }
+    ensures members { (n : ℕ) → n < length set.old → is_in set.new n ≡ ((number == n) || is_in set.old n) }
+{
+    if number < set.len() {
+        set.insert(number);
+    }
+}
+
+/// Makes numbers members, those that are below the bound.
+pub fn insert_each(set: &mut NumberSet, numbers: &[usize])
+    ensures sized { length set.new ≡ length set.old }
+    ensures members { (n : ℕ) → n < length set.old → is_in set.new n ≡ (is_among numbers.now n || is_in set.old n) }
+{
+    for number in numbers {
+        insert_below(set, *number);
+    }
+}
+
+/// Makes each number of a range a member.
+pub fn insert_range(set: &mut NumberSet, start: usize, end: usize)
+    requires order { start ≤ end }
+    requires within { end ≤ length set.old }
+    ensures sized { length set.new ≡ length set.old }
+    ensures members { (n : ℕ) → is_in set.new n ≡ false → (is_in set.old n ≡ false) × ((n < start) ⊎ (end ≤ n)) }
+    ensures others { (n : ℕ) → (n < start) ⊎ (end ≤ n) → is_in set.new n ≡ is_in set.old n }
+{
+    for number in start..end {
+        set.insert(number);
+    }
+}

@@ -1,0 +1,235 @@
+//! The state of a design before any process is executed (IEEE 1076-2008, 14.7.5.2), and what is
+//! made once for its cycles.
+
+ghost use Rattle.std.specs.Prelude.{ℕ, [], None, false, ◌≡◌, ◌+◌, ◌<◌, ◌≤◌, ◌==◌, ◌||◌, ◌&&◌, map, length, take, drop, slice_index_or, replicate, IfOk, OnOk};
+ghost use Rattle.std.specs.List.{All};
+ghost use Rattle.sim_standard.specs.Initialization as at_start;
+ghost use Rattle.sim_standard.specs.Nets.{net_value};
+ghost use Rattle.sim_store_state.specs.Changes.{AreFanOut, is_source, is_driver};
+ghost use Rattle.sim_store_state.specs.Contents.{sources_of};
+ghost use Rattle.sim_standard.specs.Orders.{is_among};
+ghost use Rattle.sim_store_sets.specs.RowArray.{joined};
+
+use crate::lists::{add, empty_lists, in_rows};
+use crate::nets::net_value;
+use sim_flat_design::{Design, DriverOf, Held, Net, Process, Source};
+use sim_logic::Logic;
+use sim_store_sets::{NumberSet, TimeQueue};
+use sim_store_sets::RowArray;
+use sim_wave::Driver;
+use sqlite_items::Items;
+use std::alloc::{AllocError, Global};
+
+/// Drivers with their first values and nothing pending.
+fn idle_drivers(alloc: Global, drivers: &[DriverOf]) -> Result<Vec<Driver>, AllocError>
+    ensures { IfOk result (λ v. v.items ≡ map (λ d. at_start.idle d.first) drivers.now) }
+{
+    drivers
+        .iter()
+        .map(|driver| Driver::new(alloc, driver.first))
+        .collect(alloc)
+}
+
+/// The drivers of a process.
+fn drivers_of<'a>(drivers: &'a [DriverOf], process: &Process) -> &'a [DriverOf]
+    requires { process.now.first_driver + process.now.body.drivers ≤ length drivers.now }
+    ensures { result.now ≡ take process.now.body.drivers (drop process.now.first_driver drivers.now) }
+{
+    let first = process.first_driver();
+    &drivers[first..first + process.body().drivers()]
+}
+
+/// The drivers of a process at first.
+fn own_drivers(
+    alloc: Global,
+    drivers: &[DriverOf],
+    process: &Process,
+) -> Result<Vec<Driver>, AllocError>
+    requires { process.now.first_driver + process.now.body.drivers ≤ length drivers.now }
+    ensures { IfOk result (λ v. v.items ≡ (at_start.first_owned drivers.now process.now).drivers) }
+{
+    idle_drivers(alloc, drivers_of(drivers, process))
+}
+
+/// The drivers of each process at first.
+fn first_drivers(
+    alloc: Global,
+    drivers: &[DriverOf],
+    processes: &[Process],
+) -> Result<RowArray<Driver>, AllocError>
+    requires { All (λ p. p.first_driver + p.body.drivers ≤ length drivers.now) processes.now }
+    ensures { IfOk result (λ r. r ≡ map (λ p. (at_start.first_owned drivers.now p).drivers) processes.now) }
+{
+    let mut rows = RowArray::new(alloc)?;
+    for process in processes {
+        rows.append(own_drivers(alloc, drivers, process)?)?;
+    }
+    Ok(rows)
+}
+
+/// The variables of each process at first.
+fn first_variables(alloc: Global, processes: &[Process]) -> Result<RowArray<Held>, AllocError>
+    ensures { IfOk result (λ r. r ≡ map (λ p. p.body.variables) processes.now) }
+{
+    let mut rows = RowArray::new(alloc)?;
+    for process in processes {
+        rows.push_row(process.body().variables())?;
+    }
+    Ok(rows)
+}
+
+/// The drivers and the variables of each process at first.
+fn first_owned(alloc: Global, design: &Design) -> Result<(RowArray<Driver>, RowArray<Held>), AllocError>
+    ensures drivers { IfOk result (λ r. r.0 ≡ map (λ p. (at_start.first_owned design.now.drivers p).drivers) design.now.processes) }
+    ensures variables { IfOk result (λ r. r.1 ≡ map (λ p. p.body.variables) design.now.processes) }
+{
+    let drivers = first_drivers(alloc, design.drivers(), design.processes())?;
+    let variables = first_variables(alloc, design.processes())?;
+    Ok((drivers, variables))
+}
+
+/// The value of each net.
+fn values(alloc: Global, nets: &[Net], drivers: &[Driver]) -> Result<Vec<Logic>, AllocError>
+    ensures { IfOk result (λ v. v.items ≡ map (net_value drivers.now) nets.now) }
+{
+    let mut values = Vec::with_capacity(alloc, nets.len())?;
+    for net in nets {
+        values.push(net_value(net.sources(), drivers))?;
+    }
+    Ok(values)
+}
+
+/// The value of each net, and the value that it had before, which is the same.
+fn first_values(
+    alloc: Global,
+    nets: &[Net],
+    drivers: &[Driver],
+) -> Result<(Vec<Logic>, Vec<Logic>), AllocError>
+    ensures values { IfOk result (λ r. r.0.items ≡ map (net_value drivers.now) nets.now) }
+    ensures last_values { IfOk result (λ r. r.1.items ≡ r.0.items) }
+{
+    let values = values(alloc, nets, drivers)?;
+    let last_values = Vec::from_slice(alloc, values.as_slice())?;
+    Ok((values, last_values))
+}
+
+/// What processes own at first, and the values of nets that come of it.
+#[derive(Drop)]
+pub struct FirstContents {
+    pub drivers: RowArray<Driver>,
+    pub variables: RowArray<Held>,
+    pub values: Vec<Logic>,
+    pub last_values: Vec<Logic>,
+}
+
+/// What a design begins with.
+pub fn first_contents(alloc: Global, design: &Design) -> Result<FirstContents, AllocError>
+    ensures drivers { IfOk result (λ r. r.drivers ≡ map (λ p. (at_start.first_owned design.now.drivers p).drivers) design.now.processes) }
+    ensures variables { IfOk result (λ r. r.variables ≡ map (λ p. p.body.variables) design.now.processes) }
+    ensures values { IfOk result (λ r. r.values.items ≡ map (net_value (joined r.drivers)) design.now.nets) }
+    ensures last_values { IfOk result (λ r. r.last_values.items ≡ r.values.items) }
+{
+    let (drivers, variables) = first_owned(alloc, design)?;
+    let (values, last_values) = first_values(alloc, design.nets(), drivers.flat())?;
+    Ok(FirstContents {
+        drivers,
+        variables,
+        values,
+        last_values,
+    })
+}
+
+/// The sources of each net of a design, side by side.
+fn sources(alloc: Global, design: &Design) -> Result<RowArray<Source>, AllocError>
+    ensures { IfOk result (λ r. r ≡ sources_of design.now.nets) }
+{
+    let mut rows = RowArray::new(alloc)?;
+    for net in design.nets() {
+        rows.push_row(net.sources())?;
+    }
+    Ok(rows)
+}
+
+/// A source of a net: where it is a driver, the net is one of that driver's.
+fn add_source(fan_out: &mut [Items<usize>], net: usize, source: Source) -> Result<(), AllocError>
+    ensures { OnOk result ((n d : ℕ) → d < length fan_out.old
+        → is_among (slice_index_or fan_out.new d []) n ≡ (is_among (slice_index_or fan_out.old d []) n || (is_driver source d && (net == n)))) }
+{
+    match source {
+        Source::Driver(number) => {
+            add(fan_out, number, net)?;
+            Ok(())
+        }
+        Source::Constant(_) => Ok(()),
+    }
+}
+
+/// The sources of a net: it is a net of each driver among them.
+fn add_sources(
+    fan_out: &mut [Items<usize>],
+    net: usize,
+    sources: &[Source],
+) -> Result<(), AllocError>
+    ensures { OnOk result ((n d : ℕ) → d < length fan_out.old
+        → is_among (slice_index_or fan_out.new d []) n ≡ (is_among (slice_index_or fan_out.old d []) n || (is_source sources.now d && (net == n)))) }
+{
+    for source in sources {
+        add_source(fan_out, net, *source)?;
+    }
+    Ok(())
+}
+
+/// The sources of all nets.
+fn add_nets(fan_out: &mut [Items<usize>], sources: &RowArray<Source>) -> Result<(), AllocError>
+    ensures { OnOk result ((n d : ℕ) → d < length fan_out.old
+        → is_among (slice_index_or fan_out.new d []) n ≡ (is_among (slice_index_or fan_out.old d []) n || is_source (slice_index_or sources.now n []) d)) }
+{
+    for net in 0..sources.len() {
+        add_sources(fan_out, net, sources.row(net))?;
+    }
+    Ok(())
+}
+
+/// For each of this number of drivers, the nets that have it as a source. A driver beyond them is
+/// passed over. It takes time in proportion to the drivers and to all sources.
+fn fan_out(alloc: Global, sources: &RowArray<Source>, drivers: usize) -> Result<RowArray<usize>, AllocError>
+    ensures value { IfOk result (λ r. AreFanOut sources.now r) }
+    ensures drivers { IfOk result (λ r. length r ≡ drivers) }
+{
+    let mut lists = empty_lists(alloc, drivers)?;
+    add_nets(lists.as_mut_slice(), sources)?;
+    in_rows(alloc, lists.as_slice())
+}
+
+/// The sources of each net of a design, and the nets of each of its drivers, of which there are
+/// this many.
+pub fn connections(
+    alloc: Global,
+    design: &Design,
+    drivers: usize,
+) -> Result<(RowArray<Source>, RowArray<usize>), AllocError>
+    ensures sources { IfOk result (λ r. r.0 ≡ sources_of design.now.nets) }
+    ensures fan_out { IfOk result (λ r. AreFanOut r.0 r.1) }
+    ensures drivers { IfOk result (λ r. length r.1 ≡ drivers) }
+{
+    let sources = sources(alloc, design)?;
+    let fan_out = fan_out(alloc, &sources, drivers)?;
+    Ok((sources, fan_out))
+}
+
+/// That none of these drivers has a pending transaction or is stale, and none of these nets is
+/// touched.
+pub fn nothing_pending(
+    alloc: Global,
+    drivers: usize,
+    nets: usize,
+) -> Result<(TimeQueue, NumberSet, NumberSet), AllocError>
+    ensures queue { IfOk result (λ r. r.0 ≡ replicate drivers None) }
+    ensures stale { IfOk result (λ r. r.1 ≡ replicate drivers false) }
+    ensures touched { IfOk result (λ r. r.2 ≡ replicate nets false) }
+{
+    let queue = TimeQueue::new(alloc, drivers)?;
+    let stale = NumberSet::new(alloc, drivers)?;
+    let touched = NumberSet::new(alloc, nets)?;
+    Ok((queue, stale, touched))
+}

@@ -1,5 +1,0 @@
-pub mod RegionLaws
-pub mod ReadRules
-pub mod ReadsBelow
-pub mod TargetsBelow
-pub mod FittingBlocks

@@ -1,4 +1,0 @@
-pub mod FirstValues
-pub mod Below
-pub mod Reads
-pub mod Templates

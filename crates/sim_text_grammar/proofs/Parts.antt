@@ -1,0 +1,22 @@
+-- A reader in parts: steps of a reader that stand together are a reader of their own, from whose answer the others go on.
+use Rattle.std.proofs.Common.{◌≡◌, refl, Ok, Err, [], ◌∷◌}
+use Rattle.sim_text_tokens.specs.declared.kind.Kind.{Kind}
+use Rattle.sim_text_tree.specs.Input.{Input}
+use Rattle.sim_text_grammar.specs.Readers.{Outcome, Parser, and_then, ◌>>◌, pure, left, many_from, same_kind, separated, take_token}
+
+-- The first step of a part is the first of the whole.
+pub within : {A B C : Type 0} {f : A → Parser C} (x : Outcome A) (g : A → Parser B) (h : B → Parser C)
+    → ((a : A) (i : Input) → f a i ≡ and_then (g a i) h) → and_then x f ≡ and_then (and_then x g) h
+within (Ok p) g h goes_on = goes_on p.0 p.1
+within (Err e) g h goes_on = refl
+
+-- The last step of a part is followed by the rest of the whole.
+pub beyond : {A C : Type 0} {f h : A → Parser C} (x : Outcome A) → ((a : A) (i : Input) → f a i ≡ h a i) → and_then x f ≡ and_then x h
+beyond (Ok p) goes_on = goes_on p.0 p.1
+beyond (Err e) goes_on = refl
+
+-- A list begins with its first item, and what follows it goes on from there.
+pub separated_in_parts : {A : Type 0} (x : Kind) (item : Parser A) (i : Input) → separated x item i
+    ≡ and_then (and_then (item i) (λ a. pure (a ∷ []))) (λ found i. many_from (λ y. same_kind y x) (take_token >> item) (left i) found i)
+unfolding separated
+separated_in_parts x item i = within (item i) _ _ (λ a i. refl)

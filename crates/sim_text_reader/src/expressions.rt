@@ -1,0 +1,263 @@
+//! Expressions (IEEE 1076-2008, 9.1).
+
+ghost use Rattle.std.specs.Prelude.{◌≡◌, ◌∷◌, [], true};
+ghost use Rattle.sim_text_grammar.specs.Expressions as spec;
+ghost use Rattle.sim_text_tree.specs.Grammar.{is_repeatable, logical_kind};
+ghost use Rattle.sim_text_tokens.specs.declared.kind.Kind.TheVariants as k;
+ghost use Rattle.sim_text_grammar.specs.Readers.{Reads, and_then, pure, expect, word};
+ghost use Rattle.sim_text_reader.specs.Cursors.{view};
+
+use crate::cursor::Cursor;
+use sim_text_grammar::ParseError;
+use sim_text_tokens::Kind;
+use sim_text_tree::expression::{Expression, Logical, Operand, Relational};
+use sim_text_tree::list::{fitted, one};
+use sim_text_tree::name::Name;
+use sqlite_items::{Boxed, Items};
+use std::alloc::Global;
+
+/// How many parentheses of one expression may be open.
+const MOST_PARENTHESES: usize = 64;
+
+/// Reads the argument of a call, and the parenthesis after it.
+fn argument(tokens: &mut Cursor) -> Result<Name, ParseError>
+    ensures { Reads (and_then (word (view tokens.old)) (λ name i. and_then (expect k.RightParen i) (λ _. pure name))) result (view tokens.new) }
+{
+    let name = tokens.word()?;
+    tokens.expect(Kind::RightParen)?;
+    Ok(name)
+}
+
+#[tactic(auto, using(crate::proofs::Parts::call_in_parts), unfolding(sim_text_grammar::specs::Expressions::named))]
+fn named(tokens: &mut Cursor) -> Result<Expression, ParseError>
+    ensures { Reads (spec.named (view tokens.old)) result (view tokens.new) }
+{
+    let name = tokens.word()?;
+    match tokens.peek() {
+        Kind::Tick => {
+            tokens.take();
+            tokens.event()?;
+            Ok(Expression::Event(name))
+        }
+        Kind::LeftParen => {
+            tokens.take();
+            let argument = argument(tokens)?;
+            Ok(Expression::Call {
+                function: name,
+                argument,
+            })
+        }
+        _ => Ok(Expression::Named(name)),
+    }
+}
+
+#[cycle(expression)]
+#[tactic(auto, unfolding(sim_text_grammar::specs::Expressions::primary))]
+fn primary(alloc: Global, tokens: &mut Cursor, depth: usize) -> Result<Expression, ParseError>
+    ensures { Reads (spec.primary (spec.nested depth) (view tokens.old)) result (view tokens.new) }
+{
+    match tokens.peek() {
+        Kind::Literal => {
+            let (value, at) = tokens.literal()?;
+            Ok(Expression::Literal { value, at })
+        }
+        Kind::LeftParen => nested(alloc, tokens, depth),
+        _ => named(tokens),
+    }
+}
+
+#[cycle(expression)]
+#[tactic(auto, unfolding(sim_text_grammar::specs::Expressions::factor))]
+fn factor(alloc: Global, tokens: &mut Cursor, depth: usize) -> Result<Expression, ParseError>
+    ensures { Reads (spec.factor (spec.nested depth) (view tokens.old)) result (view tokens.new) }
+{
+    match tokens.peek() {
+        Kind::Not => {
+            let at = tokens.take();
+            let operand = primary(alloc, tokens, depth)?;
+            let operand = Boxed::new(alloc, operand)?;
+            Ok(Expression::Not { at, operand })
+        }
+        _ => primary(alloc, tokens, depth),
+    }
+}
+
+/// Reads the operator and the second operand of a comparison.
+#[cycle(expression)]
+fn comparison(
+    alloc: Global,
+    tokens: &mut Cursor,
+    depth: usize,
+    left: Expression,
+    operator: Relational,
+) -> Result<Expression, ParseError>
+    ensures { Reads (spec.comparison (spec.nested depth) left operator (view tokens.old)) result (view tokens.new) }
+{
+    let left = Boxed::new(alloc, left)?;
+    let at = tokens.take();
+    let right = factor(alloc, tokens, depth)?;
+    let right = Boxed::new(alloc, right)?;
+    Ok(Expression::Comparison {
+        left,
+        operator,
+        at,
+        right,
+    })
+}
+
+#[cycle(expression)]
+#[tactic(auto, unfolding(sim_text_grammar::specs::Expressions::relation))]
+fn relation(alloc: Global, tokens: &mut Cursor, depth: usize) -> Result<Expression, ParseError>
+    ensures { Reads (spec.relation (spec.nested depth) (view tokens.old)) result (view tokens.new) }
+{
+    let left = factor(alloc, tokens, depth)?;
+    match tokens.peek() {
+        Kind::Equal => comparison(alloc, tokens, depth, left, Relational::Equal),
+        Kind::Unequal => comparison(alloc, tokens, depth, left, Relational::Unequal),
+        _ => Ok(left),
+    }
+}
+
+#[cycle(expression)]
+#[tactic(auto, unfolding(sim_text_grammar::specs::Expressions::operand))]
+fn operand(alloc: Global, tokens: &mut Cursor, depth: usize) -> Result<Operand, ParseError>
+    ensures { Reads (spec.operand (spec.nested depth) (view tokens.old)) result (view tokens.new) }
+{
+    let operator_at = tokens.take();
+    let operand = relation(alloc, tokens, depth)?;
+    Ok(Operand {
+        operator_at,
+        operand,
+    })
+}
+
+fn logical_of(kind: Kind) -> Option<Logical>
+    ensures { result ≡ spec.logical_of kind }
+{
+    match kind {
+        Kind::And => Some(Logical::And),
+        Kind::Or => Some(Logical::Or),
+        Kind::Xor => Some(Logical::Xor),
+        Kind::Xnor => Some(Logical::Xnor),
+        Kind::Nand => Some(Logical::Nand),
+        Kind::Nor => Some(Logical::Nor),
+        _ => None,
+    }
+}
+
+/// The kind of the operator's token.
+fn kind_of(operator: Logical) -> Kind
+    ensures { result ≡ logical_kind operator }
+{
+    match operator {
+        Logical::And => Kind::And,
+        Logical::Or => Kind::Or,
+        Logical::Xor => Kind::Xor,
+        Logical::Xnor => Kind::Xnor,
+        Logical::Nand => Kind::Nand,
+        Logical::Nor => Kind::Nor,
+    }
+}
+
+/// Whether the operator may be written again: `nand` and `nor` may not (9.2.2).
+fn is_repeatable(operator: Logical) -> bool
+    ensures { result ≡ is_repeatable operator }
+{
+    !matches!(operator, Logical::Nand | Logical::Nor)
+}
+
+/// Reads further operands of the operator.
+#[cycle(expression)]
+#[tactic(auto, unfolding(sim_text_grammar::specs::Readers::sees, sim_text_grammar::specs::Readers::left))]
+fn more_operands(
+    alloc: Global,
+    tokens: &mut Cursor,
+    depth: usize,
+    operator: Logical,
+    second: Operand,
+) -> Result<Items<Operand>, ParseError>
+    ensures { Reads (spec.more_operands (spec.nested depth) true operator (second ∷ []) (view tokens.old)) result (view tokens.new) }
+{
+    let mut found = one(alloc, second)?;
+    for _turn in 0..tokens.left() {
+        if !tokens.sees(kind_of(operator)) {
+            return Ok(fitted(found));
+        }
+        found.push(operand(alloc, tokens, depth)?)?;
+    }
+    Ok(fitted(found))
+}
+
+#[cycle(expression)]
+#[tactic(auto, unfolding(sim_text_grammar::specs::Expressions::operands))]
+fn operands(
+    alloc: Global,
+    tokens: &mut Cursor,
+    depth: usize,
+    operator: Logical,
+) -> Result<Items<Operand>, ParseError>
+    ensures { Reads (spec.operands (spec.nested depth) operator (view tokens.old)) result (view tokens.new) }
+{
+    let second = operand(alloc, tokens, depth)?;
+    if is_repeatable(operator) {
+        more_operands(alloc, tokens, depth, operator, second)
+    } else {
+        Ok(fitted(one(alloc, second)?))
+    }
+}
+
+/// Reads the operators and the operands after the first.
+#[cycle(expression)]
+fn chain(
+    alloc: Global,
+    tokens: &mut Cursor,
+    depth: usize,
+    first: Expression,
+    operator: Logical,
+) -> Result<Expression, ParseError>
+    ensures { Reads (spec.chain_by (spec.nested depth) first (Some operator) (view tokens.old)) result (view tokens.new) }
+{
+    let first = Boxed::new(alloc, first)?;
+    let rest = operands(alloc, tokens, depth, operator)?;
+    Ok(Expression::Chain {
+        operator,
+        first,
+        rest,
+    })
+}
+
+#[cycle(expression)]
+#[tactic(auto, unfolding(sim_text_grammar::specs::Expressions::expression_in))]
+fn expression_in(alloc: Global, tokens: &mut Cursor, depth: usize) -> Result<Expression, ParseError>
+    ensures { Reads (spec.expression_in (spec.nested depth) (view tokens.old)) result (view tokens.new) }
+{
+    let first = relation(alloc, tokens, depth)?;
+    match logical_of(tokens.peek()) {
+        Some(operator) => chain(alloc, tokens, depth, first, operator),
+        None => Ok(first),
+    }
+}
+
+#[cycle(expression)]
+#[tactic(auto, unfolding(sim_text_grammar::specs::Expressions::nested, sim_text_grammar::specs::Readers::left))]
+fn nested(alloc: Global, tokens: &mut Cursor, depth: usize) -> Result<Expression, ParseError>
+    ensures { Reads (spec.nested depth (view tokens.old)) result (view tokens.new) }
+{
+    if depth == 0 {
+        return Err(ParseError::TooDeep(tokens.left()));
+    }
+    let at = tokens.take();
+    let inner = expression_in(alloc, tokens, depth - 1)?;
+    let inner = Boxed::new(alloc, inner)?;
+    tokens.expect(Kind::RightParen)?;
+    Ok(Expression::Parenthesized { at, inner })
+}
+
+/// Reads an expression (IEEE 1076-2008, 9.1). `Syntax` comes at the first token with which none
+/// goes on, `TooDeep` at a parenthesis inside 64 others.
+#[tactic(auto, unfolding(sim_text_grammar::specs::Expressions::expression))]
+pub fn expression(alloc: Global, tokens: &mut Cursor) -> Result<Expression, ParseError>
+    ensures { Reads (spec.expression (view tokens.old)) result (view tokens.new) }
+{
+    expression_in(alloc, tokens, MOST_PARENTHESES)
+}

@@ -1,0 +1,321 @@
+//! Sequential statements (IEEE 1076-2008, 10).
+
+ghost use Rattle.std.specs.Prelude.{◌≡◌, [], ◌∷◌};
+ghost use Rattle.sim_text_grammar.specs.Statements as spec;
+ghost use Rattle.sim_text_grammar.specs.Statements.{condition};
+ghost use Rattle.sim_text_tokens.specs.declared.kind.Kind.TheVariants as k;
+ghost use Rattle.sim_text_grammar.specs.Waveforms.{waveform};
+ghost use Rattle.sim_text_grammar.specs.Readers.{Reads, ReadsAs, and_then, pure, expect};
+ghost use Rattle.sim_text_reader.specs.Cursors.{view};
+
+use crate::Cursor;
+use crate::expressions::expression;
+use crate::waveforms::{delay, waveform};
+use sim_text_grammar::ParseError;
+use sim_text_tokens::Kind;
+use sim_text_tree::expression::Expression;
+use sim_text_tree::list::{fitted, one};
+use sim_text_tree::name::Name;
+use sim_text_tree::sequential::{Branch, Sequential, SignalAssignment, Statement, VariableAssignment};
+use sim_text_tree::waveform::Waveform;
+use sqlite_items::Items;
+use std::alloc::Global;
+
+/// How many ifs of one process may be open.
+const MOST_IFS: usize = 64;
+
+/// Reads the label written again, where a word stands, and says whether one does. `Syntax` comes at
+/// another word, and at any where there is no label.
+#[tactic(auto, unfolding(sim_text_grammar::specs::Statements::label_again, sim_text_grammar::specs::Readers::left))]
+pub fn label_again(tokens: &mut Cursor, label: &Option<Name>) -> Result<bool, ParseError>
+    ensures { Reads (spec.label_again label.now (view tokens.old)) result (view tokens.new) }
+{
+    if !tokens.sees(Kind::Word) {
+        return Ok(false);
+    }
+    match label {
+        Some(name) => {
+            tokens.repeat(name.text())?;
+            Ok(true)
+        }
+        None => Err(ParseError::Syntax(tokens.left())),
+    }
+}
+
+/// Reads the label written again, where a word stands, and the semicolon after it; and says whether
+/// a word does.
+pub fn label_ended(tokens: &mut Cursor, label: &Option<Name>) -> Result<bool, ParseError>
+    ensures { Reads (and_then (spec.label_again label.now (view tokens.old)) (λ again i. and_then (expect k.Semicolon i) (λ _. pure again)))
+        result (view tokens.new) }
+{
+    let label_repeated = label_again(tokens, label)?;
+    tokens.expect(Kind::Semicolon)?;
+    Ok(label_repeated)
+}
+
+#[tactic(auto, unfolding(sim_text_grammar::specs::Statements::variable_assigned))]
+fn variable_assigned(
+    alloc: Global,
+    tokens: &mut Cursor,
+    target: Name,
+) -> Result<Statement, ParseError>
+    ensures { Reads (spec.variable_assigned target (view tokens.old)) result (view tokens.new) }
+{
+    tokens.take();
+    let value = expression(alloc, tokens)?;
+    tokens.expect(Kind::Semicolon)?;
+    Ok(Statement::Variable(VariableAssignment { target, value }))
+}
+
+/// Reads a waveform, and the semicolon after it.
+fn waveform_ended(alloc: Global, tokens: &mut Cursor) -> Result<Waveform, ParseError>
+    ensures { Reads (and_then (waveform (view tokens.old)) (λ found i. and_then (expect k.Semicolon i) (λ _. pure found))) result (view tokens.new) }
+{
+    let waveform = waveform(alloc, tokens)?;
+    tokens.expect(Kind::Semicolon)?;
+    Ok(waveform)
+}
+
+#[tactic(auto, using(crate::proofs::StatementParts::signal_assigned_in_parts))]
+fn signal_assigned(
+    alloc: Global,
+    tokens: &mut Cursor,
+    target: Name,
+) -> Result<Statement, ParseError>
+    ensures { Reads (spec.signal_assigned target (view tokens.old)) result (view tokens.new) }
+{
+    tokens.expect(Kind::SignalAssign)?;
+    let delay = delay(tokens)?;
+    let waveform = waveform_ended(alloc, tokens)?;
+    Ok(Statement::Signal(SignalAssignment {
+        target,
+        delay,
+        waveform,
+    }))
+}
+
+#[tactic(auto, unfolding(sim_text_grammar::specs::Statements::assigned))]
+fn assigned(alloc: Global, tokens: &mut Cursor, target: Name) -> Result<Statement, ParseError>
+    ensures { Reads (spec.assigned target (view tokens.old)) result (view tokens.new) }
+{
+    match tokens.peek() {
+        Kind::VariableAssign => variable_assigned(alloc, tokens, target),
+        _ => signal_assigned(alloc, tokens, target),
+    }
+}
+
+#[tactic(auto, unfolding(sim_text_grammar::specs::Statements::null))]
+fn null(tokens: &mut Cursor) -> Result<Statement, ParseError>
+    ensures { Reads (spec.null (view tokens.old)) result (view tokens.new) }
+{
+    tokens.take();
+    tokens.expect(Kind::Semicolon)?;
+    Ok(Statement::Null)
+}
+
+fn begins_statement(kind: Kind) -> bool
+    ensures { result ≡ spec.begins_statement kind }
+{
+    matches!(kind, Kind::Word | Kind::If | Kind::Null)
+}
+
+/// Reads a statement after its label, or one that has none and begins with no name.
+#[cycle(statement)]
+#[tactic(auto, unfolding(sim_text_grammar::specs::Statements::labelled))]
+fn labelled(
+    alloc: Global,
+    tokens: &mut Cursor,
+    depth: usize,
+    label: &Option<Name>,
+) -> Result<Statement, ParseError>
+    ensures { Reads (spec.labelled (spec.if_statement depth) label.now (view tokens.old)) result (view tokens.new) }
+{
+    match tokens.peek() {
+        Kind::If => if_statement(alloc, tokens, depth, label),
+        Kind::Null => null(tokens),
+        _ => {
+            let target = tokens.word()?;
+            assigned(alloc, tokens, target)
+        }
+    }
+}
+
+/// Reads a statement from after its first name: its label, or the target of an assignment.
+#[cycle(statement)]
+fn named(
+    alloc: Global,
+    tokens: &mut Cursor,
+    depth: usize,
+    first: Name,
+) -> Result<Sequential, ParseError>
+    ensures { Reads (spec.named_by (spec.if_statement depth) first (view tokens.old)) result (view tokens.new) }
+{
+    if tokens.eat(Kind::Colon) {
+        let label = Some(first);
+        let statement = labelled(alloc, tokens, depth, &label)?;
+        Ok(Sequential { label, statement })
+    } else {
+        let statement = assigned(alloc, tokens, first)?;
+        Ok(Sequential {
+            label: None,
+            statement,
+        })
+    }
+}
+
+#[cycle(statement)]
+#[tactic(auto, unfolding(sim_text_grammar::specs::Statements::statement))]
+fn statement(alloc: Global, tokens: &mut Cursor, depth: usize) -> Result<Sequential, ParseError>
+    ensures { Reads (spec.statement (spec.if_statement depth) (view tokens.old)) result (view tokens.new) }
+{
+    match tokens.peek() {
+        Kind::If => {
+            let statement = if_statement(alloc, tokens, depth, &None)?;
+            Ok(Sequential {
+                label: None,
+                statement,
+            })
+        }
+        Kind::Null => {
+            let statement = null(tokens)?;
+            Ok(Sequential {
+                label: None,
+                statement,
+            })
+        }
+        _ => {
+            let first = tokens.word()?;
+            named(alloc, tokens, depth, first)
+        }
+    }
+}
+
+#[cycle(statement)]
+#[tactic(auto, unfolding(sim_text_grammar::specs::Statements::sequence, sim_text_grammar::specs::Readers::many))]
+fn sequence(
+    alloc: Global,
+    tokens: &mut Cursor,
+    depth: usize,
+) -> Result<Items<Sequential>, ParseError>
+    ensures { Reads (spec.sequence (spec.if_statement depth) (view tokens.old)) result (view tokens.new) }
+{
+    let mut found = Vec::new(alloc);
+    for _turn in 0..tokens.left() {
+        if !begins_statement(tokens.peek()) {
+            return Ok(fitted(found));
+        }
+        found.push(statement(alloc, tokens, depth)?)?;
+    }
+    Ok(fitted(found))
+}
+
+#[tactic(auto, unfolding(sim_text_grammar::specs::Statements::condition))]
+fn condition(alloc: Global, tokens: &mut Cursor) -> Result<Expression, ParseError>
+    ensures { Reads (condition (view tokens.old)) result (view tokens.new) }
+{
+    let condition = expression(alloc, tokens)?;
+    tokens.expect(Kind::Then)?;
+    Ok(condition)
+}
+
+#[cycle(statement)]
+#[tactic(auto, unfolding(sim_text_grammar::specs::Statements::branch, sim_text_grammar::specs::Statements::condition))]
+fn branch(alloc: Global, tokens: &mut Cursor, depth: usize) -> Result<Branch, ParseError>
+    ensures { Reads (spec.branch (spec.if_statement depth) (view tokens.old)) result (view tokens.new) }
+{
+    let condition = condition(alloc, tokens)?;
+    let statements = sequence(alloc, tokens, depth)?;
+    Ok(Branch {
+        condition,
+        statements,
+    })
+}
+
+/// Reads the first branch of an if statement.
+#[cycle(statement)]
+fn first_branch(alloc: Global, tokens: &mut Cursor, depth: usize) -> Result<Vec<Branch>, ParseError>
+    ensures { ReadsAs (and_then (spec.branch (spec.if_statement depth) (view tokens.old)) (λ first. pure (first ∷ [])))
+        result (λ v. v.items) (view tokens.new) }
+{
+    let first = branch(alloc, tokens, depth)?;
+    let found = one(alloc, first)?;
+    Ok(found)
+}
+
+#[cycle(statement)]
+#[tactic(auto, using(sim_text_grammar::proofs::Parts::separated_in_parts), unfolding(sim_text_grammar::specs::Statements::branches))]
+fn branches(alloc: Global, tokens: &mut Cursor, depth: usize) -> Result<Items<Branch>, ParseError>
+    ensures { Reads (spec.branches (spec.if_statement depth) (view tokens.old)) result (view tokens.new) }
+{
+    let mut found = first_branch(alloc, tokens, depth)?;
+    for _turn in 0..tokens.left() {
+        if !tokens.sees(Kind::Elsif) {
+            return Ok(fitted(found));
+        }
+        tokens.take();
+        found.push(branch(alloc, tokens, depth)?)?;
+    }
+    Ok(fitted(found))
+}
+
+#[cycle(statement)]
+#[tactic(auto, unfolding(sim_text_grammar::specs::Statements::otherwise))]
+fn otherwise(
+    alloc: Global,
+    tokens: &mut Cursor,
+    depth: usize,
+) -> Result<Option<Items<Sequential>>, ParseError>
+    ensures { Reads (spec.otherwise (spec.if_statement depth) (view tokens.old)) result (view tokens.new) }
+{
+    if !tokens.eat(Kind::Else) {
+        return Ok(None);
+    }
+    let statements = sequence(alloc, tokens, depth)?;
+    Ok(Some(statements))
+}
+
+#[tactic(auto, using(crate::proofs::StatementParts::if_end_in_parts))]
+fn if_end(
+    tokens: &mut Cursor,
+    label: &Option<Name>,
+    branches: Items<Branch>,
+    otherwise: Option<Items<Sequential>>,
+) -> Result<Statement, ParseError>
+    ensures { Reads (spec.if_end label.now branches otherwise (view tokens.old)) result (view tokens.new) }
+{
+    tokens.expect_both(Kind::End, Kind::If)?;
+    let label_repeated = label_ended(tokens, label)?;
+    Ok(Statement::If {
+        branches,
+        otherwise,
+        label_repeated,
+    })
+}
+
+#[cycle(statement)]
+#[tactic(auto, unfolding(sim_text_grammar::specs::Statements::if_statement, sim_text_grammar::specs::Readers::left))]
+fn if_statement(
+    alloc: Global,
+    tokens: &mut Cursor,
+    depth: usize,
+    label: &Option<Name>,
+) -> Result<Statement, ParseError>
+    ensures { Reads (spec.if_statement depth label.now (view tokens.old)) result (view tokens.new) }
+{
+    if depth == 0 {
+        return Err(ParseError::TooDeep(tokens.left()));
+    }
+    tokens.take();
+    let branches = branches(alloc, tokens, depth - 1)?;
+    let otherwise = otherwise(alloc, tokens, depth - 1)?;
+    if_end(tokens, label, branches, otherwise)
+}
+
+/// Reads the statements of a process (IEEE 1076-2008, 10.1). `TooDeep` comes at an `if` inside 64
+/// others.
+#[tactic(auto, unfolding(sim_text_grammar::specs::Statements::statements))]
+pub fn statements(alloc: Global, tokens: &mut Cursor) -> Result<Items<Sequential>, ParseError>
+    ensures { Reads (spec.statements (view tokens.old)) result (view tokens.new) }
+{
+    sequence(alloc, tokens, MOST_IFS)
+}

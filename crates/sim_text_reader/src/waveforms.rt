@@ -1,0 +1,179 @@
+//! Waveforms and delays (IEEE 1076-2008, 10.5).
+
+ghost use Rattle.std.specs.Prelude.{[], ◌∷◌};
+ghost use Rattle.sim_text_grammar.specs.Waveforms as spec;
+ghost use Rattle.sim_text_tokens.specs.declared.kind.Kind.TheVariants as k;
+ghost use Rattle.sim_text_grammar.specs.Readers.{Reads, and_then, pure, expect};
+ghost use Rattle.sim_text_reader.specs.Cursors.{view};
+
+use crate::cursor::Cursor;
+use crate::expressions::expression;
+use sim_text_grammar::ParseError;
+use sim_text_tokens::Kind;
+use sim_text_tree::list::{Several, fitted};
+use sim_text_tree::name::Name;
+use sim_text_tree::time::TimeLiteral;
+use sim_text_tree::waveform::{
+    ConcurrentSignalAssignment, ConditionalWaveform, ConditionalWaveforms, DelayMechanism, Element,
+    Waveform,
+};
+use std::alloc::Global;
+
+#[tactic(auto, unfolding(sim_text_grammar::specs::Waveforms::time_from, sim_text_tree::specs::Times::is_time))]
+fn time_from(tokens: &mut Cursor, left: usize) -> Result<TimeLiteral, ParseError>
+    ensures { Reads (spec.time_from left (view tokens.old)) result (view tokens.new) }
+{
+    let (digits, at) = tokens.number()?;
+    let unit = tokens.unit()?;
+    match TimeLiteral::of(digits, at, unit) {
+        Some(literal) => Ok(literal),
+        None => Err(ParseError::TimeRange(left)),
+    }
+}
+
+/// Reads a time: a number and a unit (IEEE 1076-2008, 5.2.4). `TimeRange` comes at the number,
+/// where the time is larger than the largest.
+#[tactic(auto, unfolding(sim_text_grammar::specs::Waveforms::time))]
+pub fn time(tokens: &mut Cursor) -> Result<TimeLiteral, ParseError>
+    ensures { Reads (spec.time (view tokens.old)) result (view tokens.new) }
+{
+    let left = tokens.left();
+    time_from(tokens, left)
+}
+
+#[tactic(auto, unfolding(sim_text_grammar::specs::Waveforms::element))]
+fn element(alloc: Global, tokens: &mut Cursor) -> Result<Element, ParseError>
+    ensures { Reads (spec.element (view tokens.old)) result (view tokens.new) }
+{
+    let value = expression(alloc, tokens)?;
+    if tokens.eat(Kind::After) {
+        let after = time(tokens)?;
+        Ok(Element {
+            value,
+            after: Some(after),
+        })
+    } else {
+        Ok(Element { value, after: None })
+    }
+}
+
+/// Reads the first element of a waveform.
+fn first_element(alloc: Global, tokens: &mut Cursor) -> Result<Waveform, ParseError>
+    ensures { Reads (and_then (spec.element (view tokens.old)) (λ first. pure (first ∷ []))) result (view tokens.new) }
+{
+    let first = element(alloc, tokens)?;
+    let found = Several::new(alloc, first)?;
+    Ok(found)
+}
+
+/// Reads a waveform (IEEE 1076-2008, 10.5.2.1).
+#[tactic(auto, using(sim_text_grammar::proofs::Parts::separated_in_parts),
+    unfolding(sim_text_grammar::specs::Waveforms::waveform, sim_text_grammar::specs::Readers::sees))]
+pub fn waveform(alloc: Global, tokens: &mut Cursor) -> Result<Waveform, ParseError>
+    ensures { Reads (spec.waveform (view tokens.old)) result (view tokens.new) }
+{
+    let mut found = first_element(alloc, tokens)?;
+    for _turn in 0..tokens.left() {
+        if !tokens.sees(Kind::Comma) {
+            return Ok(found.fitted());
+        }
+        tokens.take();
+        found.push(element(alloc, tokens)?)?;
+    }
+    Ok(found.fitted())
+}
+
+/// Reads a delay mechanism, where one is written (IEEE 1076-2008, 10.5.2.1).
+#[tactic(auto, unfolding(sim_text_grammar::specs::Waveforms::delay))]
+pub fn delay(tokens: &mut Cursor) -> Result<DelayMechanism, ParseError>
+    ensures { Reads (spec.delay (view tokens.old)) result (view tokens.new) }
+{
+    match tokens.peek() {
+        Kind::Transport => {
+            tokens.take();
+            Ok(DelayMechanism::Transport)
+        }
+        Kind::Inertial => {
+            tokens.take();
+            Ok(DelayMechanism::Inertial)
+        }
+        Kind::Reject => {
+            tokens.take();
+            let limit = time(tokens)?;
+            tokens.expect(Kind::Inertial)?;
+            Ok(DelayMechanism::Reject(limit))
+        }
+        _ => Ok(DelayMechanism::Unwritten),
+    }
+}
+
+/// Reads the condition of a waveform.
+#[tactic(auto, unfolding(sim_text_grammar::specs::Waveforms::condition))]
+fn condition(
+    alloc: Global,
+    tokens: &mut Cursor,
+    waveform: Waveform,
+) -> Result<ConditionalWaveform, ParseError>
+    ensures { Reads (spec.condition waveform (view tokens.old)) result (view tokens.new) }
+{
+    let condition = expression(alloc, tokens)?;
+    Ok(ConditionalWaveform {
+        waveform,
+        condition,
+    })
+}
+
+#[tactic(auto, unfolding(sim_text_grammar::specs::Waveforms::waveforms, sim_text_grammar::specs::Readers::left))]
+fn waveforms(alloc: Global, tokens: &mut Cursor) -> Result<ConditionalWaveforms, ParseError>
+    ensures { Reads (spec.waveforms (view tokens.old)) result (view tokens.new) }
+{
+    let mut conditional = Vec::new(alloc);
+    for _turn in 0..tokens.left() {
+        let waveform = waveform(alloc, tokens)?;
+        if !tokens.eat(Kind::When) {
+            return Ok(ConditionalWaveforms {
+                conditional: fitted(conditional),
+                otherwise: Some(waveform),
+            });
+        }
+        conditional.push(condition(alloc, tokens, waveform)?)?;
+        if !tokens.eat(Kind::Else) {
+            return Ok(ConditionalWaveforms {
+                conditional: fitted(conditional),
+                otherwise: None,
+            });
+        }
+    }
+    Err(ParseError::Syntax(tokens.left()))
+}
+
+/// Reads conditional waveforms, and the semicolon after them.
+fn waveforms_ended(alloc: Global, tokens: &mut Cursor) -> Result<ConditionalWaveforms, ParseError>
+    ensures { Reads (and_then (spec.waveforms (view tokens.old)) (λ found i. and_then (expect k.Semicolon i) (λ _. pure found))) result (view tokens.new) }
+{
+    let waveforms = waveforms(alloc, tokens)?;
+    tokens.expect(Kind::Semicolon)?;
+    Ok(waveforms)
+}
+
+/// Reads what stands after the target of a concurrent assignment, with its semicolon (IEEE
+/// 1076-2008, 11.6).
+#[tactic(auto, using(crate::proofs::Parts::assigned_in_parts))]
+pub fn assigned(
+    alloc: Global,
+    tokens: &mut Cursor,
+    label: Option<Name>,
+    target: Name,
+) -> Result<ConcurrentSignalAssignment, ParseError>
+    ensures { Reads (spec.assigned label target (view tokens.old)) result (view tokens.new) }
+{
+    tokens.expect(Kind::SignalAssign)?;
+    let delay = delay(tokens)?;
+    let waveforms = waveforms_ended(alloc, tokens)?;
+    Ok(ConcurrentSignalAssignment {
+        label,
+        target,
+        delay,
+        waveforms,
+    })
+}

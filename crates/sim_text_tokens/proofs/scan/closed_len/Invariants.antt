@@ -1,0 +1,10 @@
+use Rattle.std.proofs.Common.{◌≡◌, ◌-◌, ◌≤◌, length}
+use Rattle.sim_text_tokens.specs.Scan.{closed_len}
+use Rattle.sim_text_tokens.proofs.Comments.{further}
+use Rattle.sim_text_tokens.proofs.scan.closed_len.Given as goal
+
+abbrev pub invariant-loop-rest : goal.invariant-loop-rest
+invariant-loop-rest l = (length l.rest ≤ length l.fn.bytes) × (further (length l.fn.bytes - length l.rest) (closed_len l.rest) ≡ closed_len l.fn.bytes)
+
+abbrev pub decreases-loop-rest : goal.decreases-loop-rest
+decreases-loop-rest l = length l.rest

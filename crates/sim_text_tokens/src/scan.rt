@@ -1,0 +1,168 @@
+//! The longest piece at the front of a text.
+
+ghost use Rattle.std.specs.Prelude.{◌≡◌, ◌+◌, ◌≤◌, length, IfSome};
+ghost use Rattle.std.specs.Char.{is_ascii_digit, is_ascii_alphanumeric};
+ghost use Rattle.sim_text_tokens.specs.Pieces as pieces;
+ghost use Rattle.sim_text_tokens.specs.Scan as spec;
+
+use crate::class::Class;
+use crate::words::{double_delimiter, single_delimiter};
+
+/// A class and a length in bytes.
+pub type Extent = (Class, usize);
+
+#[tactic(auto, unfolding(crate::specs::Pieces::is_separator))]
+fn is_separator(b: u8) -> bool
+    ensures { result ≡ pieces.is_separator b }
+{
+    b == b' ' || (b'\t' <= b && b <= b'\r')
+}
+
+#[tactic(auto, unfolding(crate::specs::Pieces::is_line_end))]
+fn is_line_end(b: u8) -> bool
+    ensures { result ≡ pieces.is_line_end b }
+{
+    b'\n' <= b && b <= b'\r'
+}
+
+/// How many bytes at the front go on with a word.
+fn word_tail(bytes: &[u8]) -> usize
+    ensures value { result ≡ spec.tail_len is_ascii_alphanumeric bytes.now }
+    ensures inside { result ≤ length bytes.now }
+{
+    let mut rest = bytes;
+    loop {
+        match rest {
+            [b, after @ ..] if b.is_ascii_alphanumeric() => rest = after,
+            [b'_', b, after @ ..] if b.is_ascii_alphanumeric() => rest = after,
+            _ => return bytes.len() - rest.len(),
+        }
+    }
+}
+
+/// How many bytes at the front go on with a number.
+fn number_tail(bytes: &[u8]) -> usize
+    ensures value { result ≡ spec.tail_len is_ascii_digit bytes.now }
+    ensures inside { result ≤ length bytes.now }
+{
+    let mut rest = bytes;
+    loop {
+        match rest {
+            [b, after @ ..] if b.is_ascii_digit() => rest = after,
+            [b'_', b, after @ ..] if b.is_ascii_digit() => rest = after,
+            _ => return bytes.len() - rest.len(),
+        }
+    }
+}
+
+/// How many bytes stand before the first line end.
+fn line_len(bytes: &[u8]) -> usize
+    ensures value { result ≡ spec.line_len bytes.now }
+    ensures inside { result ≤ length bytes.now }
+{
+    let mut rest = bytes;
+    loop {
+        match rest {
+            [b, after @ ..] if !is_line_end(*b) => rest = after,
+            _ => return bytes.len() - rest.len(),
+        }
+    }
+}
+
+/// How many bytes the first `*/` ends.
+fn closed_len(bytes: &[u8]) -> Option<usize>
+    ensures value { result ≡ spec.closed_len bytes.now }
+    ensures inside { IfSome result (λ n. n ≤ length bytes.now) }
+{
+    let mut rest = bytes;
+    loop {
+        match rest {
+            [b'*', b'/', after @ ..] => return Some(bytes.len() - after.len()),
+            [_, after @ ..] => rest = after,
+            [] => return None,
+        }
+    }
+}
+
+#[tactic(auto, unfolding(crate::specs::Scan::is_value))]
+fn is_value(v: u8) -> bool
+    ensures { result ≡ spec.is_value v }
+{
+    matches!(
+        v,
+        b'U' | b'X' | b'0' | b'1' | b'Z' | b'W' | b'L' | b'H' | b'-'
+    )
+}
+
+/// Behind an apostrophe.
+#[tactic(auto, unfolding(crate::specs::Scan::apostrophe))]
+fn apostrophe(after_name: bool, rest: &[u8]) -> Option<Extent>
+    ensures value { result ≡ spec.apostrophe after_name rest.now }
+    ensures inside { IfSome result (λ p. p.1 ≤ 1 + length rest.now) }
+{
+    match rest {
+        _ if after_name => Some((Class::Tick, 1)),
+        [v, b'\'', ..] if is_value(*v) => Some((Class::Literal, 3)),
+        _ => None,
+    }
+}
+
+/// A delimiter, by its first byte and the bytes after it.
+#[tactic(auto, unfolding(crate::specs::Scan::delimiter, crate::specs::Scan::single))]
+fn delimiter(first: u8, rest: &[u8]) -> Option<Extent>
+    ensures value { result ≡ spec.delimiter first rest.now }
+    ensures inside { IfSome result (λ p. p.1 ≤ 1 + length rest.now) }
+{
+    match rest {
+        [second, ..] if double_delimiter(first, *second).is_some() => Some((Class::Delimiter, 2)),
+        _ if single_delimiter(first).is_some() => Some((Class::Delimiter, 1)),
+        _ => None,
+    }
+}
+
+/// Behind a hyphen.
+#[tactic(auto, unfolding(crate::specs::Scan::hyphen))]
+fn hyphen(rest: &[u8]) -> Option<Extent>
+    ensures value { result ≡ spec.hyphen rest.now }
+    ensures inside { IfSome result (λ p. p.1 ≤ 1 + length rest.now) }
+{
+    match rest {
+        [b'-', line @ ..] => Some((Class::Comment, 2 + line_len(line))),
+        _ => None,
+    }
+}
+
+/// Behind a slash.
+#[tactic(auto, unfolding(crate::specs::Scan::slash))]
+fn slash(rest: &[u8]) -> Option<Extent>
+    ensures value { result ≡ spec.slash rest.now }
+    ensures inside { IfSome result (λ p. p.1 ≤ 1 + length rest.now) }
+{
+    match rest {
+        [b'*', comment @ ..] => Some((Class::Comment, 2 + closed_len(comment)?)),
+        _ => delimiter(b'/', rest),
+    }
+}
+
+/// The longest piece at the front of a text, by its first byte and the bytes after it; `None` where
+/// no piece may stand. `after_name` says whether the token before is a word that is not reserved.
+#[tactic(auto, unfolding(crate::specs::Scan::piece_at))]
+pub fn piece_at(after_name: bool, first: u8, rest: &[u8]) -> Option<Extent>
+    ensures value { result ≡ spec.piece_at after_name first rest.now }
+    ensures inside { IfSome result (λ p. p.1 ≤ 1 + length rest.now) }
+{
+    if is_separator(first) {
+        Some((Class::Separator, 1))
+    } else if first.is_ascii_alphabetic() {
+        Some((Class::Word, 1 + word_tail(rest)))
+    } else if first.is_ascii_digit() {
+        Some((Class::Number, 1 + number_tail(rest)))
+    } else {
+        match first {
+            b'\'' => apostrophe(after_name, rest),
+            b'-' => hyphen(rest),
+            b'/' => slash(rest),
+            _ => delimiter(first, rest),
+        }
+    }
+}

@@ -1,0 +1,100 @@
+//! Expressions (IEEE 1076-2008, 9).
+
+use crate::name::Name;
+use sim_logic::Logic;
+use sqlite_items::{Boxed, Items};
+
+/// A relational operator (9.2.3).
+#[derive(Clone, Copy, Debug, PartialEq, Eq)]
+pub enum Relational {
+    Equal,
+    Unequal,
+}
+
+/// A logical operator of two operands (9.2.2).
+#[derive(Clone, Copy, Debug, PartialEq, Eq)]
+pub enum Logical {
+    And,
+    Or,
+    Xor,
+    Xnor,
+    Nand,
+    Nor,
+}
+
+/// An expression (9.1). A place is that of the first byte of a token.
+///
+/// Which expressions may be operands of which is the grammar's business (`specs/Grammar.antt`): an
+/// operand of a chain is no chain, one of a comparison is no comparison either, and one of `not` is
+/// a primary.
+#[derive(Drop)]
+#[cycle(expression)]
+pub enum Expression {
+    /// A character literal.
+    Literal {
+        value: Logic,
+        at: usize,
+    },
+    /// A signal, a port, a variable, or `true` or `false`.
+    Named(Name),
+    /// `NAME ' event` (16.2).
+    Event(Name),
+    /// `FUNCTION ( ARGUMENT )` (9.3.4).
+    Call {
+        function: Name,
+        argument: Name,
+    },
+    /// The place is that of the `(`.
+    Parenthesized {
+        at: usize,
+        inner: Boxed<Expression>,
+    },
+    /// The place is that of the `not` (9.2.2).
+    Not {
+        at: usize,
+        operand: Boxed<Expression>,
+    },
+    /// Two operands, the operator between them, and its place (9.2.3).
+    Comparison {
+        left: Boxed<Expression>,
+        operator: Relational,
+        at: usize,
+        right: Boxed<Expression>,
+    },
+    /// A logical operator between each two of the operands, which group from the left (9.2.2).
+    /// `nand` and `nor` have two.
+    Chain {
+        operator: Logical,
+        first: Boxed<Expression>,
+        rest: Items<Operand>,
+    },
+}
+
+/// The place of a logical operator, and the operand after it.
+#[derive(Drop)]
+#[cycle(expression)]
+pub struct Operand {
+    pub operator_at: usize,
+    pub operand: Expression,
+}
+
+impl Expression {
+    ghost use Rattle.std.specs.Prelude.{◌≡◌};
+    ghost use Rattle.sim_text_tree.specs.Starts.{start_of};
+
+    /// Where its first token starts.
+    #[tactic(auto, using(crate::proofs::ExpressionStarts::starts))]
+    pub fn start(&self) -> usize
+        ensures { result ≡ start_of self.now }
+    {
+        match self {
+            Expression::Literal { at, .. }
+            | Expression::Parenthesized { at, .. }
+            | Expression::Not { at, .. } => *at,
+            Expression::Named(name) | Expression::Event(name) => name.at(),
+            Expression::Call { function, .. } => function.at(),
+            Expression::Comparison { left, .. } => left.get().start(),
+            Expression::Chain { first, .. } => first.get().start(),
+        }
+    }
+}

@@ -1,0 +1,53 @@
+//! Design files (IEEE 1076-2008, 13.1).
+
+use crate::list::Several;
+use crate::unit::DesignUnit;
+use std::marker::Model;
+
+/// A design file: its design units in order. It is written with some tokens, within the limits: no
+/// time is larger than the largest, no expression has more than 64 parentheses open and no process
+/// more than 64 ifs, and what the grammar asks for is there.
+#[derive(Drop)]
+pub struct DesignFile {
+    units: Several<DesignUnit>,
+}
+
+impl Model for DesignFile {
+    ghost use Rattle.std.specs.Prelude.{List};
+    ghost use Rattle.sim_text_tokens.specs.Token.{Token};
+    ghost use Rattle.sim_text_tree.specs.DesignFile.{DesignFile};
+    ghost use Rattle.sim_text_tree.specs.Grammar.{AreUnits};
+    ghost use Rattle.std.specs.Coded.{codes};
+    ghost use Rattle.sim_text_tree.specs.contracts.expression.Expression as expression;
+    ghost use Rattle.sim_text_tree.specs.contracts.sequential.Statement as statement;
+    ghost use Rattle.sim_text_tree.specs.contracts.sequential.Sequential as sequential;
+
+    ghost Value = { DesignFile };
+
+    ghost coded = { Prim.hlevel (codes, expression.the_row.coded, statement.the_row.coded, sequential.the_row.coded) };
+
+    ghost view = { λ f. record { units = f.units } };
+
+    ghost invariant = { λ f. ∥ ((tokens : List Token) × AreUnits f.units tokens) ∥₁ };
+}
+
+impl DesignFile {
+    ghost use Rattle.std.specs.Prelude.{◌≡◌, List};
+    ghost use Rattle.sim_text_tokens.specs.Token.{Token};
+    ghost use Rattle.sim_text_tree.specs.Grammar.{AreUnits};
+
+    /// The file of these units, which are written with some tokens, within the limits.
+    pub fn new(units: Several<DesignUnit>) -> DesignFile
+        requires { (tokens : List Token) × AreUnits units tokens }
+        ensures { result ≡ record { units = units } }
+    {
+        DesignFile { units }
+    }
+
+    /// The design units, in order.
+    pub fn units(&self) -> &[DesignUnit]
+        ensures { result.now ≡ self.now.units }
+    {
+        self.units.as_slice()
+    }
+}

@@ -1,5 +1,0 @@
-use Rattle.std.proofs.Common.{rules}
-use Rattle.sim_token.proofs.lexer.tokens.Goals as goal
-
-pub returns-clause-too_long : goal.returns-clause-too_long
-returns-clause-too_long c = search rules

@@ -1,5 +1,0 @@
-pub mod Judgements
-pub mod Sequences
-pub mod SoundWaveforms
-pub mod Turns
-pub mod Typed

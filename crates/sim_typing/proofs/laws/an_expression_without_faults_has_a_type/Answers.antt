@@ -1,5 +1,0 @@
-use Rattle.sim_typing.proofs.Typed.{typed}
-use Rattle.sim_typing.proofs.laws.an_expression_without_faults_has_a_type.Goals as goal
-
-pub returns : goal.returns
-returns c = λ look x all none. typed look all x none

@@ -1,6 +1,0 @@
-use Rattle.std.proofs.Common.{◌≡◌}
-use Rattle.sim_claims.specs.Seats.{IsOf, balance}
-use Rattle.sim_workers.proofs.worker.work.Given as goal
-
-abbrev pub invariant-loop : goal.invariant-loop
-invariant-loop g l = IsOf l.fn.round.claims l.seat × (balance l.seat ≡ balance l.fn.seat)
