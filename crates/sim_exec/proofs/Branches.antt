@@ -6,8 +6,8 @@ use Rattle.sim_flat_design.specs.declared.statement.Statement.{Statement}
 use Rattle.sim_flat_design.specs.declared.statement.Statement.TheViews as views
 use Rattle.sim_standard.specs.declared.net_view.NetView.{NetView}
 use Rattle.sim_standard.specs.State.{Owned}
-use Rattle.sim_standard.specs.Statements.{Steps, in_turn, first_taken, statement_done, branch_done, own_steps, one_holds}
-use Rattle.sim_standard.proofs.StatementRules.{branch_is}
+use Rattle.sim_standard.specs.Statements.{Steps, in_turn, if_taken, statement_done, branch_done, own_steps, one_holds}
+use Rattle.sim_standard.proofs.Rules.{branch_is}
 
 module _ {S : Type 0} (steps : Steps S) (branches : List Branch) (i : ℕ) (b : Branch) where
   -- those from it on
@@ -15,22 +15,22 @@ module _ {S : Type 0} (steps : Steps S) (branches : List Branch) (i : ℕ) (b : 
   here lt is = drop_more branches i b lt ∙ ap (λ (x : Branch). x ∷ drop (i + 1) branches) (sym is)
 
   looked_at : (otherwise : S → S) (own : S) → i < length branches → b ≡ get_or branches i b
-      → first_taken (map (branch_done steps) (drop i branches)) otherwise own
+      → if_taken (map (branch_done steps) (drop i branches)) otherwise own
       ≡ (if (branch_done steps b).holds own then (branch_done steps b).carried_out own
-      else first_taken (map (branch_done steps) (drop (i + 1) branches)) otherwise own)
-  unfolding first_taken
-  looked_at otherwise own lt is = ap (λ (bs : List Branch). first_taken (map (branch_done steps) bs) otherwise own) (here lt is)
+      else if_taken (map (branch_done steps) (drop (i + 1) branches)) otherwise own)
+  unfolding if_taken
+  looked_at otherwise own lt is = ap (λ (bs : List Branch). if_taken (map (branch_done steps) bs) otherwise own) (here lt is)
 
   pub taken_now : (statements : List Statement) (otherwise : S → S) (own new : S) → i < length branches → b ≡ get_or branches i b
       → statements ≡ (views.out-Branch b).statements → steps.holds (views.out-Branch b).condition own ≡ true
       → new ≡ in_turn (map (statement_done steps) statements) own
-      → first_taken (map (branch_done steps) (drop i branches)) otherwise own ≡ new
+      → if_taken (map (branch_done steps) (drop i branches)) otherwise own ≡ new
   taken_now statements otherwise own new lt is at holds done =
       looked_at otherwise own lt is ∙ rw (branch_is steps b, holds) (sym (done ∙ ap (λ (ss : List Statement). in_turn (map (statement_done steps) ss) own) at))
 
   pub not_taken : (otherwise : S → S) (own : S) → i < length branches → b ≡ get_or branches i b
       → steps.holds (views.out-Branch b).condition own ≡ false
-      → first_taken (map (branch_done steps) (drop i branches)) otherwise own ≡ first_taken (map (branch_done steps) (drop (i + 1) branches)) otherwise own
+      → if_taken (map (branch_done steps) (drop i branches)) otherwise own ≡ if_taken (map (branch_done steps) (drop (i + 1) branches)) otherwise own
   not_taken otherwise own lt is holds = looked_at otherwise own lt is ∙ rw (branch_is steps b, holds) refl
 
 module _ (look : ℕ → NetView) (now : ℕ) (branches : List Branch) (i : ℕ) (b : Branch) (own : Owned) where

@@ -52,10 +52,10 @@ module _ (b : Body) where
   unfolding assignment_fits
   driver_within a h = let w : nat_lt a.driver b.drivers ≡ true = left (nat_lt a.driver b.drivers) _ h in grind (arith, nat_tests)
 
-  pub conditionals_rejected : (a : SignalAssignment) → assignment_fits b.objects b.drivers b.variables a ≡ true
+  pub all_rejected : (a : SignalAssignment) → assignment_fits b.objects b.drivers b.variables a ≡ true
       → All (λ (c : ConditionalWaveform). IsRejected a.delay c.waveform) a.conditional
   unfolding assignment_fits
-  conditionals_rejected a h =
+  all_rejected a h =
       let each = each_is (conditional_fits b.objects b.variables a.delay) a.conditional (left _ _ (right (nat_lt a.driver b.drivers) _ h)) in
       All-weaker (λ (c : ConditionalWaveform). conditional_fits b.objects b.variables a.delay c ≡ true)
       (λ (c : ConditionalWaveform). IsRejected a.delay c.waveform)

@@ -70,8 +70,7 @@ fn element_values<N: Nets>(
 
 /// The waveform that an assignment takes: the first whose condition holds, else the last, if there
 /// is one (10.5.3).
-#[tactic(auto, using(crate::proofs::Fits::conditionals_rejected, crate::proofs::Fits::last_rejected),
-    unfolding(sim_standard::specs::Expressions::taken_waveform))]
+#[tactic(auto, using(crate::proofs::Fits::all_rejected, crate::proofs::Fits::last_rejected), unfolding(sim_standard::specs::Expressions::taken_waveform))]
 fn taken_waveform<'a, N: Nets>(
     nets: &N,
     body: &Body,

@@ -12,8 +12,8 @@ use crate::job::Job;
 use crate::view::Nets;
 use sim_flat_design::{Held, Process};
 use sim_logic::Logic;
-use sim_wave::Driver;
 use sim_standard::NetView;
+use sim_wave::Driver;
 use std::alloc::{AllocError, Global};
 use std::marker::Model;
 

@@ -2,7 +2,7 @@
 
 ghost use Rattle.std.specs.Prelude.{ℕ, ◌≡◌, IsTrue, map, not};
 ghost use Rattle.sim_standard.specs.State.{Owned};
-ghost use Rattle.sim_standard.specs.Statements.{own_steps, statement_done, branch_done, first_taken, in_turn, one_holds};
+ghost use Rattle.sim_standard.specs.Statements.{own_steps, statement_done, branch_done, if_taken, in_turn, one_holds};
 
 use crate::values::boolean_value;
 use crate::view::Nets;
@@ -32,7 +32,7 @@ pub(crate) fn assign_nothing<N: Nets>(
 
 /// Whether the execution of a statement is known to assign nothing.
 #[cycle(idle)]
-#[tactic(auto, using(sim_standard::proofs::StatementRules::statements_are))]
+#[tactic(auto, using(sim_standard::proofs::Rules::statements_are))]
 fn assigns_nothing<N: Nets>(nets: &N, variables: &[Held], statement: &Statement) -> bool
     ensures { IsTrue result → (now : ℕ) (own : Owned) → own.variables ≡ variables.now
         → statement_done (own_steps (N.look nets.now) now) statement.now own ≡ own }
@@ -53,11 +53,10 @@ fn assigns_nothing<N: Nets>(nets: &N, variables: &[Held], statement: &Statement)
 }
 
 /// Whether no condition of these branches holds.
-#[tactic(auto, using(sim_standard::proofs::StatementRules::branch_is), unfolding(sim_standard::specs::Statements::first_taken,
-    sim_standard::specs::Statements::one_holds))]
+#[tactic(auto, using(sim_standard::proofs::Rules::branch_is), unfolding(sim_standard::specs::Statements::if_taken, sim_standard::specs::Statements::one_holds))]
 fn none_is_taken<N: Nets>(nets: &N, variables: &[Held], branches: &[Branch]) -> bool
     ensures none { IsTrue result → (now : ℕ) (otherwise : Owned → Owned) (own : Owned) → own.variables ≡ variables.now
-        → first_taken (map (branch_done (own_steps (N.look nets.now) now)) branches.now) otherwise own ≡ otherwise own }
+        → if_taken (map (branch_done (own_steps (N.look nets.now) now)) branches.now) otherwise own ≡ otherwise own }
     ensures some { (now : ℕ) (own : Owned) → own.variables ≡ variables.now → one_holds (N.look nets.now) now branches.now own ≡ not result }
 {
     for branch in branches {

@@ -7,8 +7,8 @@ ghost use Rattle.sim_exec.specs.Jobs.{holds_bit};
 
 use sim_flat_design::{Held, Process};
 use sim_logic::LATEST;
-use sim_wave::Driver;
 use sim_standard::NetView;
+use sim_wave::Driver;
 use std::marker::Model;
 
 /// A process to be executed once, with all that it needs: in which cycle, the time in femtoseconds,

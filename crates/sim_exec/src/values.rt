@@ -4,10 +4,10 @@ ghost use Rattle.std.specs.Prelude.{◌≡◌, fold, map, slice_get};
 ghost use Rattle.sim_standard.specs.Expressions as spec;
 
 use crate::view::Nets;
-use sim_standard::NetView;
 use sim_flat_design::Held;
 use sim_flat_design::expression::{BooleanExpression, LogicExpression};
 use sim_logic::Logic;
+use sim_standard::NetView;
 use sim_text_tree::expression::{Logical, Relational};
 
 /// A logical operator on two values of std_ulogic (9.2.2).

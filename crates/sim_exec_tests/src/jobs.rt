@@ -1,7 +1,7 @@
 //! Designs, jobs and drivers for the tests.
 
-use sim_flat_design::{Design, Held};
 use sim_exec::{Job, NetView};
+use sim_flat_design::{Design, Held};
 use sim_logic::{LATEST, Logic};
 use sim_run::{Options, elaborate};
 use sim_wave::{Driver, Transaction};

@@ -1,8 +1,8 @@
 //! Processes that are executed once.
 
 use crate::jobs::{changed, design, is_driver, job, steady};
-use sim_flat_design::{Design, Held};
 use sim_exec::{Done, NetView};
+use sim_flat_design::{Design, Held};
 use sim_logic::Logic;
 use sim_wave::{Delay, Driver};
 use std::alloc::{AllocError, Global};

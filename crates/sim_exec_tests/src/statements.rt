@@ -2,8 +2,8 @@
 //! y is '0' and z is 'H'.
 
 use crate::jobs::{changed, design, is_driver, job, steady};
-use sim_flat_design::Held;
 use sim_exec::{Done, NetView};
+use sim_flat_design::Held;
 use sim_logic::Logic;
 use sim_wave::Driver;
 use std::alloc::{AllocError, Global};

@@ -7,10 +7,10 @@ ghost use Rattle.sim_flat.specs.Elaboration as spec;
 use crate::error::{FlatError, refusal_of};
 use crate::hierarchy::expand_top;
 use crate::top::top_of;
+use sim_flat_blocks::blocks;
 use sim_flat_check::analyze;
 use sim_flat_design::Design;
 use sim_flat_instances::Library;
-use sim_flat_blocks::blocks;
 use sim_text_tree::DesignFile;
 use std::alloc::Global;
 

@@ -8,10 +8,10 @@ ghost use Rattle.sim_flat.specs.Hierarchies as spec;
 
 use crate::error::FlatError;
 use crate::top::Top;
-use sim_flat_design::Design;
-use sim_flat_expansion::limits::fits;
 use sim_flat_blocks::Block;
+use sim_flat_design::Design;
 use sim_flat_expansion::expand;
+use sim_flat_expansion::limits::fits;
 use sim_flat_graph::{first_recursive, first_with_many_sources};
 use std::alloc::Global;
 

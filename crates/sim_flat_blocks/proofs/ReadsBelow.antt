@@ -50,9 +50,9 @@ pub below_both : (count : ℕ) (xs ys : List ℕ) → Below count xs → Below c
 below_both count [] ys h g = g
 below_both count (x ∷ xs) ys h g = (h.0, below_both count xs ys h.1 g)
 
-earliest_of_both : (a b : Bool) → (a && b) ≡ true → a ≡ true
-earliest_of_both true b e = refl
-earliest_of_both false b e = e
+of_both : (a b : Bool) → (a && b) ≡ true → a ≡ true
+of_both true b e = refl
+of_both false b e = e
 
 second_of_both : (a b : Bool) → (a && b) ≡ true → b ≡ true
 second_of_both true b e = e
@@ -70,13 +70,13 @@ module _ {X : Type 0} (count : ℕ) (fit : X → Bool) (named : X → List ℕ) 
   parts_below [] e = tt
   parts_below (q ∷ qs) e =
       let rest : List X = map (λ (p : Parts). p.0) qs in
-      below_both count (named q.0) (concat (map named rest)) (q.1 (earliest_of_both (fit q.0) (all (map fit rest)) e))
+      below_both count (named q.0) (concat (map named rest)) (q.1 (of_both (fit q.0) (all (map fit rest)) e))
       (parts_below qs (second_of_both (fit q.0) (all (map fit rest)) e))
 
   all_below : ((x : X) → Kept x) → (xs : List X) → all (map fit xs) ≡ true → Below count (concat (map named xs))
   all_below h [] e = tt
   all_below h (x ∷ xs) e =
-      below_both count (named x) (concat (map named xs)) (h x (earliest_of_both (fit x) (all (map fit xs)) e))
+      below_both count (named x) (concat (map named xs)) (h x (of_both (fit x) (all (map fit xs)) e))
       (all_below h xs (second_of_both (fit x) (all (map fit xs)) e))
 
 module _ (count : ℕ) (vs : List Held) where
@@ -105,7 +105,7 @@ module _ (count : ℕ) (vs : List Held) where
       let rest : List LogicExpression = map (λ (p : LogicPart). p.0) qs in
       logic_step (lo.Chain op q.0 rest) (λ e.
       below_both count (logic_objects q.0) (concat (map logic_objects rest))
-      (q.1 (earliest_of_both (logic_fits count vs q.0) (all (map (logic_fits count vs) rest)) e))
+      (q.1 (of_both (logic_fits count vs q.0) (all (map (logic_fits count vs) rest)) e))
       (parts_below count (logic_fits count vs) logic_objects qs (second_of_both (logic_fits count vs q.0) (all (map (logic_fits count vs) rest)) e)))
 
   logic_below : (x : LogicExpression) → LogicKept x
@@ -137,14 +137,14 @@ module _ (count : ℕ) (vs : List Held) where
       let rest : List BooleanExpression = map (λ (p : BooleanPart). p.0) qs in
       boolean_step (bo.Chain op q.0 rest) (λ e.
       below_both count (boolean_objects q.0) (concat (map boolean_objects rest))
-      (q.1 (earliest_of_both (boolean_fits count vs q.0) (all (map (boolean_fits count vs) rest)) e))
+      (q.1 (of_both (boolean_fits count vs q.0) (all (map (boolean_fits count vs) rest)) e))
       (parts_below count (boolean_fits count vs) boolean_objects qs
       (second_of_both (boolean_fits count vs q.0) (all (map (boolean_fits count vs) rest)) e)))
   boolean_parts (bo.LogicComparison x op y) = boolean_step (bo.LogicComparison x op y) (λ e.
-      below_both count (logic_objects x) (logic_objects y) (logic_below x (earliest_of_both (logic_fits count vs x) (logic_fits count vs y) e))
+      below_both count (logic_objects x) (logic_objects y) (logic_below x (of_both (logic_fits count vs x) (logic_fits count vs y) e))
       (logic_below y (second_of_both (logic_fits count vs x) (logic_fits count vs y) e)))
   boolean_parts (bo.BooleanComparison q op r) = boolean_step (bo.BooleanComparison q.0 op r.0) (λ e.
-      below_both count (boolean_objects q.0) (boolean_objects r.0) (q.1 (earliest_of_both (boolean_fits count vs q.0) (boolean_fits count vs r.0) e))
+      below_both count (boolean_objects q.0) (boolean_objects r.0) (q.1 (of_both (boolean_fits count vs q.0) (boolean_fits count vs r.0) e))
       (r.1 (second_of_both (boolean_fits count vs q.0) (boolean_fits count vs r.0) e)))
 
   boolean_below : (x : BooleanExpression) → BooleanKept x
@@ -160,7 +160,7 @@ module _ (count : ℕ) (vs : List Held) where
   conditional_below : (d : Delay) (c : ConditionalWaveform) → conditional_fits count vs d c ≡ true → Below count (conditional_objects c)
   conditional_below d c e =
       below_both count (boolean_objects c.condition) (waveform_objects c.waveform)
-      (boolean_below c.condition (earliest_of_both (boolean_fits count vs c.condition) (waveform_fits count vs d c.waveform) e))
+      (boolean_below c.condition (of_both (boolean_fits count vs c.condition) (waveform_fits count vs d c.waveform) e))
       (waveform_below d c.waveform (second_of_both (boolean_fits count vs c.condition) (waveform_fits count vs d c.waveform) e))
 
   last_below : (d : Delay) (o : Option (List Element)) → last_fits count vs d o ≡ true → Below count (last_objects o)
@@ -174,7 +174,7 @@ module _ (count : ℕ) (vs : List Held) where
       let last : Bool = last_fits count vs a.delay a.otherwise in
       let f : (some && last) ≡ true = second_of_both (nat_lt a.driver drivers) (some && last) e in
       below_both count (concat (map conditional_objects a.conditional)) (last_objects a.otherwise)
-      (all_below count (conditional_fits count vs a.delay) conditional_objects (conditional_below a.delay) a.conditional (earliest_of_both some last f))
+      (all_below count (conditional_fits count vs a.delay) conditional_objects (conditional_below a.delay) a.conditional (of_both some last f))
       (last_below a.delay a.otherwise (second_of_both some last f))
 
   -- ---- statements
@@ -218,7 +218,7 @@ module _ (count : ℕ) (vs : List Held) where
         statement_step (so.If branches last) (λ e.
         below_both count (concat (map branch_objects branches)) (concat (map statement_objects last))
         (parts_below count (branch_fits count drivers vs) branch_objects bs
-        (earliest_of_both (all (map (branch_fits count drivers vs) branches)) (all (map (statement_fits count drivers vs) last)) e))
+        (of_both (all (map (branch_fits count drivers vs) branches)) (all (map (statement_fits count drivers vs) last)) e))
         (parts_below count (statement_fits count drivers vs) statement_objects xs
         (second_of_both (all (map (branch_fits count drivers vs) branches)) (all (map (statement_fits count drivers vs) last)) e)))
     statement_parts so.Null = statement_step so.Null (λ e. tt)
@@ -229,7 +229,7 @@ module _ (count : ℕ) (vs : List Held) where
         let inside : List Statement = map (λ (p : StatementPart). p.0) y.statements in
         branch_step (record { condition = y.condition; statements = inside }) (λ e.
         below_both count (boolean_objects y.condition) (concat (map statement_objects inside))
-        (boolean_below y.condition (earliest_of_both (boolean_fits count vs y.condition) (all (map (statement_fits count drivers vs) inside)) e))
+        (boolean_below y.condition (of_both (boolean_fits count vs y.condition) (all (map (statement_fits count drivers vs) inside)) e))
         (parts_below count (statement_fits count drivers vs) statement_objects y.statements
         (second_of_both (boolean_fits count vs y.condition) (all (map (statement_fits count drivers vs) inside)) e)))
 

@@ -3,19 +3,19 @@ use Rattle.std.proofs.Common.{◌≡◌, ℕ, ◌+◌, ◌<◌, List, [], ◌∷
 use Rattle.std.proofs.Common.{Bor, refl, ap, ◌∙◌, append_assoc}
 use Rattle.sim_text_tree.specs.declared.unit.Architecture.{Architecture}
 use Rattle.sim_flat_blocks.specs.declared.parts.Block.{Block}
-use Rattle.sim_flat_instances.specs.Libraries.{architectures_at}
+use Rattle.sim_flat_instances.specs.Libraries.{bodies_at}
 use Rattle.sim_flat_instances.proofs.PlaceLoops.{opened}
 
-pub architectures_count : (xs : List (Bor Architecture)) → length xs ≡ length (architectures_at xs)
-unfolding architectures_at
+pub architectures_count : (xs : List (Bor Architecture)) → length xs ≡ length (bodies_at xs)
+unfolding bodies_at
 architectures_count [] = refl
 architectures_count (a ∷ xs) = rw (architectures_count xs) refl
 
 -- architectures whose blocks are made, one more
 pub one_more : (f : Architecture → Block) (xs : List (Bor Architecture)) (i : ℕ) (x : Bor Architecture) → i < length xs → x ≡ get_or xs i x
-    → (found more all : List Block) (b : Block) → b ≡ f x.now → more ≡ found ++ b ∷ [] → found ++ map f (architectures_at (drop i xs)) ≡ all
-    → more ++ map f (architectures_at (drop (i + 1) xs)) ≡ all
-unfolding architectures_at
+    → (found more all : List Block) (b : Block) → b ≡ f x.now → more ≡ found ++ b ∷ [] → found ++ map f (bodies_at (drop i xs)) ≡ all
+    → more ++ map f (bodies_at (drop (i + 1) xs)) ≡ all
+unfolding bodies_at
 one_more f xs i x below at found more all b is made so_far = rw (made, is)
-    (append_assoc found (f x.now ∷ []) (map f (architectures_at (drop (i + 1) xs)))
-    ∙ (ap (λ (rest : List (Bor Architecture)). found ++ map f (architectures_at rest)) (opened xs i x below at) ∙ so_far))
+    (append_assoc found (f x.now ∷ []) (map f (bodies_at (drop (i + 1) xs)))
+    ∙ (ap (λ (rest : List (Bor Architecture)). found ++ map f (bodies_at rest)) (opened xs i x below at) ∙ so_far))

@@ -12,6 +12,7 @@ ghost use Rattle.sim_flat_blocks.specs.Below.{AreBelow};
 ghost use Rattle.sim_flat_blocks.specs.BlockProcesses as spec;
 ghost use Rattle.sim_flat_blocks.specs.BlockProcesses.{AreListed, AreThere, FitsBlocks};
 
+use crate::BlockProcess;
 use crate::reads::reads;
 use crate::variables::first_values;
 use sim_flat_bodies::assigned::{add_sequence, add_target};
@@ -19,7 +20,6 @@ use sim_flat_bodies::statements::{concurrent, sequence};
 use sim_flat_bodies::{Names, Targets};
 use sim_flat_design::statement::Statement;
 use sim_flat_design::{Body, Held};
-use crate::BlockProcess;
 use sim_flat_scope::region;
 use sim_flat_scope::scope::{Meaning, Scope};
 use sim_text_tree::name::Name;

@@ -7,8 +7,8 @@ ghost use Rattle.sim_flat_blocks.specs.BlockProcesses.{FitsBlocks, translated_as
 ghost use Rattle.sim_flat_blocks.specs.Plans as spec;
 
 use crate::BlockProcess;
-use sim_flat_scope::Scope;
 use crate::block_process::{translated_assignment, translated_process};
+use sim_flat_scope::Scope;
 use sim_text_tree::unit::{Concurrent, Process};
 use sim_text_tree::waveform::ConcurrentSignalAssignment;
 use sqlite_items::Items;

@@ -2,6 +2,8 @@
 //! instances; in it, names are places.
 #![tactic(auto)]
 
+pub mod block_process;
+mod block_processes;
 pub mod count;
 mod instances;
 pub mod links;
@@ -11,10 +13,8 @@ pub mod parts;
 mod plan;
 pub mod reads;
 pub mod rising;
-pub mod block_process;
-mod block_processes;
 pub mod variables;
 
 pub use links::{Link, Links};
-pub use parts::{Block, Instance, Object, Port, Ports, BlockProcess};
+pub use parts::{Block, BlockProcess, Instance, Object, Port, Ports};
 pub use plan::blocks;

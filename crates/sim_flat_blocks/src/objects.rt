@@ -6,10 +6,9 @@ ghost use Rattle.sim_flat_blocks.specs.Plans as spec;
 
 use crate::names::meaning;
 use crate::{Object, Port as BlockPort};
-use sim_logic::Logic;
-use sim_flat_scope::Port;
 use sim_flat_scope::port::ports_of;
-use sim_flat_scope::{Meaning, Scope};
+use sim_flat_scope::{Meaning, Port, Scope};
+use sim_logic::Logic;
 use sim_text_tree::declaration::{Declaration, Initial, Mode, PortDeclaration};
 use sim_text_tree::name::Name;
 use sqlite_items::Items;

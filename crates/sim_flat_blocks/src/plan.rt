@@ -4,19 +4,18 @@ ghost use Rattle.std.specs.Prelude.{◌≡◌, ◌+◌, [], IfOk, length, map};
 ghost use Rattle.std.specs.List.{All};
 ghost use Rattle.sim_flat_blocks.specs.Blocks.{IsBlock, no_block};
 ghost use Rattle.std.specs.Option.{option_copied};
-ghost use Rattle.sim_flat_instances.specs.Libraries.{architectures_at, at_place};
+ghost use Rattle.sim_flat_instances.specs.Libraries.{bodies_at, at_place};
 ghost use Rattle.sim_flat_scope.specs.Regions.{architecture_region};
 ghost use Rattle.sim_flat_blocks.specs.Below.{AreBelow, object_count};
 ghost use Rattle.sim_flat_blocks.specs.Plans as spec;
 
+use crate::block_processes::block_processes;
+use crate::count::object_count;
 use crate::instances::instances;
 use crate::objects::{ports, signals};
-use crate::block_processes::block_processes;
 use crate::{Block, Object, Port, Ports};
 use sim_flat_instances::Library;
-use sim_flat_scope::{EntityPorts, region};
-use sim_flat_scope::Scope;
-use crate::count::object_count;
+use sim_flat_scope::{EntityPorts, Scope, region};
 use sim_text_tree::name::Name;
 use sim_text_tree::unit::Architecture;
 use sqlite_items::Items;
@@ -193,7 +192,7 @@ fn no_block(alloc: Global) -> Result<Block, AllocError>
 }
 
 /// Architectures, each with its entity.
-#[tactic(auto, unfolding(sim_flat_instances::specs::Libraries::architectures_at))]
+#[tactic(auto, unfolding(sim_flat_instances::specs::Libraries::bodies_at))]
 fn each_block<'l>(
     alloc: Global,
     library: &'l Library<'l>,
@@ -203,7 +202,7 @@ fn each_block<'l>(
 ) -> Result<Vec<Block>, AllocError>
     requires none { none.now ≡ [] }
     requires shared { shared.now ≡ spec.shared_ports library.now }
-    ensures value { IfOk result (λ r. r.items ≡ map (spec.block_of library.now) (architectures_at architectures.now)) }
+    ensures value { IfOk result (λ r. r.items ≡ map (spec.block_of library.now) (bodies_at architectures.now)) }
     ensures known { IfOk result (λ r. All (IsBlock (spec.blocks_of library.now)) r.items) }
 {
     let mut found = Vec::new(alloc);

@@ -7,10 +7,10 @@ ghost use Rattle.sim_flat_design.specs.Bodies as spec;
 ghost use Rattle.sim_flat_design.specs.Processes.{rising};
 ghost use Rattle.sim_flat_blocks.specs.Reads.{branch_objects};
 
+use crate::rising::rising;
 use sim_flat_design::expression::{BooleanExpression, LogicExpression};
 use sim_flat_design::statement::{Branch, ConditionalWaveform, SignalAssignment, Statement};
 use sim_flat_design::waveform::{Element, Waveform};
-use crate::rising::rising;
 use sqlite_items::Items;
 use std::alloc::{AllocError, Global};
 

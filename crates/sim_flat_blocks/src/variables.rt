@@ -5,10 +5,10 @@ ghost use Rattle.sim_flat_scope.specs.Scopes.{means};
 ghost use Rattle.sim_flat_blocks.specs.FirstValues as spec;
 
 use sim_flat_design::Held;
-use sim_logic::Logic;
 use sim_flat_scope::Names;
 use sim_flat_scope::region::{labels, type_marked};
 use sim_flat_scope::scope::{Meaning, Scope, Type, look_up};
+use sim_logic::Logic;
 use sim_text_tree::declaration::{Initial, ObjectDeclaration};
 use sim_text_tree::name::Name;
 use sim_text_tree::unit::Process;

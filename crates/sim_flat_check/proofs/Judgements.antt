@@ -15,7 +15,7 @@ use Rattle.sim_flat_scope.specs.declared.scope.Type.TheVariants.{Logic, Boolean}
 use Rattle.sim_flat_scope.specs.declared.fault.Fault.{Fault}
 use Rattle.sim_flat_scope.specs.Faults.{earliest}
 use Rattle.sim_flat_scope.specs.Scopes.{Lookup}
-use Rattle.sim_flat_scope.proofs.FirstFaults.{earliest_of_both}
+use Rattle.sim_flat_scope.proofs.Faults.{of_both}
 use Rattle.sim_flat_check.specs.Types.{Judged, value_read, signal_read, function_called, boolean_unless, event_test, clash, common, joined, ambiguous}
 use Rattle.sim_flat_check.specs.Types.{compared, comparison, chained, expression_rule, operand_rule, judged, judged_operand}
 use Rattle.sim_flat_check.specs.Carried.{Carried, carried, carried_on, carried_compared, carried_through}
@@ -83,13 +83,13 @@ boolean_both [] gs h = refl
 boolean_both (f ∷ fs) gs h = cc
 
 -- what a call carries from its function to its argument
-pub ruleset call_rules = (boolean_both, earliest_of_both)
+pub ruleset call_rules = (boolean_both, of_both)
 
 carried_joined : (known : Option Fault) (a : Judged) (o : ℕ × Judged) → carried known (joined a o.0 o.1) ≡ carried_on (carried known a) o
 unfolding joined carried carried_on
 carried_joined known a o =
     ap (λ (f : Option Fault). let c : Carried = record { type = common a.type o.1.type; named = a.named || o.1.named; first = f } in c)
-    (earliest_of_both known a.faults (o.1.faults ++ clash a.type o.1.type o.0))
+    (of_both known a.faults (o.1.faults ++ clash a.type o.1.type o.0))
 
 carried_chained : (known : Option Fault) (look : Lookup) (a : Judged) (os : List Operand) →
     carried known (chained a (map (judged_operand look) os)) ≡ carried_through look (carried known a) os
@@ -108,7 +108,7 @@ carried_comparison known a at b =
     let more : List Fault = b.faults ++ clash a.type b.type at in
     let last : List Fault = ambiguous type named at in
     ap (λ (f : Option Fault). let c : Carried = record { type = compared type named; named = named; first = f } in c)
-    (earliest_of_both known (a.faults ++ more) last ∙ ap (λ (f : Option Fault). earliest f last) (earliest_of_both known a.faults more))
+    (of_both known (a.faults ++ more) last ∙ ap (λ (f : Option Fault). earliest f last) (of_both known a.faults more))
 
 -- ---- what each kind of expression carries
 
@@ -161,7 +161,7 @@ joined_on a at b t n f f' s m h hs hm hf =
     let e2 : n ≡ b.named = ap (λ (c : Carried). c.named) h in
     let e3 : f ≡ earliest a.first b.faults = ap (λ (c : Carried). c.first) h in
     let e4 : earliest a.first (b.faults ++ clash a.type b.type at) ≡ earliest (earliest a.first b.faults) (clash a.type b.type at) =
-    earliest_of_both a.first b.faults (clash a.type b.type at) in
+    of_both a.first b.faults (clash a.type b.type at) in
     cc
 
 pub operand_joined : (look : Lookup) (a : Carried) (o : Operand) (t : Option ty.Type) (n : Bool) (f f' : Option Fault) (s : Option ty.Type) (m : Bool)

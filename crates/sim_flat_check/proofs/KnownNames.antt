@@ -9,8 +9,8 @@ use Rattle.indexmap.specs.IndexSet.{insert_key}
 use Rattle.sim_text_tree.specs.declared.unit.Architecture.{Architecture}
 use Rattle.sim_flat_scope.specs.declared.fault.Fault.{Fault}
 use Rattle.sim_flat_scope.specs.Faults.{earliest}
-use Rattle.sim_flat_scope.proofs.FirstFaults.{earliest_of_both}
-use Rattle.sim_flat_instances.specs.Libraries.{Library, architectures_at}
+use Rattle.sim_flat_scope.proofs.Faults.{of_both}
+use Rattle.sim_flat_instances.specs.Libraries.{Library, bodies_at}
 use Rattle.sim_flat_check.specs.BodyNames.{BodyNames, is_known, with_name}
 use Rattle.sim_flat_check.specs.Architectures.{name_faults, names_faults}
 use Rattle.sim_flat_check.proofs.UnitTurns.{opened}
@@ -56,11 +56,11 @@ is_new k ks was view = ap not (known_in k ks ∙ ap (λ (ns : BodyNames). is_kno
 
 -- one architecture on
 pub names_step : (l : Library) (known more : BodyNames) (first after all : Option Fault) (xs : List (Bor Architecture)) (i : ℕ) (a : Bor Architecture)
-    → i < length xs → a ≡ get_or xs i a → earliest first (names_faults l known (architectures_at (drop i xs))) ≡ all
+    → i < length xs → a ≡ get_or xs i a → earliest first (names_faults l known (bodies_at (drop i xs))) ≡ all
     → after ≡ earliest first (name_faults l known a.now) → more ≡ with_name known a.now.entity.text a.now.name.text
-    → earliest after (names_faults l more (architectures_at (drop (i + 1) xs))) ≡ all
-unfolding names_faults architectures_at
+    → earliest after (names_faults l more (bodies_at (drop (i + 1) xs))) ≡ all
+unfolding names_faults bodies_at
 names_step l known more first after all xs i a below is so_far noted made = rw (noted, made)
-    (sym (earliest_of_both first (name_faults l known a.now)
-    (names_faults l (with_name known a.now.entity.text a.now.name.text) (architectures_at (drop (i + 1) xs))))
-    ∙ (ap (λ (rest : List (Bor Architecture)). earliest first (names_faults l known (architectures_at rest))) (opened xs i a below is) ∙ so_far))
+    (sym (of_both first (name_faults l known a.now)
+    (names_faults l (with_name known a.now.entity.text a.now.name.text) (bodies_at (drop (i + 1) xs))))
+    ∙ (ap (λ (rest : List (Bor Architecture)). earliest first (names_faults l known (bodies_at rest))) (opened xs i a below is) ∙ so_far))

@@ -12,7 +12,7 @@ use Rattle.sim_text_tree.specs.declared.sequential.Statement.TheViews as views
 use Rattle.sim_flat_scope.specs.declared.fault.Fault.{Fault}
 use Rattle.sim_flat_scope.specs.Faults.{earliest}
 use Rattle.sim_flat_scope.specs.Scopes.{Lookup}
-use Rattle.sim_flat_scope.proofs.FirstFaults.{earliest_of_both}
+use Rattle.sim_flat_scope.proofs.Faults.{of_both}
 use Rattle.sim_flat_check.specs.Waveforms.{condition_faults}
 use Rattle.sim_flat_check.specs.Statements.{signal_assignment_faults, variable_assignment_faults, each, statement_rule, branch_rule, sequential_rule}
 use Rattle.sim_flat_check.specs.Statements.{statement_faults, branch_faults, sequential_faults, sequence_faults, branches_faults, else_faults}
@@ -82,7 +82,7 @@ module _ (look : Lookup) (known : Option Fault) (y : Statement) where
   pub first_of_if : (bs : List Branch) (x : Option (List Sequential)) (again : Bool) → y ≡ s.If bs x again →
       earliest known (statement_faults look y) ≡ earliest (earliest known (branches_faults look bs)) (else_faults look x)
   first_of_if bs x again is = ap (λ (z : Statement). earliest known (statement_faults look z)) is
-      ∙ (ap (earliest known) (if_is look bs x again) ∙ earliest_of_both known (branches_faults look bs) (else_faults look x))
+      ∙ (ap (earliest known) (if_is look bs x again) ∙ of_both known (branches_faults look bs) (else_faults look x))
 
 pub ruleset statement_rules = (first_of_signal, first_of_variable, first_of_null, first_of_if)
 

@@ -3,7 +3,7 @@ use Rattle.std.proofs.Common.{◌≡◌, ℕ, ◌+◌, ◌<◌, List, ◌∷◌,
 use Rattle.std.proofs.lemmas.List.{drop_more}
 use Rattle.sim_flat_scope.specs.declared.fault.Fault.{Fault}
 use Rattle.sim_flat_scope.specs.Faults.{earliest}
-use Rattle.sim_flat_scope.proofs.FirstFaults.{earliest_of_both}
+use Rattle.sim_flat_scope.proofs.Faults.{of_both}
 
 pub one_more : {X : Type 0} (faults : List X → List Fault) (each : X → List Fault) → ((x : X) (xs : List X) → faults (x ∷ xs) ≡ each x ++ faults xs)
     → (xs : List X) (i : ℕ) (x : X) → i < length xs → x ≡ get_or xs i x → (known more start : Option Fault)
@@ -11,6 +11,6 @@ pub one_more : {X : Type 0} (faults : List X → List Fault) (each : X → List 
 one_more {X} faults each cons xs i x lt is known more start step so_far =
     let rest : List X = drop (i + 1) xs in
     ap (λ (f : Option Fault). earliest f (faults rest)) step
-    ∙ (sym (earliest_of_both known (each x) (faults rest))
+    ∙ (sym (of_both known (each x) (faults rest))
     ∙ (ap (λ (fs : List Fault). earliest known fs) (sym (cons x rest) ∙ ap faults (ap (λ (y : X). y ∷ rest) is ∙ sym (drop_more xs i x lt)))
     ∙ so_far))

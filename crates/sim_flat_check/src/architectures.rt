@@ -3,7 +3,7 @@
 ghost use Rattle.std.specs.Prelude.{◌≡◌, [], OnOk};
 ghost use Rattle.sim_flat_scope.specs.Faults.{earliest};
 ghost use Rattle.sim_flat_instances.specs.Components.{components};
-ghost use Rattle.sim_flat_instances.specs.Libraries.{architectures_at};
+ghost use Rattle.sim_flat_instances.specs.Libraries.{bodies_at};
 ghost use Rattle.sim_flat_check.specs.BodyNames.{with_name};
 ghost use Rattle.sim_flat_check.specs.Concurrents.{statements_faults};
 ghost use Rattle.sim_flat_check.specs.Architectures as spec;
@@ -13,9 +13,8 @@ use crate::concurrents::check_statements;
 use sim_flat_instances::Library;
 use sim_flat_instances::component::components;
 use sim_flat_scope::check::{check_architecture, check_predefined};
-use sim_flat_scope::{EntityPorts, region};
 use sim_flat_scope::fault::note;
-use sim_flat_scope::{Fault, Kind, Scope};
+use sim_flat_scope::{EntityPorts, Fault, Kind, Scope, region};
 use sim_text_tree::declaration::Declaration;
 use sim_text_tree::unit::{Architecture, Concurrent};
 use std::alloc::{AllocError, Global};
@@ -42,7 +41,7 @@ fn check_unit(
 }
 
 /// Notes the faults of the names of an architecture, which is known from then on.
-#[tactic(auto, using(sim_flat_scope::proofs::FirstFaults::earliest_of_both), unfolding(crate::specs::Architectures::name_faults))]
+#[tactic(auto, using(sim_flat_scope::proofs::Faults::of_both), unfolding(crate::specs::Architectures::name_faults))]
 fn check_name<'a>(
     library: &Library<'_>,
     known: &mut BodyNames<'a>,
@@ -60,15 +59,14 @@ fn check_name<'a>(
 }
 
 /// Notes the faults of the names of architectures.
-#[tactic(auto, unfolding(crate::specs::Architectures::names_faults, sim_flat_instances::specs::Libraries::architectures_at,
-    sim_flat_scope::specs::Faults::earliest))]
+#[tactic(auto, unfolding(crate::specs::Architectures::names_faults, sim_flat_instances::specs::Libraries::bodies_at, sim_flat_scope::specs::Faults::earliest))]
 fn check_names(
     alloc: Global,
     library: &Library<'_>,
     architectures: &[&Architecture],
     first: &mut Option<Fault>,
 ) -> Result<(), AllocError>
-    ensures { OnOk result (first.new ≡ earliest first.old (spec.names_faults library.now [] (architectures_at architectures.now))) }
+    ensures { OnOk result (first.new ≡ earliest first.old (spec.names_faults library.now [] (bodies_at architectures.now))) }
 {
     let mut known = BodyNames::new(alloc);
     for architecture in architectures {
@@ -97,7 +95,7 @@ fn check_concurrents(
 
 /// Notes the faults of the declarations and statements of an architecture of an entity with these
 /// ports.
-#[tactic(auto, using(sim_flat_scope::proofs::FirstFaults::earliest_of_both), unfolding(crate::specs::Architectures::body_faults))]
+#[tactic(auto, using(sim_flat_scope::proofs::Faults::of_both), unfolding(crate::specs::Architectures::body_faults))]
 fn check_body<'a>(
     alloc: Global,
     library: &Library<'_>,
@@ -136,15 +134,14 @@ fn check_known<'a>(
 }
 
 /// Notes the faults of the declarations and statements of architectures.
-#[tactic(auto, unfolding(crate::specs::Architectures::bodies_faults, sim_flat_instances::specs::Libraries::architectures_at,
-    sim_flat_scope::specs::Faults::earliest))]
+#[tactic(auto, unfolding(crate::specs::Architectures::bodies_faults, sim_flat_instances::specs::Libraries::bodies_at, sim_flat_scope::specs::Faults::earliest))]
 fn check_bodies<'a>(
     alloc: Global,
     library: &'a Library<'a>,
     architectures: &[&'a Architecture],
     first: &mut Option<Fault>,
 ) -> Result<(), AllocError>
-    ensures { OnOk result (first.new ≡ earliest first.old (spec.bodies_faults library.now (architectures_at architectures.now))) }
+    ensures { OnOk result (first.new ≡ earliest first.old (spec.bodies_faults library.now (bodies_at architectures.now))) }
 {
     for architecture in architectures {
         check_known(alloc, library, architecture, first)?;
@@ -153,14 +150,14 @@ fn check_bodies<'a>(
 }
 
 /// Notes the faults of architectures (3.3), each with the first entity of the name that it gives.
-#[tactic(auto, using(sim_flat_scope::proofs::FirstFaults::earliest_of_both), unfolding(crate::specs::Architectures::architectures_faults))]
+#[tactic(auto, using(sim_flat_scope::proofs::Faults::of_both), unfolding(crate::specs::Architectures::architectures_faults))]
 pub fn check_architectures<'a>(
     alloc: Global,
     library: &'a Library<'a>,
     architectures: &[&'a Architecture],
     first: &mut Option<Fault>,
 ) -> Result<(), AllocError>
-    ensures { OnOk result (first.new ≡ earliest first.old (spec.architectures_faults library.now (architectures_at architectures.now))) }
+    ensures { OnOk result (first.new ≡ earliest first.old (spec.architectures_faults library.now (bodies_at architectures.now))) }
 {
     check_names(alloc, library, architectures, first)?;
     check_bodies(alloc, library, architectures, first)?;

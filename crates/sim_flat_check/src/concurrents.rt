@@ -5,16 +5,15 @@ ghost use Rattle.sim_flat_scope.specs.Faults.{earliest};
 ghost use Rattle.sim_flat_scope.specs.Scopes.{means};
 ghost use Rattle.sim_flat_check.specs.Concurrents as spec;
 
+use crate::{concurrent_assignment, sensitivity, sequence};
 use sim_flat_instances::{Component, Library, check_instance};
 use sim_flat_scope::check::check_process;
-use sim_flat_scope::region;
-use sim_flat_scope::{Fault, Scope};
+use sim_flat_scope::{Fault, Scope, region};
 use sim_text_tree::unit::{Concurrent, Process};
-use crate::{concurrent_assignment, sensitivity, sequence};
 use std::alloc::{AllocError, Global};
 
 /// Notes the faults of the sensitivity list and of the statements of a process.
-#[tactic(auto, using(sim_flat_scope::proofs::FirstFaults::earliest_of_both))]
+#[tactic(auto, using(sim_flat_scope::proofs::Faults::of_both))]
 fn check_execution(
     inner: &Scope<'_>,
     outer: &Scope<'_>,
@@ -28,7 +27,7 @@ fn check_execution(
 }
 
 /// Notes the faults of a process in the region of its architecture.
-#[tactic(auto, using(sim_flat_scope::proofs::FirstFaults::earliest_of_both), unfolding(crate::specs::Concurrents::process_statement_faults))]
+#[tactic(auto, using(sim_flat_scope::proofs::Faults::of_both), unfolding(crate::specs::Concurrents::process_statement_faults))]
 fn check_process_statement(
     alloc: Global,
     region: &Scope<'_>,

@@ -6,8 +6,7 @@ ghost use Rattle.sim_flat_instances.specs.Libraries.{entities_at};
 ghost use Rattle.sim_flat_check.specs.Entities as spec;
 
 use sim_flat_scope::check::{check_names, check_ports};
-use sim_flat_scope::{Names, region};
-use sim_flat_scope::{Fault, Scope};
+use sim_flat_scope::{Fault, Names, Scope, region};
 use sim_text_tree::unit::Entity;
 use std::alloc::{AllocError, Global};
 
@@ -63,7 +62,7 @@ fn check_each(
 }
 
 /// Notes the faults of entities (3.2): of their names, and of their ports.
-#[tactic(auto, using(sim_flat_scope::proofs::FirstFaults::earliest_of_both), unfolding(crate::specs::Entities::entities_faults))]
+#[tactic(auto, using(sim_flat_scope::proofs::Faults::of_both), unfolding(crate::specs::Entities::entities_faults))]
 pub fn check_entities(
     alloc: Global,
     entities: &[&Entity],

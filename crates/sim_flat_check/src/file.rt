@@ -13,7 +13,7 @@ use std::alloc::{AllocError, Global};
 /// The fault of the units of a design file that is reported, if there is one: the first by its
 /// place, and of several at one place by its kind. All units count (13.1), whichever are
 /// elaborated.
-#[tactic(auto, using(sim_flat_scope::proofs::FirstFaults::earliest_of_both), unfolding(crate::specs::Files::file_faults))]
+#[tactic(auto, using(sim_flat_scope::proofs::Faults::of_both), unfolding(crate::specs::Files::file_faults))]
 pub fn analyze(alloc: Global, library: &Library<'_>) -> Result<Option<Fault>, AllocError>
     ensures { IfOk result (λ found. found ≡ earliest None (spec.file_faults library.now)) }
 {

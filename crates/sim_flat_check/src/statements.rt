@@ -14,7 +14,9 @@ use sim_flat_scope::scope::look_up;
 use sim_flat_scope::{Fault, Kind, Meaning, Scope, Type};
 use sim_text_tree::declaration::Mode;
 use sim_text_tree::name::Name;
-use sim_text_tree::sequential::{Branch, Sequential, SignalAssignment, Statement, VariableAssignment};
+use sim_text_tree::sequential::{
+    Branch, Sequential, SignalAssignment, Statement, VariableAssignment,
+};
 use sim_text_tree::unit::Sensitivity;
 use sim_text_tree::waveform::ConcurrentSignalAssignment;
 
@@ -67,7 +69,7 @@ fn variable_target(meaning: Option<Meaning>, at: usize, first: &mut Option<Fault
 }
 
 /// Notes the faults of a concurrent signal assignment.
-#[tactic(auto, using(sim_flat_scope::proofs::FirstFaults::earliest_of_both), unfolding(crate::specs::Statements::concurrent_assignment_faults))]
+#[tactic(auto, using(sim_flat_scope::proofs::Faults::of_both), unfolding(crate::specs::Statements::concurrent_assignment_faults))]
 pub fn concurrent_assignment(
     inner: &Scope<'_>,
     outer: &Scope<'_>,
@@ -89,7 +91,7 @@ pub fn concurrent_assignment(
 }
 
 /// Notes the faults of a signal assignment in a process.
-#[tactic(auto, using(sim_flat_scope::proofs::FirstFaults::earliest_of_both), unfolding(crate::specs::Statements::signal_assignment_faults))]
+#[tactic(auto, using(sim_flat_scope::proofs::Faults::of_both), unfolding(crate::specs::Statements::signal_assignment_faults))]
 fn signal_assignment(
     inner: &Scope<'_>,
     outer: &Scope<'_>,
@@ -111,7 +113,7 @@ fn signal_assignment(
 }
 
 /// Notes the faults of a variable assignment.
-#[tactic(auto, using(sim_flat_scope::proofs::FirstFaults::earliest_of_both), unfolding(crate::specs::Statements::variable_assignment_faults))]
+#[tactic(auto, using(sim_flat_scope::proofs::Faults::of_both), unfolding(crate::specs::Statements::variable_assignment_faults))]
 fn variable_assignment(
     inner: &Scope<'_>,
     outer: &Scope<'_>,
@@ -149,7 +151,7 @@ fn statement(inner: &Scope<'_>, outer: &Scope<'_>, statement: &Statement, first:
 }
 
 #[cycle(statements)]
-#[tactic(auto, using(crate::proofs::Sequences::branch_is, sim_flat_scope::proofs::FirstFaults::earliest_of_both))]
+#[tactic(auto, using(crate::proofs::Sequences::branch_is, sim_flat_scope::proofs::Faults::of_both))]
 fn if_branch(inner: &Scope<'_>, outer: &Scope<'_>, branch: &Branch, first: &mut Option<Fault>)
     ensures { first.new ≡ earliest first.old (spec.branch_faults (means inner.now outer.now) branch.now) }
 {

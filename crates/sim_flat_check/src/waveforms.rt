@@ -38,8 +38,7 @@ fn above(before: Option<u64>, element: &Element, first: &mut Option<Fault>)
 }
 
 /// Notes the elements whose delays do not rise.
-#[tactic(auto, using(sim_flat_scope::proofs::FirstFaults::earliest_of_both),
-    unfolding(crate::specs::Waveforms::not_rising, sim_flat_scope::specs::Faults::earliest))]
+#[tactic(auto, using(sim_flat_scope::proofs::Faults::of_both), unfolding(crate::specs::Waveforms::not_rising, sim_flat_scope::specs::Faults::earliest))]
 fn rising(waveform: &[Element], first: &mut Option<Fault>)
     ensures { first.new ≡ earliest first.old (spec.not_rising None waveform.now) }
 {
@@ -75,8 +74,7 @@ fn delay(mechanism: &DelayMechanism, waveform: &[Element], first: &mut Option<Fa
 }
 
 /// Notes the faults of a condition.
-#[tactic(auto, using(sim_flat_scope::proofs::FirstFaults::earliest_of_both),
-    unfolding(crate::specs::Waveforms::condition_faults, sim_flat_scope::specs::Faults::earliest))]
+#[tactic(auto, using(sim_flat_scope::proofs::Faults::of_both), unfolding(crate::specs::Waveforms::condition_faults, sim_flat_scope::specs::Faults::earliest))]
 pub(crate) fn condition(
     inner: &Scope<'_>,
     outer: &Scope<'_>,
@@ -92,7 +90,7 @@ pub(crate) fn condition(
 }
 
 /// Notes the faults of a value that is assigned to a target of this type.
-#[tactic(auto, using(sim_flat_scope::proofs::FirstFaults::earliest_of_both), unfolding(crate::specs::Waveforms::value_faults))]
+#[tactic(auto, using(sim_flat_scope::proofs::Faults::of_both), unfolding(crate::specs::Waveforms::value_faults))]
 pub(crate) fn value(
     inner: &Scope<'_>,
     outer: &Scope<'_>,
@@ -107,8 +105,7 @@ pub(crate) fn value(
 }
 
 /// Notes the faults of the values of elements.
-#[tactic(auto, using(sim_flat_scope::proofs::FirstFaults::earliest_of_both),
-    unfolding(crate::specs::Waveforms::values_faults, sim_flat_scope::specs::Faults::earliest))]
+#[tactic(auto, using(sim_flat_scope::proofs::Faults::of_both), unfolding(crate::specs::Waveforms::values_faults, sim_flat_scope::specs::Faults::earliest))]
 fn values(
     inner: &Scope<'_>,
     outer: &Scope<'_>,
@@ -124,7 +121,7 @@ fn values(
 }
 
 /// Notes the faults of a waveform after a delay mechanism.
-#[tactic(auto, using(sim_flat_scope::proofs::FirstFaults::earliest_of_both), unfolding(crate::specs::Waveforms::waveform_faults))]
+#[tactic(auto, using(sim_flat_scope::proofs::Faults::of_both), unfolding(crate::specs::Waveforms::waveform_faults))]
 pub(crate) fn waveform(
     inner: &Scope<'_>,
     outer: &Scope<'_>,
@@ -161,8 +158,7 @@ fn conditional(
 }
 
 /// Notes the faults of the waveforms of a concurrent assignment.
-#[tactic(auto, using(sim_flat_scope::proofs::FirstFaults::earliest_of_both),
-    unfolding(crate::specs::Waveforms::waveforms_faults, sim_flat_scope::specs::Faults::earliest))]
+#[tactic(auto, using(sim_flat_scope::proofs::Faults::of_both), unfolding(crate::specs::Waveforms::waveforms_faults, sim_flat_scope::specs::Faults::earliest))]
 pub(crate) fn waveforms(
     inner: &Scope<'_>,
     outer: &Scope<'_>,

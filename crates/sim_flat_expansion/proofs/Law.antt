@@ -176,7 +176,7 @@ module _ (blocks : List Block) (all : List Scene) where
 
     homed : all ≡ made ++ scene ∷ (under ++ rest)
         → ((object_nets_expanded outer links (size b) [] f.nets).0 ≡ object_nets)
-          × ((object_nets_expanded outer links (size b) [] f.nets).1 ≡ f.nets + net_count scene)
+        × ((object_nets_expanded outer links (size b) [] f.nets).1 ≡ f.nets + net_count scene)
     unfolding own_before
     homed e =
         let base : f.nets ≡ before net_count all c = a.nets ∙ sym (stands net_count e) in

@@ -88,7 +88,7 @@ module _ (all : List Scene) (c : Path) (links : List Link) (outer : List ℕ) (l
 
   pub object_nets_are : (k : ℕ) (object_nets : List ℕ) (n t : ℕ) → length object_nets ≡ n → t ≡ base + own_before c n
       → ((object_nets_expanded outer links k object_nets t).0 ≡ object_nets ++ object_nets_from all c n k)
-        × ((object_nets_expanded outer links k object_nets t).1 ≡ base + own_before c (n + k))
+      × ((object_nets_expanded outer links k object_nets t).1 ≡ base + own_before c (n + k))
   unfolding object_nets_expanded object_nets_from
   object_nets_are zero object_nets n t len e = (sym (append-nil object_nets), e ∙ (let z : n ≡ n + 0 = omega arith in ap (λ (i : ℕ). base + own_before c i) z))
   object_nets_are (suc k) object_nets n t len e =

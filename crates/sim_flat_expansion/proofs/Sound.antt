@@ -194,8 +194,11 @@ pub record Fine (n : ℕ) (f : Sketch) : Type 0 where
   pub owned : AreOwned n 0 0 f.processes f.drivers
 
 placed_more : (n m : ℕ) → n ≤ m → (p : Process) → IsPlaced n p → IsPlaced m p
-placed_more n m le p h = record { object_nets = λ i d lt. (let k = h.object_nets i d lt in omega arith); sensitive = λ i d lt.
-    (let k = h.sensitive i d lt in omega arith) }
+placed_more n m le p h = record {
+  object_nets = λ i d lt. (let k = h.object_nets i d lt in omega arith);
+  sensitive = λ i d lt.
+      (let k = h.sensitive i d lt in omega arith);
+}
 
 fine_more : (n m : ℕ) (f : Sketch) → n ≤ m → Fine n f → Fine m f
 fine_more n m f le h = record {

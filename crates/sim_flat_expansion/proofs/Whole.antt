@@ -42,7 +42,7 @@ expanded_is_design blocks top known lt small =
     let b = get_or blocks top no_block in
     let x = block_expanded blocks levels [] [] [] b [] start in
     let a = block_expanded_sound blocks known levels [] [] [] b [] start (known top no_block lt) (omega arith) tt tt
-        (record { placed = tt; owned = refl }) tt in
+    (record { placed = tt; owned = refl }) tt in
     let count : x.2.nets ≡ length x.0 = (let e = a.total in omega arith) in
     let fine : Fine (length x.0) x.2 = subst (λ (k : ℕ). Fine k x.2) count a.fine in
     record {

@@ -53,8 +53,12 @@ unfoldable pub processes_expanded : List ℕ → Block → List BlockProcess →
 processes_expanded object_nets b [] flat_sources f = (flat_sources, f)
 processes_expanded object_nets b (t ∷ ts) flat_sources f =
     let x = targets_expanded object_nets b (length f.processes) t.targets flat_sources f.drivers in
-    processes_expanded object_nets b ts x.0 (record { nets = f.nets; processes = f.processes ++ process_of object_nets
-        (length f.drivers) t ∷ []; drivers = x.1 })
+    processes_expanded object_nets b ts x.0 (record {
+      nets = f.nets;
+      processes = f.processes ++ process_of object_nets
+          (length f.drivers) t ∷ [];
+      drivers = x.1;
+    })
 
 -- ---- what becomes of the flat sources: a net has them, or the port or signal of the architecture around
 

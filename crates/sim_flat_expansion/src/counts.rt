@@ -5,8 +5,8 @@ ghost use Rattle.std.specs.List.{All};
 ghost use Rattle.sim_flat_blocks.specs.Blocks.{IsBlock};
 ghost use Rattle.sim_flat_expansion.specs.Counts as spec;
 
-use sim_flat_blocks::parts::{Block, Instance, BlockProcess};
 use crate::object_nets::net_at;
+use sim_flat_blocks::parts::{Block, BlockProcess, Instance};
 use sqlite_items::Items;
 use std::alloc::{AllocError, Global};
 

@@ -4,10 +4,10 @@ ghost use Rattle.std.specs.Prelude.{ℕ, ◌≡◌, ◌+◌, ◌++◌, ◌∷◌
 ghost use Rattle.sim_flat_blocks.specs.Blocks.{constant_at};
 ghost use Rattle.sim_flat_expansion.specs.Expanding as spec;
 
-use sim_flat_blocks::parts::{Block, Object, Port};
+use crate::names::joined;
 use crate::object_nets::next;
 use sim_flat_blocks::links::{Link, Links};
-use crate::names::joined;
+use sim_flat_blocks::parts::{Block, Object, Port};
 use sim_flat_design::{Net, Source};
 use sim_logic::Logic;
 use sqlite_items::Items;
@@ -27,7 +27,11 @@ pub fn none(alloc: Global, count: usize) -> Result<Vec<Items<Source>>, AllocErro
 
 /// Adds a flat source to those of the port or signal at this place.
 #[tactic(auto, using(sim_flat_blocks::proofs::Added::set_past), unfolding(crate::specs::Expanding::added))]
-pub fn add(flat_sources: &mut [Items<Source>], at: usize, flat_source: Source) -> Result<(), AllocError>
+pub fn add(
+    flat_sources: &mut [Items<Source>],
+    at: usize,
+    flat_source: Source,
+) -> Result<(), AllocError>
     ensures { OnOk result (flat_sources.new ≡ spec.added flat_sources.old at (flat_source ∷ [])) }
 {
     if at >= flat_sources.len() {
@@ -38,7 +42,11 @@ pub fn add(flat_sources: &mut [Items<Source>], at: usize, flat_source: Source) -
 
 /// Moves flat sources to the end of those of the port or signal at this place.
 #[tactic(auto, using(sim_flat_blocks::proofs::Added::set_past), unfolding(crate::specs::Expanding::added))]
-fn append(flat_sources: &mut [Items<Source>], at: usize, more: Items<Source>) -> Result<(), AllocError>
+fn append(
+    flat_sources: &mut [Items<Source>],
+    at: usize,
+    more: Items<Source>,
+) -> Result<(), AllocError>
     ensures { OnOk result (flat_sources.new ≡ spec.added flat_sources.old at more) }
 {
     if at >= flat_sources.len() {
@@ -148,7 +156,15 @@ fn ports(
     let mut nets = Items::new(alloc);
     for (at, port) in ports.iter().enumerate() {
         let flat_sources = taken(alloc, own, at);
-        expand_object(alloc, prefix, links.get(at), port, flat_sources, &mut nets, outer)?;
+        expand_object(
+            alloc,
+            prefix,
+            links.get(at),
+            port,
+            flat_sources,
+            &mut nets,
+            outer,
+        )?;
     }
     Ok(nets)
 }

@@ -3,10 +3,10 @@
 
 pub mod counts;
 pub mod depth;
-mod object_nets;
 mod flat_sources;
 pub mod limits;
 mod names;
+mod object_nets;
 mod processes;
 mod walk;
 

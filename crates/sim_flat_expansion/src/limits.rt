@@ -8,9 +8,9 @@ ghost use Rattle.sim_flat_expansion.specs.Limits as spec;
 ghost use Rattle.sim_flat_expansion.specs.Counts.{number};
 ghost use Rattle.sim_flat_expansion.specs.Flat.{flat};
 
-use sim_flat_blocks::parts::Block;
 use crate::counts::{Kind, count};
 use crate::depth::is_too_deep;
+use sim_flat_blocks::parts::Block;
 use std::alloc::{AllocError, Global};
 
 /// How many of a kind there may be.

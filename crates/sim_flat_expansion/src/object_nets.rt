@@ -5,9 +5,9 @@ ghost use Rattle.sim_flat_expansion.specs.Expanding as spec;
 ghost use Rattle.sim_flat_blocks.specs.Blocks.{size};
 ghost use Rattle.sim_flat_design.specs.Processes.{rising, nets_of};
 
-use sim_flat_blocks::parts::Block;
-use sim_flat_blocks::links::{Link, Links};
 use crate::processes::Sketch;
+use sim_flat_blocks::links::{Link, Links};
+use sim_flat_blocks::parts::Block;
 use sim_flat_blocks::rising::rising;
 use sim_flat_design::process::ObjectNets;
 use sqlite_items::Items;

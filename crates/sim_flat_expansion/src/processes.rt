@@ -7,9 +7,9 @@ ghost use Rattle.sim_flat_design.specs.Processes.{nets_of, rising};
 ghost use Rattle.sim_flat_blocks.specs.Blocks.{IsBlockProcess, default_at, process_of, size};
 ghost use Rattle.sim_flat_expansion.specs.Expanding as spec;
 
-use sim_flat_blocks::parts::{Block, BlockProcess};
-use crate::object_nets::{net_at, nets_of};
 use crate::flat_sources::add;
+use crate::object_nets::{net_at, nets_of};
+use sim_flat_blocks::parts::{Block, BlockProcess};
 use sim_flat_design::process::ObjectNets;
 use sim_flat_design::{DriverOf, Process, Source};
 use sim_logic::Logic;

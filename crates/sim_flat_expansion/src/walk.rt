@@ -6,12 +6,12 @@ ghost use Rattle.sim_flat_blocks.specs.Blocks.{IsBlock, IsInstance, IsWithinLimi
 ghost use Rattle.sim_flat_expansion.specs.Flat.{flat};
 ghost use Rattle.sim_flat_expansion.specs.Expanding as spec;
 
-use sim_flat_blocks::parts::{Block, Instance};
-use crate::object_nets::block_object_nets;
 use crate::flat_sources::{none, objects_expanded};
-use sim_flat_blocks::links::Links;
 use crate::names::below;
+use crate::object_nets::block_object_nets;
 use crate::processes::{Sketch, processes};
+use sim_flat_blocks::links::Links;
+use sim_flat_blocks::parts::{Block, Instance};
 use sim_flat_design::process::ObjectNets;
 use sim_flat_design::{Design, Net, Source};
 use sqlite_items::Items;
@@ -102,7 +102,14 @@ fn occupants(
 {
     let mut own = none(alloc, object_nets.as_slice().len())?;
     let block_processes = at.processes.as_slice();
-    processes(alloc, object_nets, at, block_processes, own.as_mut_slice(), flat)?;
+    processes(
+        alloc,
+        object_nets,
+        at,
+        block_processes,
+        own.as_mut_slice(),
+        flat,
+    )?;
     let nets = instances(
         alloc,
         blocks,
@@ -138,7 +145,17 @@ fn instances(
 {
     let mut nets = Items::new(alloc);
     for each in list {
-        let more = instance(alloc, blocks, levels, object_nets, prefix, at, each, own, flat)?;
+        let more = instance(
+            alloc,
+            blocks,
+            levels,
+            object_nets,
+            prefix,
+            at,
+            each,
+            own,
+            flat,
+        )?;
         nets.append(more)?;
     }
     Ok(nets)

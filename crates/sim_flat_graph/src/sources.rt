@@ -9,7 +9,7 @@ ghost use Rattle.sim_flat_graph.specs.Sources as spec;
 use crate::graph::graph_of;
 use crate::least::lesser;
 use crate::search::{is_marked, reached};
-use sim_flat_blocks::parts::{Block, Instance, Object, Port, BlockProcess};
+use sim_flat_blocks::parts::{Block, BlockProcess, Instance, Object, Port};
 use sim_flat_blocks::{Link, Links};
 use std::alloc::{AllocError, Global};
 

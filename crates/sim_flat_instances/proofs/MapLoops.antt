@@ -6,7 +6,7 @@ use Rattle.sim_text_tree.specs.declared.unit.Association.{Association}
 use Rattle.sim_flat_scope.specs.Ports.{Port}
 use Rattle.sim_flat_scope.specs.declared.fault.Fault.{Fault}
 use Rattle.sim_flat_scope.specs.Faults.{earliest}
-use Rattle.sim_flat_scope.proofs.FirstFaults.{earliest_of_both}
+use Rattle.sim_flat_scope.proofs.Faults.{of_both}
 use Rattle.sim_flat_instances.specs.Places.{where_at}
 use Rattle.sim_flat_instances.specs.PortMaps.{port_of, is_port, first_of_port}
 use Rattle.sim_flat_instances.proofs.PlaceLoops.{opened, or_again, or_none}
@@ -19,7 +19,7 @@ module _ {X : Type 0} (faults : ℕ → List X → List Fault) (each : ℕ → X
       → earliest more (faults (i + 1) (drop (i + 1) xs)) ≡ start
   one_more cons x below is more step so_far =
       let rest : List X = drop (i + 1) xs in
-      rw step (sym (earliest_of_both known (each i x) (faults (i + 1) rest))
+      rw step (sym (of_both known (each i x) (faults (i + 1) rest))
       ∙ (ap (earliest known) (sym (cons i x rest) ∙ ap (faults i) (opened xs i x below is)) ∙ so_far))
 
   pub no_more : faults i [] ≡ [] → length xs ≤ i → earliest known (faults i (drop i xs)) ≡ start → known ≡ start

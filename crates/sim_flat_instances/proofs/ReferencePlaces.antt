@@ -5,7 +5,7 @@ use Rattle.sim_text_tree.specs.declared.declaration.PortDeclaration.{PortDeclara
 use Rattle.sim_text_tree.specs.declared.unit.Entity.{Entity}
 use Rattle.sim_text_tree.specs.declared.unit.Architecture.{Architecture}
 use Rattle.sim_flat_scope.specs.Ports.{Port}
-use Rattle.sim_flat_instances.specs.Libraries.{Library, entities_at, architectures_at, first_entity, interfaces, declared_ports, ports_in, at_place}
+use Rattle.sim_flat_instances.specs.Libraries.{Library, entities_at, bodies_at, first_entity, interfaces, declared_ports, ports_in, at_place}
 use Rattle.sim_flat_instances.specs.Libraries.{interface_of, entity_of}
 use Rattle.sim_flat_instances.specs.Places.{where_at, first_place, last_place}
 
@@ -16,8 +16,8 @@ first_entity_at test at [] = refl
 first_entity_at test at (e ∷ es) = ap (option_or (where_at (test e.now) at)) (first_entity_at test (at + 1) es)
 
 pub last_architecture_at : (test : Architecture → Bool) (at : ℕ) (xs : List (Bor Architecture))
-    → last_place (λ (a : Bor Architecture). test a.now) at xs ≡ last_place test at (architectures_at xs)
-unfolding last_place architectures_at
+    → last_place (λ (a : Bor Architecture). test a.now) at xs ≡ last_place test at (bodies_at xs)
+unfolding last_place bodies_at
 last_architecture_at test at [] = refl
 last_architecture_at test at (a ∷ xs) = ap (λ (o : Option ℕ). option_or o (where_at (test a.now) at)) (last_architecture_at test (at + 1) xs)
 
@@ -26,8 +26,8 @@ unfolding entities_at
 entities_at_more [] e = refl
 entities_at_more (x ∷ es) e = ap (λ (more : List Entity). x.now ∷ more) (entities_at_more es e)
 
-pub architectures_at_more : (xs : List (Bor Architecture)) (a : Bor Architecture) → architectures_at (xs ++ a ∷ []) ≡ architectures_at xs ++ a.now ∷ []
-unfolding architectures_at
+pub architectures_at_more : (xs : List (Bor Architecture)) (a : Bor Architecture) → bodies_at (xs ++ a ∷ []) ≡ bodies_at xs ++ a.now ∷ []
+unfolding bodies_at
 architectures_at_more [] a = refl
 architectures_at_more (x ∷ xs) a = ap (λ (more : List Architecture). x.now ∷ more) (architectures_at_more xs a)
 

@@ -46,9 +46,9 @@ entities_at [] = []
 entities_at (e ∷ es) = e.now ∷ entities_at es
 
 -- the architectures to which references lead
-unfoldable pub architectures_at : List (Bor Architecture) → List Architecture
-architectures_at [] = []
-architectures_at (a ∷ more) = a.now ∷ architectures_at more
+unfoldable pub bodies_at : List (Bor Architecture) → List Architecture
+bodies_at [] = []
+bodies_at (a ∷ more) = a.now ∷ bodies_at more
 
 -- whether an entity has this name
 abbrev pub is_named : List ℕ → Entity → Bool

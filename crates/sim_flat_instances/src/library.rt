@@ -55,14 +55,14 @@ impl<'a> Model for Library<'a> {
 
     ghost coded = { Prim.hlevel (codes, expression.the_row.coded, statement.the_row.coded, sequential.the_row.coded) };
 
-    ghost view = { λ l. record { entities = spec.entities_at l.entities.list.items; architectures = spec.architectures_at l.architectures.list.items } };
+    ghost view = { λ l. record { entities = spec.entities_at l.entities.list.items; architectures = spec.bodies_at l.architectures.list.items } };
 
     ghost invariant = { λ l.
         (l.entities.declared.interfaces.items ≡ spec.interfaces (spec.entities_at l.entities.list.items))
         × (l.entities.declared.ports.items ≡ spec.declared_ports (spec.entities_at l.entities.list.items))
         × ((n : List ℕ) → place_of l.entities.first n ≡ spec.first_entity (spec.entities_at l.entities.list.items) n)
-        × ((e : List ℕ) → place_of l.architectures.last e ≡ spec.last_architecture (spec.architectures_at l.architectures.list.items) e)
-        × ((e n : List ℕ) → place_of_both l.architectures.named e n ≡ spec.last_named (spec.architectures_at l.architectures.list.items) e n) };
+        × ((e : List ℕ) → place_of l.architectures.last e ≡ spec.last_architecture (spec.bodies_at l.architectures.list.items) e)
+        × ((e n : List ℕ) → place_of_both l.architectures.named e n ≡ spec.last_named (spec.bodies_at l.architectures.list.items) e n) };
 }
 
 /// Puts a unit at the end that is an entity.
@@ -97,8 +97,8 @@ fn push_architecture<'a>(
     architectures: &mut Vec<&'a Architecture>,
     unit: &'a DesignUnit,
 ) -> Result<(), AllocError>
-    ensures { OnOk result (spec.architectures_at architectures.new.items
-        ≡ spec.architectures_at architectures.old.items ++ spec.architecture_in unit.now.library_unit) }
+    ensures { OnOk result (spec.bodies_at architectures.new.items
+        ≡ spec.bodies_at architectures.old.items ++ spec.architecture_in unit.now.library_unit) }
 {
     match &unit.library_unit {
         LibraryUnit::Entity(_) => Ok(()),
@@ -110,12 +110,12 @@ fn push_architecture<'a>(
 }
 
 /// The architectures among units.
-#[tactic(auto, unfolding(crate::specs::Libraries::architectures_in, crate::specs::Libraries::architectures_at))]
+#[tactic(auto, unfolding(crate::specs::Libraries::architectures_in, crate::specs::Libraries::bodies_at))]
 fn architectures_in<'a>(
     alloc: Global,
     units: &'a [DesignUnit],
 ) -> Result<Vec<&'a Architecture>, AllocError>
-    ensures { IfOk result (λ architectures. spec.architectures_at architectures.items ≡ spec.architectures_in units.now) }
+    ensures { IfOk result (λ architectures. spec.bodies_at architectures.items ≡ spec.architectures_in units.now) }
 {
     let mut architectures = Vec::new(alloc);
     for unit in units {
@@ -167,7 +167,7 @@ fn last_architectures<'a>(
     alloc: Global,
     architectures: &[&'a Architecture],
 ) -> Result<Places<'a>, AllocError>
-    ensures { IfOk result (λ places. (e : List ℕ) → place_of places e ≡ spec.last_architecture (spec.architectures_at architectures.now) e) }
+    ensures { IfOk result (λ places. (e : List ℕ) → place_of places e ≡ spec.last_architecture (spec.bodies_at architectures.now) e) }
 {
     let mut places = Places::new(alloc);
     for (place, architecture) in architectures.iter().enumerate() {
@@ -182,7 +182,7 @@ fn named_architectures<'a>(
     alloc: Global,
     architectures: &[&'a Architecture],
 ) -> Result<PairPlaces<'a>, AllocError>
-    ensures { IfOk result (λ places. (e n : List ℕ) → place_of_both places e n ≡ spec.last_named (spec.architectures_at architectures.now) e n) }
+    ensures { IfOk result (λ places. (e n : List ℕ) → place_of_both places e n ≡ spec.last_named (spec.bodies_at architectures.now) e n) }
 {
     let mut places = PairPlaces::new(alloc);
     for (place, architecture) in architectures.iter().enumerate() {
@@ -226,9 +226,9 @@ fn architecture_list<'a>(
     alloc: Global,
     units: &'a [DesignUnit],
 ) -> Result<ArchitectureList<'a>, AllocError>
-    ensures list { IfOk result (λ r. spec.architectures_at r.list.items ≡ spec.architectures_in units.now) }
-    ensures last { IfOk result (λ r. (e : List ℕ) → place_of r.last e ≡ spec.last_architecture (spec.architectures_at r.list.items) e) }
-    ensures named { IfOk result (λ r. (e n : List ℕ) → place_of_both r.named e n ≡ spec.last_named (spec.architectures_at r.list.items) e n) }
+    ensures list { IfOk result (λ r. spec.bodies_at r.list.items ≡ spec.architectures_in units.now) }
+    ensures last { IfOk result (λ r. (e : List ℕ) → place_of r.last e ≡ spec.last_architecture (spec.bodies_at r.list.items) e) }
+    ensures named { IfOk result (λ r. (e n : List ℕ) → place_of_both r.named e n ≡ spec.last_named (spec.bodies_at r.list.items) e n) }
 {
     let list = architectures_in(alloc, units)?;
     let last = last_architectures(alloc, list.as_slice())?;
@@ -320,7 +320,7 @@ impl<'a> Library<'a> {
 
     /// The architectures, by place.
     pub fn architectures(&self) -> &[&'a Architecture]
-        ensures { spec.architectures_at result.now ≡ self.now.architectures }
+        ensures { spec.bodies_at result.now ≡ self.now.architectures }
     {
         self.architectures.list.as_slice()
     }

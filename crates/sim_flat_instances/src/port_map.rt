@@ -9,10 +9,9 @@ ghost use Rattle.sim_flat_instances.specs.Places.{where_at, place_of_number};
 
 use crate::interface::Interface;
 use crate::places::NumberPlaces;
-use sim_flat_scope::Port;
 use sim_flat_scope::fault::note;
 use sim_flat_scope::scope::look_up;
-use sim_flat_scope::{Fault, Kind, Meaning, Scope};
+use sim_flat_scope::{Fault, Kind, Meaning, Port, Scope};
 use sim_text_tree::declaration::Mode;
 use sim_text_tree::name::Name;
 use sim_text_tree::unit::{Actual, Association};
@@ -137,7 +136,7 @@ impl<'m, 'a> PortMap<'m, 'a> {
     }
 
     /// Notes the faults of an association of the port at a place.
-    #[tactic(auto, using(sim_flat_scope::proofs::FirstFaults::earliest_of_both))]
+    #[tactic(auto, using(sim_flat_scope::proofs::Faults::of_both))]
     fn check_port(
         &self,
         inner: &Scope<'_>,
@@ -205,7 +204,7 @@ impl<'m, 'a> PortMap<'m, 'a> {
     }
 
     /// Notes the faults of the port map of an instance with this label.
-    #[tactic(auto, using(sim_flat_scope::proofs::FirstFaults::earliest_of_both), unfolding(crate::specs::PortMaps::port_map_faults))]
+    #[tactic(auto, using(sim_flat_scope::proofs::Faults::of_both), unfolding(crate::specs::PortMaps::port_map_faults))]
     pub fn check(
         &self,
         inner: &Scope<'_>,
@@ -308,7 +307,7 @@ fn mode_at(ports: &[Port<'_>], place: usize) -> Option<Mode>
 }
 
 /// Notes the faults of an association of no port.
-#[tactic(auto, using(sim_flat_scope::proofs::FirstFaults::earliest_of_both), unfolding(sim_flat_scope::specs::Faults::earliest))]
+#[tactic(auto, using(sim_flat_scope::proofs::Faults::of_both), unfolding(sim_flat_scope::specs::Faults::earliest))]
 fn check_stray(
     inner: &Scope<'_>,
     outer: &Scope<'_>,

@@ -9,7 +9,7 @@ use Rattle.sim_flat_scope.specs.Scopes.{Region, Lookup, with_first}
 use Rattle.sim_flat_scope.specs.declared.scope.Meaning.TheVariants as m
 use Rattle.sim_text_tree.specs.Name.{Name}
 use Rattle.sim_flat_scope.specs.DeclaredNames.{named_by}
-use Rattle.sim_flat_scope.proofs.FirstFaults.{earliest_of_both}
+use Rattle.sim_flat_scope.proofs.Faults.{of_both}
 use Rattle.sim_flat_scope.specs.DeclarationFaults.{name_faults, names_faults, object_faults, port_types, variable_types, declaration_faults}
 use Rattle.sim_flat_scope.specs.DeclarationFaults.{declarations_faults}
 use Rattle.sim_flat_scope.proofs.Declaring.{opened}
@@ -19,7 +19,7 @@ pub faults_step : {X : Type 0} (each : X → List Fault) (whole : List X → Lis
     → (known after all : Option Fault) (xs : List X) (i : ℕ) (x : X) → i < length xs → x ≡ get_or xs i x
     → earliest known (whole (drop i xs)) ≡ all → after ≡ earliest known (each x) → earliest after (whole (drop (i + 1) xs)) ≡ all
 faults_step each whole of_cons known after all xs i x below is so_far noted = rw noted
-    (sym (earliest_of_both known (each x) (whole (drop (i + 1) xs)))
+    (sym (of_both known (each x) (whole (drop (i + 1) xs)))
     ∙ (ap (earliest known) (sym (of_cons x (drop (i + 1) xs)) ∙ ap whole (opened xs i x below is)) ∙ so_far))
 
 pub port_types_cons : (look : Lookup) (p : PortDeclaration) (ps : List PortDeclaration) →
@@ -43,5 +43,5 @@ pub names_step : (known more : Region) (first after all : Option Fault) (ns : Li
     → more ≡ with_first known n.now.text m.Label → earliest after (names_faults more (named_by (drop (i + 1) ns))) ≡ all
 unfolding names_faults named_by
 names_step known more first after all ns i n below is so_far noted declared = rw (noted, declared)
-    (sym (earliest_of_both first (name_faults known n.now) (names_faults (with_first known n.now.text m.Label) (named_by (drop (i + 1) ns))))
+    (sym (of_both first (name_faults known n.now) (names_faults (with_first known n.now.text m.Label) (named_by (drop (i + 1) ns))))
     ∙ (ap (λ (xs : List (Bor Name)). earliest first (names_faults known (named_by xs))) (opened ns i n below is) ∙ so_far))

@@ -2,5 +2,5 @@ pub mod Declaring
 pub mod FaultLoops
 pub mod LabelRules
 pub mod NameLists
-pub mod FirstFaults
+pub mod Faults
 pub mod Regions

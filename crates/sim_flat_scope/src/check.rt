@@ -9,12 +9,12 @@ ghost use Rattle.sim_flat_scope.specs.Regions.{port_labels, ports_region};
 ghost use Rattle.sim_flat_scope.specs.DeclarationFaults as spec;
 
 use crate::entity::EntityPorts;
-use crate::names::Names;
-use crate::region;
-use crate::value::check_object;
 use crate::fault::{Fault, Kind, note};
+use crate::names::Names;
 use crate::predefined::predefined;
+use crate::region;
 use crate::scope::{Declare, Meaning, Scope};
+use crate::value::check_object;
 use sim_text_tree::declaration::{Declaration, ObjectDeclaration, PortDeclaration};
 use sim_text_tree::name::Name;
 use sim_text_tree::unit::{Concurrent, Process};
@@ -41,7 +41,7 @@ fn check_twice(known: &Scope<'_>, name: &Name, first: &mut Option<Fault>)
 }
 
 /// Notes the faults of a name that is declared after others, and declares it.
-#[tactic(auto, using(crate::proofs::FirstFaults::earliest_of_both))]
+#[tactic(auto, using(crate::proofs::Faults::of_both))]
 fn check_name<'a>(
     known: &mut Scope<'a>,
     name: &'a Name,
@@ -115,7 +115,7 @@ fn check_variable_types(
 
 /// Notes the faults of the ports of an entity, whose region stands in an empty one, or of a
 /// component, whose region stands in that of its architecture.
-#[tactic(auto, using(crate::proofs::FirstFaults::earliest_of_both), unfolding(crate::specs::DeclarationFaults::ports_faults))]
+#[tactic(auto, using(crate::proofs::Faults::of_both), unfolding(crate::specs::DeclarationFaults::ports_faults))]
 pub fn check_ports(
     alloc: Global,
     inner: &Scope<'_>,
@@ -134,7 +134,7 @@ pub fn check_ports(
 
 /// Notes the faults of the variables and labels of a process, whose region stands in that of its
 /// architecture.
-#[tactic(auto, using(crate::proofs::FirstFaults::earliest_of_both), unfolding(crate::specs::DeclarationFaults::process_faults))]
+#[tactic(auto, using(crate::proofs::Faults::of_both), unfolding(crate::specs::DeclarationFaults::process_faults))]
 pub fn check_process(
     alloc: Global,
     inner: &Scope<'_>,
@@ -229,7 +229,7 @@ fn check_body_names<'a>(
 
 /// Notes the faults of the names of an architecture and of its declarations, by its region and the
 /// ports of its entity.
-#[tactic(auto, using(crate::proofs::FirstFaults::earliest_of_both), unfolding(crate::specs::DeclarationFaults::architecture_faults))]
+#[tactic(auto, using(crate::proofs::Faults::of_both), unfolding(crate::specs::DeclarationFaults::architecture_faults))]
 pub fn check_architecture<'a>(
     alloc: Global,
     scope: &Scope<'_>,

@@ -5,8 +5,7 @@ ghost use Rattle.std.specs.Prelude.{◌≡◌, [], IfOk};
 ghost use Rattle.sim_flat_scope.specs.Regions as spec;
 
 use crate::names::Names;
-use crate::region;
-use crate::{DeclarativeRegion, Scope};
+use crate::{DeclarativeRegion, Scope, region};
 use sim_text_tree::declaration::PortDeclaration;
 use std::alloc::{AllocError, Global};
 use std::marker::Model;
@@ -36,7 +35,10 @@ impl<'a> Model for EntityPorts<'a> {
 }
 
 /// The region of the ports of an entity, which stands in none.
-fn region_of<'a>(alloc: Global, declarations: &'a [PortDeclaration]) -> Result<DeclarativeRegion<'a>, AllocError>
+fn region_of<'a>(
+    alloc: Global,
+    declarations: &'a [PortDeclaration],
+) -> Result<DeclarativeRegion<'a>, AllocError>
     ensures { IfOk result (λ part. part ≡ spec.ports_region [] declarations.now) }
 {
     let nothing = Scope::new(alloc);

@@ -16,4 +16,4 @@ pub use entity::EntityPorts;
 pub use fault::{Fault, Kind};
 pub use names::Names;
 pub use port::Port;
-pub use scope::{Declare, Meaning, DeclarativeRegion, Scope, Type};
+pub use scope::{DeclarativeRegion, Declare, Meaning, Scope, Type};

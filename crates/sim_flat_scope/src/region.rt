@@ -8,7 +8,7 @@ ghost use Rattle.sim_flat_scope.specs.Regions as spec;
 use crate::entity::EntityPorts;
 use crate::names::Names;
 use crate::port::mode_of;
-use crate::scope::{Declare, Meaning, DeclarativeRegion, Scope, Type, look_up};
+use crate::scope::{DeclarativeRegion, Declare, Meaning, Scope, Type, look_up};
 use sim_text_tree::declaration::{Declaration, Mode, ObjectDeclaration, PortDeclaration};
 use sim_text_tree::name::Name;
 use sim_text_tree::sequential::Sequential;

@@ -5,8 +5,8 @@ ghost use Rattle.sim_flat_scope.specs.Faults.{earliest};
 ghost use Rattle.sim_flat_scope.specs.Scopes.{means};
 ghost use Rattle.sim_flat_scope.specs.DeclarationFaults as spec;
 
-use crate::region::type_marked;
 use crate::fault::{Fault, Kind, note};
+use crate::region::type_marked;
 use crate::scope::{Meaning, Scope, Type, look_up};
 use sim_text_tree::declaration::Initial;
 use sim_text_tree::name::Name;
@@ -80,7 +80,7 @@ fn check_initial(
 }
 
 /// Notes the faults of the mark and the first value of objects, in a region that stands in another.
-#[tactic(auto, using(crate::proofs::FirstFaults::earliest_of_both), unfolding(crate::specs::DeclarationFaults::object_faults))]
+#[tactic(auto, using(crate::proofs::Faults::of_both), unfolding(crate::specs::DeclarationFaults::object_faults))]
 pub fn check_object(
     inner: &Scope<'_>,
     outer: &Scope<'_>,

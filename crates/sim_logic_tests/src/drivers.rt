@@ -42,6 +42,11 @@ fn the_rejection_limit_decides_what_is_kept(rt: HostRuntime) -> Result<(), Fail>
     assert!(rt; flat_sources(rt.alloc(), 1, &[(2, One), (3, Zero), (5, One)])?);
     assert!(rt; flat_sources(rt.alloc(), 2, &[(2, One), (5, One)])?);
     assert!(rt; flat_sources(rt.alloc(), 3, &[(5, One)])?);
+    Ok(())
+}
+
+#[test]
+fn drivers_that_differ_in_what_is_pending_are_not_the_same(rt: HostRuntime) -> Result<(), Fail> {
     assert!(rt; !leave_the_same(rt.alloc(), 1, 2)?);
     Ok(())
 }

@@ -82,15 +82,33 @@ fn members_are_taken_out(rt: HostRuntime) -> Result<(), Fail> {
     Ok(())
 }
 
+/// Drivers 1 and 2 at 3.
+fn put_both_at_3(queue: &mut TimeQueue) -> Result<(), AllocError>
+    requires { length queue.old ≡ 3 }
+    ensures { length queue.new ≡ 3 }
+{
+    queue.put(1, Some(3))?;
+    queue.put(2, Some(3))?;
+    Ok(())
+}
+
 /// Driver 0 at 5, driver 1 first at 3 and then at 9, driver 2 at 3.
+fn put_three(queue: &mut TimeQueue) -> Result<(), AllocError>
+    requires { length queue.old ≡ 3 }
+    ensures { length queue.new ≡ 3 }
+{
+    queue.put(0, Some(5))?;
+    put_both_at_3(queue)?;
+    queue.put(1, Some(9))?;
+    Ok(())
+}
+
+/// A queue of these three.
 fn three(alloc: Global) -> Result<TimeQueue, AllocError>
     ensures { IfOk result (λ queue. length queue ≡ 3) }
 {
     let mut queue = TimeQueue::new(alloc, 3)?;
-    queue.put(0, Some(5))?;
-    queue.put(1, Some(3))?;
-    queue.put(2, Some(3))?;
-    queue.put(1, Some(9))?;
+    put_three(&mut queue)?;
     Ok(queue)
 }
 
@@ -129,8 +147,7 @@ fn takes_at_one_time_again(alloc: Global, queue: &mut TimeQueue) -> Result<bool,
     requires { length queue.old ≡ 3 }
 {
     let is_taken = are_due(alloc, queue, 3, &[2])?;
-    queue.put(1, Some(3))?;
-    queue.put(2, Some(3))?;
+    put_both_at_3(queue)?;
     Ok(is_taken && are_due(alloc, queue, 3, &[1, 2])? && queue.least() == Some(5))
 }
 

@@ -5,8 +5,8 @@ ghost use Rattle.sim_run.specs.declared.error.RunError.TheVariants as refusal;
 
 use sim_flat::FlatError;
 use sim_run_listing::WriteError;
-use sim_text::TextError;
 use sim_run_workers::Fault;
+use sim_text::TextError;
 use std::alloc::{AllocError, AllocFailed};
 use thiserror::Error;
 

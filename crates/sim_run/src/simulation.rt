@@ -7,12 +7,12 @@ ghost use Rattle.sim_run.specs.Simulation.{IsDesignOf, HasDesign, IsOfText, IsRe
 
 use crate::error::RunError;
 use crate::runs::{run_alone, run_by_workers, write_run};
-use sim_flat_design::Design;
 use sim_flat::flatten;
+use sim_flat_design::Design;
 use sim_run_options::Options;
+use sim_run_workers::Open;
 use sim_store::WaveStore;
 use sim_text::parse;
-use sim_run_workers::Open;
 use std::alloc::Global;
 use std::io::Write;
 use std::sync::Wait;

@@ -10,9 +10,9 @@ ghost use Rattle.sim_standard.specs.Drivers.{taken};
 ghost use Rattle.sim_exec.specs.Jobs.{IsReady};
 
 use anyhow::{Context, Result, bail};
-use sim_flat_design::{Body, Design, Held, Process};
 use sim_exec::{Done, Job, NetView, Nets, Results, execute};
 use sim_flat::flatten;
+use sim_flat_design::{Body, Design, Held, Process};
 use sim_logic::{LATEST, Logic};
 use sim_text::parse;
 use sim_wave::Driver;
@@ -120,7 +120,10 @@ fn make_scene(alloc: Global, process: &Process, rises: bool) -> Result<Scene, Al
         values.push(Logic::One)?;
         last_values.push(if was_low { Logic::Zero } else { Logic::One })?;
     }
-    Ok(Scene { values, last_values })
+    Ok(Scene {
+        values,
+        last_values,
+    })
 }
 
 /// How a process sees the nets that it reads.

@@ -5,8 +5,8 @@ ghost use Rattle.std.specs.Prelude.{◌≡◌, ◌<◌, length, All, IfOk, ℕ};
 ghost use Rattle.sim_logic.specs.declared.logic.Logic as logic;
 ghost use Rattle.sim_standard.specs.Histories.{IsNamed, event_count};
 
-use sim_run_listing::{Change, Records, WriteError, write_listing, write_whole};
 use sim_logic::Logic;
+use sim_run_listing::{Change, Records, WriteError, write_listing, write_whole};
 use sim_store_state::{Log, Record};
 use sqlite_items::Items;
 use std::alloc::{AllocError, Global};

@@ -5,8 +5,8 @@ ghost use Rattle.sim_run_claims.specs.Seats.{IsOf, balance};
 
 use crate::gate::Gate;
 use crate::round::Round;
-use sim_run_claims::ClaimSeat;
 use sim_exec::{Done, Job};
+use sim_run_claims::ClaimSeat;
 use sim_store::{StoreError, WaveStore};
 use std::alloc::Global;
 use std::sync::{Mutex, Wait};

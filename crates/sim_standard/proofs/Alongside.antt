@@ -11,7 +11,7 @@ use Rattle.sim_flat_design.specs.declared.statement.Statement.TheViews as views
 use Rattle.sim_flat_design.specs.declared.statement.Statement.TheFolds as folds
 use Rattle.sim_flat_design.specs.Bodies.{logic_objects, boolean_objects, assignment_objects, statement_objects_rule, branch_objects_rule}
 use Rattle.sim_flat_design.specs.Bodies.{statement_objects, objects_of}
-use Rattle.sim_standard.specs.Statements.{Steps, Guarded, in_turn, first_taken, statement_rule, branch_rule, statement_done, branch_done, carried_out}
+use Rattle.sim_standard.specs.Statements.{Steps, Guarded, in_turn, if_taken, statement_rule, branch_rule, statement_done, branch_done, carried_out}
 
 -- each number is such a one
 abbrev pub Each : (ℕ → Type 0) → List ℕ → Type 0
@@ -76,8 +76,8 @@ module _ {S T : Type 0} (one : Steps S) (other : Steps T) (P : ℕ → Type 0) (
 
   parts_taken : (qs : List BranchPart) (f : S → S) (g : T → T) → let bs : List Branch = map (λ (q : BranchPart). q.0) qs in
       Each P (concat (map branch_objects bs)) → (s : S) (t : T) → R s t → R (f s) (g t)
-      → R (first_taken (map (branch_done one) bs) f s) (first_taken (map (branch_done other) bs) g t)
-  unfolding first_taken
+      → R (if_taken (map (branch_done one) bs) f s) (if_taken (map (branch_done other) bs) g t)
+  unfolding if_taken
   parts_taken [] f g e s t r last = last
   parts_taken (q ∷ qs) f g e s t r last =
       let rest : List ℕ = concat (map branch_objects (map (λ (p : BranchPart). p.0) qs)) in

@@ -2,7 +2,7 @@ pub mod Alongside
 pub mod Owning
 pub mod Frame
 pub mod Seeing
-pub mod StatementRules
+pub mod Rules
 pub mod ValuesKept
 pub mod Agreement
 pub mod Parallel

@@ -102,7 +102,7 @@ module _ (d : Design) (is : All IsProcess d.processes) where
   cycle_all k (Some s) h =
       let x = executed_together d k s in
       onward_all x (next_cycle_time x) (length-merged (is_resumed d k s)
-          (λ p. outcome (process_at d.processes p) (part (process_at d.processes p) p s)) 0 s.owned ∙ h)
+      (λ p. outcome (process_at d.processes p) (part (process_at d.processes p) p s)) 0 s.owned ∙ h)
 
   pub parallel_all : (k : ℕ) → HasAll (parallel d k)
   unfolding parallel

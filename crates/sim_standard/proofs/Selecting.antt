@@ -12,10 +12,9 @@ use Rattle.sim_flat_design.specs.declared.statement.Statement.TheFolds as folds
 use Rattle.sim_standard.specs.declared.net_view.NetView.{NetView}
 use Rattle.sim_standard.specs.State.{State, Owned}
 use Rattle.sim_standard.specs.Expressions.{boolean_value, taken_waveform}
-use Rattle.sim_standard.specs.Statements.{Steps, Guarded, in_turn, first_taken, statement_rule, branch_rule, statement_done, branch_done, carried_out}
-use Rattle.sim_standard.specs.Statements.{own_steps}
+use Rattle.sim_standard.specs.Statements.{Steps, Guarded, in_turn, if_taken, statement_rule, branch_rule, statement_done, branch_done, carried_out, own_steps}
 use Rattle.sim_standard.specs.Processes.{Names, seen, owned_of, state_steps}
-use Rattle.sim_standard.proofs.StatementRules.{signal_done, branch_is}
+use Rattle.sim_standard.proofs.Rules.{signal_done, branch_is}
 use Rattle.sim_standard.specs.Weaving.{taken_statements, unconditional, selected_assignment, selected_rule, selected}
 
 -- statements, and then others
@@ -43,9 +42,9 @@ the_statements None = []
 the_statements (Some xs) = xs
 
 module _ {S : Type 0} (steps : Steps S) (x : S) (look : ℕ → NetView) (variables : List Held) (sees : Sees steps x look variables) where
-  taken_leaves : (bs : List Branch) (os : List Statement) → first_taken (map (branch_done steps) bs) (in_turn (map (statement_done steps) os)) x
+  taken_leaves : (bs : List Branch) (os : List Statement) → if_taken (map (branch_done steps) bs) (in_turn (map (statement_done steps) os)) x
       ≡ carried_out steps (taken_statements look variables bs os) x
-  unfolding first_taken taken_statements
+  unfolding if_taken taken_statements
   taken_leaves [] os = refl
   taken_leaves (b ∷ bs) os =
       let inside : List Statement = (views.out-Branch b).statements in
@@ -53,8 +52,8 @@ module _ {S : Type 0} (steps : Steps S) (x : S) (look : ℕ → NetView) (variab
       (go (boolean_value look variables (views.out-Branch b).condition) inside (taken_leaves bs os))
     where
       go : (c : Bool) (inside : List Statement)
-          → first_taken (map (branch_done steps) bs) (in_turn (map (statement_done steps) os)) x ≡ carried_out steps (taken_statements look variables bs os) x
-          → (if c then in_turn (map (statement_done steps) inside) x else first_taken (map (branch_done steps) bs) (in_turn (map (statement_done steps) os)) x)
+          → if_taken (map (branch_done steps) bs) (in_turn (map (statement_done steps) os)) x ≡ carried_out steps (taken_statements look variables bs os) x
+          → (if c then in_turn (map (statement_done steps) inside) x else if_taken (map (branch_done steps) bs) (in_turn (map (statement_done steps) os)) x)
           ≡ carried_out steps (if c then inside else taken_statements look variables bs os) x
       go true inside rest = refl
       go false inside rest = rest

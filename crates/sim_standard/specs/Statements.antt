@@ -39,9 +39,9 @@ in_turn [] x = x
 in_turn (f ∷ fs) x = in_turn fs (f x)
 
 -- the first branch whose condition holds, else the last statements (10.8)
-unfoldable pub first_taken : {S : Type 0} → List (Guarded S) → (S → S) → S → S
-first_taken [] otherwise x = otherwise x
-first_taken (g ∷ gs) otherwise x = if g.holds x then g.carried_out x else first_taken gs otherwise x
+unfoldable pub if_taken : {S : Type 0} → List (Guarded S) → (S → S) → S → S
+if_taken [] otherwise x = otherwise x
+if_taken (g ∷ gs) otherwise x = if g.holds x then g.carried_out x else if_taken gs otherwise x
 
 -- what the last statements leave, unless a branch is taken
 abbrev pub unless : {S : Type 0} → Bool → (S → S) → S → S
@@ -53,7 +53,7 @@ module _ {S : Type 0} (steps : Steps S) where
   statement_rule (s.Signal a) x = steps.signal a x
   statement_rule (s.LogicVariable place value) x = steps.logic_variable place value x
   statement_rule (s.BooleanVariable place value) x = steps.boolean_variable place value x
-  statement_rule (s.If branches otherwise) x = first_taken branches (in_turn otherwise) x
+  statement_rule (s.If branches otherwise) x = if_taken branches (in_turn otherwise) x
   statement_rule s.Null x = x
 
   abbrev pub branch_rule : s.Branch-F (S → S) (Guarded S) → Guarded S

@@ -8,8 +8,7 @@ ghost use Rattle.sim_standard.specs.Processes.{process_at};
 ghost use Rattle.sim_store_state.specs.Sensitive.{AreSensitive};
 ghost use Rattle.sim_store.specs.Progress.{listed, those_in};
 
-use sim_store_sets::NumberSet;
-use sim_store_sets::RowArray;
+use sim_store_sets::{NumberSet, RowArray};
 use sim_store_state::FlatState;
 use std::alloc::{AllocError, Global};
 use std::marker::Model;

@@ -16,8 +16,8 @@ ghost use Rattle.sim_store.specs.declared.store.Step.TheVariants as step;
 
 use crate::error::StoreError;
 use crate::simulation::Simulation;
-use sim_flat_design::Design;
 use sim_exec::{Done, Job};
+use sim_flat_design::Design;
 use sim_logic::{LATEST, Logic};
 use sim_store_state::{Log, Record};
 use std::alloc::{AllocError, Global};

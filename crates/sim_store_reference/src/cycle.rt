@@ -2,8 +2,8 @@
 
 use crate::nets::{values_in, values_of, views_of};
 use crate::process::{executed, is_resumed, put};
-use sim_flat_design::{Design, Held, Process};
 use sim_exec::{Done, NetView};
+use sim_flat_design::{Design, Held, Process};
 use sim_logic::Logic;
 use sim_wave::Driver;
 use std::alloc::Global;

@@ -1,7 +1,7 @@
 //! The values of nets from their drivers (IEEE 1076-2008, 14.7.3).
 
-use sim_flat_design::{Net, Source};
 use sim_exec::NetView;
+use sim_flat_design::{Net, Source};
 use sim_logic::{Logic, resolve};
 use sim_wave::Driver;
 use std::alloc::Global;

@@ -1,7 +1,7 @@
 //! One execution of a process, by copies of all that it sees and owns.
 
-use sim_flat_design::{Held, Process};
 use sim_exec::{Done, Job, NetView};
+use sim_flat_design::{Held, Process};
 use sim_wave::Driver;
 use std::alloc::Global;
 

@@ -110,7 +110,7 @@ pub times-keep : {values last_values : List Logic} {dss : List (List Waveform)} 
     (List ℕ)}
     {times : List (Option ℕ)} {stale touched : List Bool} → IsHeld values last_values dss vss sources fan_out times stale touched
     → (times' : List (Option ℕ)) (stale' : List Bool) → AreTimes times' stale' (joined dss)
-      → IsHeld values last_values dss vss sources fan_out times' stale' touched
+    → IsHeld values last_values dss vss sources fan_out times' stale' touched
 times-keep i times' stale' t = record {
   lists = i.lists;
   timed = t;

@@ -91,8 +91,15 @@ woken-waker [] sensitive p e = absurd cc
 woken-waker (v ∷ nets) [] p e = absurd cc
 woken-waker (v ∷ nets) (ps ∷ sensitive) p e = elim (or_true (v.event && is_among ps p) (is_sensitive nets sensitive p) e) [
   | inl h ↦ record { net = 0; there = omega arith; event = and_left v.event (is_among ps p) h; sensitive_it = and_right v.event (is_among ps p) h }
-  | inr h ↦ (let w = woken-waker nets sensitive p h in record { net = suc w.net; there = omega (arith,
-      w.there); event = w.event; sensitive_it = w.sensitive_it })
+  | inr h ↦ (let w = woken-waker nets sensitive p h in record {
+    net = suc w.net;
+    there = omega (
+      arith,
+      w.there,
+    );
+    event = w.event;
+    sensitive_it = w.sensitive_it;
+  })
 ]
 
 waker-woken : (nets : List NetView) (sensitive : List (List ℕ)) (p n : ℕ) → has_event nets n ≡ true → is_among (get_or sensitive n []) p ≡ true
@@ -135,7 +142,7 @@ pub woken-event : (nets : List NetView) (sensitive : List (List ℕ)) (processes
     → is_sensitive nets sensitive p ≡ has_event_in nets (process_at processes p).sensitivity
 woken-event nets sensitive processes p same w = same_bools _ _
     (λ e. let k = woken-waker nets sensitive p e in changed-event nets (process_at processes p).sensitivity k.net (sym (w k.net p k.there)
-        ∙ k.sensitive_it) k.event)
+    ∙ k.sensitive_it) k.event)
     (λ e. let k = event-changed nets (process_at processes p).sensitivity e in
     let there : k.net < length sensitive = omega (arith, same, event-there nets k.net k.event) in
     waker-woken nets sensitive p k.net k.event (w k.net p there ∙ k.among))
@@ -155,7 +162,7 @@ resumed-more numbers i p n was now new lt is e f =
 -- one process more at one net
 pub added : (sensitive : List (List ℕ)) (net number n p : ℕ) → n < length sensitive
     → is_among (get_or (set sensitive net (get_or sensitive net [] ++ number ∷ [])) n []) p
-      ≡ (is_among (get_or sensitive n []) p || ((net == n) && (number == p)))
+    ≡ (is_among (get_or sensitive n []) p || ((net == n) && (number == p)))
 added sensitive net number n p lt = go (eqb net n) refl
   where
     go : (b : Bool) → eqb net n ≡ b → is_among (get_or (set sensitive net (get_or sensitive net [] ++ number ∷ [])) n []) p ≡
@@ -167,12 +174,14 @@ added sensitive net number n p lt = go (eqb net n) refl
     go false e =
         let apart : n ≢ net = grind (arith, nat_tests) in
         ap (λ w. is_among w p) (get_or-set_other sensitive net n (get_or sensitive net [] ++ number ∷ []) [] apart)
-            ∙ sym (or_false (is_among (get_or sensitive n []) p))
+        ∙ sym (or_false (is_among (get_or sensitive n []) p))
 
 pub past-added : (sensitive : List (List ℕ)) (net number n p : ℕ) → n < length sensitive → length sensitive ≤ net
     → is_among (get_or sensitive n []) p ≡ (is_among (get_or sensitive n []) p || ((net == n) && (number == p)))
-past-added sensitive net number n p lt le = let apart : eqb net n ≡ false = grind (arith,
-    nat_tests) in rw apart (sym (or_false (is_among (get_or sensitive n []) p)))
+past-added sensitive net number n p lt le = let apart : eqb net n ≡ false = grind (
+  arith,
+  nat_tests,
+) in rw apart (sym (or_false (is_among (get_or sensitive n []) p)))
 
 -- one net more of a sensitivity
 pub sensitivity-more : (sensitivity : List ℕ) (i n net : ℕ) (is_it was now new : Bool) → i < length sensitivity → net ≡ get_or sensitivity i 0

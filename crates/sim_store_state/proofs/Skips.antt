@@ -28,7 +28,7 @@ quiet {values} {last_values} {touched} i l n other = elim (dec_lt n (length valu
   | yes h ↦ (
       ap (λ (v : NetView). v.event) (sym (view_here values last_values n U U h (omega (arith, h, l))))
       ∙ (ap (λ v. not (is_same (value_at last_values n) v)) (i.still n other)
-        ∙ ap not (is_same_from_same (value_at last_values n) (value_at last_values n) refl)))
+      ∙ ap not (is_same_from_same (value_at last_values n) (value_at last_values n) refl)))
   | no h ↦ ap (λ (v : NetView). v.event) (sym (past_values values last_values n (omega (arith, h))))
 ]
 
@@ -104,7 +104,7 @@ view-at values last_values n lt l = sym (view_here values last_values n U U lt (
 -- one net more, to which its processes are sensitive
 pub woken-step : {values last_values : List Logic} {touched : List Bool} {from n : ℕ} (sensitive : List (List ℕ)) (p : ℕ) (row : List ℕ) (now new total : Bool)
     → AreTouched values last_values touched → length values ≡ length last_values → length sensitive ≡ length values → IsNext (is_in touched) from n
-      → n < length values
+    → n < length values
     → row ≡ get_or sensitive n [] → new ≡ ((not (is_same (value_at last_values n) (value_at values n)) && is_among row p) || now)
     → (is_sensitive (drop from (views_of values last_values)) (drop from sensitive) p || now) ≡ total
     → (is_sensitive (drop (n + 1) (views_of values last_values)) (drop (n + 1) sensitive) p || new) ≡ total
@@ -138,7 +138,7 @@ pub changes-step : {values last_values : List Logic} {touched : List Bool} {from
     → length values ≡ length last_values → IsNext (is_in touched) from n → n < length values
     → (value_at values n ≢ value_at last_values n → new ≡ old ++ (n, value_at values n) ∷ []) → (value_at values n ≡ value_at last_values n → new ≡ old)
     → old ++ changes_from from (drop from (views_of values last_values)) ≡ total
-      → new ++ changes_from (n + 1) (drop (n + 1) (views_of values last_values)) ≡ total
+    → new ++ changes_from (n + 1) (drop (n + 1) (views_of values last_values)) ≡ total
 changes-step {values} {last_values} {touched} {from} {n} old new total i l next lt changed same e =
     ap (λ k. new ++ changes_from (n + 1) (drop k views)) (add-one n) ∙ (go (is_same last value) refl ∙ (sym (ap (λ w. old ++ w) front) ∙ e))
   where
@@ -179,6 +179,6 @@ changes-rest (v ∷ nets) (suc from) k q = changes-rest nets from k (λ m f. q (
 
 pub changes-end : {values last_values : List Logic} {touched : List Bool} {from : ℕ} (now total : List (ℕ × Logic)) → AreTouched values last_values touched
     → length values ≡ length last_values → NoneFrom (is_in touched) from → now ++ changes_from from (drop from (views_of values last_values)) ≡ total
-      → now ≡ total
+    → now ≡ total
 changes-end {values} {last_values} {touched} {from} now total i l none e =
     sym (ap (λ w. now ++ w) (changes-rest (views_of values last_values) from from (λ m le. quiet i l m (none m le))) ∙ append-nil now) ∙ e

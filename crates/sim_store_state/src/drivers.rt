@@ -11,8 +11,7 @@ ghost use Rattle.sim_store_state.specs.Changes.{AreReached, AreTimes, first_time
 ghost use Rattle.sim_standard.specs.Drivers as spec;
 
 use crate::sets::{insert_each, insert_range};
-use sim_store_sets::{NumberSet, TimeQueue};
-use sim_store_sets::{RowArray, bounds};
+use sim_store_sets::{NumberSet, RowArray, TimeQueue, bounds};
 use sim_wave::Driver;
 use std::alloc::{AllocError, Global};
 

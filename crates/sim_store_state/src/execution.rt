@@ -6,8 +6,8 @@ ghost use Rattle.sim_exec.specs.Jobs.{IsReady};
 ghost use Rattle.sim_standard.specs.State.{driver_values};
 ghost use Rattle.sim_standard.specs.Statements.{executed};
 
-use sim_flat_design::{Body, Held};
 use sim_exec::Nets;
+use sim_flat_design::{Body, Held};
 use sim_store_sets::{RowArray, bounds};
 use sim_wave::Driver;
 use std::alloc::{AllocError, Global};

@@ -25,11 +25,10 @@ use crate::log::Log;
 use crate::nets::{Seen, are_views, resolve_touched, settle, views_at};
 use crate::resumption::find_resumed;
 use crate::start::{connections, first_contents, nothing_pending};
-use sim_flat_design::{Design, Held, Process, Source};
 use sim_exec::NetView;
+use sim_flat_design::{Design, Held, Process, Source};
 use sim_logic::Logic;
-use sim_store_sets::{NumberSet, TimeQueue};
-use sim_store_sets::RowArray;
+use sim_store_sets::{NumberSet, RowArray, TimeQueue};
 use sim_wave::Driver;
 use std::alloc::{AllocError, Global};
 use std::marker::Model;
@@ -126,7 +125,12 @@ impl FlatState {
         ensures views { IfOk result (λ r. r.views.items ≡ map (net_at self.now.nets) reads.now) }
         ensures owned { IfOk result (λ r. record { drivers = r.drivers.items; variables = r.variables.items } ≡ owned_at self.now.owned number) }
     {
-        let views = views_at(alloc, self.values.as_slice(), self.last_values.as_slice(), reads)?;
+        let views = views_at(
+            alloc,
+            self.values.as_slice(),
+            self.last_values.as_slice(),
+            reads,
+        )?;
         let drivers = copied(alloc, self.drivers.row(number))?;
         let variables = Vec::from_slice(alloc, self.variables.row(number))?;
         Ok(Part {
@@ -150,7 +154,12 @@ impl FlatState {
         ensures { IsTrue result ↔ ((views.now ≡ map (net_at self.now.nets) reads.now)
             × (record { drivers = drivers.now; variables = variables.now } ≡ owned_at self.now.owned number)) }
     {
-        if !are_views(self.values.as_slice(), self.last_values.as_slice(), reads, views) {
+        if !are_views(
+            self.values.as_slice(),
+            self.last_values.as_slice(),
+            reads,
+            views,
+        ) {
             return false;
         }
         if !are_same(drivers, self.drivers.row(number)) {

@@ -178,8 +178,12 @@ impl Log {
         requires few { length values.now < 2 ^ 32 }
         requires mark { 0 < self.old.marks_room }
         requires changes { length values.now ≤ self.old.changes_room }
-        ensures { self.new.records ≡ self.old.records ++ record { time = time; delta = delta; changes = changes_from 0
-            (views_of values.now last_values.now) } ∷ [] }
+        ensures { self.new.records ≡ self.old.records ++ record {
+          time = time;
+          delta = delta;
+          changes = changes_from 0
+              (views_of values.now last_values.now);
+        } ∷ [] }
     {
         let start = self.changes.len();
         append_changes(&mut self.changes, values, last_values, touched);

@@ -10,11 +10,10 @@ ghost use Rattle.sim_store_state.specs.Changes.{AreTouched, row_value, value_at}
 ghost use Rattle.sim_standard.specs.Nets as spec;
 ghost use Rattle.sim_store_state.specs.Contents.{views_of};
 
-use sim_flat_design::Source;
 use sim_exec::{NetView, Nets};
+use sim_flat_design::Source;
 use sim_logic::{Logic, resolve_two};
-use sim_store_sets::NumberSet;
-use sim_store_sets::RowArray;
+use sim_store_sets::{NumberSet, RowArray};
 use sim_wave::Driver;
 use std::alloc::{AllocError, Global};
 
@@ -155,7 +154,11 @@ impl<'a> Nets for Seen<'a> {
     ghost look = { λ s object. net_at (views_of s.values.now s.last_values.now) (slice_index_or s.object_nets.now object 0) };
 
     fn view(&self, object: usize) -> NetView {
-        view_at(self.values, self.last_values, object_net(self.object_nets, object))
+        view_at(
+            self.values,
+            self.last_values,
+            object_net(self.object_nets, object),
+        )
     }
 }
 
@@ -174,7 +177,12 @@ fn is_seen(values: &[Logic], last_values: &[Logic], number: usize, view: NetView
 }
 
 /// Whether the nets with these numbers are seen so.
-pub fn are_views(values: &[Logic], last_values: &[Logic], numbers: &[usize], views: &[NetView]) -> bool
+pub fn are_views(
+    values: &[Logic],
+    last_values: &[Logic],
+    numbers: &[usize],
+    views: &[NetView],
+) -> bool
     ensures { IsTrue result ↔ (views.now ≡ map (net_at (views_of values.now last_values.now)) numbers.now) }
 {
     if views.len() != numbers.len() {

@@ -15,8 +15,7 @@ use crate::lists::{add, empty_lists, in_rows};
 use crate::sets::insert_each;
 use sim_flat_design::{Design, Process};
 use sim_logic::Logic;
-use sim_store_sets::NumberSet;
-use sim_store_sets::RowArray;
+use sim_store_sets::{NumberSet, RowArray};
 use sqlite_items::Items;
 use std::alloc::{AllocError, Global};
 
@@ -39,7 +38,7 @@ fn add_process(
 fn add_processes(sensitive: &mut [Items<usize>], processes: &[Process]) -> Result<(), AllocError>
     ensures { OnOk result ((n p : ℕ) → n < length sensitive.old
         → is_among (slice_index_or sensitive.new n []) p ≡ (is_among (slice_index_or sensitive.old n []) p
-          || is_among (process_at processes.now p).sensitivity n)) }
+        || is_among (process_at processes.now p).sensitivity n)) }
 {
     for number in 0..processes.len() {
         add_process(sensitive, number, processes[number].sensitivity())?;

@@ -14,8 +14,7 @@ use crate::lists::{add, empty_lists, in_rows};
 use crate::nets::net_value;
 use sim_flat_design::{Design, DriverOf, Held, Net, Process, Source};
 use sim_logic::Logic;
-use sim_store_sets::{NumberSet, TimeQueue};
-use sim_store_sets::RowArray;
+use sim_store_sets::{NumberSet, RowArray, TimeQueue};
 use sim_wave::Driver;
 use sqlite_items::Items;
 use std::alloc::{AllocError, Global};
@@ -79,7 +78,10 @@ fn first_variables(alloc: Global, processes: &[Process]) -> Result<RowArray<Held
 }
 
 /// The drivers and the variables of each process at first.
-fn first_owned(alloc: Global, design: &Design) -> Result<(RowArray<Driver>, RowArray<Held>), AllocError>
+fn first_owned(
+    alloc: Global,
+    design: &Design,
+) -> Result<(RowArray<Driver>, RowArray<Held>), AllocError>
     ensures drivers { IfOk result (λ r. r.0 ≡ map (λ p. (at_start.first_owned design.now.drivers p).drivers) design.now.processes) }
     ensures variables { IfOk result (λ r. r.1 ≡ map (λ p. p.body.variables) design.now.processes) }
 {
@@ -192,7 +194,11 @@ fn add_nets(fan_out: &mut [Items<usize>], sources: &RowArray<Source>) -> Result<
 
 /// For each of this number of drivers, the nets that have it as a source. A driver beyond them is
 /// passed over. It takes time in proportion to the drivers and to all sources.
-fn fan_out(alloc: Global, sources: &RowArray<Source>, drivers: usize) -> Result<RowArray<usize>, AllocError>
+fn fan_out(
+    alloc: Global,
+    sources: &RowArray<Source>,
+    drivers: usize,
+) -> Result<RowArray<usize>, AllocError>
     ensures value { IfOk result (λ r. AreFanOut sources.now r) }
     ensures drivers { IfOk result (λ r. length r ≡ drivers) }
 {

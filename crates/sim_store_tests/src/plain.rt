@@ -3,8 +3,8 @@
 
 use crate::records::is_record;
 use crate::texts::{CHOICE, EXCHANGE, ONCE, PULSES, TOGGLE, TWO_DRIVERS, after, design};
-use sim_store_reference::{Snapshot, snapshots};
 use sim_store::Record;
+use sim_store_reference::{Snapshot, snapshots};
 use std::alloc::Global;
 use std::test::Fail;
 

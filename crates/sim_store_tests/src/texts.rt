@@ -1,7 +1,7 @@
 //! Texts, and their stores.
 
-use sim_flat_design::Design;
 use sim_exec::Done;
+use sim_flat_design::Design;
 use sim_logic::LATEST;
 use sim_run::{Options, elaborate};
 use sim_store::WaveStore;

@@ -1,5 +1,5 @@
 -- The readers that the code reads in parts: each part is a function of its own, from whose answer the others go on.
-use Rattle.std.proofs.Common.{◌≡◌, refl, ℕ, Bool, true, false, if◌then◌else◌, List, [], Option}
+use Rattle.std.proofs.Common.{◌≡◌, refl, ℕ, Bool, true, false, if◌then◌else◌, List, [], ◌∷◌, Option}
 use Rattle.sim_text_tokens.specs.declared.kind.Kind.{Kind}
 use Rattle.sim_text_tokens.specs.declared.kind.Kind.TheVariants as k
 use Rattle.sim_text_tree.specs.Name.{Name}
@@ -12,11 +12,11 @@ use Rattle.sim_text_tree.specs.declared.unit.Instantiated.{Instantiated}
 use Rattle.sim_text_tree.specs.declared.unit.Instantiated.TheVariants as made
 use Rattle.sim_text_tree.specs.declared.unit.Concurrent.TheVariants as c
 use Rattle.sim_text_tree.specs.declared.unit.ContextItem.TheVariants as items
-use Rattle.sim_text_grammar.specs.Readers.{Outcome, Parser, and_then, pure, eat, expect, word}
+use Rattle.sim_text_grammar.specs.Readers.{Outcome, Parser, and_then, pure, eat, expect, word, left, many_from}
 use Rattle.sim_text_grammar.specs.Declarations.{names, object, initial, ports, port_list, component, component_end, declarations, repeated, variables}
 use Rattle.sim_text_grammar.specs.Statements.{statements, label_again}
 use Rattle.sim_text_grammar.specs.Concurrents.{associations, chosen, concurrents, entity_named, instance, port_map, process, process_body, sensitivity}
-use Rattle.sim_text_grammar.specs.Units.{entity, architecture, architecture_body, item_by, selected_names}
+use Rattle.sim_text_grammar.specs.Units.{entity, architecture, architecture_body, item_by, selected_names, unit, units_of, goes_on}
 use Rattle.sim_text_grammar.proofs.Parts.{within, beyond}
 
 -- what was read, where a semicolon comes next, and so for a parenthesis
@@ -119,6 +119,12 @@ library_clause_in_parts i = within (names (next i)) _ _ (λ ns i. within (expect
 
 pub use_clause_in_parts : (i : Input) → item_by k.Use i ≡ and_then (expect k.Use i) (λ _ i. and_then (ended (selected_names i)) (λ ns. pure (items.Use ns)))
 use_clause_in_parts i = beyond (expect k.Use i) (λ _ i. within (selected_names i) _ _ (λ ns i. within (expect k.Semicolon i) _ _ (λ _ i. refl)))
+
+pub ruleset context_in_parts = (library_clause_in_parts, use_clause_in_parts)
+
+pub units_in_parts : (i : Input) → units_of i ≡ and_then (and_then (unit i) (λ first. pure (first ∷ []))) (λ found i. many_from goes_on unit (left i) found i)
+unfolding units_of
+units_in_parts i = within (unit i) _ _ (λ first i. refl)
 
 -- the end of a unit
 abbrev unit_end : Kind → List ℕ → Parser (Bool × Bool)

@@ -10,10 +10,10 @@ ghost use Rattle.sim_text_grammar.specs.Readers.{Reads, and_then, pure, expect};
 ghost use Rattle.sim_text_reader.specs.Cursors.{view};
 
 use crate::declarations::{names, variables};
-use sim_text_reader::Cursor;
-use sim_text_reader::waveforms::assigned;
 use sim_text_grammar::ParseError;
+use sim_text_reader::Cursor;
 use sim_text_reader::statements::{label_ended, statements};
+use sim_text_reader::waveforms::assigned;
 use sim_text_tokens::Kind;
 use sim_text_tree::declaration::ObjectDeclaration;
 use sim_text_tree::list::fitted;

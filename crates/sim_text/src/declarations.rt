@@ -1,13 +1,13 @@
 //! Declarations (IEEE 1076-2008, 6).
 
-ghost use Rattle.std.specs.Prelude.{◌≡◌, Ok};
+ghost use Rattle.std.specs.Prelude.{◌≡◌, Ok, [], ◌∷◌};
 ghost use Rattle.sim_text_grammar.specs.Declarations as spec;
 ghost use Rattle.sim_text_tokens.specs.declared.kind.Kind.TheVariants as k;
-ghost use Rattle.sim_text_grammar.specs.Readers.{Reads, and_then, pure, expect};
+ghost use Rattle.sim_text_grammar.specs.Readers.{Reads, ReadsAs, and_then, pure, expect, word};
 ghost use Rattle.sim_text_reader.specs.Cursors.{view};
 
-use sim_text_reader::Cursor;
 use sim_text_grammar::ParseError;
+use sim_text_reader::Cursor;
 use sim_text_tokens::Kind;
 use sim_text_tree::declaration::{
     ComponentDeclaration, Declaration, Initial, Mode, ObjectDeclaration, PortDeclaration,
@@ -17,12 +17,21 @@ use sim_text_tree::name::Name;
 use sqlite_items::Items;
 use std::alloc::Global;
 
+/// Reads the first of several names.
+fn first_name(alloc: Global, tokens: &mut Cursor) -> Result<Several<Name>, ParseError>
+    ensures { Reads (and_then (word (view tokens.old)) (λ first. pure (first ∷ []))) result (view tokens.new) }
+{
+    let first = tokens.word()?;
+    let found = Several::new(alloc, first)?;
+    Ok(found)
+}
+
 /// Reads one name, or several with commas between them.
-#[tactic(auto, unfolding(sim_text_grammar::specs::Declarations::names, sim_text_grammar::specs::Readers::separated))]
+#[tactic(auto, using(sim_text_grammar::proofs::Parts::halves), unfolding(sim_text_grammar::specs::Declarations::names))]
 pub fn names(alloc: Global, tokens: &mut Cursor) -> Result<Several<Name>, ParseError>
     ensures { Reads (spec.names (view tokens.old)) result (view tokens.new) }
 {
-    let mut found = Several::new(alloc, tokens.word()?)?;
+    let mut found = first_name(alloc, tokens)?;
     for _turn in 0..tokens.left() {
         if !tokens.sees(Kind::Comma) {
             return Ok(found.fitted());
@@ -114,11 +123,20 @@ fn port(alloc: Global, tokens: &mut Cursor) -> Result<PortDeclaration, ParseErro
     port_of(tokens, signal, names)
 }
 
-#[tactic(auto, unfolding(sim_text_grammar::specs::Declarations::port_list, sim_text_grammar::specs::Readers::separated))]
+/// Reads the first port declaration of a list.
+fn first_port(alloc: Global, tokens: &mut Cursor) -> Result<Vec<PortDeclaration>, ParseError>
+    ensures { ReadsAs (and_then (spec.port (view tokens.old)) (λ first. pure (first ∷ []))) result (λ v. v.items) (view tokens.new) }
+{
+    let first = port(alloc, tokens)?;
+    let found = one(alloc, first)?;
+    Ok(found)
+}
+
+#[tactic(auto, using(sim_text_grammar::proofs::Parts::halves), unfolding(sim_text_grammar::specs::Declarations::port_list))]
 fn port_list(alloc: Global, tokens: &mut Cursor) -> Result<Items<PortDeclaration>, ParseError>
     ensures { Reads (spec.port_list (view tokens.old)) result (view tokens.new) }
 {
-    let mut found = one(alloc, port(alloc, tokens)?)?;
+    let mut found = first_port(alloc, tokens)?;
     for _turn in 0..tokens.left() {
         if !tokens.sees(Kind::Semicolon) {
             return Ok(fitted(found));
@@ -186,8 +204,8 @@ pub fn variables(alloc: Global, tokens: &mut Cursor) -> Result<Items<ObjectDecla
 /// Reads the name written again, where a word stands, and the semicolon after it; and says whether
 /// a word does.
 fn name_ended(tokens: &mut Cursor, text: &[u8]) -> Result<bool, ParseError>
-    ensures { Reads (and_then (spec.repeated text.now (view tokens.old)) (λ again i. and_then (expect k.Semicolon i) (λ _. pure again))) result
-        (view tokens.new) }
+    ensures { Reads (and_then (spec.repeated text.now (view tokens.old)) (λ again i. and_then (expect k.Semicolon i) (λ _. pure again)))
+        result (view tokens.new) }
 {
     let name_repeated = repeated(tokens, text)?;
     tokens.expect(Kind::Semicolon)?;

@@ -1,6 +1,6 @@
 //! Design units and files (IEEE 1076-2008, 13.1).
 
-ghost use Rattle.std.specs.Prelude.{◌≡◌};
+ghost use Rattle.std.specs.Prelude.{◌≡◌, [], ◌∷◌};
 ghost use Rattle.sim_text_tokens.specs.declared.kind.Kind.TheVariants as k;
 ghost use Rattle.sim_text_grammar.specs.Units as spec;
 ghost use Rattle.sim_text_grammar.specs.Declarations.{declarations, names, ports, repeated};
@@ -10,8 +10,8 @@ ghost use Rattle.sim_text_reader.specs.Cursors.{view};
 
 use crate::concurrents::concurrents;
 use crate::declarations::{declarations, names, ports, repeated};
-use sim_text_reader::Cursor;
 use sim_text_grammar::ParseError;
+use sim_text_reader::Cursor;
 use sim_text_tokens::Kind;
 use sim_text_tree::DesignFile;
 use sim_text_tree::declaration::{Declaration, PortDeclaration};
@@ -54,11 +54,20 @@ fn selected(alloc: Global, tokens: &mut Cursor) -> Result<SelectedName, ParseErr
     })
 }
 
-#[tactic(auto, unfolding(sim_text_grammar::specs::Units::selected_names, sim_text_grammar::specs::Readers::separated))]
+/// Reads the first of several selected names.
+fn first_selected(alloc: Global, tokens: &mut Cursor) -> Result<Several<SelectedName>, ParseError>
+    ensures { Reads (and_then (spec.selected (view tokens.old)) (λ first. pure (first ∷ []))) result (view tokens.new) }
+{
+    let first = selected(alloc, tokens)?;
+    let found = Several::new(alloc, first)?;
+    Ok(found)
+}
+
+#[tactic(auto, using(sim_text_grammar::proofs::Parts::halves), unfolding(sim_text_grammar::specs::Units::selected_names))]
 fn selected_names(alloc: Global, tokens: &mut Cursor) -> Result<Several<SelectedName>, ParseError>
     ensures { Reads (spec.selected_names (view tokens.old)) result (view tokens.new) }
 {
-    let mut found = Several::new(alloc, selected(alloc, tokens)?)?;
+    let mut found = first_selected(alloc, tokens)?;
     for _turn in 0..tokens.left() {
         if !tokens.sees(Kind::Comma) {
             return Ok(found.fitted());
@@ -87,8 +96,7 @@ fn used_names(alloc: Global, tokens: &mut Cursor) -> Result<Several<SelectedName
     Ok(names)
 }
 
-#[tactic(auto, using(crate::proofs::Parts::library_clause_in_parts, crate::proofs::Parts::use_clause_in_parts),
-    unfolding(sim_text_grammar::specs::Units::context_item))]
+#[tactic(auto, using(crate::proofs::Parts::context_in_parts), unfolding(sim_text_grammar::specs::Units::context_item))]
 fn context_item(alloc: Global, tokens: &mut Cursor) -> Result<ContextItem, ParseError>
     ensures { Reads (spec.context_item (view tokens.old)) result (view tokens.new) }
 {
@@ -234,11 +242,20 @@ fn unit(alloc: Global, tokens: &mut Cursor) -> Result<DesignUnit, ParseError>
     })
 }
 
-#[tactic(auto, unfolding(sim_text_grammar::specs::Units::units_of))]
+/// Reads the first unit of a file.
+fn first_unit(alloc: Global, tokens: &mut Cursor) -> Result<Several<DesignUnit>, ParseError>
+    ensures { Reads (and_then (spec.unit (view tokens.old)) (λ first. pure (first ∷ []))) result (view tokens.new) }
+{
+    let first = unit(alloc, tokens)?;
+    let found = Several::new(alloc, first)?;
+    Ok(found)
+}
+
+#[tactic(auto, using(crate::proofs::Parts::units_in_parts))]
 fn units_of(alloc: Global, tokens: &mut Cursor) -> Result<Several<DesignUnit>, ParseError>
     ensures { Reads (spec.units_of (view tokens.old)) result (view tokens.new) }
 {
-    let mut found = Several::new(alloc, unit(alloc, tokens)?)?;
+    let mut found = first_unit(alloc, tokens)?;
     for _turn in 0..tokens.left() {
         if tokens.sees(Kind::EndOfText) {
             return Ok(found.fitted());

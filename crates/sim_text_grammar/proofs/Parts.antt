@@ -16,7 +16,7 @@ beyond (Ok p) goes_on = goes_on p.0 p.1
 beyond (Err e) goes_on = refl
 
 -- A list begins with its first item, and what follows it goes on from there.
-pub separated_in_parts : {A : Type 0} (x : Kind) (item : Parser A) (i : Input) → separated x item i
+pub halves : {A : Type 0} (x : Kind) (item : Parser A) (i : Input) → separated x item i
     ≡ and_then (and_then (item i) (λ a. pure (a ∷ []))) (λ found i. many_from (λ y. same_kind y x) (take_token >> item) (left i) found i)
 unfolding separated
-separated_in_parts x item i = within (item i) _ _ (λ a i. refl)
+halves x item i = within (item i) _ _ (λ a i. refl)

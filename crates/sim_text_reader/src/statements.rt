@@ -16,7 +16,9 @@ use sim_text_tokens::Kind;
 use sim_text_tree::expression::Expression;
 use sim_text_tree::list::{fitted, one};
 use sim_text_tree::name::Name;
-use sim_text_tree::sequential::{Branch, Sequential, SignalAssignment, Statement, VariableAssignment};
+use sim_text_tree::sequential::{
+    Branch, Sequential, SignalAssignment, Statement, VariableAssignment,
+};
 use sim_text_tree::waveform::Waveform;
 use sqlite_items::Items;
 use std::alloc::Global;
@@ -243,7 +245,7 @@ fn first_branch(alloc: Global, tokens: &mut Cursor, depth: usize) -> Result<Vec<
 }
 
 #[cycle(statement)]
-#[tactic(auto, using(sim_text_grammar::proofs::Parts::separated_in_parts), unfolding(sim_text_grammar::specs::Statements::branches))]
+#[tactic(auto, using(sim_text_grammar::proofs::Parts::halves), unfolding(sim_text_grammar::specs::Statements::branches))]
 fn branches(alloc: Global, tokens: &mut Cursor, depth: usize) -> Result<Items<Branch>, ParseError>
     ensures { Reads (spec.branches (spec.if_statement depth) (view tokens.old)) result (view tokens.new) }
 {

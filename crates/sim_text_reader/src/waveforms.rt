@@ -67,8 +67,7 @@ fn first_element(alloc: Global, tokens: &mut Cursor) -> Result<Waveform, ParseEr
 }
 
 /// Reads a waveform (IEEE 1076-2008, 10.5.2.1).
-#[tactic(auto, using(sim_text_grammar::proofs::Parts::separated_in_parts),
-    unfolding(sim_text_grammar::specs::Waveforms::waveform, sim_text_grammar::specs::Readers::sees))]
+#[tactic(auto, using(sim_text_grammar::proofs::Parts::halves), unfolding(sim_text_grammar::specs::Waveforms::waveform, sim_text_grammar::specs::Readers::sees))]
 pub fn waveform(alloc: Global, tokens: &mut Cursor) -> Result<Waveform, ParseError>
     ensures { Reads (spec.waveform (view tokens.old)) result (view tokens.new) }
 {

@@ -2,9 +2,9 @@
 
 use crate::line::Line;
 use crate::written::waveforms::unit_name;
-use sim_text_reader::Cursor;
-use sim_text_grammar::ParseError;
 use sim_text::{Kind, tokens};
+use sim_text_grammar::ParseError;
+use sim_text_reader::Cursor;
 use std::alloc::Global;
 use std::test::Fail;
 

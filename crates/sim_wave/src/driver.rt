@@ -5,10 +5,10 @@ ghost use Rattle.sim_standard.specs.Drivers.{next_of, taken, RisesFrom, Transact
 ghost use Rattle.sim_standard.specs.Editing.{edited, first_element, IsWithin};
 ghost use Rattle.sim_logic.specs.Time.{largest_time};
 
-use sim_standard::Delay;
 use crate::edit::keeps;
 use crate::pending::Pending;
 use sim_logic::Logic;
+use sim_standard::Delay;
 use std::alloc::{AllocError, Global};
 use std::marker::Model;
 

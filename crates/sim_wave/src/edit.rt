@@ -9,9 +9,9 @@ ghost use Rattle.sim_standard.specs.Editing.{before, kept_of, scheduled, IsWithi
 ghost use Rattle.sim_wave.specs.Run.{IsRun};
 ghost use Rattle.sim_logic.specs.Time.{largest_time};
 
-use sim_standard::Delay;
 use crate::driver::{IN_PLACE, Transaction};
 use sim_logic::Logic;
+use sim_standard::Delay;
 use smallvec::SmallVec;
 
 /// A list of transactions, earliest first.

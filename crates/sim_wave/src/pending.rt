@@ -7,10 +7,10 @@ ghost use Rattle.sim_standard.specs.Editing.{edited, first_element, scheduled, I
 ghost use Rattle.sim_wave.specs.Pending.{transactions_of};
 ghost use Rattle.sim_logic.specs.Time.{largest_time};
 
-use sim_standard::Delay;
 use crate::driver::{IN_PLACE, Transaction};
 use crate::edit::{Kept, Run, kept_by};
 use crate::stored::Stored;
+use sim_standard::Delay;
 use std::alloc::{AllocError, Global};
 
 /// Pending transactions, earliest first. A driver that once had more than two keeps their room.

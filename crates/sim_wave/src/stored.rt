@@ -6,9 +6,9 @@ ghost use Rattle.sim_standard.specs.Drivers.{RisesFrom, Transaction as transacti
 ghost use Rattle.sim_standard.specs.Editing.{edited, first_element, IsWithin};
 ghost use Rattle.sim_logic.specs.Time.{largest_time};
 
-use sim_standard::Delay;
 use crate::driver::{IN_PLACE, Transaction};
 use crate::edit::{Run, Transactions, close_gap, kept_by, rewrite};
+use sim_standard::Delay;
 use smallvec::SmallVec;
 use std::alloc::{AllocError, Global};
 use std::marker::Model;

@@ -1,7 +1,9 @@
 use crate::line::Line;
 use crate::written::expressions::put_expression;
 use crate::written::waveforms::{put_delay, put_waveform};
-use sim_text_tree::sequential::{Branch, Sequential, SignalAssignment, Statement, VariableAssignment};
+use sim_text_tree::sequential::{
+    Branch, Sequential, SignalAssignment, Statement, VariableAssignment,
+};
 
 fn put_signal(line: &mut Line, assignment: &SignalAssignment) {
     line.put_name(&assignment.target);

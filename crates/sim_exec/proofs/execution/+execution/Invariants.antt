@@ -1,7 +1,7 @@
 use Rattle.std.proofs.Common.{◌≡◌, map, drop}
 use Rattle.sim_exec.specs.Jobs.{IsReady}
 use Rattle.sim_standard.specs.State.{Owned, driver_values}
-use Rattle.sim_standard.specs.Statements.{own_steps, statement_done, branch_done, in_turn, first_taken}
+use Rattle.sim_standard.specs.Statements.{own_steps, statement_done, branch_done, in_turn, if_taken}
 use Rattle.sim_exec.proofs.execution.+execution.Given as goal
 
 -- what is left, carried out now, gives what all give, carried out at first
@@ -23,7 +23,7 @@ invariant-execute_branches-loop-branch g l =
     let own : Owned = record { drivers = l.drivers; variables = l.variables } in
     let first : Owned = record { drivers = l.fn.drivers; variables = l.fn.variables } in
     record {
-      same : (otherwise : Owned → Owned) → first_taken (done (drop l.branch-index l.branches)) otherwise own ≡ first_taken (done l.fn.branches) otherwise first;
+      same : (otherwise : Owned → Owned) → if_taken (done (drop l.branch-index l.branches)) otherwise own ≡ if_taken (done l.fn.branches) otherwise first;
       ready : IsReady l.body l.now own;
       values : driver_values own.drivers ≡ driver_values first.drivers;
     }

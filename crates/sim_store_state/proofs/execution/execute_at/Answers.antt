@@ -26,7 +26,7 @@ execute_between-requires g c =
 pub invariant_of-drivers : goal.invariant_of-drivers
 invariant_of-drivers g c =
     viewed_again (lent_back c.drivers.invariant c.drivers.view_is c.args.number _ _ c.drivers.inside.flat.len c.execute_between.new.drivers _ _
-        c.requires.drivers
+    c.requires.drivers
     c.as_slice.ensures.value c.as_mut_slice.ensures.value
     c.bounds-owned.ensures.start c.bounds-owned.ensures.end c.execute_between.ensures.drivers c.execute_between.auto.drivers c.drivers.inside.flat.ok.0)
 

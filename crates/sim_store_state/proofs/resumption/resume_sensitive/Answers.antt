@@ -13,8 +13,12 @@ pub bounds-values-net : goal.bounds-values-net
 bounds-values-net c = omega (arith, member_within c.args.touched.now c.in-Some.net c.in-Some.ensures.passes, c.requires.touched.sized)
 
 pub bounds-last_values-net : goal.bounds-last_values-net
-bounds-last_values-net c = omega (arith, member_within c.args.touched.now c.in-Some.net c.in-Some.ensures.passes, c.requires.touched.sized,
-    c.requires.last_values)
+bounds-last_values-net c = omega (
+  arith,
+  member_within c.args.touched.now c.in-Some.net c.in-Some.ensures.passes,
+  c.requires.touched.sized,
+  c.requires.last_values,
+)
 
 pub row-requires : goal.row-requires
 row-requires c = omega (arith, member_within c.args.touched.now c.in-Some.net c.in-Some.ensures.passes, c.requires.touched.sized, c.requires.sensitive)

@@ -5,8 +5,8 @@ use Rattle.sim_text.proofs.units.selected_names.Goals as goal
 pub returns-then-not-sees : goal.returns-then-not-sees
 returns-then-not-sees c = let e = one_after c.loop-turn.invariant c.loop-turn-test.true in search rules
 
-pub returns-in_err-selected-2 : goal.returns-in_err-selected-2
-returns-in_err-selected-2 c = let e = one_after c.loop-turn.invariant c.loop-turn-test.true in search rules
+pub returns-in_err-selected : goal.returns-in_err-selected
+returns-in_err-selected c = let e = one_after c.loop-turn.invariant c.loop-turn-test.true in search rules
 
 pub loop-turn-preserved : goal.loop-turn-preserved
 loop-turn-preserved c = let e = one_after c.loop-turn.invariant c.loop-turn-test.true in search rules

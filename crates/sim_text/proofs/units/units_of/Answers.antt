@@ -7,9 +7,9 @@ pub returns-then-sees : goal.returns-then-sees
 unfolding sees
 returns-then-sees c = let e = one_more c.loop-turn.invariant c.loop-turn-test.true in search rules
 
-pub returns-in_err-unit-2 : goal.returns-in_err-unit-2
+pub returns-in_err-unit : goal.returns-in_err-unit
 unfolding sees
-returns-in_err-unit-2 c = let e = one_more c.loop-turn.invariant c.loop-turn-test.true in search rules
+returns-in_err-unit c = let e = one_more c.loop-turn.invariant c.loop-turn-test.true in search rules
 
 pub loop-turn-preserved : goal.loop-turn-preserved
 unfolding sees

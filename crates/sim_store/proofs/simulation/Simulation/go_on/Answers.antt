@@ -83,7 +83,7 @@ invariant_of-self-2 c =
       progress = advanced-keeps i all c.args.time next c.requires.early c.next_delta-self-inside.result (length c.record.new.log.records - 1)
           c.update.new.self c.record.new.log.records c.find.new.self _ c.next_delta-self-inside.ensures
           c.in_ok-update.ensures.ok records c.find.ensures.sized (λ p lt. c.find.ensures.found h.design.processes p c.self.invariant.made.sensitive_are
-              lt) marks
+          lt) marks
           (omega (arith, ap length records, length-append s.made.log.records (one ∷ []), cycle-count i));
       counts = subst (AreTotals (length s.design.nets) c.record.new.log.records) (sym written)
           (totals-go-on (length s.design.nets) s.made.log.records c.record.new.log.records one s.made.totals.items c.count_last.new.totals

@@ -47,7 +47,7 @@ returns c =
     let now = get_or (owned_lists e.new.drivers e.new.variables) n nothing_owned in
     let net : views_of s.values.items s.last_values.items ≡ c.args.self.now.nets = ap (λ (h : Contents). h.nets) c.self.view_is in
     let look = sees c.args.self.now.nets s.values.items s.last_values.items c.as_slice.result.now c.as_slice-2.result.now c.args.process.now.nets
-        c.nets.result.now
+    c.nets.result.now
     net
     c.as_slice.ensures.value c.as_slice-2.ensures.value c.nets.ensures.value in
     let left = as_owned (get_or s.drivers n []) (get_or s.variables n []) in

@@ -74,7 +74,7 @@ invariant_of-self-2 c =
     update-keeps c.self.invariant c.args.time _ _ c.take_due.new.drivers c.flat-2.result.now c.bring_up_to_date.new.queue c.take.new.self c.take.new.taken
     c.take_due.new.touched next (c.in_ok-bring_up_to_date.ensures.ok ∙ ap first_times c.flat.ensures)
     (last_values ∙ (c.settle.ensures ∙ c.as_slice.ensures.value)) c.take.ensures.taken c.take.ensures.queue c.take_due.ensures.drivers
-        c.take_due.ensures.reached
+    c.take_due.ensures.reached
     (c.take_due.ensures.sized ∙ (ap length c.clear.ensures ∙ length-replicate (length s.touched) false)) c.flat-2.ensures
     (values ∙ c.resolve_touched.ensures)
 

@@ -4,7 +4,7 @@ use Rattle.sim_flat_scope.specs.declared.fault.Fault.{Fault}
 use Rattle.sim_flat_scope.specs.Faults.{earliest, sooner}
 
 -- the first of two lists is that of the second, where that of the first is known
-pub earliest_of_both : (known : Option Fault) (fs gs : List Fault) → earliest known (fs ++ gs) ≡ earliest (earliest known fs) gs
+pub of_both : (known : Option Fault) (fs gs : List Fault) → earliest known (fs ++ gs) ≡ earliest (earliest known fs) gs
 unfolding earliest
-earliest_of_both known [] gs = refl
-earliest_of_both known (f ∷ fs) gs = earliest_of_both (sooner known f) fs gs
+of_both known [] gs = refl
+of_both known (f ∷ fs) gs = of_both (sooner known f) fs gs

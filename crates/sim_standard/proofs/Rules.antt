@@ -9,7 +9,7 @@ use Rattle.sim_flat_design.specs.declared.statement.Statement.TheVariants as s
 use Rattle.sim_flat_design.specs.declared.statement.Statement.TheOpen as so
 use Rattle.sim_flat_design.specs.declared.statement.Statement.TheViews as views
 use Rattle.sim_flat_design.specs.declared.statement.Statement.TheFolds as folds
-use Rattle.sim_standard.specs.Statements.{Steps, Guarded, in_turn, first_taken, statement_rule, branch_rule, statement_done, branch_done}
+use Rattle.sim_standard.specs.Statements.{Steps, Guarded, in_turn, if_taken, statement_rule, branch_rule, statement_done, branch_done}
 
 module _ {S : Type 0} (steps : Steps S) (x : S) where
   pub signal_done : (a : SignalAssignment) → statement_done steps (s.Signal a) x ≡ steps.signal a x
@@ -29,7 +29,7 @@ module _ {S : Type 0} (steps : Steps S) (x : S) where
       ∙ ap (λ (f : S → S). f x) (folds.fold-roll-Statement (S → S) (Guarded S) (statement_rule steps) (branch_rule steps) (so.BooleanVariable place value))
 
   pub if_done : (branches : List Branch) (otherwise : List Statement) → statement_done steps (s.If branches otherwise) x
-      ≡ first_taken (map (branch_done steps) branches) (in_turn (map (statement_done steps) otherwise)) x
+      ≡ if_taken (map (branch_done steps) branches) (in_turn (map (statement_done steps) otherwise)) x
   unfolding statement_done branch_done
   if_done branches otherwise = ap (λ (y : Statement). statement_done steps y x) (sym (s.rolls-If branches otherwise))
       ∙ ap (λ (f : S → S). f x) (folds.fold-roll-Statement (S → S) (Guarded S) (statement_rule steps) (branch_rule steps) (so.If branches otherwise))
