@@ -1,7 +1,7 @@
 //! The ports and signals that statements read, also by 'event and in edge functions (IEEE
 //! 1076-2008, 11.3).
 
-ghost use Rattle.std.specs.Prelude.{◌≡◌, ◌++◌, OnOk, IfOk, map};
+ghost use Rattle.std.specs.Prelude.{◌≡◌, ◌++◌, [], ◌∷◌, OnOk, IfOk, map};
 ghost use Rattle.std.specs.List.{concat};
 ghost use Rattle.sim_flat_design.specs.Bodies as spec;
 ghost use Rattle.sim_flat_design.specs.Processes.{rising};
@@ -47,6 +47,27 @@ fn add_logics(list: &[LogicExpression], found: &mut Vec<usize>) -> Result<(), Al
     Ok(())
 }
 
+/// Adds those of two expressions of type std_ulogic.
+fn add_two_logics(
+    left: &LogicExpression,
+    right: &LogicExpression,
+    found: &mut Vec<usize>,
+) -> Result<(), AllocError>
+    ensures { OnOk result (found.new.items ≡ found.old.items ++ (spec.logic_objects left.now ++ spec.logic_objects right.now)) }
+{
+    add_logic(left, found)?;
+    add_logic(right, found)?;
+    Ok(())
+}
+
+/// Adds the place of a port or signal.
+fn add_object(object: usize, found: &mut Vec<usize>) -> Result<(), AllocError>
+    ensures { OnOk result (found.new.items ≡ found.old.items ++ object ∷ []) }
+{
+    found.push(object)?;
+    Ok(())
+}
+
 /// Adds those of an expression of type boolean.
 #[cycle(boolean)]
 #[tactic(auto, using(crate::proofs::ReadRules::booleans_read))]
@@ -56,29 +77,19 @@ fn add_boolean(expression: &BooleanExpression, found: &mut Vec<usize>) -> Result
     match expression {
         BooleanExpression::Literal(_) => Ok(()),
         BooleanExpression::Variable(_) => Ok(()),
-        BooleanExpression::Event(object) => {
-            found.push(*object)?;
-            Ok(())
-        }
-        BooleanExpression::Edge { object, .. } => {
-            found.push(*object)?;
-            Ok(())
-        }
+        BooleanExpression::Event(object) => add_object(*object, found),
+        BooleanExpression::Edge { object, .. } => add_object(*object, found),
         BooleanExpression::Not(operand) => add_boolean(operand.get(), found),
         BooleanExpression::Chain { first, rest, .. } => {
             add_boolean(first.get(), found)?;
-            add_booleans(rest.as_slice(), found)?;
-            Ok(())
+            add_booleans(rest.as_slice(), found)
         }
         BooleanExpression::LogicComparison { left, right, .. } => {
-            add_logic(left.get(), found)?;
-            add_logic(right.get(), found)?;
-            Ok(())
+            add_two_logics(left.get(), right.get(), found)
         }
         BooleanExpression::BooleanComparison { left, right, .. } => {
             add_boolean(left.get(), found)?;
-            add_boolean(right.get(), found)?;
-            Ok(())
+            add_boolean(right.get(), found)
         }
     }
 }

@@ -51,11 +51,17 @@ fn are_same(alloc: Global, text: &str, other: &str) -> Option<bool> {
     Some(design.same(&other))
 }
 
+/// Whether two designs have first processes, and these are the same.
+fn begin_alike(design: &Design, other: &Design) -> Option<bool> {
+    let first = design.processes().first()?;
+    Some(first.same(other.processes().first()?))
+}
+
 /// Whether the first processes of two texts are there, and the same.
 fn first_processes_are_same(alloc: Global, text: &str, other: &str) -> Option<bool> {
     let design = flat(alloc, text)?;
     let other = flat(alloc, other)?;
-    Some(design.processes().first()?.same(other.processes().first()?))
+    begin_alike(&design, &other)
 }
 
 #[test]

@@ -84,10 +84,14 @@ fn put_statements(line: &mut String, statements: &[Statement]) -> Result<(), All
     line.push_str("; ")
 }
 
-fn put_process(line: &mut String, process: &Process) -> Result<(), AllocError> {
+fn put_nets(line: &mut String, process: &Process) -> Result<(), AllocError> {
     put_numbers(line, "process sensitive", process.sensitivity())?;
     put_numbers(line, "reads", process.reads())?;
-    put_numbers(line, "nets", process.nets())?;
+    put_numbers(line, "nets", process.nets())
+}
+
+fn put_process(line: &mut String, process: &Process) -> Result<(), AllocError> {
+    put_nets(line, process)?;
     let body = process.body();
     let counts = [body.objects(), body.drivers(), process.first_driver()];
     put_numbers(line, "objects, drivers and the first", &counts)?;

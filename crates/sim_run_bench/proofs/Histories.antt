@@ -19,10 +19,10 @@ event_count-last : (rs : List Record) (r : Record) → 0 < length rs → event_c
 event_count-last [] r h = absurd (omega arith)
 event_count-last (x ∷ xs) r h = let e = sum_by-append (λ (y : Record). length y.changes) xs (r ∷ []) in omega (arith, e)
 
-pub first : (rs : List Record) (r : Record) (each : ℕ) → rs ≡ [] ++ r ∷ [] → IsNamed 1 r → IsGrown rs 0 each
-first rs r each e named =
-    let one : IsGrown (r ∷ []) 0 each = record { begun = omega arith; named = alone r named; events = omega arith } in
-    subst (λ l. IsGrown l 0 each) (sym e) one
+pub first : (rs : List Record) (each : ℕ) → length rs ≡ 1 → All (IsNamed 1) rs → IsGrown rs 0 each
+first [] each e named = absurd (omega arith)
+first (r ∷ []) each e named = record { begun = omega arith; named = named; events = omega arith }
+first (r ∷ s ∷ rs) each e named = absurd (omega arith)
 
 pub one_more : (rs more : List Record) (r : Record) (n each : ℕ) → IsGrown rs n each → more ≡ rs ++ r ∷ [] → IsNamed 1 r
     → length r.changes ≡ each → IsGrown more (n + 1) each

@@ -12,7 +12,7 @@ use sim_logic::Logic::{One, X, Zero};
 use sim_wave::{Delay, Driver};
 use std::alloc::{AllocError, Global};
 use std::rt::Clock;
-use std::time::Instant;
+use std::time::{Duration, Instant};
 
 /// The numbers of pending transactions.
 const PENDING: [u64; 4] = [1, 2, 16, 100_000];
@@ -34,6 +34,9 @@ enum Way {
     /// a gap closes. Two transactions are taken.
     Gap,
 }
+
+/// The ways that need no more than one pending transaction.
+static WAYS: [Way; 3] = [Way::Transport, Way::Equal, Way::Rejection];
 
 impl Way {
     fn name(self) -> &'static str {
@@ -150,6 +153,39 @@ fn make_steps(driver: &mut Driver, way: Way, pending: u64, count: u64) -> Result
     }
 }
 
+/// How long it takes to make the steps.
+fn timed<R: Clock>(
+    rt: &R,
+    driver: &mut Driver,
+    way: Way,
+    pending: u64,
+    count: u64,
+) -> Result<Duration>
+    requires some { 1 ≤ pending }
+    requires most { pending ≤ MOST }
+{
+    let start = Instant::now(rt)?;
+    make_steps(driver, way, pending, count)?;
+    let took = start.elapsed(rt)?;
+    Ok(took)
+}
+
+/// Prints how long it took, and what is left in the driver.
+fn print_times<R: Print + Eprint>(
+    rt: &R,
+    way: Way,
+    pending: u64,
+    took: Duration,
+    driver: &Driver,
+) -> Result<()> {
+    let name = way.name();
+    eprintln!(rt; "{name}, {pending} pending: {took:?}")?;
+    let left = driver.pending().len();
+    let next = driver.next();
+    println!(rt; "{name}, {pending} pending: {left} left, the next at {next:?}")?;
+    Ok(())
+}
+
 /// Times one way with one number of pending transactions.
 fn report<R: Print + Eprint + Clock + AllocGlobal>(
     rt: &R,
@@ -160,25 +196,18 @@ fn report<R: Print + Eprint + Clock + AllocGlobal>(
     requires some { 1 ≤ pending }
     requires most { pending ≤ MOST }
 {
-    let name = way.name();
     let mut driver = filled(rt.alloc(), pending)?;
-    let start = Instant::now(rt)?;
-    make_steps(&mut driver, way, pending, count)?;
-    let took = start.elapsed(rt)?;
-    eprintln!(rt; "{name}, {pending} pending: {took:?}")?;
-    let left = driver.pending().len();
-    let next = driver.next();
-    println!(rt; "{name}, {pending} pending: {left} left, the next at {next:?}")?;
-    Ok(())
+    let took = timed(rt, &mut driver, way, pending, count)?;
+    print_times(rt, way, pending, took, &driver)
 }
 
 /// Times each way with each number of pending transactions; a gap needs two.
 pub fn run<R: Print + Eprint + Clock + AllocGlobal>(rt: &R, count: u64) -> Result<()> {
     for pending in PENDING {
         let pending = pending.clamp(1, MOST);
-        report(rt, Way::Transport, pending, count)?;
-        report(rt, Way::Equal, pending, count)?;
-        report(rt, Way::Rejection, pending, count)?;
+        for way in &WAYS {
+            report(rt, *way, pending, count)?;
+        }
         if pending > 1 {
             report(rt, Way::Gap, pending, count)?;
         }

@@ -28,18 +28,8 @@ fn flattened(alloc: Global, file: &DesignFile, top: &str) -> Result<Size, FlatEr
     })
 }
 
-/// Times the flattening of a file whose reading was begun at this time.
-fn report_file<R: Print + Eprint + Clock + AllocGlobal>(
-    rt: &R,
-    start: Instant,
-    file: &DesignFile,
-    top: &str,
-) -> Result<()> {
-    let parsing = start.elapsed(rt)?.as_micros();
-    let start = Instant::now(rt)?;
-    let found = flattened(rt.alloc(), file, top);
-    let flattening = start.elapsed(rt)?.as_micros();
-    eprintln!(rt; "parse: {parsing} us, flatten: {flattening} us")?;
+/// Prints what was made of a file.
+fn print_size<R: Print>(rt: &R, found: Result<Size, FlatError>) -> Result<()> {
     match found {
         Ok(size) => println!(rt;
             "{} nets, {} processes, {} drivers",
@@ -48,6 +38,31 @@ fn report_file<R: Print + Eprint + Clock + AllocGlobal>(
         Err(fault) => println!(rt; "refused: {fault}")?,
     }
     Ok(())
+}
+
+/// Times the flattening of a file, and prints what was made of it.
+fn report_flattening<R: Print + Eprint + Clock + AllocGlobal>(
+    rt: &R,
+    file: &DesignFile,
+    top: &str,
+) -> Result<()> {
+    let start = Instant::now(rt)?;
+    let found = flattened(rt.alloc(), file, top);
+    let took = start.elapsed(rt)?.as_micros();
+    eprintln!(rt; "flatten: {took} us")?;
+    print_size(rt, found)
+}
+
+/// Times the flattening of a file whose reading was begun at this time.
+fn report_file<R: Print + Eprint + Clock + AllocGlobal>(
+    rt: &R,
+    start: Instant,
+    file: &DesignFile,
+    top: &str,
+) -> Result<()> {
+    let took = start.elapsed(rt)?.as_micros();
+    eprint!(rt; "parse: {took} us, ")?;
+    report_flattening(rt, file, top)
 }
 
 /// Times one reading and one flattening, each by itself. The design is dropped within its time, the

@@ -262,8 +262,8 @@ fn execute_as_jobs(alloc: Global, job: Job, count: u64) -> Result<Outcome, Alloc
     Ok(outcome_of(job.drivers()))
 }
 
-/// Executes the process as jobs.
-fn run_jobs(alloc: Global, process: &Process, scene: &Scene, count: u64) -> Result<Outcome> {
+/// The first job of the process.
+fn first_job(alloc: Global, process: &Process, scene: &Scene) -> Result<Job> {
     let views = views(alloc, process, scene)?;
     let drivers = first_drivers(alloc)?;
     let variables = Vec::new(alloc);
@@ -277,8 +277,63 @@ fn run_jobs(alloc: Global, process: &Process, scene: &Scene, count: u64) -> Resu
         bail!("the lists do not fit the process");
     }
     let process = process.try_copy()?;
-    let job = Job::new(0, 0, 0, process, views, variables, drivers);
-    Ok(execute_as_jobs(alloc, job, count)?)
+    Ok(Job::new(0, 0, 0, process, views, variables, drivers))
+}
+
+/// Executes the process as jobs.
+fn run_jobs(alloc: Global, process: &Process, scene: &Scene, count: u64) -> Result<Outcome> {
+    let job = first_job(alloc, process, scene)?;
+    let left = execute_as_jobs(alloc, job, count)?;
+    Ok(left)
+}
+
+/// Executes the process so many times.
+fn execute_by(
+    alloc: Global,
+    way: Way,
+    process: &Process,
+    scene: &Scene,
+    count: u64,
+) -> Result<Outcome> {
+    match way {
+        Way::InPlace => {
+            let left = run_in_place(alloc, process, scene, count.min(LATEST))?;
+            Ok(left)
+        }
+        Way::Jobs => run_jobs(alloc, process, scene, count),
+    }
+}
+
+/// What an execution leaves, and how many tenths of a nanosecond one took.
+fn timed<R: Clock + AllocGlobal>(
+    rt: &R,
+    way: Way,
+    process: &Process,
+    scene: &Scene,
+    count: u64,
+) -> Result<(Outcome, u128)> {
+    let start = Instant::now(rt)?;
+    let left = execute_by(rt.alloc(), way, process, scene, count)?;
+    let took = start.elapsed(rt)?.as_nanos();
+    Ok((left, took.saturating_mul(10) / u128::from(count.max(1))))
+}
+
+/// Prints how long an execution took, and what is left.
+fn print_times<R: Print + Eprint>(
+    rt: &R,
+    way: Way,
+    rises: bool,
+    tenths: u128,
+    left: Outcome,
+) -> Result<()> {
+    let name = way.name();
+    let edge = if rises { "an edge" } else { "no edge" };
+    eprintln!(rt; "{name}, {edge}: {}.{} ns", tenths / 10, tenths % 10)?;
+    println!(rt;
+        "{name}, {edge}: {:?}, {} pending",
+        left.value, left.pending
+    )?;
+    Ok(())
 }
 
 /// Times one way.
@@ -290,28 +345,24 @@ fn report<R: Print + Eprint + Clock + AllocGlobal>(
     count: u64,
 ) -> Result<()> {
     let scene = make_scene(rt.alloc(), process, rises)?;
-    let start = Instant::now(rt)?;
-    let left = match way {
-        Way::InPlace => run_in_place(rt.alloc(), process, &scene, count.min(LATEST))?,
-        Way::Jobs => run_jobs(rt.alloc(), process, &scene, count)?,
-    };
-    let tenths = start.elapsed(rt)?.as_nanos().saturating_mul(10) / u128::from(count.max(1));
-    let name = way.name();
-    let edge = if rises { "an edge" } else { "no edge" };
-    eprintln!(rt; "{name}, {edge}: {}.{} ns", tenths / 10, tenths % 10)?;
-    println!(rt;
-        "{name}, {edge}: {:?}, {} pending",
-        left.value, left.pending
-    )?;
-    Ok(())
+    let (left, tenths) = timed(rt, way, process, &scene, count)?;
+    print_times(rt, way, rises, tenths, left)
+}
+
+/// Times each way.
+fn report_both<R: Print + Eprint + Clock + AllocGlobal>(
+    rt: &R,
+    process: &Process,
+    rises: bool,
+    count: u64,
+) -> Result<()> {
+    report(rt, process, Way::InPlace, rises, count)?;
+    report(rt, process, Way::Jobs, rises, count)
 }
 
 /// Times each way, with and without an edge.
 pub fn run<R: Print + Eprint + Clock + AllocGlobal>(rt: &R, count: u64) -> Result<()> {
     let process = flip_flop(rt.alloc()).context("the text is no flip-flop")?;
-    report(rt, &process, Way::InPlace, true, count)?;
-    report(rt, &process, Way::Jobs, true, count)?;
-    report(rt, &process, Way::InPlace, false, count)?;
-    report(rt, &process, Way::Jobs, false, count)?;
-    Ok(())
+    report_both(rt, &process, true, count)?;
+    report_both(rt, &process, false, count)
 }

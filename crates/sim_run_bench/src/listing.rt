@@ -13,7 +13,7 @@ use std::alloc::{AllocError, Global};
 use std::io;
 use std::io::Write;
 use std::rt::Clock;
-use std::time::Instant;
+use std::time::{Duration, Instant};
 
 /// The most changes.
 const MOST: u64 = 100_000_000;
@@ -59,6 +59,16 @@ fn record(alloc: Global, time: u64, count: usize) -> Result<Record, AllocError>
     })
 }
 
+/// The record of the initialization, alone.
+fn first_record(alloc: Global) -> Result<Vec<Record>, AllocError>
+    ensures alone { IfOk result (λ v. length v.items ≡ 1) }
+    ensures named { IfOk result (λ v. All (IsNamed 1) v.items) }
+{
+    let mut found = Vec::new(alloc);
+    found.push(record(alloc, 0, 1)?)?;
+    Ok(found)
+}
+
 /// The initialization and this many records, a nanosecond apart, with `each` changes.
 fn records(alloc: Global, count: u64, each: usize) -> Result<Vec<Record>, AllocError>
     requires { count ≤ MOST }
@@ -66,8 +76,7 @@ fn records(alloc: Global, count: u64, each: usize) -> Result<Vec<Record>, AllocE
     ensures named { IfOk result (λ v. All (IsNamed 1) v.items) }
     ensures events { IfOk result (λ v. event_count v.items ≡ count * each) }
 {
-    let mut found = Vec::new(alloc);
-    found.push(record(alloc, 0, 1)?)?;
+    let mut found = first_record(alloc)?;
     for made in 0..count {
         found.push(record(alloc, made * 1_000_000, each)?)?;
     }
@@ -85,21 +94,32 @@ fn finished(alloc: Global, count: u64, each: usize) -> Result<Finished, AllocErr
     Ok(Finished::new(names, records, count * each as u64))
 }
 
+/// How long a listing takes, and how many bytes it has.
+fn timed<R: Clock>(rt: &R, finished: &Finished) -> Result<(Duration, u64)> {
+    let mut out = Counting { bytes: 0 };
+    let start = Instant::now(rt)?;
+    if write_listing(finished, &mut out).is_err() {
+        bail!("the writer failed");
+    }
+    let took = start.elapsed(rt)?;
+    Ok((took, out.bytes))
+}
+
+/// Prints how many bytes a listing has.
+fn print_size<R: Print>(rt: &R, each: usize, bytes: u64) -> Result<()> {
+    println!(rt; "{each} a record: {bytes} bytes")?;
+    Ok(())
+}
+
 /// Times a listing.
 fn report<R: Print + Eprint + Clock + AllocGlobal>(rt: &R, count: u64, each: usize) -> Result<()>
     requires many { count ≤ MOST }
     requires few { each ≤ 1_000 }
 {
     let finished = finished(rt.alloc(), count, each)?;
-    let mut out = Counting { bytes: 0 };
-    let start = Instant::now(rt)?;
-    if write_listing(&finished, &mut out).is_err() {
-        bail!("the writer failed");
-    }
-    let took = start.elapsed(rt)?;
+    let (took, bytes) = timed(rt, &finished)?;
     eprintln!(rt; "{each} a record: {took:?}")?;
-    println!(rt; "{each} a record: {} bytes", out.bytes)?;
-    Ok(())
+    print_size(rt, each, bytes)
 }
 
 /// Times both listings of this many changes.

@@ -11,22 +11,33 @@ mod reading;
 use anyhow::{Context, Result, bail};
 use reading::Step;
 use std::env;
+use std::rt::Clock;
+
+/// Times a subject.
+fn run<R: Print + Eprint + Input + Clock + AllocGlobal>(
+    rt: &R,
+    subject: &str,
+    count: &str,
+    top: Option<String>,
+) -> Result<()> {
+    let count = count.parse::<u64>().context("the count is no number")?;
+    match subject {
+        "drivers" => drivers::run(rt, count),
+        "elaboration" => {
+            let top = top.context("no top")?;
+            elaboration::run(rt, count, top.as_str())
+        }
+        "execution" => execution::run(rt, count),
+        "listing" => listing::run(rt, count),
+        "tokens" => reading::run(rt, Step::Tokens, count),
+        "parse" => reading::run(rt, Step::Parse, count),
+        _ => bail!("no such subject"),
+    }
+}
 
 fn main(rt: HostRuntime) -> Result<()> {
     let mut words = env::args(&rt)?.skip(1);
     let subject = words.next().context("no subject")?;
     let count = words.next().context("no count")?;
-    let count = count.parse::<u64>().context("the count is no number")?;
-    match subject.as_str() {
-        "drivers" => drivers::run(&rt, count),
-        "elaboration" => {
-            let top = words.next().context("no top")?;
-            elaboration::run(&rt, count, top.as_str())
-        }
-        "execution" => execution::run(&rt, count),
-        "listing" => listing::run(&rt, count),
-        "tokens" => reading::run(&rt, Step::Tokens, count),
-        "parse" => reading::run(&rt, Step::Parse, count),
-        _ => bail!("no such subject"),
-    }
+    run(&rt, subject.as_str(), count.as_str(), words.next())
 }

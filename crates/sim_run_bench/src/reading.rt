@@ -57,7 +57,23 @@ fn count_units(alloc: Global, text: &[u8]) -> Result<usize, TextError> {
     Ok(found.units().len())
 }
 
+/// What a step counts, and how many microseconds it took.
+fn timed<R: Clock + AllocGlobal>(rt: &R, step: Step, text: &[u8]) -> Result<(usize, u128)> {
+    let start = Instant::now(rt)?;
+    let found = step.count(rt.alloc(), text)?;
+    let took = start.elapsed(rt)?.as_micros();
+    Ok((found, took))
+}
+
 /// Times a step.
+fn report<R: Print + Eprint + Clock + AllocGlobal>(rt: &R, step: Step, text: &[u8]) -> Result<()> {
+    let (found, took) = timed(rt, step, text)?;
+    eprintln!(rt; "{}: {took} us", step.name())?;
+    println!(rt; "{}: {found}", step.counted())?;
+    Ok(())
+}
+
+/// Times a step, so many times over the same text.
 pub fn run<R: Print + Eprint + Input + Clock + AllocGlobal>(
     rt: &R,
     step: Step,
@@ -65,11 +81,7 @@ pub fn run<R: Print + Eprint + Input + Clock + AllocGlobal>(
 ) -> Result<()> {
     let text = source(rt)?;
     for _ in 0..count {
-        let start = Instant::now(rt)?;
-        let found = step.count(rt.alloc(), text.as_slice())?;
-        let took = start.elapsed(rt)?.as_micros();
-        eprintln!(rt; "{}: {took} us", step.name())?;
-        println!(rt; "{}: {found}", step.counted())?;
+        report(rt, step, text.as_slice())?;
     }
     Ok(())
 }

@@ -1,6 +1,7 @@
 //! The listing goes out in blocks.
 ghost use Rattle.std.specs.Prelude.{◌≡◌, ◌<◌, length, All, IfOk, ℕ};
 ghost use Rattle.sim_logic.specs.declared.logic.Logic as logic;
+ghost use Rattle.sim_standard.specs.Histories.{IsNamed, event_count};
 
 use crate::streams::Failing;
 use sim_logic::Logic;
@@ -25,12 +26,32 @@ fn record(alloc: Global, time: u64, count: usize) -> Result<Record, AllocError>
     })
 }
 
+/// The name of net 0.
+fn names(alloc: Global) -> Result<Vec<String>, AllocError>
+    ensures { IfOk result (λ v. length v.items ≡ 1) }
+{
+    let name = String::from_str(alloc, "s")?;
+    let names = vec![in alloc; name]?;
+    Ok(names)
+}
+
+/// The initialization and a record with 40,000 events.
+fn records(alloc: Global) -> Result<Vec<Record>, AllocError>
+    ensures begun { IfOk result (λ v. 0 < length v.items) }
+    ensures named { IfOk result (λ v. All (IsNamed 1) v.items) }
+    ensures events { IfOk result (λ v. event_count v.items ≡ 40000) }
+{
+    let first = record(alloc, 0, 1)?;
+    let second = record(alloc, 5, 40_000)?;
+    let records = vec![in alloc; first, second]?;
+    Ok(records)
+}
+
 #[test]
 fn a_long_listing_goes_out_in_blocks(rt: HostRuntime) -> Result<(), Fail> {
     let alloc = rt.alloc();
-    let names = vec![in alloc; String::from_str(alloc, "s")?]?;
-    let records = vec![in alloc; record(alloc, 0, 1)?, record(alloc, 5, 40_000)?]?;
-    let finished = Finished::new(names, records, 40_000);
+    let names = names(alloc)?;
+    let finished = Finished::new(names, records(alloc)?, 40_000);
     let mut out = Failing::new(alloc, usize::MAX, usize::MAX);
     assert_eq!(rt; write_listing(&finished, &mut out), Ok(()));
     assert_eq!(rt; out.taken.len(), 8 + 40_000 * 8 + 13);

@@ -1,8 +1,9 @@
 use Rattle.std.proofs.Common.{map, ap, ◌∙◌}
 use Rattle.std.specs.List.{concat}
-use Rattle.sim_flat_design.specs.Bodies.{boolean_objects, logic_objects}
-use Rattle.sim_flat_blocks.proofs.ReadRules.{adds_both, adds_nothing, boolean_chain_reads, boolean_variable_reads, booleans_compared_read}
-use Rattle.sim_flat_blocks.proofs.ReadRules.{logics_compared_read, truth_reads}
+use Rattle.std.proofs.lemmas.Result.{on_ok_weaker}
+use Rattle.sim_flat_design.specs.Bodies.{boolean_objects}
+use Rattle.sim_flat_blocks.proofs.ReadRules.{adds_both, adds_nothing, boolean_chain_reads, boolean_variable_reads}
+use Rattle.sim_flat_blocks.proofs.ReadRules.{booleans_compared_read, truth_reads}
 use Rattle.sim_flat_blocks.proofs.reads.+boolean.Goals as goal
 
 pub add_boolean-returns-in-Literal : goal.add_boolean-returns-in-Literal
@@ -14,27 +15,23 @@ add_boolean-returns-in-Variable t c =
     adds_nothing c.args.found.now.items (boolean_objects c.args.expression.now)
     (ap boolean_objects c.in-Variable.is ∙ boolean_variable_reads c.in-Variable.field-0)
 
-pub add_boolean-returns-in_ok-add_booleans-in-Chain : goal.add_boolean-returns-in_ok-add_booleans-in-Chain
-add_boolean-returns-in_ok-add_booleans-in-Chain t c =
-    adds_both c.args.found.now.items c.add_boolean-in-Chain.new.found.items c.add_booleans.new.found.items
+pub add_boolean-returns-in_ok-add_boolean-in-Chain : goal.add_boolean-returns-in_ok-add_boolean-in-Chain
+add_boolean-returns-in_ok-add_boolean-in-Chain t c =
+    on_ok_weaker c.add_booleans.result
+    (adds_both c.args.found.now.items c.add_boolean-in-Chain.new.found.items c.add_booleans.new.found.items
     (boolean_objects c.get-in-Chain.result.now) (concat (map boolean_objects c.as_slice.result.now)) (boolean_objects c.args.expression.now)
     (rw (c.get-in-Chain.ensures, c.as_slice.ensures)
     (ap boolean_objects c.in-Chain.is ∙ boolean_chain_reads c.in-Chain.operator c.in-Chain.first c.in-Chain.rest))
-    c.in_ok-add_boolean-in-Chain.ensures c.in_ok-add_booleans-in-Chain.ensures
+    c.in_ok-add_boolean-in-Chain.ensures)
+    c.add_booleans.ensures
 
-pub add_boolean-returns-in_ok-add_logic-in-LogicComparison-2 : goal.add_boolean-returns-in_ok-add_logic-in-LogicComparison-2
-add_boolean-returns-in_ok-add_logic-in-LogicComparison-2 t c =
-    adds_both c.args.found.now.items c.add_logic.new.found.items c.add_logic-in-LogicComparison.new.found.items
-    (logic_objects c.get-in-LogicComparison.result.now) (logic_objects c.get-in-LogicComparison-2.result.now) (boolean_objects c.args.expression.now)
-    (rw (c.get-in-LogicComparison.ensures, c.get-in-LogicComparison-2.ensures)
-    (ap boolean_objects c.in-LogicComparison.is ∙ logics_compared_read c.in-LogicComparison.left c.in-LogicComparison.operator c.in-LogicComparison.right))
-    c.in_ok-add_logic-in-LogicComparison.ensures c.in_ok-add_logic-in-LogicComparison-2.ensures
-
-pub add_boolean-returns-in_ok-add_boolean-in-BooleanComparison-2 : goal.add_boolean-returns-in_ok-add_boolean-in-BooleanComparison-2
-add_boolean-returns-in_ok-add_boolean-in-BooleanComparison-2 t c =
-    adds_both c.args.found.now.items c.add_boolean-in-BooleanComparison.new.found.items c.add_boolean-in-BooleanComparison-2.new.found.items
+pub add_boolean-returns-in_ok-add_boolean-in-BooleanComparison : goal.add_boolean-returns-in_ok-add_boolean-in-BooleanComparison
+add_boolean-returns-in_ok-add_boolean-in-BooleanComparison t c =
+    on_ok_weaker c.add_boolean-in-BooleanComparison-2.result
+    (adds_both c.args.found.now.items c.add_boolean-in-BooleanComparison.new.found.items c.add_boolean-in-BooleanComparison-2.new.found.items
     (boolean_objects c.get-in-BooleanComparison.result.now) (boolean_objects c.get-in-BooleanComparison-2.result.now) (boolean_objects c.args.expression.now)
     (rw (c.get-in-BooleanComparison.ensures, c.get-in-BooleanComparison-2.ensures)
     (ap boolean_objects c.in-BooleanComparison.is ∙ booleans_compared_read c.in-BooleanComparison.left
     c.in-BooleanComparison.operator c.in-BooleanComparison.right))
-    c.in_ok-add_boolean-in-BooleanComparison.ensures c.in_ok-add_boolean-in-BooleanComparison-2.ensures
+    c.in_ok-add_boolean-in-BooleanComparison.ensures)
+    c.add_boolean-in-BooleanComparison-2.ensures
