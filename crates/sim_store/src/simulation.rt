@@ -6,6 +6,7 @@ ghost use Rattle.std.specs.List.{All};
 ghost use Rattle.sim_flat_design.specs.Designs.{most};
 ghost use Rattle.sim_flat_design.specs.Processes.{IsProcess};
 ghost use Rattle.sim_standard.specs.Cycle as cycles;
+ghost use Rattle.sim_standard.specs.Initialization.{first_state};
 ghost use Rattle.sim_store_state.specs.Contents.{contents_of};
 ghost use Rattle.sim_standard.specs.Records.{values_of};
 ghost use Rattle.sim_standard.specs.State.{driver_values, net_at, owned_at};
@@ -99,7 +100,7 @@ fn first_log(alloc: Global, state: &FlatState, nets: usize) -> Result<Log, Alloc
 
 /// The first state of a design, and a log that holds its record.
 fn started(alloc: Global, design: &Design) -> Result<(FlatState, Log), AllocError>
-    ensures state { IfOk result (λ s. s.0 ≡ contents_of design.now (cycles.first_state design.now)) }
+    ensures state { IfOk result (λ s. s.0 ≡ contents_of design.now (first_state design.now)) }
     ensures log { IfOk result (λ s. s.1.records ≡ record { time = 0; delta = 0; changes = values_of s.0.nets } ∷ []) }
 {
     let state = FlatState::first(alloc, design)?;
