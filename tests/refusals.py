@@ -1,0 +1,81 @@
+#!/usr/bin/env python3
+"""Refuses each request for memory of a run in turn, alone and with all that come after it, and checks what the program says.
+
+    refusals.py PROGRAM [--workers N] [--most N] [DESIGN.vhd ..]        default: the designs of examples/
+
+A run answers `vsim: Memory`, with status 4 and nothing written, or what it answers with ample memory, and nothing else; and
+it ends. Of a run with more than MOST requests (4,000), as many are tried, evenly apart. refuse.c is compiled by `cc`.
+"""
+import argparse
+import glob
+import os
+import subprocess
+import sys
+import tempfile
+
+HERE = os.path.dirname(os.path.realpath(__file__))
+EXAMPLES = f"{os.path.dirname(HERE)}/examples"
+MEMORY = (4, b"", b"vsim: Memory\n")
+LONGEST = 60
+
+
+def words_of(design):
+    """The words of a design of examples/: those beside it, or the top alone."""
+    path = os.path.splitext(design)[0] + ".words"
+    if not os.path.exists(path):
+        return ["--top", "t"]
+    with open(path, encoding="ascii") as file:
+        return file.read().split()
+
+
+def answer(program, words, design, settings):
+    """The status of a run, its standard output and its standard error."""
+    with open(design, "rb") as source:
+        ran = subprocess.run([program, *words], stdin=source, capture_output=True, timeout=LONGEST, env={**os.environ, **settings})
+    return ran.returncode, ran.stdout, ran.stderr
+
+
+def requests(program, words, design, shim):
+    """How many requests for memory a run makes."""
+    with tempfile.NamedTemporaryFile("r") as counts:
+        answer(program, words, design, {"LD_PRELOAD": shim, "REFUSE_COUNT": counts.name})
+        return int(counts.read().split()[-1])
+
+
+def differing(program, words, design, shim, most):
+    """Yields how many requests were refused, and each refusal that is answered in another way."""
+    ample, count = answer(program, words, design, {}), requests(program, words, design, shim)
+    step = max(1, count // most)
+    for number in range(1, count + 1, step):
+        for more in ({}, {"REFUSE_ON": "1"}):
+            try:
+                found = answer(program, words, design, {"LD_PRELOAD": shim, "REFUSE_AT": str(number), **more})
+            except subprocess.TimeoutExpired:
+                found = ("no end", b"", b"")
+            fault = None if found in (ample, MEMORY) else f"{design}: request {number}{' and on' if more else ''}: {found[0]} {found[2]!r}"
+            yield found == MEMORY, fault
+
+
+def main():
+    given = argparse.ArgumentParser()
+    given.add_argument("program")
+    given.add_argument("designs", nargs="*", default=sorted(glob.glob(f"{EXAMPLES}/*.vhd")))
+    given.add_argument("--workers")
+    given.add_argument("--most", type=int, default=4000)
+    given = given.parse_args()
+    tried = memory = wrong = 0
+    with tempfile.TemporaryDirectory() as folder:
+        shim = f"{folder}/refuse.so"
+        subprocess.run(["cc", "-O2", "-shared", "-fPIC", "-o", shim, f"{HERE}/refuse.c", "-ldl"], check=True)
+        for design in given.designs:
+            words = words_of(design) + (["--workers", given.workers] if given.workers else [])
+            for is_memory, fault in differing(os.path.abspath(given.program), words, design, shim, given.most):
+                tried, memory, wrong = tried + 1, memory + is_memory, wrong + (fault is not None)
+                if fault:
+                    print(f"refusals: {fault}")
+    print(f"{tried} runs with a refused request: {memory} Memory, {tried - memory - wrong} the answer with ample memory, {wrong} something else")
+    return 1 if wrong else 0
+
+
+if __name__ == "__main__":
+    sys.exit(main())
