@@ -416,8 +416,8 @@ impl Simulation {
         (self.made.time, self.made.delta)
     }
 
-    /// The value of the net with a number; `None` if out of range. It is also that of its last change
-    /// in the records.
+    /// The value of the net with a number; `None` if out of range. It is also that of its last
+    /// change in the records.
     pub fn value(&self, net: usize) -> Option<Logic>
         ensures value { MatchOption result (length self.now.design.nets ≤ net)
             (λ v. (net < length self.now.design.nets) × (v ≡ (net_at (spec.reached self.now).nets net).value)) }

@@ -295,8 +295,8 @@ impl WaveStore {
         }
     }
 
-    /// The value of the net with a number; `None` if out of range. It is also that of its last change
-    /// in the records.
+    /// The value of the net with a number; `None` if out of range. It is also that of its last
+    /// change in the records.
     pub fn value(&self, net: usize) -> Option<Logic>
         ensures value { MatchOption result (length self.now.progress.design.nets ≤ net)
             (λ v. (net < length self.now.progress.design.nets) × (v ≡ (net_at (progress.reached self.now.progress).nets net).value)) }
