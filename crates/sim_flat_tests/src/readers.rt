@@ -27,6 +27,7 @@ const DEEP: &str =
 v:entity work.m port map(s); end;entity m is port(o:out std_logic:='L');end;architecture a of m is signal x:std_logic;begin \
 w:entity work.l port map(x,o);end;entity l is port(i:in std_logic;o:out std_logic:='0');end;architecture a of l is begin o<=i;end;";
 
+/// The line of the design of a text; an empty one where it has none.
 fn written(alloc: Global, text: &str) -> Result<String, AllocError> {
     let mut line = String::new(alloc);
     if let Some(design) = flat(alloc, text) {

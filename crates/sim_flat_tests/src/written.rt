@@ -6,6 +6,7 @@ use sim_flat_design::waveform::Waveform;
 use sim_flat_design::{Design, DriverOf, Held, Net, Process, Source};
 use std::alloc::AllocError;
 
+/// A driver's number, or a constant.
 fn put_source(line: &mut String, source: Source) -> Result<(), AllocError> {
     match source {
         Source::Driver(number) => write!(line, " {number}"),
@@ -13,6 +14,7 @@ fn put_source(line: &mut String, source: Source) -> Result<(), AllocError> {
     }
 }
 
+/// A name, and the sources in their order.
 fn put_net(line: &mut String, net: &Net) -> Result<(), AllocError> {
     write!(line, "net {} has", net.name())?;
     for source in net.sources() {
@@ -21,6 +23,7 @@ fn put_net(line: &mut String, net: &Net) -> Result<(), AllocError> {
     line.push_str("; ")
 }
 
+/// Its process, its net and its first value.
 fn put_driver(line: &mut String, driver: &DriverOf) -> Result<(), AllocError> {
     let first = char::from(driver.first.to_byte());
     write!(
@@ -30,6 +33,7 @@ fn put_driver(line: &mut String, driver: &DriverOf) -> Result<(), AllocError> {
     )
 }
 
+/// A word, and these numbers after it.
 fn put_numbers(line: &mut String, word: &str, numbers: &[usize]) -> Result<(), AllocError> {
     line.push_str(word)?;
     for number in numbers {
@@ -38,6 +42,7 @@ fn put_numbers(line: &mut String, word: &str, numbers: &[usize]) -> Result<(), A
     line.push_str(", ")
 }
 
+/// A first value of a variable.
 fn put_held(line: &mut String, held: Held) -> Result<(), AllocError> {
     match held {
         Held::Bit(value) => write!(line, " '{}'", char::from(value.to_byte())),
@@ -45,6 +50,7 @@ fn put_held(line: &mut String, held: Held) -> Result<(), AllocError> {
     }
 }
 
+/// First values, by the numbers of the variables.
 fn put_variables(line: &mut String, variables: &[Held]) -> Result<(), AllocError> {
     line.push_str("variables")?;
     for held in variables {
@@ -53,6 +59,7 @@ fn put_variables(line: &mut String, variables: &[Held]) -> Result<(), AllocError
     line.push_str(", ")
 }
 
+/// The delays of the elements, without their values.
 fn put_times(line: &mut String, waveform: &Waveform) -> Result<(), AllocError> {
     for element in waveform.elements() {
         write!(line, " {}", element.after.fs())?;
@@ -76,6 +83,7 @@ fn put_statement(line: &mut String, statement: &Statement) -> Result<(), AllocEr
     }
 }
 
+/// The statements of a body; those of branches are left out.
 fn put_statements(line: &mut String, statements: &[Statement]) -> Result<(), AllocError> {
     line.push_str("statements")?;
     for statement in statements {
@@ -84,12 +92,14 @@ fn put_statements(line: &mut String, statements: &[Statement]) -> Result<(), All
     line.push_str("; ")
 }
 
+/// The three lists of nets that a process has.
 fn put_nets(line: &mut String, process: &Process) -> Result<(), AllocError> {
     put_numbers(line, "process sensitive", process.sensitivity())?;
     put_numbers(line, "reads", process.reads())?;
     put_numbers(line, "nets", process.nets())
 }
 
+/// Its lists of nets, its counts, its variables and its statements.
 fn put_process(line: &mut String, process: &Process) -> Result<(), AllocError> {
     put_nets(line, process)?;
     let body = process.body();

@@ -16,6 +16,7 @@ fn put_each(set: &mut NumberSet, numbers: &[usize], is_member: bool) {
     }
 }
 
+/// The members, rising.
 fn listed(alloc: Global, set: &NumberSet) -> Result<Vec<usize>, AllocError> {
     let mut numbers = Vec::with_capacity(alloc, set.len())?;
     set.list(&mut numbers);
@@ -32,6 +33,7 @@ static NEXT: [(usize, Option<usize>); 6] = [
     (5000, None),
 ];
 
+/// Whether the next member is found from each place of the table.
 fn finds_each_next(set: &NumberSet) -> bool {
     for row in NEXT.iter() {
         if set.next(row.0) != row.1 {
@@ -41,6 +43,7 @@ fn finds_each_next(set: &NumberSet) -> bool {
     true
 }
 
+/// Whether these are the members, rising.
 fn lists(alloc: Global, set: &NumberSet, wanted: &[usize]) -> Result<bool, AllocError> {
     Ok(listed(alloc, set)?.as_slice() == wanted)
 }
@@ -63,6 +66,7 @@ static MEMBERS: [(usize, bool); 5] = [
     (130, false),
 ];
 
+/// Whether the set has the members of the table, and not the others.
 fn has_members(set: &NumberSet) -> bool {
     for row in MEMBERS.iter() {
         if set.contains(row.0) != row.1 {
@@ -127,6 +131,7 @@ fn are_due(
     Ok(queue.take_due(alloc, time)?.as_slice() == wanted)
 }
 
+/// Whether driver 2 is due at 3 and driver 0 next, at 5; with its time cleared, driver 1 at 9.
 fn takes_at_the_last_times(alloc: Global, queue: &mut TimeQueue) -> Result<bool, AllocError>
     requires { length queue.old ≡ 3 }
 {
@@ -143,6 +148,7 @@ fn drivers_are_taken_at_their_last_times(rt: HostRuntime) -> Result<(), Fail> {
     Ok(())
 }
 
+/// Whether drivers that are put at 3, after 3 was taken, are due at 3 once more.
 fn takes_at_one_time_again(alloc: Global, queue: &mut TimeQueue) -> Result<bool, AllocError>
     requires { length queue.old ≡ 3 }
 {

@@ -1,5 +1,6 @@
 use sim_logic::{LATEST, Logic, Time, Unit, resolve};
 
+/// A number of a unit in femtoseconds; `None` above the latest time.
 fn femtoseconds(count: u64, unit: Unit) -> Option<u64> {
     Time::of(count, unit).map(|time| time.fs())
 }

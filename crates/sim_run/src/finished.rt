@@ -110,7 +110,7 @@ impl Finished {
 /// Writes the listing of a run: for each record, in order, a line `TIME DELTA NAME VALUE` for each
 /// of its changes, with the time in femtoseconds, and last `done CYCLES EVENTS`. The lines are
 /// gathered and go out in blocks of some KiB; nothing is allocated. `RunError::Write` comes where a
-/// write fails or takes nothing; a front of the listing is then written.
+/// write fails or takes nothing; a prefix of the listing is then written.
 pub fn write_listing<W: Write>(finished: &Finished, out: &mut W) -> Result<(), RunError>
     ensures ok { OnOk result (Appends (W.contents out.old) (W.contents out.new) (listing finished.now.names finished.now.records)) }
     ensures part { OnErr result (AppendsPart (W.contents out.old) (W.contents out.new) (listing finished.now.names finished.now.records)) }

@@ -51,6 +51,8 @@ pub enum Failure {
     Run(RunError),
 }
 
+/// The exit status: 1 for a fault of the text or design, 2 for the options, 3 for the limit of
+/// cycles, 4 for memory and streams.
 fn status_of_failure(failure: Failure) -> u8
     ensures { result ≡ status_of failure }
 {

@@ -39,6 +39,7 @@ enum Way {
 static WAYS: [Way; 3] = [Way::Transport, Way::Equal, Way::Rejection];
 
 impl Way {
+    /// What the line of the way begins with.
     fn name(self) -> &'static str {
         match self {
             Way::Transport => "transport",

@@ -35,6 +35,7 @@ enum Way {
 }
 
 impl Way {
+    /// What the line of the way begins with.
     fn name(self) -> &'static str {
         match self {
             Way::InPlace => "in place",

@@ -1,5 +1,5 @@
-//! Times parts of the simulator: `sim_bench SUBJECT COUNT`, and of `elaboration` also the top. The
-//! times go to standard error, and what was computed to standard output.
+//! Times parts of the simulator: `sim_run_bench SUBJECT COUNT`, and of `elaboration` also the top.
+//! The times go to standard error, and what was computed to standard output.
 #![tactic(auto)]
 
 mod drivers;
@@ -35,6 +35,7 @@ fn run<R: Print + Eprint + Input + Clock + AllocGlobal>(
     }
 }
 
+/// Times the subject of the words as many times as they say.
 fn main(rt: HostRuntime) -> Result<()> {
     let mut words = env::args(&rt)?.skip(1);
     let subject = words.next().context("no subject")?;

@@ -25,6 +25,7 @@ pub enum Step {
 }
 
 impl Step {
+    /// The word of the command line.
     fn name(self) -> &'static str {
         match self {
             Step::Tokens => "tokens",
@@ -32,6 +33,7 @@ impl Step {
         }
     }
 
+    /// What the count is of.
     fn counted(self) -> &'static str {
         match self {
             Step::Tokens => "tokens",
@@ -39,6 +41,7 @@ impl Step {
         }
     }
 
+    /// Reads a text so, and counts what came of it.
     fn count(self, alloc: Global, text: &[u8]) -> Result<usize, TextError> {
         match self {
             Step::Tokens => count_tokens(alloc, text),
@@ -47,11 +50,13 @@ impl Step {
     }
 }
 
+/// How many tokens a text has.
 fn count_tokens(alloc: Global, text: &[u8]) -> Result<usize, TextError> {
     let found = tokens(alloc, text)?;
     Ok(found.len())
 }
 
+/// How many design units a text has.
 fn count_units(alloc: Global, text: &[u8]) -> Result<usize, TextError> {
     let found = parse(alloc, text)?;
     Ok(found.units().len())

@@ -1,5 +1,5 @@
-//! Gives the program each case of the files that its words name, and tells the number of cases and
-//! each that is answered in another way than the case says: `sim_cases FILE ..`.
+//! Gives the program each case of the files that its words name, and prints the number of cases and
+//! each that is answered in another way than the case says: `sim_run_cases FILE ..`.
 //!
 //! A file has lines. An empty one, and one that begins with `#`, says nothing. Each other begins
 //! with a mark and a blank:
@@ -65,6 +65,7 @@ fn run_case<R: Threads + Wait + Sync + AllocGlobal>(
     Ok((case.name, outcome))
 }
 
+/// The counts after one case more.
 fn counted(counts: Counts, outcome: Outcome) -> Counts {
     match outcome {
         Outcome::Same => Counts {
@@ -108,6 +109,7 @@ fn run_file<R: Threads + Wait + Sync + AllocGlobal + Files + Print>(
     Ok(())
 }
 
+/// Gives the program the cases of each file that the words name.
 fn main(rt: HostRuntime) -> Result<()> {
     for name in env::args(&rt)?.skip(1) {
         run_file(&rt, name.as_str())?;

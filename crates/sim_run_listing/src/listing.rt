@@ -183,7 +183,7 @@ fn put_last<W: Write>(
 /// of its changes, with the time in femtoseconds, and last `done CYCLES EVENTS`. Names are those of
 /// the nets by number; `events_in` counts the events of a `Log`. The lines are gathered and go out
 /// in blocks of 8 KiB; nothing is allocated. The error comes where a write fails or takes nothing;
-/// a front of the listing is then written.
+/// a prefix of the listing is then written.
 pub fn write_listing<R: Records, W: Write>(
     names: &[String],
     records: &R,

@@ -49,6 +49,7 @@ Example:
       5000000 0 s 1
       done 1 1";
 
+/// `--top NAME`, which has to be there.
 fn top_argument<'a>(alloc: Global) -> Arg<'a>
     ensures rule { rule_of result ≡ top_rule }
     ensures local { result.global ≡ false }
@@ -61,6 +62,7 @@ fn top_argument<'a>(alloc: Global) -> Arg<'a>
         .help("The entity at the top of the design, in any case")
 }
 
+/// `--stop FS`, by default the latest time.
 fn stop_argument<'a>(alloc: Global) -> Arg<'a>
     ensures rule { rule_of result ≡ stop_rule }
     ensures local { result.global ≡ false }
@@ -74,6 +76,7 @@ fn stop_argument<'a>(alloc: Global) -> Arg<'a>
         .help("The last time that is simulated, in femtoseconds, at most the default")
 }
 
+/// `--limit N`, by default 10,000.
 fn limit_argument<'a>(alloc: Global) -> Arg<'a>
     ensures rule { rule_of result ≡ limit_rule }
     ensures local { result.global ≡ false }
@@ -87,6 +90,7 @@ fn limit_argument<'a>(alloc: Global) -> Arg<'a>
         .help("The most simulation cycles, 1 to 1000000")
 }
 
+/// `--workers N`, by default 1.
 fn workers_argument<'a>(alloc: Global) -> Arg<'a>
     ensures rule { rule_of result ≡ workers_rule }
     ensures local { result.global ≡ false }

@@ -12,6 +12,7 @@ const TEXT: &[u8] =
 
 const LISTING: &[u8] = b"0 0 s 0\n5000000 0 s 1\ndone 1 1\n";
 
+/// Options under which the text runs to its end on one thread.
 fn options(alloc: Global) -> Result<Options, AllocError> {
     Ok(Options {
         top: String::from_str(alloc, "t")?,
@@ -22,7 +23,7 @@ fn options(alloc: Global) -> Result<Options, AllocError> {
 }
 
 #[test]
-fn a_failing_writer_has_a_front_of_the_listing(rt: HostRuntime) -> Result<(), Fail> {
+fn a_failing_writer_has_a_prefix_of_the_listing(rt: HostRuntime) -> Result<(), Fail> {
     let alloc = rt.alloc();
     for in_all in 0..32 {
         for a_call in [1, 8192] {

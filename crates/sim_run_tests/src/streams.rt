@@ -15,6 +15,7 @@ pub struct Failing {
 }
 
 impl Failing {
+    /// A writer that has taken nothing.
     pub fn new(alloc: Global, a_call: usize, in_all: usize) -> Failing {
         Failing {
             taken: Vec::new(alloc),

@@ -416,8 +416,8 @@ impl Simulation {
         (self.made.time, self.made.delta)
     }
 
-    /// The value of the net with a number; none beyond the last. It is also that of its last change
-    /// in the records.
+    /// The value of the net with a number; `None` if out of range. It is also that of its last
+    /// change in the records.
     pub fn value(&self, net: usize) -> Option<Logic>
         ensures value { MatchOption result (length self.now.design.nets ≤ net)
             (λ v. (net < length self.now.design.nets) × (v ≡ (net_at (spec.reached self.now).nets net).value)) }
@@ -426,7 +426,7 @@ impl Simulation {
         self.made.state.value(net)
     }
 
-    /// How many events the net with a number had after the initialization; none beyond the last.
+    /// How many events the net with a number had after the initialization; `None` if out of range.
     pub fn total(&self, net: usize) -> Option<u64>
         ensures { MatchOption result (length self.now.design.nets ≤ net)
             (λ t. (net < length self.now.design.nets) × (t ≡ total_of (records_to self.now.design self.now.cycles) net)) }

@@ -164,7 +164,7 @@ impl WaveStore {
     }
 
     /// Executes all that are due and have not been executed since the last cycle, in place and in
-    /// rising order of their numbers, on this thread. Where memory is refused the store is gone: of
+    /// rising order of their numbers, on this thread. If allocation fails the store is gone: of
     /// the process that wanted it neither the state before its execution is left nor that after it.
     pub fn execute_due(self, alloc: Global) -> Result<WaveStore, AllocError>
         ensures same { IfOk result (λ s. s ≡ spec.with_deposited self s.progress.deposited) }
@@ -295,8 +295,8 @@ impl WaveStore {
         }
     }
 
-    /// The value of the net with a number; none beyond the last. It is also that of its last change
-    /// in the records.
+    /// The value of the net with a number; `None` if out of range. It is also that of its last
+    /// change in the records.
     pub fn value(&self, net: usize) -> Option<Logic>
         ensures value { MatchOption result (length self.now.progress.design.nets ≤ net)
             (λ v. (net < length self.now.progress.design.nets) × (v ≡ (net_at (progress.reached self.now.progress).nets net).value)) }
@@ -305,7 +305,7 @@ impl WaveStore {
         self.simulation.value(net)
     }
 
-    /// How many events the net with a number had after the initialization; none beyond the last.
+    /// How many events the net with a number had after the initialization; `None` if out of range.
     /// They are its changes in the records after the first.
     pub fn total(&self, net: usize) -> Option<u64>
         ensures { MatchOption result (length self.now.progress.design.nets ≤ net)

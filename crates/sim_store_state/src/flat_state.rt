@@ -107,7 +107,7 @@ impl FlatState {
         })
     }
 
-    /// The value of the net with a number; none beyond the last.
+    /// The value of the net with a number; `None` if out of range.
     pub fn value(&self, net: usize) -> Option<Logic>
         ensures { MatchOption result (length self.now.nets ≤ net) (λ v. (net < length self.now.nets) × (v ≡ (net_at self.now.nets net).value)) }
     {

@@ -82,6 +82,7 @@ pub fn cursor_of(alloc: Global, text: &str) -> Result<Cursor, Fail> {
     Ok(Cursor::new(tokens))
 }
 
+/// Puts the name that the cursor reads, or its refusal.
 fn put_word(line: &mut Line, tokens: &mut Cursor) {
     match tokens.word() {
         Ok(name) => line.put_name(&name),
@@ -89,6 +90,7 @@ fn put_word(line: &mut Line, tokens: &mut Cursor) {
     }
 }
 
+/// Puts the digits that the cursor reads, or its refusal.
 fn put_number(line: &mut Line, tokens: &mut Cursor) {
     match tokens.number() {
         Ok((digits, at)) => line.put_digits(digits.as_slice(), at),
@@ -96,6 +98,7 @@ fn put_number(line: &mut Line, tokens: &mut Cursor) {
     }
 }
 
+/// Puts the literal that the cursor reads, or its refusal.
 fn put_literal(line: &mut Line, tokens: &mut Cursor) {
     match tokens.literal() {
         Ok((value, at)) => line.put_literal(value, at),
@@ -103,6 +106,7 @@ fn put_literal(line: &mut Line, tokens: &mut Cursor) {
     }
 }
 
+/// Puts the unit of time that the cursor reads, or its refusal.
 fn put_unit(line: &mut Line, tokens: &mut Cursor) {
     match tokens.unit() {
         Ok(unit) => line.put(unit_name(unit)),
@@ -110,6 +114,7 @@ fn put_unit(line: &mut Line, tokens: &mut Cursor) {
     }
 }
 
+/// Puts that something was passed, or the refusal.
 fn put_passed(line: &mut Line, answer: Result<(), ParseError>) {
     match answer {
         Ok(()) => line.put("passed"),
@@ -117,6 +122,7 @@ fn put_passed(line: &mut Line, answer: Result<(), ParseError>) {
     }
 }
 
+/// Puts the place of the token that was expected, or the refusal.
 fn put_expected(line: &mut Line, answer: Result<usize, ParseError>) {
     match answer {
         Ok(at) => line.put_number(at),
@@ -124,11 +130,13 @@ fn put_expected(line: &mut Line, answer: Result<usize, ParseError>) {
     }
 }
 
+/// Whether the next token is of this kind in all that a cursor says of it.
 fn shows(tokens: &Cursor, kind: Kind) -> bool {
     let is_end = kind == Kind::EndOfText;
     tokens.peek() == kind && tokens.sees(kind) && tokens.is_empty() == is_end
 }
 
+/// Makes one call of a cursor, and puts its answer.
 fn put_step(line: &mut Line, tokens: &mut Cursor, step: Step) {
     match step {
         Step::Word => put_word(line, tokens),

@@ -1,6 +1,6 @@
 //! Tests of the parser's calls: they hold tokens, trees and their places against values that were
 //! worked by hand. A table of texts with their listings or faults belongs into the cases of
-//! `sim_cases`.
+//! `sim_run_cases`.
 #![tactic(auto)]
 
 #[cfg(test)]

@@ -13,6 +13,7 @@ pub struct Line {
 }
 
 impl Line {
+    /// An empty line.
     pub fn new(alloc: Global) -> Line {
         Line {
             text: String::new(alloc),
@@ -20,6 +21,7 @@ impl Line {
         }
     }
 
+    /// Puts a text, unless memory was short before.
     pub fn put(&mut self, text: &str) {
         if self.ended.is_ok() {
             self.ended = self.text.push_str(text);
@@ -40,6 +42,7 @@ impl Line {
         }
     }
 
+    /// Puts a number in decimal.
     pub fn put_number(&mut self, number: usize) {
         if self.ended.is_ok() {
             let text = &mut self.text;
@@ -47,6 +50,7 @@ impl Line {
         }
     }
 
+    /// Puts `true` or `false`.
     pub fn put_truth(&mut self, truth: bool) {
         self.put(if truth { "true" } else { "false" });
     }
@@ -58,10 +62,12 @@ impl Line {
         self.put_number(at);
     }
 
+    /// Puts a name with its place.
     pub fn put_name(&mut self, name: &Name) {
         self.put_at(name.as_str(), name.at());
     }
 
+    /// Puts a character literal with its place.
     pub fn put_literal(&mut self, value: Logic, at: usize) {
         self.put("'");
         self.put_byte(value.to_byte());
@@ -76,6 +82,7 @@ impl Line {
         self.put_at("", at);
     }
 
+    /// Puts a label with its place and a colon, if there is one.
     pub fn put_label(&mut self, label: &Option<Name>) {
         if let Some(name) = label {
             self.put_name(name);
@@ -83,6 +90,7 @@ impl Line {
         }
     }
 
+    /// Puts names with their places, and a comma between each two.
     pub fn put_names(&mut self, names: &[Name]) {
         let mut between = "";
         for name in names {
@@ -92,6 +100,7 @@ impl Line {
         }
     }
 
+    /// Puts a refusal, and how many tokens were left where it came.
     pub fn put_refusal(&mut self, error: ParseError) {
         match error {
             ParseError::OutOfMemory => self.put("OutOfMemory"),
@@ -101,6 +110,7 @@ impl Line {
         }
     }
 
+    /// Puts the word of a refusal, and how many tokens were left.
     fn put_left(&mut self, refusal: &str, left: usize) {
         self.put(refusal);
         self.put(" with ");

@@ -153,6 +153,7 @@ static PARTS: [(Part, &str, &str, usize); 45] = [
     (Part::NoLabel, "l;", "Syntax with 2 left", 2),
 ];
 
+/// Puts the expression that is read, or the refusal.
 fn put_expression_read(line: &mut Line, alloc: Global, tokens: &mut Cursor) {
     match expression(alloc, tokens) {
         Ok(tree) => put_expression(line, &tree),
@@ -160,6 +161,7 @@ fn put_expression_read(line: &mut Line, alloc: Global, tokens: &mut Cursor) {
     }
 }
 
+/// Puts the place where the expression that is read starts, or the refusal.
 fn put_start(line: &mut Line, alloc: Global, tokens: &mut Cursor) {
     match expression(alloc, tokens) {
         Ok(tree) => line.put_number(tree.start()),
@@ -167,6 +169,7 @@ fn put_start(line: &mut Line, alloc: Global, tokens: &mut Cursor) {
     }
 }
 
+/// Puts the waveform that is read, or the refusal.
 fn put_waveform_read(line: &mut Line, alloc: Global, tokens: &mut Cursor) {
     match waveform(alloc, tokens) {
         Ok(tree) => put_waveform(line, tree.as_slice()),
@@ -174,6 +177,7 @@ fn put_waveform_read(line: &mut Line, alloc: Global, tokens: &mut Cursor) {
     }
 }
 
+/// Puts the time that is read, or the refusal.
 fn put_time_read(line: &mut Line, tokens: &mut Cursor) {
     match time(tokens) {
         Ok(tree) => put_time(line, &tree),
@@ -181,6 +185,7 @@ fn put_time_read(line: &mut Line, tokens: &mut Cursor) {
     }
 }
 
+/// Puts the delay mechanism that is read, or the refusal.
 fn put_delay_read(line: &mut Line, tokens: &mut Cursor) {
     match delay(tokens) {
         Ok(tree) => put_delay(line, &tree),
@@ -188,6 +193,7 @@ fn put_delay_read(line: &mut Line, tokens: &mut Cursor) {
     }
 }
 
+/// Puts the assignment that is read after its target, or the refusal.
 fn put_assigned(line: &mut Line, alloc: Global, tokens: &mut Cursor, target: Name) {
     match assigned(alloc, tokens, None, target) {
         Ok(tree) => put_assignment(line, &tree),
@@ -195,6 +201,7 @@ fn put_assigned(line: &mut Line, alloc: Global, tokens: &mut Cursor, target: Nam
     }
 }
 
+/// Puts the names that are read, or the refusal.
 fn put_names_read(line: &mut Line, alloc: Global, tokens: &mut Cursor) {
     match names(alloc, tokens) {
         Ok(tree) => line.put_names(tree.as_slice()),
@@ -202,6 +209,7 @@ fn put_names_read(line: &mut Line, alloc: Global, tokens: &mut Cursor) {
     }
 }
 
+/// Puts the port clause that is read, or the refusal.
 fn put_ports_read(line: &mut Line, alloc: Global, tokens: &mut Cursor) {
     match ports(alloc, tokens) {
         Ok(tree) => put_ports(line, tree.as_slice()),
@@ -209,6 +217,7 @@ fn put_ports_read(line: &mut Line, alloc: Global, tokens: &mut Cursor) {
     }
 }
 
+/// Puts the variable declarations that are read, or the refusal.
 fn put_variables_read(line: &mut Line, alloc: Global, tokens: &mut Cursor) {
     match variables(alloc, tokens) {
         Ok(tree) => put_variables(line, tree.as_slice()),
@@ -216,6 +225,7 @@ fn put_variables_read(line: &mut Line, alloc: Global, tokens: &mut Cursor) {
     }
 }
 
+/// Puts the declarations that are read, or the refusal.
 fn put_declarations_read(line: &mut Line, alloc: Global, tokens: &mut Cursor) {
     match declarations(alloc, tokens) {
         Ok(tree) => put_declarations(line, tree.as_slice()),
@@ -223,6 +233,7 @@ fn put_declarations_read(line: &mut Line, alloc: Global, tokens: &mut Cursor) {
     }
 }
 
+/// Puts the sequential statements that are read, or the refusal.
 fn put_statements_read(line: &mut Line, alloc: Global, tokens: &mut Cursor) {
     match statements(alloc, tokens) {
         Ok(tree) => put_statements(line, tree.as_slice()),
@@ -230,6 +241,7 @@ fn put_statements_read(line: &mut Line, alloc: Global, tokens: &mut Cursor) {
     }
 }
 
+/// Puts whether something was read, or the refusal.
 fn put_answer(line: &mut Line, answer: Result<bool, ParseError>) {
     match answer {
         Ok(found) => line.put_truth(found),
@@ -248,6 +260,7 @@ fn put_named(line: &mut Line, alloc: Global, tokens: &mut Cursor, part: Part) {
     }
 }
 
+/// Reads a part of a text, and puts what came of it.
 fn put_part(line: &mut Line, alloc: Global, tokens: &mut Cursor, part: Part) {
     match part {
         Part::Expression => put_expression_read(line, alloc, tokens),

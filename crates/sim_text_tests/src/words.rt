@@ -31,6 +31,7 @@ static TOKENS: [Row<'_>; 21] = [
     (Kind::Word, b"h", 66, 67),
 ];
 
+/// Whether a token has the kind, the text and the places of a row.
 fn is_row(token: &Token, row: &Row<'_>) -> bool {
     token.kind() == row.0 && token.text() == row.1 && token.start() == row.2 && token.end() == row.3
 }

@@ -14,6 +14,7 @@ fn words(rt: &HostRuntime, alloc: Global) -> io::Result<Vec<String>> {
     Ok(words)
 }
 
+/// Hands the words and the standard streams to `session`, whose status is the exit status.
 fn main(rt: HostRuntime) -> io::Result<ExitCode> {
     let alloc = rt.alloc();
     let mut err = rt.stderr();

@@ -2,6 +2,7 @@ use crate::line::Line;
 use sim_text_tree::expression::{Expression, Logical, Operand, Relational};
 use sim_text_tree::name::Name;
 
+/// Puts a function call, with the places of both names.
 fn put_call(line: &mut Line, function: &Name, argument: &Name) {
     line.put_name(function);
     line.put("(");
@@ -9,12 +10,14 @@ fn put_call(line: &mut Line, function: &Name, argument: &Name) {
     line.put(")");
 }
 
+/// Puts an operator with its place, between two blanks.
 fn put_operator(line: &mut Line, operator: &str, at: usize) {
     line.put(" ");
     line.put_at(operator, at);
     line.put(" ");
 }
 
+/// The sign of a relational operator.
 fn relational(operator: Relational) -> &'static str {
     match operator {
         Relational::Equal => "=",
@@ -22,6 +25,7 @@ fn relational(operator: Relational) -> &'static str {
     }
 }
 
+/// The word of a logical operator.
 fn logical(operator: Logical) -> &'static str {
     match operator {
         Logical::And => "and",
@@ -33,6 +37,7 @@ fn logical(operator: Logical) -> &'static str {
     }
 }
 
+/// Puts each operand after the first with the operator before it.
 #[cycle(expression)]
 fn put_operands(line: &mut Line, operator: &str, operands: &[Operand]) {
     for operand in operands {
@@ -41,6 +46,7 @@ fn put_operands(line: &mut Line, operator: &str, operands: &[Operand]) {
     }
 }
 
+/// Puts an expression with the places of its names, literals and operators.
 #[cycle(expression)]
 pub fn put_expression(line: &mut Line, expression: &Expression) {
     match expression {

@@ -5,6 +5,7 @@ use sim_text_tree::sequential::{
     Branch, Sequential, SignalAssignment, Statement, VariableAssignment,
 };
 
+/// Puts a signal assignment.
 fn put_signal(line: &mut Line, assignment: &SignalAssignment) {
     line.put_name(&assignment.target);
     line.put("<=");
@@ -13,6 +14,7 @@ fn put_signal(line: &mut Line, assignment: &SignalAssignment) {
     line.put(";");
 }
 
+/// Puts a variable assignment.
 fn put_variable(line: &mut Line, assignment: &VariableAssignment) {
     line.put_name(&assignment.target);
     line.put(":=");
@@ -20,6 +22,7 @@ fn put_variable(line: &mut Line, assignment: &VariableAssignment) {
     line.put(";");
 }
 
+/// Puts the branches of an if statement, the first as `if` and the others as `elsif`.
 #[cycle(sequential)]
 fn put_branches(line: &mut Line, branches: &[Branch]) {
     let mut first = true;
@@ -32,6 +35,7 @@ fn put_branches(line: &mut Line, branches: &[Branch]) {
     }
 }
 
+/// Puts a statement without its label.
 #[cycle(sequential)]
 fn put_statement(line: &mut Line, statement: &Statement) {
     match statement {
@@ -55,6 +59,7 @@ fn put_statement(line: &mut Line, statement: &Statement) {
     }
 }
 
+/// Puts statements, each with its label.
 #[cycle(sequential)]
 pub fn put_statements(line: &mut Line, statements: &[Sequential]) {
     for sequential in statements {

@@ -8,6 +8,7 @@ use sim_text_tree::unit::{
     LibraryUnit, Process, SelectedName, Sensitivity,
 };
 
+/// Puts a sensitivity list, or `all`.
 fn put_sensitivity(line: &mut Line, sensitivity: &Sensitivity) {
     match sensitivity {
         Sensitivity::All => line.put("all"),
@@ -15,6 +16,7 @@ fn put_sensitivity(line: &mut Line, sensitivity: &Sensitivity) {
     }
 }
 
+/// Puts a process, and whether its label is repeated at its end.
 fn put_process(line: &mut Line, process: &Process) {
     line.put_label(&process.label);
     line.put("process(");
@@ -29,6 +31,7 @@ fn put_process(line: &mut Line, process: &Process) {
     line.put(";");
 }
 
+/// Puts a name, a literal or `open`.
 fn put_actual(line: &mut Line, actual: &Actual) {
     match actual {
         Actual::Named(name) => line.put_name(name),
@@ -37,6 +40,7 @@ fn put_actual(line: &mut Line, actual: &Actual) {
     }
 }
 
+/// Puts a port map, with the formals that are written.
 fn put_associations(line: &mut Line, associations: &[Association]) {
     let mut between = " port map(";
     for association in associations {
@@ -51,6 +55,7 @@ fn put_associations(line: &mut Line, associations: &[Association]) {
     line.put_if(!associations.is_empty(), ")");
 }
 
+/// Puts the entity or component of an instance.
 fn put_instantiated(line: &mut Line, unit: &Instantiated) {
     match unit {
         Instantiated::Component {
@@ -78,6 +83,7 @@ fn put_instantiated(line: &mut Line, unit: &Instantiated) {
     }
 }
 
+/// Puts an instance with its port map.
 fn put_instance(line: &mut Line, instance: &Instance) {
     line.put_name(&instance.label);
     line.put(":");
@@ -86,6 +92,7 @@ fn put_instance(line: &mut Line, instance: &Instance) {
     line.put(";");
 }
 
+/// Puts the statements of an architecture.
 fn put_concurrents(line: &mut Line, statements: &[Concurrent]) {
     for statement in statements {
         match statement {
@@ -96,6 +103,7 @@ fn put_concurrents(line: &mut Line, statements: &[Concurrent]) {
     }
 }
 
+/// Puts a selected name with its suffixes.
 fn put_selected(line: &mut Line, name: &SelectedName) {
     line.put_name(&name.prefix);
     for suffix in name.suffixes.as_slice() {
@@ -105,6 +113,7 @@ fn put_selected(line: &mut Line, name: &SelectedName) {
     line.put_if(name.all, ".all");
 }
 
+/// Puts the names of a use clause.
 fn put_selected_names(line: &mut Line, names: &[SelectedName]) {
     let mut between = "use ";
     for name in names {
@@ -115,6 +124,7 @@ fn put_selected_names(line: &mut Line, names: &[SelectedName]) {
     line.put(";");
 }
 
+/// Puts library and use clauses.
 fn put_context(line: &mut Line, context: &[ContextItem]) {
     for item in context {
         match item {
@@ -128,6 +138,7 @@ fn put_context(line: &mut Line, context: &[ContextItem]) {
     }
 }
 
+/// Puts an entity with its ports.
 fn put_entity(line: &mut Line, entity: &Entity) {
     line.put("entity ");
     line.put_name(&entity.name);
@@ -139,6 +150,7 @@ fn put_entity(line: &mut Line, entity: &Entity) {
     line.put(";");
 }
 
+/// Puts an architecture with its declarations and statements.
 fn put_architecture(line: &mut Line, architecture: &Architecture) {
     line.put("architecture ");
     line.put_name(&architecture.name);
@@ -154,6 +166,7 @@ fn put_architecture(line: &mut Line, architecture: &Architecture) {
     line.put(";");
 }
 
+/// Puts the units of a design file, each with its context clause.
 pub fn put_file(line: &mut Line, file: &DesignFile) {
     for unit in file.units() {
         put_context(line, unit.context.as_slice());

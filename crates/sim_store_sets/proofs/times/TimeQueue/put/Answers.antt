@@ -13,3 +13,6 @@ invariant_of-self-2 c =
       stands = subst (λ (ts : List (Option ℕ)). StandsBut c.self.inside.front_time ts (heap_items c.trim.new.heap)) times c.trim.ensures.stands;
       live = subst (λ (ts : List (Option ℕ)). HasLiveTop ts (heap_items c.trim.new.heap)) times c.trim.ensures.live;
     }
+
+pub returns-clause-ok : goal.returns-clause-ok
+returns-clause-ok c = search rules
