@@ -21,15 +21,13 @@ fn pulse_rejected_by(alloc: Global, reject: u64) -> Result<Driver, AllocError>
     Ok(driver)
 }
 
-/// Whether these transactions of the pulse, and the new one, are pending under a rejection limit.
-fn keeps(alloc: Global, reject: u64, wanted: &[Transaction]) -> Result<bool, AllocError>
+fn flat_sources(alloc: Global, reject: u64, wanted: &[Transaction]) -> Result<bool, AllocError>
     requires { reject ≤ 5 }
 {
     let driver = pulse_rejected_by(alloc, reject)?;
     Ok(driver.pending() == wanted)
 }
 
-/// Whether two rejection limits leave the same of the pulse.
 fn leave_the_same(alloc: Global, first: u64, second: u64) -> Result<bool, AllocError>
     requires first { first ≤ 5 }
     requires second { second ≤ 5 }
@@ -41,9 +39,9 @@ fn leave_the_same(alloc: Global, first: u64, second: u64) -> Result<bool, AllocE
 
 #[test]
 fn the_rejection_limit_decides_what_is_kept(rt: HostRuntime) -> Result<(), Fail> {
-    assert!(rt; keeps(rt.alloc(), 1, &[(2, One), (3, Zero), (5, One)])?);
-    assert!(rt; keeps(rt.alloc(), 2, &[(2, One), (5, One)])?);
-    assert!(rt; keeps(rt.alloc(), 3, &[(5, One)])?);
+    assert!(rt; flat_sources(rt.alloc(), 1, &[(2, One), (3, Zero), (5, One)])?);
+    assert!(rt; flat_sources(rt.alloc(), 2, &[(2, One), (5, One)])?);
+    assert!(rt; flat_sources(rt.alloc(), 3, &[(5, One)])?);
     Ok(())
 }
 
@@ -61,7 +59,7 @@ fn a_waveform_is_scheduled(rt: HostRuntime) -> Result<(), Fail> {
     Ok(())
 }
 
-/// A pulse from 3 to 5, of which a later inertial assignment leaves the rise.
+/// A pulse from 3 to 5, of which a later inertial assignment flat sources the rise.
 fn short_pulse(alloc: Global) -> Result<Driver, AllocError> {
     let mut driver = Driver::new(alloc, Zero);
     driver.edit(0, Delay::Transport, &[(3, One), (5, Zero)])?;
@@ -79,7 +77,6 @@ fn takes_in_turn(driver: &mut Driver) -> bool {
         && driver.pending() == [(4, One)].as_slice()
 }
 
-/// Whether a driver is the same as its copy.
 fn is_like_its_copy(driver: &Driver) -> Result<bool, AllocError> {
     Ok(driver.try_copy()?.same(driver))
 }
