@@ -81,7 +81,7 @@ def main():
     words.add_argument("--repeat", type=int, default=3)
     words.add_argument("--ghdl", action="append")
     words.add_argument("--root", default="")
-    given = words.parse_args()
+    given = words.parse_intermixed_args()
     program = os.path.abspath(given.program)
     commands = given.ghdl or GHDLS
     others = [(it, "") for it in commands if shutil.which(it)]

@@ -62,7 +62,7 @@ def main():
     given.add_argument("designs", nargs="*", default=sorted(glob.glob(f"{EXAMPLES}/*.vhd")))
     given.add_argument("--workers")
     given.add_argument("--most", type=int, default=4000)
-    given = given.parse_args()
+    given = given.parse_intermixed_args()
     tried = memory = wrong = 0
     with tempfile.TemporaryDirectory() as folder:
         shim = f"{folder}/refuse.so"
