@@ -1,4 +1,3 @@
-use Rattle.std.proofs.Common.{rules}
 use Rattle.sim_run_claims.proofs.TableSteps.{last_each_once, last_all, last_overdrawn}
 use Rattle.sim_run_claims.proofs.drawing.Claims.close.Goals as goal
 
@@ -22,6 +21,3 @@ returns-clause-overdrawn c has =
     let key = c.args.self.keyed in
     let least = c.min.ensures in
     rw (least, key) (last has)
-
-pub returns-clause-within : goal.returns-clause-within
-returns-clause-within c = search rules
