@@ -1,16 +1,17 @@
 -- The steps of a queue.
-use Rattle.std.proofs.Common.{ℕ, zero, suc, ◌<◌, ◌≤◌, ◌≡◌, ◌≢◌, Bool, true, false, cond, List, [], ◌∷◌, length, set, refl, ap, sym, ◌∙◌, subst, arith}
+use Rattle.std.proofs.Common.{ℕ, zero, suc, ◌<◌, ◌≤◌, ◌≡◌, ◌≢◌, eqb, Bool, true, false, cond, List, [], ◌∷◌, length, set, refl, ap, sym, ◌∙◌, subst, arith}
 use Rattle.std.proofs.Common.{inl, inr, ◌⊎◌, Option, None, Some}
 use Rattle.std.proofs.Math.ListN.{replicate}
 use Rattle.std.proofs.lemmas.Bool.Decides.{nat_tests}
-use Rattle.std.proofs.lemmas.List.{ext_get_or, length-map, map-set}
+use Rattle.std.proofs.lemmas.List.{ext_get_or, get_or-set_other, length-map, map-set}
+use Rattle.std.proofs.lemmas.Option.{same_Some}
 use Rattle.std.specs.BinaryHeap.{IsHeap}
 use Rattle.sim_store_sets.specs.Words.{NoneFrom}
 use Rattle.sim_store_sets.specs.Numbers.{is_in}
 use Rattle.sim_store_sets.specs.Times.{is_at, time_of, clear, cleared, those_at}
 use Rattle.sim_store_sets.specs.Entries.{Entry, entry_cmp, HasLiveTop, IsQueue, StandsBut}
 use Rattle.sim_store_sets.proofs.Bits.{not_both}
-use Rattle.sim_store_sets.proofs.Heaps.{at_from_time}
+use Rattle.sim_store_sets.proofs.Heaps.{at_from_time, stands_with}
 use Rattle.sim_store_sets.proofs.Sets.{in_none}
 use Rattle.sim_store_sets.proofs.Taking.{in_those_at}
 
@@ -43,6 +44,30 @@ pub put_at : (now : ℕ) (times : List (Option ℕ)) (front new : List Bool) (dr
     → new ≡ set front driver b → new ≡ those_at now (set times driver time)
 put_at now times front new driver time b f is e =
     e ∙ ((λ i. set (f i) driver (is i)) ∙ sym (map-set (is_at now) times driver time))
+
+-- a driver that had no time joins the front
+still_live : (times : List (Option ℕ)) (driver : ℕ) (time : Option ℕ) (items : List Entry) → time_of times driver ≡ None → HasLiveTop times items
+    → HasLiveTop (set times driver time) items
+still_live times driver time [] free live = tt
+still_live times driver time (e ∷ es) free live = go (eqb e.0.1 driver) refl
+  where
+    go : (b : Bool) → eqb e.0.1 driver ≡ b → is_at e.0.0 (time_of (set times driver time) e.0.1) ≡ true
+    go true q =
+        let same : e.0.1 ≡ driver = grind (arith, nat_tests) in
+        absurd (not_both (is_at e.0.0 (time_of times e.0.1)) (ap (λ (d : ℕ). is_at e.0.0 (time_of times d)) same ∙ ap (is_at e.0.0) free) live)
+    go false q =
+        let differ : e.0.1 ≢ driver = grind (arith, nat_tests) in
+        ap (is_at e.0.0) (get_or-set_other times driver e.0.1 time None differ) ∙ live
+
+pub joined_front : (times : List (Option ℕ)) (now : ℕ) (front new : List Bool) (items : List Entry) (driver : ℕ) → time_of times driver ≡ None
+    → new ≡ set front driver true → IsQueue times now front items → IsQueue (set times driver (Some now)) now new items
+joined_front times now front new items driver free is queue = record {
+  front_is = put_at now times front new driver (Some now) true queue.front_is (sym (at_from_time now (Some now) refl)) is;
+  order = queue.order;
+  stands = stands_with now times items items driver (Some now) (λ e there. there)
+      (λ t same other. absurd (other (sym (same_Some now t same)))) queue.stands;
+  live = still_live times driver (Some now) items free queue.live;
+}
 
 -- those of one time are cleared
 pub none_left : (time n : ℕ) (times : List (Option ℕ)) → n ≡ length times → replicate n false ≡ those_at time (cleared time times)

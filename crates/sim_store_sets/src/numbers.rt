@@ -4,7 +4,7 @@ ghost use Rattle.std.specs.Prelude.{◌≡◌, ◌<◌, ◌≤◌, ◌↔◌, le
 ghost use Rattle.sim_store_sets.specs.Words.{IsNext, NoneFrom};
 ghost use Rattle.sim_store_sets.specs.Numbers.{is_in, members};
 
-use crate::words::{clear_all, clear_used, has_number, mark, next_number, zeros};
+use crate::words::{clear_all, clear_used, has_number, mark, mark_other, next_number, zeros};
 use std::alloc::{AllocError, Global};
 use std::marker::Model;
 
@@ -93,9 +93,10 @@ impl NumberSet {
         requires { number < length self.old }
         ensures { self.new ≡ slice_set self.old number is_member }
     {
+        let was_used = self.words[number / 64] != 0;
         mark(&mut self.words, number, is_member);
         let is_used = self.words[number / 64] != 0;
-        mark(&mut self.tops, number / 64, is_used);
+        mark_other(&mut self.tops, number / 64, was_used, is_used);
     }
 
     /// The least member that is not below `from`. A walk over the members is `while let

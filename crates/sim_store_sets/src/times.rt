@@ -56,9 +56,25 @@ impl TimeQueue {
         ensures ok { OnOk result (self.new ≡ slice_set self.old driver time) }
         ensures err { OnErr result (self.new ≡ self.old) }
     {
-        if self.times[driver] == time {
+        let before = self.times[driver];
+        if before == time {
             return Ok(());
         }
+        if before.is_none() && is_time(time, self.front_time) {
+            self.front.insert(driver);
+            self.times[driver] = Some(self.front_time);
+            return Ok(());
+        }
+        self.change(driver, time)
+    }
+
+    /// The same, for any time. It stands alone so that the frequent cases are short.
+    #[inline(never)]
+    fn change(&mut self, driver: usize, time: Option<u64>) -> Result<(), AllocError>
+        requires { driver < length self.old }
+        ensures ok { OnOk result (self.new ≡ slice_set self.old driver time) }
+        ensures err { OnErr result (self.new ≡ self.old) }
+    {
         add_entry(&mut self.heap, self.front_time, driver, time)?;
         self.front.put(driver, is_time(time, self.front_time));
         self.times[driver] = time;

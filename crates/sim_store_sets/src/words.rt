@@ -1,6 +1,6 @@
 //! Numbers as bits, 64 in each word.
 
-ghost use Rattle.std.specs.Prelude.{ℕ, ◌≡◌, ◌≢◌, ◌<◌, ◌/◌, ◌^◌, length, true, false, slice_index, IfOk, MatchOption};
+ghost use Rattle.std.specs.Prelude.{ℕ, ◌≡◌, ◌≢◌, ◌<◌, ◌/◌, ◌%◌, ◌^◌, length, true, false, slice_index, IfOk, MatchOption};
 ghost use Rattle.sim_store_sets.specs.Words.{has, has_bit, uses, AreTops, IsNext, NoneFrom};
 
 use std::alloc::{AllocError, Global};
@@ -71,6 +71,20 @@ pub fn mark(words: &mut Vec<u64>, number: usize, is_member: bool)
     words[place] = word;
 }
 
+/// Adds a number or takes it out, of which it is known whether it was there. It writes nothing where
+/// that stays so.
+pub fn mark_other(words: &mut Vec<u64>, number: usize, was_member: bool, is_member: bool)
+    requires at { number / 64 < length words.old.items }
+    requires was { has words.old.items number ≡ was_member }
+    ensures len { length words.new.items ≡ length words.old.items }
+    ensures here { has words.new.items number ≡ is_member }
+    ensures others { (m : ℕ) → m ≢ number → has words.new.items m ≡ has words.old.items m }
+{
+    if was_member != is_member {
+        mark(words, number, is_member);
+    }
+}
+
 /// The first word in use from a place on.
 fn next_used(words: &[u64], from: usize) -> Option<usize>
     ensures { MatchOption result (NoneFrom (uses words.now) from) (IsNext (uses words.now) from) }
@@ -106,6 +120,24 @@ fn next_top(tops: &[u64], from: usize) -> Option<usize>
     }
 }
 
+/// The first number from one on, where its own word has none from there on. It stands alone so that
+/// the frequent case is short.
+#[inline(never)]
+fn next_further(words: &[u64], tops: &[u64], from: usize) -> Option<usize>
+    requires fits { (n : ℕ) → has words.now n ≡ true → n < 2 ^ 64 }
+    requires tops { AreTops words.now tops.now }
+    requires rest { NoneFrom (has_bit (slice_index words.now (from / 64))) (from % 64) }
+    ensures { MatchOption result (NoneFrom (has words.now) from) (IsNext (has words.now) from) }
+{
+    match next_top(tops, from / 64 + 1) {
+        Some(further) => {
+            let bit = lowest(words[further]);
+            Some(further * 64 + bit)
+        }
+        None => None,
+    }
+}
+
 /// The first number from one on, where the tops say which words are in use.
 pub fn next_number(words: &[u64], tops: &[u64], from: usize) -> Option<usize>
     requires fits { (n : ℕ) → has words.now n ≡ true → n < 2 ^ 64 }
@@ -119,13 +151,7 @@ pub fn next_number(words: &[u64], tops: &[u64], from: usize) -> Option<usize>
     if let Some(found) = next_bit(words[place], from % 64) {
         return Some(place * 64 + found);
     }
-    match next_top(tops, place + 1) {
-        Some(further) => {
-            let bit = lowest(words[further]);
-            Some(further * 64 + bit)
-        }
-        None => None,
-    }
+    next_further(words, tops, from)
 }
 
 /// This number of words without a member.

@@ -1,18 +1,10 @@
-use Rattle.std.proofs.Common.{◌≡◌, List, Option, ℕ, heap_items, rules, set, subst}
-use Rattle.sim_store_sets.specs.Entries.{HasLiveTop, StandsBut}
-use Rattle.sim_store_sets.proofs.Queues.{put_at}
+use Rattle.std.proofs.Common.{◌≡◌, None, rules}
+use Rattle.sim_store_sets.specs.Times.{time_of}
+use Rattle.sim_store_sets.proofs.Queues.{joined_front}
 use Rattle.sim_store_sets.proofs.times.TimeQueue.put.Goals as goal
 
-pub invariant_of-self-2 : goal.invariant_of-self-2
-invariant_of-self-2 c =
-    let times : c.as_slice.result.now ≡ set c.self.inside.times.items c.args.driver c.args.time = search rules in
-    record {
-      front_is = put_at c.self.inside.front_time c.self.inside.times.items c.self.inside.front c.put.new.self c.args.driver c.args.time c.is_time.result
-          c.self.invariant.front_is c.is_time.ensures c.put.ensures;
-      order = c.trim.ensures.order;
-      stands = subst (λ (ts : List (Option ℕ)). StandsBut c.self.inside.front_time ts (heap_items c.trim.new.heap)) times c.trim.ensures.stands;
-      live = subst (λ (ts : List (Option ℕ)). HasLiveTop ts (heap_items c.trim.new.heap)) times c.trim.ensures.live;
-    }
-
-pub returns-clause-ok : goal.returns-clause-ok
-returns-clause-ok c = search rules
+pub invariant_of-self : goal.invariant_of-self
+invariant_of-self c =
+    let free : time_of c.self.inside.times.items c.args.driver ≡ None = search rules in
+    joined_front c.self.inside.times.items c.self.inside.front_time c.self.inside.front c.insert.new.self _ c.args.driver free c.insert.ensures
+    c.self.invariant
