@@ -9,6 +9,7 @@ pub mod Walks
 pub mod Reaching
 pub mod Due
 pub mod Putting
+pub mod Telling
 pub mod Updating
 pub mod Skips
 pub mod Ranges

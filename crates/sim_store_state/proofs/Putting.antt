@@ -78,6 +78,31 @@ abbrev pub AreMarked : List Bool → List Bool → List (List Waveform) → ℕ 
 AreMarked stale stale' dss p = (row : List Waveform) (d : ℕ) → length row ≡ length (get_or dss p []) → is_in stale' d ≡ false
     → (is_in stale d ≡ false) × (driver_at (joined (set dss p row)) d ≡ driver_at (joined dss) d)
 
+-- each driver has the value that it had
+pub values-kept : (dss dss' : List (List Waveform)) (p : ℕ) (ds : List Waveform) → dss' ≡ set dss p ds → driver_values ds ≡ driver_values (get_or dss p [])
+    → driver_values (joined dss') ≡ driver_values (joined dss)
+values-kept dss dss' p ds ed e = ap (λ w. driver_values (joined w)) ed ∙ values-set dss p ds e
+
+pub own-keeps : {values last_values : List Logic} {dss : List (List Waveform)} {vss : List (List Held)} {sources : List (List Source)} {fan_out : List (List ℕ)}
+    {times : List (Option ℕ)} {stale touched : List Bool} → IsHeld values last_values dss vss sources fan_out times stale touched → (p : ℕ) (ds : List Waveform)
+    (vs : List Held) (dss' : List (List Waveform)) (vss' : List (List Held)) (times' : List (Option ℕ)) (stale' : List Bool)
+    → dss' ≡ set dss p ds → vss' ≡ set vss p vs → driver_values ds ≡ driver_values (get_or dss p []) → AreTimes times' stale' (joined dss')
+    → IsHeld values last_values dss' vss' sources fan_out times' stale' touched
+own-keeps {values} {last_values} {dss} {vss} {sources} {fan_out} {times} {stale} {touched} i p ds vs dss' vss' times' stale' ed ev e timed =
+    let same : driver_values (joined dss') ≡ driver_values (joined dss) = values-kept dss dss' p ds ed e in
+    let count : length (joined dss') ≡ length (joined dss) = values-count (joined dss') (joined dss) same in
+    record {
+      lists = record {
+        nets = i.lists.nets;
+        owned = omega (arith, ap length ed, ap length ev, length-set dss p ds, length-set vss p vs, i.lists.owned);
+      };
+      timed = timed;
+      fan_out_count = i.fan_out_count ∙ sym count;
+      driving = i.driving;
+      resolving = i.resolving ∙ same_rows (joined dss) (joined dss') sources (values-each (joined dss) (joined dss') (sym same));
+      touching = i.touching;
+    }
+
 pub put-keeps : {values last_values : List Logic} {dss : List (List Waveform)} {vss : List (List Held)} {sources : List (List Source)} {fan_out : List (List ℕ)}
     {times : List (Option ℕ)} {stale touched : List Bool} → IsHeld values last_values dss vss sources fan_out times stale touched → (p : ℕ) (ds : List Waveform)
     (vs : List Held) (dss' : List (List Waveform)) (vss' : List (List Held)) (stale' : List Bool) → dss' ≡ set dss p ds → vss' ≡ set vss p vs
@@ -85,25 +110,14 @@ pub put-keeps : {values last_values : List Logic} {dss : List (List Waveform)} {
     → IsHeld values last_values dss' vss' sources fan_out times stale' touched
 put-keeps {values} {last_values} {dss} {vss} {sources} {fan_out} {times} {stale} {touched} i p ds vs dss' vss' stale' ed ev e l marked =
     let long : length ds ≡ length (get_or dss p []) = values-count ds (get_or dss p []) e in
-    let same : driver_values (joined dss') ≡ driver_values (joined dss) = ap (λ w. driver_values (joined w)) ed ∙ values-set dss p ds e in
-    let count : length (joined dss') ≡ length (joined dss) = values-count (joined dss') (joined dss) same in
-    record {
-      lists = record {
-        nets = i.lists.nets;
-        owned = omega (arith, ap length ed, ap length ev, length-set dss p ds, length-set vss p vs, i.lists.owned);
-      };
-      timed = record {
-        sized = i.timed.sized ∙ sym count;
-        marked = l ∙ (i.timed.marked ∙ sym count);
-        current = λ d fresh.
-            let m = marked ds d long fresh in
-            i.timed.current d m.0 ∙ ap (λ (w : Waveform). next_time (w ∷ [])) (sym m.1 ∙ ap (λ w. driver_at (joined w) d) (sym ed));
-      };
-      fan_out_count = i.fan_out_count ∙ sym count;
-      driving = i.driving;
-      resolving = i.resolving ∙ same_rows (joined dss) (joined dss') sources (values-each (joined dss) (joined dss') (sym same));
-      touching = i.touching;
-    }
+    let count : length (joined dss') ≡ length (joined dss) = values-count (joined dss') (joined dss) (values-kept dss dss' p ds ed e) in
+    own-keeps i p ds vs dss' vss' times stale' ed ev e (record {
+      sized = i.timed.sized ∙ sym count;
+      marked = l ∙ (i.timed.marked ∙ sym count);
+      current = λ d fresh.
+          let m = marked ds d long fresh in
+          i.timed.current d m.0 ∙ ap (λ (w : Waveform). next_time (w ∷ [])) (sym m.1 ∙ ap (λ w. driver_at (joined w) d) (sym ed));
+    })
 
 -- the queue alone changes, or what is stale
 pub times-keep : {values last_values : List Logic} {dss : List (List Waveform)} {vss : List (List Held)} {sources : List (List Source)} {fan_out : List

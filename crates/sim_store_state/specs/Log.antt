@@ -1,7 +1,6 @@
 -- Records, held as marks and one flat list of changes.
 -- Of the implementation: what `simulate` promises does not rest on this file.
 use Rattle.std.specs.Prelude.{ℕ, ◌+◌, ◌≡◌, List, [], ◌∷◌, length, drop, slice_range, slice_index_or}
-use Rattle.std.specs.List.{flat_map}
 use Rattle.sim_logic.specs.declared.logic.Logic.{Logic}
 use Rattle.sim_standard.specs.declared.record.Record.{Record}
 use Rattle.sim_store_state.specs.declared.log.Mark.{Mark}

@@ -1,6 +1,6 @@
 -- Which processes are sensitive to each net (IEEE 1076-2008, 11.3, 14.7.5.3).
 -- Of the implementation: what `simulate` promises does not rest on this file.
-use Rattle.std.specs.Prelude.{ℕ, ◌≡◌, ◌==◌, ◌<◌, ◌&&◌, ◌||◌, List, [], ◌∷◌, Bool, false, length, slice_index_or}
+use Rattle.std.specs.Prelude.{ℕ, ◌≡◌, ◌<◌, ◌&&◌, ◌||◌, List, [], ◌∷◌, Bool, false, length, slice_index_or}
 use Rattle.sim_flat_design.specs.Processes.{Process}
 use Rattle.sim_standard.specs.declared.net_view.NetView.{NetView}
 use Rattle.sim_standard.specs.Processes.{process_at}

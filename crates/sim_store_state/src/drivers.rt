@@ -1,13 +1,14 @@
 //! Drivers, one after another (IEEE 1076-2008, 14.7.2).
 
-ghost use Rattle.std.specs.Prelude.{ℕ, List, ◌≡◌, ◌<◌, [], ◌∷◌, false, not, length, map, slice_index_or, slice_set, IfOk, OnOk};
+ghost use Rattle.std.specs.Prelude.{ℕ, List, ◌≡◌, ◌≢◌, ◌<◌, ◌≤◌, ◌⊎◌, [], ◌∷◌, false, not, length, map, slice_index_or, slice_set, IfOk, OnOk};
 ghost use Rattle.std.specs.Bool.{Decides};
 ghost use Rattle.sim_logic.specs.Logic as logic;
 ghost use Rattle.sim_standard.specs.Drivers.{Waveform, taken};
 ghost use Rattle.sim_store_sets.specs.RowArray.{joined};
 ghost use Rattle.sim_store_sets.specs.Numbers.{is_in};
 ghost use Rattle.sim_standard.specs.State.{driver_at};
-ghost use Rattle.sim_store_state.specs.Changes.{AreReached, AreTimes, first_times};
+ghost use Rattle.sim_store_sets.specs.Times.{time_of};
+ghost use Rattle.sim_store_state.specs.Changes.{AreReached, AreTimes, first_times, time_at};
 ghost use Rattle.sim_standard.specs.Drivers as spec;
 
 use crate::sets::{insert_each, insert_range};
@@ -43,6 +44,64 @@ pub fn bring_up_to_date(
         from = number + 1;
     }
     Ok(())
+}
+
+/// Gives the queue the time of a driver. Where memory is refused the driver is stale.
+fn tell(queue: &mut TimeQueue, stale: &mut NumberSet, number: usize, time: Option<u64>)
+    requires queue { number < length queue.old }
+    requires stale { number < length stale.old }
+    ensures queue { length queue.new ≡ length queue.old }
+    ensures stale { length stale.new ≡ length stale.old }
+    ensures here { is_in stale.new number ≡ false → time_of queue.new number ≡ time }
+    ensures others { (d : ℕ) → d ≢ number → (time_of queue.new d ≡ time_of queue.old d) × (is_in stale.new d ≡ is_in stale.old d) }
+{
+    match queue.put(number, time) {
+        Ok(()) => {}
+        Err(_) => stale.insert(number),
+    }
+}
+
+/// Gives the queue the first pending times of the drivers of a range. Those for which memory is
+/// refused are stale.
+fn tell_range(
+    queue: &mut TimeQueue,
+    stale: &mut NumberSet,
+    drivers: &[Driver],
+    start: usize,
+    end: usize,
+)
+    requires order { start ≤ end }
+    requires within { end ≤ length drivers.now }
+    requires queue { length queue.old ≡ length drivers.now }
+    requires stale { length stale.old ≡ length drivers.now }
+    ensures queue { length queue.new ≡ length queue.old }
+    ensures stale { length stale.new ≡ length stale.old }
+    ensures here { (d : ℕ) → start ≤ d → d < end → is_in stale.new d ≡ false → time_of queue.new d ≡ time_at drivers.now d }
+    ensures others { (d : ℕ) → (d < start) ⊎ (end ≤ d)
+        → (time_of queue.new d ≡ time_of queue.old d) × (is_in stale.new d ≡ is_in stale.old d) }
+{
+    for number in start..end {
+        tell(queue, stale, number, first_time(&drivers[number]));
+    }
+}
+
+/// Gives the queue the first pending times of the drivers of the process with a number, which may be
+/// other ones than it has; those of the other drivers stay as right as they were. A driver that has
+/// the time that the queue has for it costs a comparison.
+pub fn tell_row(
+    queue: &mut TimeQueue,
+    stale: &mut NumberSet,
+    drivers: &RowArray<Driver>,
+    number: usize,
+)
+    requires at { number < length drivers.now }
+    requires queue { length queue.old ≡ length (joined drivers.now) }
+    requires stale { length stale.old ≡ length (joined drivers.now) }
+    ensures { (row : List Waveform) → length row ≡ length (slice_index_or drivers.now number [])
+        → AreTimes queue.old stale.old (joined (slice_set drivers.now number row)) → AreTimes queue.new stale.new (joined drivers.now) }
+{
+    let (start, end) = bounds(drivers.starts.as_slice(), number);
+    tell_range(queue, stale, drivers.flat.as_slice(), start, end);
 }
 
 /// A driver takes its first transaction, if its time has come; says whether it has another value

@@ -19,7 +19,7 @@ ghost use Rattle.sim_store_state.specs.Contents.{contents_of};
 ghost use Rattle.sim_standard.specs.Records.{changes_from, values_of};
 ghost use Rattle.sim_store_state.specs.Sensitive.{AreSensitive};
 
-use crate::drivers::{are_same, bring_up_to_date, copied, mark_stale, take_due};
+use crate::drivers::{are_same, bring_up_to_date, copied, mark_stale, take_due, tell_row};
 use crate::execution::execute_at;
 use crate::log::Log;
 use crate::nets::{Seen, are_views, resolve_touched, settle, views_at};
@@ -253,8 +253,7 @@ impl FlatState {
             values: self.values.as_slice(),
             last_values: self.last_values.as_slice(),
         };
-        mark_stale(&mut self.stale, &self.drivers, number);
-        execute_at(
+        let done = execute_at(
             alloc,
             &seen,
             time,
@@ -262,7 +261,9 @@ impl FlatState {
             number,
             &mut self.drivers,
             &mut self.variables,
-        )
+        );
+        tell_row(&mut self.queue, &mut self.stale, &self.drivers, number);
+        done
     }
 
     /// Finds the processes that the next step executes, where the last cycle is done: those that

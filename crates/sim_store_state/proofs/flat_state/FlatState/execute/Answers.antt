@@ -1,4 +1,5 @@
-use Rattle.std.proofs.Common.{ℕ, [], ◌≡◌, ap, sym, ◌∙◌, subst, arith, get_or, set}
+use Rattle.std.proofs.Common.{ℕ, List, [], ◌≡◌, ap, sym, ◌∙◌, subst, arith, get_or, length, set}
+use Rattle.std.proofs.lemmas.List.{length-set}
 use Rattle.std.specs.Prelude.{OnOk}
 use Rattle.std.proofs.lemmas.Result.{on_ok_weaker}
 use Rattle.sim_flat_design.specs.Bodies.{Body}
@@ -8,21 +9,19 @@ use Rattle.sim_standard.specs.State.{Owned, nothing_owned}
 use Rattle.sim_standard.specs.Statements.{executed}
 use Rattle.sim_store_state.specs.Contents.{Contents, views_of, owned_lists}
 use Rattle.sim_store_state.proofs.Contents.{as_owned, owned-by, owned-count, owned-now, held-set, seen, sees}
-use Rattle.sim_store_state.proofs.Putting.{put-keeps}
+use Rattle.sim_standard.specs.Drivers.{Waveform}
+use Rattle.sim_store_sets.specs.RowArray.{joined}
+use Rattle.sim_store_state.specs.Changes.{AreTimes}
+use Rattle.sim_store_state.proofs.Putting.{own-keeps, values-count, values-kept}
+use Rattle.sim_store_state.proofs.Telling.{put-back}
 use Rattle.sim_store_state.proofs.flat_state.FlatState.execute.Goals as goal
 
 -- in which one process owns this
 abbrev with_own : Contents → ℕ → Owned → Contents
 with_own h n own = record { sources = h.sources; nets = h.nets; owned = set h.owned n own }
 
-pub mark_stale-requires : goal.mark_stale-requires
-mark_stale-requires c = record {
-  at = omega (arith, c.requires.at, owned-count c.self.view_is c.self.invariant.lists);
-  stale = c.self.invariant.timed.marked;
-}
-
-pub execute_at-requires : goal.execute_at-requires
-execute_at-requires c = record {
+pub execute_at-done-requires : goal.execute_at-done-requires
+execute_at-done-requires c = record {
   now = c.requires.time;
   drivers = omega (arith, c.requires.at, owned-count c.self.view_is c.self.invariant.lists);
   variables = omega (arith, c.requires.at, owned-count c.self.view_is c.self.invariant.lists, c.self.invariant.lists.owned);
@@ -31,17 +30,35 @@ execute_at-requires c = record {
       (subst (IsReady c.args.process.now.body c.args.time) (owned-by c.self.view_is c.self.invariant.lists c.args.number) c.requires.ready);
 }
 
+pub tell_row-requires : goal.tell_row-requires
+tell_row-requires c =
+    let n = c.args.number in
+    let e = c.execute_at-done in
+    let old = c.self.inside.drivers in
+    let count = values-count (joined e.new.drivers) (joined old) (values-kept old e.new.drivers n (get_or e.new.drivers n []) e.ensures.drivers e.ensures.values) in
+    record {
+      at = omega (arith, c.requires.at, owned-count c.self.view_is c.self.invariant.lists, ap length e.ensures.drivers, length-set old n (get_or e.new.drivers n []));
+      queue = c.self.invariant.timed.sized ∙ sym count;
+      stale = c.self.invariant.timed.marked ∙ sym count;
+    }
+
 pub invariant_of-self : goal.invariant_of-self
 invariant_of-self c =
-    let e = c.execute_at in
-    put-keeps c.self.invariant c.args.number (get_or e.new.drivers c.args.number []) (get_or e.new.variables c.args.number []) e.new.drivers e.new.variables
-    c.mark_stale.new.stale e.ensures.drivers e.ensures.variables e.ensures.values c.mark_stale.ensures.sized c.mark_stale.ensures.others
+    let n = c.args.number in
+    let e = c.execute_at-done in
+    let old = c.self.inside.drivers in
+    let row = get_or e.new.drivers n [] in
+    own-keeps c.self.invariant n row (get_or e.new.variables n []) e.new.drivers e.new.variables c.tell_row.new.queue c.tell_row.new.stale
+    e.ensures.drivers e.ensures.variables e.ensures.values
+    (c.tell_row.ensures (get_or old n []) (sym (values-count row (get_or old n []) e.ensures.values))
+    (subst (λ (dss : List (List Waveform)). AreTimes c.self.inside.queue c.self.inside.stale (joined dss)) (sym (put-back old e.new.drivers n row
+    e.ensures.drivers)) c.self.invariant.timed))
 
 pub returns : goal.returns
 returns c =
     let n = c.args.number in
     let s = c.self.inside in
-    let e = c.execute_at in
+    let e = c.execute_at-done in
     let was = owned-by c.self.view_is c.self.invariant.lists n in
     let is = owned-now c.self.invariant.lists n _ _ e.new.drivers e.new.variables e.ensures.drivers e.ensures.variables in
     let now = get_or (owned_lists e.new.drivers e.new.variables) n nothing_owned in

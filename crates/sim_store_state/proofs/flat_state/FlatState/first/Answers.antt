@@ -1,5 +1,4 @@
-use Rattle.std.proofs.Common.{ap, arith, length, ◌∙◌}
-use Rattle.sim_store_sets.specs.RowArray.{joined}
+use Rattle.std.proofs.Common.{ap, arith, length}
 use Rattle.sim_store_state.proofs.Starting.{first-held, first-kept}
 use Rattle.sim_store_state.proofs.flat_state.FlatState.first.Goals as goal
 
