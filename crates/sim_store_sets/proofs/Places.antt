@@ -14,7 +14,7 @@ at_place words place i l =
     let r : (place * 64 + i) % 64 ≡ i = mod-mul-add place 64 i l in
     λ k. has_bit (get_or words (d k) 0) (r k)
 
-in_word : (words : List ℕ) (m place : ℕ) → m / 64 ≡ place → has words m ≡ has_bit (get_or words place 0) (m % 64)
+pub in_word : (words : List ℕ) (m place : ℕ) → m / 64 ≡ place → has words m ≡ has_bit (get_or words place 0) (m % 64)
 in_word words m place e = ap (λ (k : ℕ). has_bit (get_or words k 0) (m % 64)) e
 
 -- a word without bits

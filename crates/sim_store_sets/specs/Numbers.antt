@@ -1,12 +1,16 @@
 -- A set of numbers below a bound: for each of them whether it is a member.
 -- Of the implementation: what `simulate` promises does not rest on this file.
-use Rattle.std.specs.Prelude.{ℕ, ◌≡◌, ◌<◌, ◌≤◌, ◌*◌, ◌^◌, Bool, false, List, length, map, filter, slice_index_or}
+use Rattle.std.specs.Prelude.{ℕ, ◌≡◌, ◌<◌, ◌≤◌, ◌*◌, ◌^◌, ◌&&◌, Bool, false, not, List, length, map, filter, slice_index_or}
 use Rattle.std.specs.List.{range_with_len}
 use Rattle.sim_store_sets.specs.Words.{has, AreTops}
 
 -- whether a number is a member
 abbrev pub is_in : List Bool → ℕ → Bool
 is_in set n = slice_index_or set n false
+
+-- whether a number is a member of one set and not of another
+abbrev pub is_beside : List Bool → List Bool → ℕ → Bool
+is_beside set others n = is_in set n && not (is_in others n)
 
 -- the members, rising
 abbrev pub members : List Bool → List ℕ

@@ -2,9 +2,11 @@
 
 ghost use Rattle.std.specs.Prelude.{◌≡◌, ◌<◌, ◌≤◌, ◌↔◌, length, true, false, replicate, slice_set, vec_capacity, IfOk, IsTrue, MatchOption};
 ghost use Rattle.sim_store_sets.specs.Words.{IsNext, NoneFrom};
-ghost use Rattle.sim_store_sets.specs.Numbers.{is_in, members};
+ghost use Rattle.sim_store_sets.specs.Numbers.{is_beside, is_in, members};
 
-use crate::words::{clear_all, clear_used, has_number, mark, mark_other, next_number, zeros};
+use crate::words::{
+    clear_all, clear_used, has_number, mark, mark_other, next_beside, next_number, zeros,
+};
 use std::alloc::{AllocError, Global};
 use std::marker::Model;
 
@@ -105,6 +107,19 @@ impl NumberSet {
         ensures { MatchOption result (NoneFrom (is_in self.now) from) (IsNext (is_in self.now) from) }
     {
         next_number(self.words.as_slice(), self.tops.as_slice(), from)
+    }
+
+    /// The least member that is not below `from` and is no member of another set. It passes 64
+    /// numbers at once where there is none.
+    pub fn next_beside(&self, others: &NumberSet, from: usize) -> Option<usize>
+        ensures { MatchOption result (NoneFrom (is_beside self.now others.now) from) (IsNext (is_beside self.now others.now) from) }
+    {
+        next_beside(
+            self.words.as_slice(),
+            self.tops.as_slice(),
+            others.words.as_slice(),
+            from,
+        )
     }
 
     /// Makes no number a member. It touches only words in use.

@@ -1,7 +1,7 @@
 //! Numbers as bits, 64 in each word.
 
-ghost use Rattle.std.specs.Prelude.{ℕ, ◌≡◌, ◌≢◌, ◌<◌, ◌/◌, ◌%◌, ◌^◌, length, true, false, slice_index, IfOk, MatchOption};
-ghost use Rattle.sim_store_sets.specs.Words.{has, has_bit, uses, AreTops, IsNext, NoneFrom};
+ghost use Rattle.std.specs.Prelude.{ℕ, ◌≡◌, ◌≢◌, ◌<◌, ◌/◌, ◌%◌, ◌^◌, length, true, false, not, slice_index, IfOk, MatchOption, ◌&&◌, ◌≤◌, ◌+◌};
+ghost use Rattle.sim_store_sets.specs.Words.{has, has_beside, has_bit, uses, AreTops, IsNext, NoneFrom};
 
 use std::alloc::{AllocError, Global};
 
@@ -152,6 +152,60 @@ pub fn next_number(words: &[u64], tops: &[u64], from: usize) -> Option<usize>
         return Some(place * 64 + found);
     }
     next_further(words, tops, from)
+}
+
+/// A word without the bits of another.
+fn without(word: u64, other: u64) -> u64
+    ensures { (i : ℕ) → i < 64 → has_bit result i ≡ (has_bit word i && not (has_bit other i)) }
+{
+    word & !other
+}
+
+/// The word at a place without the bits that other words have there.
+fn word_beside(words: &[u64], others: &[u64], place: usize) -> u64
+    requires { place < length words.now }
+    ensures { (i : ℕ) → i < 64 → has_bit result i
+        ≡ (has_bit (slice_index words.now place) i && not (has_bit (slice_index others.now place) i)) }
+{
+    match others.get(place) {
+        Some(other) => without(words[place], *other),
+        None => words[place],
+    }
+}
+
+/// The first number from one on that others have not, where that number's own word has none from
+/// there on.
+#[inline(never)]
+fn further_beside(words: &[u64], tops: &[u64], others: &[u64], from: usize) -> Option<usize>
+    requires fits { (n : ℕ) → has words.now n ≡ true → n < 2 ^ 64 }
+    requires tops { AreTops words.now tops.now }
+    requires rest { (m : ℕ) → from ≤ m → m / 64 < from / 64 + 1 → has_beside words.now others.now m ≡ false }
+    ensures { MatchOption result (NoneFrom (has_beside words.now others.now) from) (IsNext (has_beside words.now others.now) from) }
+{
+    let mut place = from / 64 + 1;
+    while let Some(used) = next_top(tops, place) {
+        if let Some(found) = next_bit(word_beside(words, others, used), 0) {
+            return Some(used * 64 + found);
+        }
+        place = used + 1;
+    }
+    None
+}
+
+/// The first number from one on that others have not, where the tops say which words are in use.
+pub fn next_beside(words: &[u64], tops: &[u64], others: &[u64], from: usize) -> Option<usize>
+    requires fits { (n : ℕ) → has words.now n ≡ true → n < 2 ^ 64 }
+    requires tops { AreTops words.now tops.now }
+    ensures { MatchOption result (NoneFrom (has_beside words.now others.now) from) (IsNext (has_beside words.now others.now) from) }
+{
+    let place = from / 64;
+    if place >= words.len() {
+        return None;
+    }
+    if let Some(found) = next_bit(word_beside(words, others, place), from % 64) {
+        return Some(place * 64 + found);
+    }
+    further_beside(words, tops, others, from)
 }
 
 /// This number of words without a member.
