@@ -35,9 +35,10 @@ tell_row-requires c =
     let n = c.args.number in
     let e = c.execute_at-done in
     let old = c.self.inside.drivers in
-    let count = values-count (joined e.new.drivers) (joined old) (values-kept old e.new.drivers n (get_or e.new.drivers n []) e.ensures.drivers e.ensures.values) in
+    let row = get_or e.new.drivers n [] in
+    let count = values-count (joined e.new.drivers) (joined old) (values-kept old e.new.drivers n row e.ensures.drivers e.ensures.values) in
     record {
-      at = omega (arith, c.requires.at, owned-count c.self.view_is c.self.invariant.lists, ap length e.ensures.drivers, length-set old n (get_or e.new.drivers n []));
+      at = omega (arith, c.requires.at, owned-count c.self.view_is c.self.invariant.lists, ap length e.ensures.drivers, length-set old n row);
       queue = c.self.invariant.timed.sized ∙ sym count;
       stale = c.self.invariant.timed.marked ∙ sym count;
     }
