@@ -2,6 +2,7 @@
 
 ghost use Rattle.std.specs.Prelude.{ℕ, ◌≡◌, ◌<◌, List, length, replicate, true, ◌+◌, ◌^◌, IfOk, IfSome, MatchOption};
 ghost use Rattle.sim_flat_design.specs.Processes.{Process};
+ghost use Rattle.sim_store_sets.specs.Numbers.{is_beside};
 ghost use Rattle.sim_store_sets.specs.Words.{IsNext, NoneFrom};
 ghost use Rattle.sim_standard.specs.Cycle.{has_event_in};
 ghost use Rattle.sim_standard.specs.Processes.{process_at};
@@ -50,12 +51,12 @@ impl Due {
         self.set.contains(number)
     }
 
-    /// The first from a number on that is due.
-    pub fn next(&self, from: usize) -> Option<usize>
-        ensures value { MatchOption result (NoneFrom (those_in self.now) from) (IsNext (those_in self.now) from) }
+    /// The first from a number on that is due and is not among others.
+    pub fn next_beside(&self, others: &NumberSet, from: usize) -> Option<usize>
+        ensures value { MatchOption result (NoneFrom (is_beside self.now others.now) from) (IsNext (is_beside self.now others.now) from) }
         ensures bound { IfSome result (λ n. n + 1 < 2 ^ 64) }
     {
-        self.set.next(from)
+        self.set.next_beside(others, from)
     }
 
     /// The numbers of those that are due, rising.

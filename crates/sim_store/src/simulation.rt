@@ -147,25 +147,17 @@ fn prepared(alloc: Global, design: &Design) -> Result<Made, AllocError>
     })
 }
 
-/// Whether a process is due and has not been executed since the last cycle.
-fn is_missing(made: &Made, number: usize) -> bool
-    ensures { IsTrue result ↔ ((spec.those_in made.now.due number ≡ true) × (spec.those_in made.now.deposited number ≡ false)) }
-{
-    made.due.has(number) && !made.deposited.contains(number)
-}
-
-/// Executes a process in place, if it is due and has not been executed since the last cycle.
+/// Executes a process in place that is due and has not been executed since the last cycle.
 fn execute(alloc: Global, design: &Design, made: &mut Made, number: usize) -> Result<(), AllocError>
     requires of { IsOf design.now made.old }
     requires at { number < length design.now.processes }
+    requires due { spec.those_in made.old.due number ≡ true }
+    requires fresh { spec.those_in made.old.deposited number ≡ false }
     ensures of { OnOk result (IsOf design.now made.new) }
     ensures same { OnOk result (progress_of design.now made.new ≡ spec.with_marks (progress_of design.now made.old) made.new.deposited) }
     ensures gone { OnOk result (spec.IsMissing (progress_of design.now made.new) number → ⊥) }
     ensures others { OnOk result ((p : ℕ) → spec.IsMissing (progress_of design.now made.new) p → spec.IsMissing (progress_of design.now made.old) p) }
 {
-    if !is_missing(made, number) {
-        return Ok(());
-    }
     let process = &design.processes()[number];
     made.state.execute(alloc, number, process, made.time)?;
     made.deposited.insert(number);
@@ -181,7 +173,7 @@ fn execute_all(alloc: Global, design: &Design, made: &mut Made) -> Result<(), Al
     ensures complete { OnOk result (spec.IsComplete (progress_of design.now made.new)) }
 {
     let mut from = 0;
-    while let Some(number) = made.due.next(from) {
+    while let Some(number) = made.due.next_beside(&made.deposited, from) {
         execute(alloc, design, made, number)?;
         from = number + 1;
     }
@@ -375,14 +367,7 @@ impl Simulation {
     pub fn missing(&self) -> Option<usize>
         ensures { MatchOption result (spec.IsComplete self.now) (spec.IsLeastMissing self.now) }
     {
-        let mut from = 0;
-        while let Some(number) = self.made.due.next(from) {
-            if !self.made.deposited.contains(number) {
-                return Some(number);
-            }
-            from = number + 1;
-        }
-        None
+        self.made.due.next_beside(&self.made.deposited, 0)
     }
 
     /// Executes all that are due and have not been executed since the last cycle, in place and in

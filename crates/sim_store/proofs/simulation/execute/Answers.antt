@@ -1,4 +1,4 @@
-use Rattle.std.proofs.Common.{rules, tests, ◌≡◌, Bool, List, length, ap, sym, ◌∙◌, subst, arith}
+use Rattle.std.proofs.Common.{◌≡◌, Bool, List, length, ap, sym, ◌∙◌, subst, arith}
 use Rattle.std.proofs.lemmas.List.{get_or_default}
 use Rattle.sim_flat_design.specs.Processes.{Process}
 use Rattle.sim_exec.specs.Jobs.{IsReady}
@@ -14,18 +14,16 @@ execute-requires-clause-at c = omega (arith, c.requires.at, held-count c.require
 
 pub execute-requires-clause-ready : goal.execute-requires-clause-ready
 execute-requires-clause-ready c =
-    let missing = c.is_missing.ensures.0 (search (rules, tests)) in
     let is : c.index-processes-number.result ≡ process_at c.args.design.now.processes c.args.number =
     c.index-processes-number.is ∙ (get_or_default c.processes.result.now c.args.number _ no_process
     (omega (arith, c.requires.at, ap length c.processes.ensures.value))
     ∙ ap (λ (ps : List Process). process_at ps c.args.number) c.processes.ensures.value) in
     subst (λ (q : Process). IsReady q.body c.args.made.now.time (owned_at c.args.made.now.state.owned c.args.number)) (sym is)
-    (ready-here c.requires.of.progress c.args.number c.requires.at missing.1)
+    (ready-here c.requires.of.progress c.args.number c.requires.at c.requires.fresh)
 
 pub returns-clause-of : goal.returns-clause-of
 returns-clause-of c =
     let i = c.requires.of.progress in
-    let missing = c.is_missing.ensures.0 (search (rules, tests)) in
     let is : c.index-processes-number.result ≡ process_at c.args.design.now.processes c.args.number =
     c.index-processes-number.is ∙ (get_or_default c.processes.result.now c.args.number _ no_process
     (omega (arith, c.requires.at, ap length c.processes.ensures.value))
@@ -34,7 +32,7 @@ returns-clause-of c =
       made = c.requires.of.made;
       progress = subst (λ (marks : List Bool). IsProgress (with_marks (progress_of c.args.design.now c.args.made.now) marks) c.args.made.now.time
           c.args.made.now.delta c.execute.new.self c.args.made.now.log.records c.args.made.now.due) (sym c.insert.ensures)
-          (executed-keeps i c.args.number c.requires.at missing.1 c.index-processes-number.result c.execute.new.self is
-          (sym (i.due_are c.args.number c.requires.at) ∙ missing.0) c.in_ok-execute.ensures.ok c.in_ok-execute.ensures.ready);
+          (executed-keeps i c.args.number c.requires.at c.requires.fresh c.index-processes-number.result c.execute.new.self is
+          (sym (i.due_are c.args.number c.requires.at) ∙ c.requires.due) c.in_ok-execute.ensures.ok c.in_ok-execute.ensures.ready);
       counts = c.requires.of.counts;
     }

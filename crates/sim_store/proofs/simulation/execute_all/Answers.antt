@@ -1,13 +1,26 @@
 use Rattle.std.proofs.Common.{refl, ◌∙◌, ap}
-use Rattle.sim_store.specs.Progress.{Progress, with_marks}
-use Rattle.sim_store.proofs.Walks.{due-within, none-between, none-missing, none-passed, one-passed}
+use Rattle.sim_store.specs.Progress.{Progress, those_in, with_marks}
+use Rattle.sim_store.proofs.Walks.{due-beside, due-within, fresh-beside, none-between, none-missing, none-passed, one-passed}
 use Rattle.sim_store.proofs.simulation.execute_all.Goals as goal
 
 pub loop-number-init : goal.loop-number-init
 loop-number-init c = record { of = c.requires; same = refl; passed = none-passed _ }
 
 pub execute-requires-clause-at : goal.execute-requires-clause-at
-execute-requires-clause-at c = due-within c.loop-number.invariant.of.progress c.in-Some.number c.in-Some.ensures.value.passes
+execute-requires-clause-at c =
+    let made = c.loop-number.made in
+    due-within c.loop-number.invariant.of.progress c.in-Some.number
+    (due-beside (those_in made.due c.in-Some.number) (those_in made.deposited c.in-Some.number) c.in-Some.ensures.value.passes)
+
+pub execute-requires-clause-due : goal.execute-requires-clause-due
+execute-requires-clause-due c =
+    let made = c.loop-number.made in
+    due-beside (those_in made.due c.in-Some.number) (those_in made.deposited c.in-Some.number) c.in-Some.ensures.value.passes
+
+pub execute-requires-clause-fresh : goal.execute-requires-clause-fresh
+execute-requires-clause-fresh c =
+    let made = c.loop-number.made in
+    fresh-beside (those_in made.due c.in-Some.number) (those_in made.deposited c.in-Some.number) c.in-Some.ensures.value.passes
 
 pub loop-number-preserved : goal.loop-number-preserved
 loop-number-preserved c = record {
