@@ -15,7 +15,7 @@ use Rattle.sim_run.specs.declared.error.RunError.{RunError}
 use Rattle.sim_run.specs.declared.error.RunError.TheVariants as refusal
 use Rattle.sim_run.specs.declared.program.Failure.{Failure}
 use Rattle.sim_run.specs.declared.program.Failure.TheVariants as failure
-use Rattle.sim_run.specs.Run.{IsCutShort, ReachesLimit}
+use Rattle.sim_run.specs.Run.{IsCutShort}
 use Rattle.sim_run.specs.Session.{ReadsSource, IsWhole, HasText, HasRun, HasOptions, IsFailure, status_of}
 use Rattle.sim_run.specs.Simulation.{HasDesign, HasNoDesign, IsRefusal, IsRefusedText}
 

@@ -7,7 +7,7 @@ ghost use Rattle.sim_logic.specs.Time.{largest_time};
 ghost use Rattle.sim_standard.specs.Behaviour.{behaviour_of};
 ghost use Rattle.sim_store.specs.Store as store;
 ghost use Rattle.sim_run.specs.declared.error.RunError.TheVariants as refusal;
-ghost use Rattle.sim_run.specs.Run.{Finishes, IsRefusalAlone, IsAnswer, IsRunOf, IsRunRefusal, IsSameRun, ReachesLimit, history_of, steps_left};
+ghost use Rattle.sim_run.specs.Run.{Finishes, IsRefusalAlone, IsAnswer, IsRunOf, IsRunRefusal, IsSameRun, history_of, steps_left};
 
 use crate::error::RunError;
 use crate::finished::{Finished, names_of};

@@ -1,9 +1,9 @@
 //! `listing N`: the listing of N changes is written to a writer that keeps nothing, with one change
 //! a record and with 1,000.
 
-ghost use Rattle.std.specs.Prelude.{◌≡◌, ◌*◌, ◌<◌, ◌≤◌, length, All, IfOk, map, string_bytes, ℕ};
+ghost use Rattle.std.specs.Prelude.{◌≡◌, ◌*◌, ◌<◌, ◌≤◌, length, All, IfOk, ℕ};
 ghost use Rattle.sim_logic.specs.declared.logic.Logic as logic;
-ghost use Rattle.sim_standard.specs.Histories.{IsHistory, IsNamed, event_count};
+ghost use Rattle.sim_standard.specs.Histories.{IsNamed, event_count};
 
 use anyhow::{Result, bail};
 use sim_logic::Logic;
