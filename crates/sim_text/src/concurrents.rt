@@ -25,6 +25,7 @@ use sim_text_tree::unit::{
 use sqlite_items::Items;
 use std::alloc::Global;
 
+/// `sens = all | id {, id}`
 #[tactic(auto, unfolding(sim_text_grammar::specs::Concurrents::sensitivity))]
 fn sensitivity(alloc: Global, tokens: &mut Cursor) -> Result<Sensitivity, ParseError>
     ensures { Reads (spec.sensitivity (view tokens.old)) result (view tokens.new) }
@@ -36,6 +37,7 @@ fn sensitivity(alloc: Global, tokens: &mut Cursor) -> Result<Sensitivity, ParseE
     Ok(Sensitivity::Names(names))
 }
 
+/// `begin {seq}`
 fn process_statements(alloc: Global, tokens: &mut Cursor) -> Result<Items<Sequential>, ParseError>
     ensures { Reads (and_then (expect k.Begin (view tokens.old)) (λ _. statements)) result (view tokens.new) }
 {
@@ -43,6 +45,7 @@ fn process_statements(alloc: Global, tokens: &mut Cursor) -> Result<Items<Sequen
     statements(alloc, tokens)
 }
 
+/// `begin {seq} end process [NAME] ;`
 #[tactic(auto, using(crate::proofs::Parts::process_body_in_parts))]
 fn process_body(
     alloc: Global,
@@ -76,6 +79,7 @@ fn sensitivity_closed(alloc: Global, tokens: &mut Cursor) -> Result<Sensitivity,
     Ok(sensitivity)
 }
 
+/// `process ( sens ) [is] {var} begin {seq} end process [NAME] ;`
 #[tactic(auto, using(crate::proofs::Parts::process_in_parts))]
 fn process(alloc: Global, tokens: &mut Cursor, label: Option<Name>) -> Result<Process, ParseError>
     ensures { Reads (spec.process label (view tokens.old)) result (view tokens.new) }
@@ -87,6 +91,7 @@ fn process(alloc: Global, tokens: &mut Cursor, label: Option<Name>) -> Result<Pr
     process_body(alloc, tokens, label, sensitivity, is, variables)
 }
 
+/// `actual = id | lit | open`
 #[tactic(auto, unfolding(sim_text_grammar::specs::Concurrents::actual))]
 fn actual(tokens: &mut Cursor) -> Result<Actual, ParseError>
     ensures { Reads (spec.actual (view tokens.old)) result (view tokens.new) }
@@ -101,6 +106,7 @@ fn actual(tokens: &mut Cursor) -> Result<Actual, ParseError>
     }
 }
 
+/// `actual`, after the formal and its `=>`.
 #[tactic(auto, unfolding(sim_text_grammar::specs::Concurrents::associated))]
 fn associated(tokens: &mut Cursor, formal: Name) -> Result<Association, ParseError>
     ensures { Reads (spec.associated formal (view tokens.old)) result (view tokens.new) }
@@ -112,6 +118,7 @@ fn associated(tokens: &mut Cursor, formal: Name) -> Result<Association, ParseErr
     })
 }
 
+/// `id => actual`
 #[tactic(auto, unfolding(sim_text_grammar::specs::Concurrents::named_association))]
 fn named_association(tokens: &mut Cursor) -> Result<Association, ParseError>
     ensures { Reads (spec.named_association (view tokens.old)) result (view tokens.new) }
@@ -121,6 +128,7 @@ fn named_association(tokens: &mut Cursor) -> Result<Association, ParseError>
     associated(tokens, formal)
 }
 
+/// `actual | id => actual`
 #[tactic(auto, unfolding(sim_text_grammar::specs::Concurrents::free_association))]
 fn free_association(tokens: &mut Cursor) -> Result<Association, ParseError>
     ensures { Reads (spec.free_association (view tokens.old)) result (view tokens.new) }
@@ -147,6 +155,7 @@ fn free_association(tokens: &mut Cursor) -> Result<Association, ParseError>
     }
 }
 
+/// `id => actual` after an association with a formal, and else either form.
 #[tactic(auto, unfolding(sim_text_grammar::specs::Concurrents::association))]
 fn association(tokens: &mut Cursor, named: bool) -> Result<Association, ParseError>
     ensures { Reads (spec.association named (view tokens.old)) result (view tokens.new) }
@@ -158,6 +167,7 @@ fn association(tokens: &mut Cursor, named: bool) -> Result<Association, ParseErr
     }
 }
 
+/// Whether an association has a formal.
 fn is_named(formal: &Option<Name>) -> bool
     ensures { result ≡ is_named formal.now }
 {
@@ -167,6 +177,7 @@ fn is_named(formal: &Option<Name>) -> bool
     }
 }
 
+/// `assocs = actual {, actual} {, id => actual} | id => actual {, id => actual}`
 #[tactic(auto, unfolding(sim_text_grammar::specs::Concurrents::associations))]
 fn associations(alloc: Global, tokens: &mut Cursor) -> Result<Items<Association>, ParseError>
     ensures { Reads (spec.associations (view tokens.old)) result (view tokens.new) }
@@ -184,6 +195,7 @@ fn associations(alloc: Global, tokens: &mut Cursor) -> Result<Items<Association>
     Err(ParseError::Syntax(tokens.left()))
 }
 
+/// `[port map ( assocs )]`: without it there are no associations.
 #[tactic(auto, using(crate::proofs::Parts::port_map_in_parts))]
 fn port_map(alloc: Global, tokens: &mut Cursor) -> Result<Items<Association>, ParseError>
     ensures { Reads (spec.port_map (view tokens.old)) result (view tokens.new) }
@@ -206,6 +218,7 @@ fn port_map_ended(alloc: Global, tokens: &mut Cursor) -> Result<Items<Associatio
     Ok(associations)
 }
 
+/// `[pmap] ;`, after the label and the unit.
 #[tactic(auto, using(crate::proofs::Parts::instance_in_parts))]
 fn instance(
     alloc: Global,
@@ -223,6 +236,7 @@ fn instance(
     }))
 }
 
+/// `[( id )]`: the architecture of an entity that is instantiated.
 #[tactic(auto, unfolding(sim_text_grammar::specs::Concurrents::chosen))]
 fn chosen(tokens: &mut Cursor) -> Result<Option<Name>, ParseError>
     ensures { Reads (spec.chosen (view tokens.old)) result (view tokens.new) }
@@ -235,6 +249,7 @@ fn chosen(tokens: &mut Cursor) -> Result<Option<Name>, ParseError>
     Ok(Some(name))
 }
 
+/// `entity id . id [( id )]`
 #[tactic(auto, using(crate::proofs::Parts::entity_named_in_parts))]
 fn entity_named(tokens: &mut Cursor) -> Result<Instantiated, ParseError>
     ensures { Reads (spec.entity_named (view tokens.old)) result (view tokens.new) }
@@ -250,6 +265,7 @@ fn entity_named(tokens: &mut Cursor) -> Result<Instantiated, ParseError>
     })
 }
 
+/// `<= [delay] conds ;`, after the target.
 #[tactic(auto, unfolding(sim_text_grammar::specs::Concurrents::concurrent_assigned))]
 fn concurrent_assigned(
     alloc: Global,
@@ -263,6 +279,7 @@ fn concurrent_assigned(
     Ok(Concurrent::Assignment(found))
 }
 
+/// `process ( sens ) [is] {var} begin {seq} end process [NAME] ;`, after a label or without one.
 #[tactic(auto, unfolding(sim_text_grammar::specs::Concurrents::concurrent_process))]
 fn concurrent_process(
     alloc: Global,
@@ -298,6 +315,7 @@ fn after_name(
     }
 }
 
+/// `conc`, after its label and the colon.
 #[tactic(auto, unfolding(sim_text_grammar::specs::Concurrents::labelled))]
 fn labelled(alloc: Global, tokens: &mut Cursor, label: Name) -> Result<Concurrent, ParseError>
     ensures { Reads (spec.labelled label (view tokens.old)) result (view tokens.new) }
@@ -341,6 +359,7 @@ fn after_first(alloc: Global, tokens: &mut Cursor, first: Name) -> Result<Concur
     }
 }
 
+/// `conc`: an assignment, a process or an instance.
 #[tactic(auto, unfolding(sim_text_grammar::specs::Concurrents::concurrent))]
 fn concurrent(alloc: Global, tokens: &mut Cursor) -> Result<Concurrent, ParseError>
     ensures { Reads (spec.concurrent (view tokens.old)) result (view tokens.new) }
@@ -354,6 +373,7 @@ fn concurrent(alloc: Global, tokens: &mut Cursor) -> Result<Concurrent, ParseErr
     }
 }
 
+/// Whether a token of this kind can be the first of `conc`.
 fn begins_concurrent(kind: Kind) -> bool
     ensures { result ≡ spec.begins_concurrent kind }
 {

@@ -56,6 +56,7 @@ pub fn repeated(tokens: &mut Cursor, text: &[u8]) -> Result<bool, ParseError>
     }
 }
 
+/// `[init]`, with `init = := (lit | id)`
 #[tactic(auto, unfolding(sim_text_grammar::specs::Declarations::initial))]
 fn initial(tokens: &mut Cursor) -> Result<Option<Initial>, ParseError>
     ensures { Reads (spec.initial (view tokens.old)) result (view tokens.new) }
@@ -72,6 +73,7 @@ fn initial(tokens: &mut Cursor) -> Result<Option<Initial>, ParseError>
     }
 }
 
+/// `[in | out | inout]`
 #[tactic(auto, unfolding(sim_text_grammar::specs::Declarations::mode))]
 fn mode(tokens: &mut Cursor) -> Option<Mode>
     ensures { spec.mode (view tokens.old) ≡ Ok (result, view tokens.new) }
@@ -93,6 +95,7 @@ fn mode(tokens: &mut Cursor) -> Option<Mode>
     }
 }
 
+/// `[in | out | inout] id [init]`, after the names and the colon.
 #[tactic(auto, unfolding(sim_text_grammar::specs::Declarations::port_of))]
 fn port_of(
     tokens: &mut Cursor,
@@ -114,6 +117,7 @@ fn port_of(
     })
 }
 
+/// `port1 = [signal] id {, id} : [in | out | inout] id [init]`
 #[tactic(auto, unfolding(sim_text_grammar::specs::Declarations::port))]
 fn port(alloc: Global, tokens: &mut Cursor) -> Result<PortDeclaration, ParseError>
     ensures { Reads (spec.port (view tokens.old)) result (view tokens.new) }
@@ -132,6 +136,7 @@ fn first_port(alloc: Global, tokens: &mut Cursor) -> Result<Vec<PortDeclaration>
     Ok(found)
 }
 
+/// `port1 {; port1}`
 #[tactic(auto, using(sim_text_grammar::proofs::Parts::halves), unfolding(sim_text_grammar::specs::Declarations::port_list))]
 fn port_list(alloc: Global, tokens: &mut Cursor) -> Result<Items<PortDeclaration>, ParseError>
     ensures { Reads (spec.port_list (view tokens.old)) result (view tokens.new) }
@@ -171,6 +176,7 @@ fn initial_ended(tokens: &mut Cursor) -> Result<Option<Initial>, ParseError>
     Ok(initial)
 }
 
+/// `id {, id} : id [init] ;`, after `signal` or `variable`.
 #[tactic(auto, using(crate::proofs::Parts::object_in_parts))]
 fn object(alloc: Global, tokens: &mut Cursor) -> Result<ObjectDeclaration, ParseError>
     ensures { Reads (spec.object (view tokens.old)) result (view tokens.new) }
@@ -212,6 +218,7 @@ fn name_ended(tokens: &mut Cursor, text: &[u8]) -> Result<bool, ParseError>
     Ok(name_repeated)
 }
 
+/// `end component [NAME] ;`
 #[tactic(auto, using(crate::proofs::Parts::component_end_in_parts))]
 fn component_end(
     tokens: &mut Cursor,
@@ -231,6 +238,7 @@ fn component_end(
     })
 }
 
+/// `component id [is] [ports] end component [NAME] ;`
 #[tactic(auto, using(crate::proofs::Parts::component_in_parts))]
 fn component(alloc: Global, tokens: &mut Cursor) -> Result<ComponentDeclaration, ParseError>
     ensures { Reads (spec.component (view tokens.old)) result (view tokens.new) }
@@ -241,12 +249,14 @@ fn component(alloc: Global, tokens: &mut Cursor) -> Result<ComponentDeclaration,
     component_end(tokens, name, is, ports)
 }
 
+/// Whether a token of this kind can be the first of `decl`.
 fn begins_declaration(kind: Kind) -> bool
     ensures { result ≡ spec.begins_declaration kind }
 {
     matches!(kind, Kind::Signal | Kind::Component)
 }
 
+/// `decl = signal id {, id} : id [init] ; | component id [is] [ports] end component [NAME] ;`
 #[tactic(auto, unfolding(sim_text_grammar::specs::Declarations::declaration))]
 fn declaration(alloc: Global, tokens: &mut Cursor) -> Result<Declaration, ParseError>
     ensures { Reads (spec.declaration (view tokens.old)) result (view tokens.new) }

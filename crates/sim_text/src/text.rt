@@ -25,6 +25,7 @@ fn place_of(tokens: &[Token], left: usize, end: usize) -> usize
     }
 }
 
+/// The fault that a refusal of a reader is, with its place in the text.
 fn fault_of(tokens: &[Token], end: usize, error: ParseError) -> TextError
     ensures { result ≡ fault_of tokens.now end error }
 {

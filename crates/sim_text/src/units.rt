@@ -23,6 +23,7 @@ use sim_text_tree::unit::{
 use sqlite_items::Items;
 use std::alloc::Global;
 
+/// `{. id} . (id | all)`, and whether `all` stands at the end.
 #[tactic(auto, unfolding(sim_text_grammar::specs::Units::suffixes, sim_text_grammar::specs::Readers::left))]
 fn suffixes(alloc: Global, tokens: &mut Cursor) -> Result<(Items<Name>, bool), ParseError>
     ensures { Reads (spec.suffixes (view tokens.old)) result (view tokens.new) }
@@ -41,6 +42,7 @@ fn suffixes(alloc: Global, tokens: &mut Cursor) -> Result<(Items<Name>, bool), P
     Err(ParseError::Syntax(tokens.left()))
 }
 
+/// `sel = id {. id} . (id | all)`
 #[tactic(auto, unfolding(sim_text_grammar::specs::Units::selected))]
 fn selected(alloc: Global, tokens: &mut Cursor) -> Result<SelectedName, ParseError>
     ensures { Reads (spec.selected (view tokens.old)) result (view tokens.new) }
@@ -63,6 +65,7 @@ fn first_selected(alloc: Global, tokens: &mut Cursor) -> Result<Several<Selected
     Ok(found)
 }
 
+/// `sel {, sel}`
 #[tactic(auto, using(sim_text_grammar::proofs::Parts::halves), unfolding(sim_text_grammar::specs::Units::selected_names))]
 fn selected_names(alloc: Global, tokens: &mut Cursor) -> Result<Several<SelectedName>, ParseError>
     ensures { Reads (spec.selected_names (view tokens.old)) result (view tokens.new) }
@@ -96,6 +99,7 @@ fn used_names(alloc: Global, tokens: &mut Cursor) -> Result<Several<SelectedName
     Ok(names)
 }
 
+/// `context = library id {, id} ; | use sel {, sel} ;`
 #[tactic(auto, using(crate::proofs::Parts::context_in_parts), unfolding(sim_text_grammar::specs::Units::context_item))]
 fn context_item(alloc: Global, tokens: &mut Cursor) -> Result<ContextItem, ParseError>
     ensures { Reads (spec.context_item (view tokens.old)) result (view tokens.new) }
@@ -114,12 +118,14 @@ fn context_item(alloc: Global, tokens: &mut Cursor) -> Result<ContextItem, Parse
     }
 }
 
+/// Whether a token of this kind can be the first of `context`.
 fn begins_context(kind: Kind) -> bool
     ensures { result ≡ spec.begins_context kind }
 {
     matches!(kind, Kind::Library | Kind::Use)
 }
 
+/// `{context}`
 #[tactic(auto, unfolding(sim_text_grammar::specs::Units::context, sim_text_grammar::specs::Readers::many))]
 fn context(alloc: Global, tokens: &mut Cursor) -> Result<Items<ContextItem>, ParseError>
     ensures { Reads (spec.context (view tokens.old)) result (view tokens.new) }
@@ -134,6 +140,7 @@ fn context(alloc: Global, tokens: &mut Cursor) -> Result<Items<ContextItem>, Par
     Ok(fitted(found))
 }
 
+/// `is [ports]`
 fn entity_ports(alloc: Global, tokens: &mut Cursor) -> Result<Items<PortDeclaration>, ParseError>
     ensures { Reads (and_then (expect k.Is (view tokens.old)) (λ _. ports)) result (view tokens.new) }
 {
@@ -153,6 +160,7 @@ fn unit_end(tokens: &mut Cursor, word: Kind, name: &[u8]) -> Result<(bool, bool)
     Ok((word_repeated, name_repeated))
 }
 
+/// `entity = entity id is [ports] end [entity] [NAME] ;`
 #[tactic(auto, using(crate::proofs::Parts::entity_in_parts))]
 fn entity(alloc: Global, tokens: &mut Cursor) -> Result<Entity, ParseError>
     ensures { Reads (spec.entity (view tokens.old)) result (view tokens.new) }
@@ -168,6 +176,7 @@ fn entity(alloc: Global, tokens: &mut Cursor) -> Result<Entity, ParseError>
     })
 }
 
+/// `begin {conc}`
 fn architecture_statements(
     alloc: Global,
     tokens: &mut Cursor,
@@ -178,6 +187,7 @@ fn architecture_statements(
     concurrents(alloc, tokens)
 }
 
+/// `begin {conc} end [architecture] [NAME] ;`
 #[tactic(auto, using(crate::proofs::Parts::architecture_body_in_parts))]
 fn architecture_body(
     alloc: Global,
@@ -200,6 +210,7 @@ fn architecture_body(
     })
 }
 
+/// `is {decl}`
 fn architecture_declarations(
     alloc: Global,
     tokens: &mut Cursor,
@@ -210,6 +221,7 @@ fn architecture_declarations(
     declarations(alloc, tokens)
 }
 
+/// `arch = architecture id of id is {decl} begin {conc} end [architecture] [NAME] ;`
 #[tactic(auto, using(crate::proofs::Parts::architecture_in_parts))]
 fn architecture(alloc: Global, tokens: &mut Cursor) -> Result<Architecture, ParseError>
     ensures { Reads (spec.architecture (view tokens.old)) result (view tokens.new) }
@@ -220,6 +232,7 @@ fn architecture(alloc: Global, tokens: &mut Cursor) -> Result<Architecture, Pars
     architecture_body(alloc, tokens, name, entity, declarations)
 }
 
+/// `entity | arch`
 #[tactic(auto, unfolding(sim_text_grammar::specs::Units::library_unit))]
 fn library_unit(alloc: Global, tokens: &mut Cursor) -> Result<LibraryUnit, ParseError>
     ensures { Reads (spec.library_unit (view tokens.old)) result (view tokens.new) }
@@ -230,6 +243,7 @@ fn library_unit(alloc: Global, tokens: &mut Cursor) -> Result<LibraryUnit, Parse
     }
 }
 
+/// `unit = {context} (entity | arch)`
 #[tactic(auto, unfolding(sim_text_grammar::specs::Units::unit))]
 fn unit(alloc: Global, tokens: &mut Cursor) -> Result<DesignUnit, ParseError>
     ensures { Reads (spec.unit (view tokens.old)) result (view tokens.new) }
@@ -251,6 +265,7 @@ fn first_unit(alloc: Global, tokens: &mut Cursor) -> Result<Several<DesignUnit>,
     Ok(found)
 }
 
+/// `unit {unit}`, up to the end of the text.
 #[tactic(auto, using(crate::proofs::Parts::units_in_parts))]
 fn units_of(alloc: Global, tokens: &mut Cursor) -> Result<Several<DesignUnit>, ParseError>
     ensures { Reads (spec.units_of (view tokens.old)) result (view tokens.new) }
@@ -265,6 +280,7 @@ fn units_of(alloc: Global, tokens: &mut Cursor) -> Result<Several<DesignUnit>, P
     Ok(found.fitted())
 }
 
+/// The end of the text.
 #[tactic(auto, unfolding(sim_text_grammar::specs::Units::finish, sim_text_grammar::specs::Readers::left))]
 fn finish(tokens: &mut Cursor) -> Result<(), ParseError>
     ensures { Reads (spec.finish (view tokens.old)) result (view tokens.new) }

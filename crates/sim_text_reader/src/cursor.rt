@@ -224,6 +224,7 @@ impl Cursor {
     }
 }
 
+/// Equality of kinds, as the readers of the grammar have it.
 #[tactic(auto, unfolding(sim_text_grammar::specs::Readers::same_kind))]
 fn same_kind(a: Kind, b: Kind) -> bool
     ensures { result ≡ spec.same_kind a b }

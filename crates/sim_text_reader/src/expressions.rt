@@ -28,6 +28,7 @@ fn argument(tokens: &mut Cursor) -> Result<Name, ParseError>
     Ok(name)
 }
 
+/// `id | id ' event | id ( id )`
 #[tactic(auto, using(crate::proofs::Parts::call_in_parts), unfolding(sim_text_grammar::specs::Expressions::named))]
 fn named(tokens: &mut Cursor) -> Result<Expression, ParseError>
     ensures { Reads (spec.named (view tokens.old)) result (view tokens.new) }
@@ -51,6 +52,7 @@ fn named(tokens: &mut Cursor) -> Result<Expression, ParseError>
     }
 }
 
+/// `prim = lit | id | id ' event | id ( id ) | ( expr )`
 #[cycle(expression)]
 #[tactic(auto, unfolding(sim_text_grammar::specs::Expressions::primary))]
 fn primary(alloc: Global, tokens: &mut Cursor, depth: usize) -> Result<Expression, ParseError>
@@ -66,6 +68,7 @@ fn primary(alloc: Global, tokens: &mut Cursor, depth: usize) -> Result<Expressio
     }
 }
 
+/// `fact = prim | not prim`
 #[cycle(expression)]
 #[tactic(auto, unfolding(sim_text_grammar::specs::Expressions::factor))]
 fn factor(alloc: Global, tokens: &mut Cursor, depth: usize) -> Result<Expression, ParseError>
@@ -105,6 +108,7 @@ fn comparison(
     })
 }
 
+/// `rel = fact [(= | /=) fact]`
 #[cycle(expression)]
 #[tactic(auto, unfolding(sim_text_grammar::specs::Expressions::relation))]
 fn relation(alloc: Global, tokens: &mut Cursor, depth: usize) -> Result<Expression, ParseError>
@@ -118,6 +122,7 @@ fn relation(alloc: Global, tokens: &mut Cursor, depth: usize) -> Result<Expressi
     }
 }
 
+/// An operator, and the `rel` after it.
 #[cycle(expression)]
 #[tactic(auto, unfolding(sim_text_grammar::specs::Expressions::operand))]
 fn operand(alloc: Global, tokens: &mut Cursor, depth: usize) -> Result<Operand, ParseError>
@@ -131,6 +136,7 @@ fn operand(alloc: Global, tokens: &mut Cursor, depth: usize) -> Result<Operand, 
     })
 }
 
+/// The operator whose token is of this kind; none where it is of no logical operator.
 fn logical_of(kind: Kind) -> Option<Logical>
     ensures { result ≡ spec.logical_of kind }
 {
@@ -188,6 +194,8 @@ fn more_operands(
     Ok(fitted(found))
 }
 
+/// `{and rel}` and the like after the first `rel`, with one operator throughout; of `nand` and
+/// `nor` one alone.
 #[cycle(expression)]
 #[tactic(auto, unfolding(sim_text_grammar::specs::Expressions::operands))]
 fn operands(
@@ -226,6 +234,7 @@ fn chain(
     })
 }
 
+/// `expr`, in which this many parentheses may still be opened.
 #[cycle(expression)]
 #[tactic(auto, unfolding(sim_text_grammar::specs::Expressions::expression_in))]
 fn expression_in(alloc: Global, tokens: &mut Cursor, depth: usize) -> Result<Expression, ParseError>
@@ -238,6 +247,7 @@ fn expression_in(alloc: Global, tokens: &mut Cursor, depth: usize) -> Result<Exp
     }
 }
 
+/// `( expr )`, where this many parentheses may still be opened; `TooDeep` where none may.
 #[cycle(expression)]
 #[tactic(auto, unfolding(sim_text_grammar::specs::Expressions::nested, sim_text_grammar::specs::Readers::left))]
 fn nested(alloc: Global, tokens: &mut Cursor, depth: usize) -> Result<Expression, ParseError>

@@ -55,6 +55,7 @@ pub fn label_ended(tokens: &mut Cursor, label: &Option<Name>) -> Result<bool, Pa
     Ok(label_repeated)
 }
 
+/// `:= expr ;`, after the target.
 #[tactic(auto, unfolding(sim_text_grammar::specs::Statements::variable_assigned))]
 fn variable_assigned(
     alloc: Global,
@@ -78,6 +79,7 @@ fn waveform_ended(alloc: Global, tokens: &mut Cursor) -> Result<Waveform, ParseE
     Ok(waveform)
 }
 
+/// `<= [delay] wave ;`, after the target.
 #[tactic(auto, using(crate::proofs::StatementParts::signal_assigned_in_parts))]
 fn signal_assigned(
     alloc: Global,
@@ -96,6 +98,7 @@ fn signal_assigned(
     }))
 }
 
+/// `<= [delay] wave ; | := expr ;`, after the target.
 #[tactic(auto, unfolding(sim_text_grammar::specs::Statements::assigned))]
 fn assigned(alloc: Global, tokens: &mut Cursor, target: Name) -> Result<Statement, ParseError>
     ensures { Reads (spec.assigned target (view tokens.old)) result (view tokens.new) }
@@ -106,6 +109,7 @@ fn assigned(alloc: Global, tokens: &mut Cursor, target: Name) -> Result<Statemen
     }
 }
 
+/// `null ;`
 #[tactic(auto, unfolding(sim_text_grammar::specs::Statements::null))]
 fn null(tokens: &mut Cursor) -> Result<Statement, ParseError>
     ensures { Reads (spec.null (view tokens.old)) result (view tokens.new) }
@@ -115,6 +119,7 @@ fn null(tokens: &mut Cursor) -> Result<Statement, ParseError>
     Ok(Statement::Null)
 }
 
+/// Whether a token of this kind can be the first of `seq`.
 fn begins_statement(kind: Kind) -> bool
     ensures { result ≡ spec.begins_statement kind }
 {
@@ -165,6 +170,7 @@ fn named(
     }
 }
 
+/// `seq`, in which this many ifs may still be opened.
 #[cycle(statement)]
 #[tactic(auto, unfolding(sim_text_grammar::specs::Statements::statement))]
 fn statement(alloc: Global, tokens: &mut Cursor, depth: usize) -> Result<Sequential, ParseError>
@@ -192,6 +198,7 @@ fn statement(alloc: Global, tokens: &mut Cursor, depth: usize) -> Result<Sequent
     }
 }
 
+/// `{seq}`, in which this many ifs may still be opened.
 #[cycle(statement)]
 #[tactic(auto, unfolding(sim_text_grammar::specs::Statements::sequence, sim_text_grammar::specs::Readers::many))]
 fn sequence(
@@ -211,6 +218,7 @@ fn sequence(
     Ok(fitted(found))
 }
 
+/// `expr then`
 #[tactic(auto, unfolding(sim_text_grammar::specs::Statements::condition))]
 fn condition(alloc: Global, tokens: &mut Cursor) -> Result<Expression, ParseError>
     ensures { Reads (condition (view tokens.old)) result (view tokens.new) }
@@ -220,6 +228,7 @@ fn condition(alloc: Global, tokens: &mut Cursor) -> Result<Expression, ParseErro
     Ok(condition)
 }
 
+/// `expr then {seq}`
 #[cycle(statement)]
 #[tactic(auto, unfolding(sim_text_grammar::specs::Statements::branch, sim_text_grammar::specs::Statements::condition))]
 fn branch(alloc: Global, tokens: &mut Cursor, depth: usize) -> Result<Branch, ParseError>
@@ -244,6 +253,7 @@ fn first_branch(alloc: Global, tokens: &mut Cursor, depth: usize) -> Result<Vec<
     Ok(found)
 }
 
+/// `expr then {seq} {elsif expr then {seq}}`
 #[cycle(statement)]
 #[tactic(auto, using(sim_text_grammar::proofs::Parts::halves), unfolding(sim_text_grammar::specs::Statements::branches))]
 fn branches(alloc: Global, tokens: &mut Cursor, depth: usize) -> Result<Items<Branch>, ParseError>
@@ -260,6 +270,7 @@ fn branches(alloc: Global, tokens: &mut Cursor, depth: usize) -> Result<Items<Br
     Ok(fitted(found))
 }
 
+/// `[else {seq}]`
 #[cycle(statement)]
 #[tactic(auto, unfolding(sim_text_grammar::specs::Statements::otherwise))]
 fn otherwise(
@@ -276,6 +287,7 @@ fn otherwise(
     Ok(Some(statements))
 }
 
+/// `end if [NAME] ;`
 #[tactic(auto, using(crate::proofs::StatementParts::if_end_in_parts))]
 fn if_end(
     tokens: &mut Cursor,
@@ -294,6 +306,8 @@ fn if_end(
     })
 }
 
+/// `if expr then {seq} {elsif expr then {seq}} [else {seq}] end if [NAME] ;`; `TooDeep` where no
+/// more ifs may be opened.
 #[cycle(statement)]
 #[tactic(auto, unfolding(sim_text_grammar::specs::Statements::if_statement, sim_text_grammar::specs::Readers::left))]
 fn if_statement(

@@ -19,6 +19,7 @@ use sim_text_tree::waveform::{
 };
 use std::alloc::Global;
 
+/// `num (fs | ps | ns | us | ms | sec | min | hr)`; `TimeRange` is where this many tokens are left.
 #[tactic(auto, unfolding(sim_text_grammar::specs::Waveforms::time_from, sim_text_tree::specs::Times::is_time))]
 fn time_from(tokens: &mut Cursor, left: usize) -> Result<TimeLiteral, ParseError>
     ensures { Reads (spec.time_from left (view tokens.old)) result (view tokens.new) }
@@ -41,6 +42,7 @@ pub fn time(tokens: &mut Cursor) -> Result<TimeLiteral, ParseError>
     time_from(tokens, left)
 }
 
+/// `elem = expr [after time]`
 #[tactic(auto, unfolding(sim_text_grammar::specs::Waveforms::element))]
 fn element(alloc: Global, tokens: &mut Cursor) -> Result<Element, ParseError>
     ensures { Reads (spec.element (view tokens.old)) result (view tokens.new) }
@@ -122,6 +124,7 @@ fn condition(
     })
 }
 
+/// `conds = wave | wave when expr {else wave when expr} [else wave]`
 #[tactic(auto, unfolding(sim_text_grammar::specs::Waveforms::waveforms, sim_text_grammar::specs::Readers::left))]
 fn waveforms(alloc: Global, tokens: &mut Cursor) -> Result<ConditionalWaveforms, ParseError>
     ensures { Reads (spec.waveforms (view tokens.old)) result (view tokens.new) }
