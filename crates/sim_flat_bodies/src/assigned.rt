@@ -23,6 +23,8 @@ pub fn add_target(meaning: Option<Meaning>, targets: &mut Targets) -> Result<(),
     }
 }
 
+/// Adds the signal or port that a statement assigns, or those that the statements inside an `if`
+/// do.
 #[cycle(gathering)]
 #[tactic(auto, using(crate::proofs::StatementRules::targets_are), unfolding(crate::specs::Statements::gathered))]
 fn add_statement(
@@ -56,6 +58,7 @@ fn add_statement(
     }
 }
 
+/// Adds what a statement assigns; its label has no part in that.
 #[cycle(gathering)]
 #[tactic(auto, using(crate::proofs::StatementRules::targets_are))]
 fn add_labelled(
@@ -84,6 +87,7 @@ pub fn add_sequence(
     Ok(())
 }
 
+/// Adds what the statements of a branch assign.
 #[cycle(gathering)]
 #[tactic(auto, using(crate::proofs::StatementRules::targets_are))]
 fn add_branch(names: &Names<'_, '_>, each: &Branch, targets: &mut Targets) -> Result<(), AllocError>
@@ -92,6 +96,7 @@ fn add_branch(names: &Names<'_, '_>, each: &Branch, targets: &mut Targets) -> Re
     add_sequence(names, each.statements.as_slice(), targets)
 }
 
+/// Adds what the statements of the branches assign, taken or not.
 #[cycle(gathering)]
 #[tactic(auto, unfolding(crate::specs::Statements::branches_targets, crate::specs::Statements::gathered))]
 fn add_branches(

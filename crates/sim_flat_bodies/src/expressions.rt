@@ -17,6 +17,7 @@ use sim_text_tree::expression::{Expression, Logical, Operand, Relational};
 use sqlite_items::{Boxed, Items};
 use std::alloc::{AllocError, Global};
 
+/// Whether a name is boolean: such a variable, `true` or `false`.
 #[tactic(auto, unfolding(crate::specs::Expressions::named))]
 fn named_is_boolean(meaning: Option<Meaning>) -> bool
     ensures { result ≡ (spec.named meaning).is_boolean }
@@ -32,6 +33,7 @@ fn named_is_boolean(meaning: Option<Meaning>) -> bool
     )
 }
 
+/// What a name is as a value of std_ulogic; `'U'` where it is none.
 #[tactic(auto, using(sim_flat_design::proofs::Fitting::logics_fit), unfolding(crate::specs::Expressions::named, crate::specs::Within::is_within))]
 fn named_logic(meaning: Option<Meaning>) -> LogicExpression
     ensures value { result ≡ (spec.named meaning).logic }
@@ -51,6 +53,7 @@ fn named_logic(meaning: Option<Meaning>) -> LogicExpression
     }
 }
 
+/// What a name is as a boolean value; `false` where it is none.
 #[tactic(auto, using(sim_flat_design::proofs::Fitting::booleans_fit), unfolding(crate::specs::Expressions::named, crate::specs::Within::is_within))]
 fn named_boolean(meaning: Option<Meaning>) -> BooleanExpression
     ensures value { result ≡ (spec.named meaning).boolean }
@@ -69,6 +72,7 @@ fn named_boolean(meaning: Option<Meaning>) -> BooleanExpression
     }
 }
 
+/// `'event` of a port or signal; `false` of anything else.
 #[tactic(auto, using(sim_flat_design::proofs::Fitting::booleans_fit), unfolding(crate::specs::Expressions::event_of, crate::specs::Within::is_within))]
 fn event_of(meaning: Option<Meaning>) -> BooleanExpression
     ensures value { result ≡ spec.event_of meaning }
@@ -82,6 +86,7 @@ fn event_of(meaning: Option<Meaning>) -> BooleanExpression
     }
 }
 
+/// `rising_edge` or `falling_edge` of a port or signal; `false` of anything else.
 #[tactic(auto, using(sim_flat_design::proofs::Fitting::booleans_fit), unfolding(crate::specs::Expressions::edge_of, crate::specs::Within::is_within))]
 fn edge_of(function: Option<Meaning>, argument: Option<Meaning>) -> BooleanExpression
     ensures value { result ≡ spec.edge_of function argument }

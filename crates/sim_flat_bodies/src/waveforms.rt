@@ -32,6 +32,7 @@ pub fn delay(mechanism: &tree::DelayMechanism) -> Delay
     }
 }
 
+/// An element with its delay, 0 where none is written.
 #[tactic(auto, unfolding(crate::specs::Statements::element_of))]
 fn element(
     alloc: Global,

@@ -127,6 +127,7 @@ fn variable_assignment(
     value(inner, outer, type_, &assignment.value, first);
 }
 
+/// Notes the faults of a statement without its label.
 #[cycle(statements)]
 #[tactic(auto, using(crate::proofs::Sequences::statement_rules), unfolding(sim_flat_scope::specs::Faults::earliest))]
 fn statement(inner: &Scope<'_>, outer: &Scope<'_>, statement: &Statement, first: &mut Option<Fault>)
@@ -150,6 +151,7 @@ fn statement(inner: &Scope<'_>, outer: &Scope<'_>, statement: &Statement, first:
     }
 }
 
+/// Notes the faults of a condition, and then of the statements under it.
 #[cycle(statements)]
 #[tactic(auto, using(crate::proofs::Sequences::branch_is, sim_flat_scope::proofs::Faults::of_both))]
 fn if_branch(inner: &Scope<'_>, outer: &Scope<'_>, branch: &Branch, first: &mut Option<Fault>)
@@ -159,6 +161,7 @@ fn if_branch(inner: &Scope<'_>, outer: &Scope<'_>, branch: &Branch, first: &mut 
     sequence(inner, outer, branch.statements.as_slice(), first);
 }
 
+/// Notes the faults of the branches in the order of the text.
 #[cycle(statements)]
 #[tactic(auto, unfolding(crate::specs::Statements::branches_faults, sim_flat_scope::specs::Faults::earliest))]
 fn branches(inner: &Scope<'_>, outer: &Scope<'_>, branches: &[Branch], first: &mut Option<Fault>)

@@ -149,6 +149,7 @@ pub(crate) fn common(
     }
 }
 
+/// Both operands are evaluated, so that both are known of in a proof.
 fn either(a: bool, b: bool) -> bool
     ensures { result ≡ (a || b) }
 {

@@ -1,4 +1,4 @@
--- How much there is below a block, found without laying it.
+-- How much there is below a block, found without expanding it.
 use Rattle.std.specs.Prelude.{ℕ, zero, suc, ◌+◌, ◌-◌, min, List, [], ◌∷◌, length, slice_index_or}
 use Rattle.sim_flat_design.specs.Designs.{most}
 use Rattle.sim_flat_expansion.specs.declared.counts.Kind.{Kind}

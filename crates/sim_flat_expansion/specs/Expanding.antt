@@ -92,7 +92,7 @@ objects_expanded prefix links own b outer =
     let x = ports_expanded prefix links own 0 b.ports [] outer in
     (signals_expanded prefix own (length b.ports) b.signals x.0, x.1)
 
--- ---- the walk: the parameter lays one instance's block
+-- ---- the walk: the parameter expands one instance's block
 abbrev pub Walk : Type 0
 Walk = List ℕ → List Link → List ℕ → Block → FlatSources → Sketch → List Net × FlatSources × Sketch
 
@@ -107,15 +107,15 @@ module _ (one : Walk) (blocks : List Block) where
       instances_expanded object_nets prefix is (nets ++ x.0) x.1 x.2
 
   -- the processes of a block, and then its instances
-  abbrev pub occupants_laid : List ℕ → List ℕ → Block → Sketch → List Net × FlatSources × Sketch
-  occupants_laid prefix object_nets b f =
+  abbrev pub occupants_expanded : List ℕ → List ℕ → Block → Sketch → List Net × FlatSources × Sketch
+  occupants_expanded prefix object_nets b f =
       let p = processes_expanded object_nets b b.processes (replicate (size b) []) f in
       instances_expanded object_nets prefix b.instances [] p.0 p.1
 
   -- what stands in a block, once its ports and signals have their nets
   unfoldable pub inside_expanded : List ℕ → List Link → List ℕ → Block → FlatSources → Sketch → List Net × FlatSources × Sketch
   inside_expanded prefix links object_nets b around f =
-      let x = occupants_laid prefix object_nets b f in
+      let x = occupants_expanded prefix object_nets b f in
       let s = objects_expanded prefix links x.1 b around in
       (s.0 ++ x.0, s.1, x.2)
 

@@ -1,4 +1,4 @@
-//! How much there is below a block, found level by level without laying it.
+//! How much there is below a block, found level by level without expanding it.
 
 ghost use Rattle.std.specs.Prelude.{◌≡◌, ◌<◌, IfOk, length};
 ghost use Rattle.std.specs.List.{All};
@@ -33,12 +33,14 @@ fn capped(number: usize) -> usize
     number.min(ABOVE)
 }
 
+/// A sum that stays at one above the limit.
 fn sum(left: usize, right: usize) -> usize
     ensures { result ≡ spec.sum left right }
 {
     capped(capped(left) + capped(right))
 }
 
+/// How many drivers processes have.
 #[tactic(auto, unfolding(crate::specs::Counts::targets_counted))]
 fn targets(block_processes: &[BlockProcess]) -> usize
     ensures { result ≡ spec.targets_counted block_processes.now 0 }
@@ -97,6 +99,7 @@ fn row(table: &[usize], instances: &[Instance], alone: usize) -> usize
     number
 }
 
+/// The numbers of each block alone, with no level below it.
 #[tactic(auto, unfolding(crate::specs::Counts::first_table))]
 fn first(alloc: Global, kind: Kind, blocks: &[Block]) -> Result<Items<usize>, AllocError>
     ensures { IfOk result (λ r. r ≡ spec.first_table kind blocks.now) }

@@ -1,4 +1,4 @@
-//! How deep instances stand in one another, found level by level without laying them.
+//! How deep instances stand in one another, found level by level without expanding them.
 
 ghost use Rattle.std.specs.Prelude.{◌≡◌, ◌<◌, IfOk, length, slice_index_or};
 ghost use Rattle.std.specs.List.{All};
@@ -12,6 +12,7 @@ use std::alloc::{AllocError, Global};
 /// One level more than there may be below the top.
 const TOO_DEEP: usize = 33;
 
+/// Whether the block at a place has a chain; beyond the last none has.
 fn chain_at(table: &[bool], at: usize) -> bool
     ensures { result ≡ spec.chain_at table.now at }
 {
@@ -34,6 +35,7 @@ fn any(table: &[bool], instances: &[Instance]) -> bool
     false
 }
 
+/// Each block has a chain of no instance.
 #[tactic(auto, unfolding(crate::specs::Depth::first_table))]
 fn first(alloc: Global, blocks: &[Block]) -> Result<Items<bool>, AllocError>
     ensures { IfOk result (λ r. r ≡ spec.first_table blocks.now) }
@@ -45,6 +47,7 @@ fn first(alloc: Global, blocks: &[Block]) -> Result<Items<bool>, AllocError>
     Ok(table)
 }
 
+/// Which blocks have a chain of one instance more.
 #[tactic(auto, unfolding(crate::specs::Depth::next_table))]
 fn next(alloc: Global, table: &[bool], blocks: &[Block]) -> Result<Items<bool>, AllocError>
     ensures { IfOk result (λ r. r ≡ spec.next_table table.now blocks.now) }

@@ -1,4 +1,4 @@
-//! Whether a hierarchy keeps to the limits of a design, found without laying it.
+//! Whether a hierarchy keeps to the limits of a design, found without expanding it.
 
 ghost use Rattle.std.specs.Prelude.{◌≡◌, ◌<◌, ◌≤◌, IfOk, Decides, length};
 ghost use Rattle.std.specs.List.{All};
@@ -52,6 +52,7 @@ pub fn fits(alloc: Global, blocks: &[Block], top: usize) -> Result<bool, AllocEr
     Ok(all(!deep, instances, design))
 }
 
+/// Conjunction, in which each part is evaluated.
 fn all(first: bool, second: bool, third: bool) -> bool
     ensures { result ≡ spec.all first second third }
 {

@@ -20,7 +20,7 @@ use std::alloc::{AllocError, Global};
 /// The top, and 32 levels of instances below it.
 const LEVELS: usize = 33;
 
-/// Lays a block and what stands below it, a number of levels, and gives the nets.
+/// Expands a block and what stands below it, a number of levels, and gives the nets.
 #[cycle(walk)]
 #[tactic(auto, unfolding(crate::specs::Expanding::block_expanded))]
 fn block(
@@ -56,7 +56,7 @@ fn block(
     Ok(nets)
 }
 
-/// Lays what stands in a block whose ports and signals have these nets.
+/// Expands what stands in a block whose ports and signals have these nets.
 #[cycle(walk)]
 #[tactic(auto, unfolding(crate::specs::Expanding::inside_expanded))]
 fn inside(
@@ -82,7 +82,7 @@ fn inside(
     Ok(nets)
 }
 
-/// Lays the processes of a block and then its instances. Gives the flat sources of each of its
+/// Expands the processes of a block and then its instances. Gives the flat sources of each of its
 /// ports and signals, and the nets of its instances.
 #[cycle(walk)]
 fn occupants(
@@ -98,7 +98,7 @@ fn occupants(
     requires here { IsBlock blocks.now at.now }
     requires placed { length object_nets.now ≡ size at.now }
     ensures { IfOk result (λ r. (r.1, r.0.items, flat.new)
-        ≡ spec.occupants_laid (spec.block_expanded blocks.now levels) blocks.now prefix.now object_nets.now at.now flat.old) }
+        ≡ spec.occupants_expanded (spec.block_expanded blocks.now levels) blocks.now prefix.now object_nets.now at.now flat.old) }
 {
     let mut own = none(alloc, object_nets.as_slice().len())?;
     let block_processes = at.processes.as_slice();
@@ -124,7 +124,7 @@ fn occupants(
     Ok((own, nets))
 }
 
-/// Lays instances of a block.
+/// Expands instances of a block.
 #[cycle(walk)]
 #[tactic(auto, unfolding(crate::specs::Expanding::instances_expanded))]
 fn instances(
@@ -161,7 +161,7 @@ fn instances(
     Ok(nets)
 }
 
-/// Lays an instance of a block.
+/// Expands an instance of a block.
 #[cycle(walk)]
 #[tactic(auto, using(crate::proofs::Made::block_at))]
 fn instance(

@@ -11,6 +11,7 @@ use crate::words::{double_delimiter, single_delimiter};
 /// A class and a length in bytes.
 pub type Extent = (Class, usize);
 
+/// Whether a byte parts tokens: a blank, a tab, or the end of a line (IEEE 1076-2008, 15.3).
 #[tactic(auto, unfolding(crate::specs::Pieces::is_separator))]
 fn is_separator(b: u8) -> bool
     ensures { result ≡ pieces.is_separator b }
@@ -18,6 +19,7 @@ fn is_separator(b: u8) -> bool
     b == b' ' || (b'\t' <= b && b <= b'\r')
 }
 
+/// Whether a byte ends a line, and with it a comment (IEEE 1076-2008, 15.3).
 #[tactic(auto, unfolding(crate::specs::Pieces::is_line_end))]
 fn is_line_end(b: u8) -> bool
     ensures { result ≡ pieces.is_line_end b }
@@ -84,6 +86,7 @@ fn closed_len(bytes: &[u8]) -> Option<usize>
     }
 }
 
+/// Whether a byte is the character of a value of std_ulogic.
 #[tactic(auto, unfolding(crate::specs::Scan::is_value))]
 fn is_value(v: u8) -> bool
     ensures { result ≡ spec.is_value v }

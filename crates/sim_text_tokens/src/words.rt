@@ -46,6 +46,7 @@ const RESERVED_WORDS: [(&[u8], Kind); 37] = [
     (b"xor", Kind::Xor),
 ];
 
+/// The kind of a word of the table; none of another word.
 fn find(mut table: &[(&[u8], Kind)], word: &[u8]) -> Option<Kind>
     ensures { result ≡ kind_in (map (λ e. (e.0.now, e.1)) table.entry.now) word.now }
 {
