@@ -5,7 +5,7 @@ use Rattle.std.proofs.Common.{refl, ap, sym, ◌∙◌, subst, if◌then◌else�
 use Rattle.std.specs.List.{AllZip}
 use Rattle.sim_logic.specs.declared.logic.Logic.{Logic}
 use Rattle.sim_logic.specs.Resolution.{resolved}
-use Rattle.sim_logic.specs.Sources.{SourceTree, FlatSource, Driven, IsResolvable, flat_sources, flat_source_value, nested}
+use Rattle.sim_logic.specs.Sources.{SourceTree, FlatSource, Driven, IsResolvable, flat_sources, flat_source_value}
 use Rattle.sim_logic.specs.Sources as tree
 use Rattle.sim_logic.proofs.SourceLaws.{resolved-flat_sources}
 use Rattle.sim_flat_design.specs.declared.design.Source.{Source}

@@ -4,7 +4,6 @@ use Rattle.std.specs.Str.{bytes_eq}
 use Rattle.sim_flat_blocks.specs.declared.links.Link.{Link}
 use Rattle.sim_flat_blocks.specs.declared.links.Link.TheVariants.{To, Constant, Open}
 use Rattle.sim_flat_blocks.specs.declared.parts.Object.{Object}
-use Rattle.sim_flat_blocks.specs.declared.parts.BlockProcess.{BlockProcess}
 use Rattle.sim_flat_blocks.specs.declared.parts.Instance.{Instance}
 use Rattle.sim_flat_blocks.specs.declared.parts.Block.{Block}
 use Rattle.sim_flat_blocks.specs.Blocks.{objects, block_of, link_at, targets_of}

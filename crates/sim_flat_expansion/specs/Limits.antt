@@ -1,5 +1,5 @@
 -- The limits of a hierarchy.
-use Rattle.std.specs.Prelude.{ℕ, ◌≡◌, ◌≤◌, ◌&&◌, not, List, Bool, false, slice_index_or}
+use Rattle.std.specs.Prelude.{ℕ, ◌≡◌, ◌≤◌, ◌&&◌, List, Bool, false, slice_index_or}
 use Rattle.sim_flat_design.specs.Designs.{most}
 use Rattle.sim_flat_blocks.specs.declared.parts.Block.{Block}
 use Rattle.sim_flat_expansion.specs.declared.counts.Kind.TheVariants.{Instances}

@@ -2,10 +2,10 @@
 //! tells which of its instances are of blocks that lead back to it. A block is passed over whose
 //! instances all stand behind the first that is found already.
 
-ghost use Rattle.std.specs.Prelude.{◌≡◌, ◌<◌, ℕ, IfOk, length};
+ghost use Rattle.std.specs.Prelude.{◌≡◌, ◌<◌, IfOk, length};
 ghost use Rattle.std.specs.List.{All, list_any};
 ghost use Rattle.sim_flat_blocks.specs.Blocks.{IsBlock};
-ghost use Rattle.sim_flat_graph.specs.Graph.{IsWhole, graph_of, led};
+ghost use Rattle.sim_flat_graph.specs.Graph.{IsWhole, graph_of};
 ghost use Rattle.sim_flat_graph.specs.Least.{IsLeast, least_of};
 ghost use Rattle.sim_flat_graph.specs.Recursion as spec;
 

@@ -1,4 +1,4 @@
-use Rattle.std.proofs.Common.{Bool, Decides, not, sym, subst, ◌∙◌}
+use Rattle.std.proofs.Common.{Bool, Decides, sym, subst}
 use Rattle.sim_flat_expansion.specs.Limits.{Fits}
 use Rattle.sim_flat_expansion.proofs.Within.{fits_is}
 use Rattle.sim_flat_expansion.proofs.limits.fits.Goals as goal

@@ -1,4 +1,4 @@
-use Rattle.std.proofs.Common.{refl, ◌∙◌}
+use Rattle.std.proofs.Common.{refl}
 use Rattle.sim_flat_design.specs.Processes.{nets_of}
 use Rattle.sim_flat_expansion.proofs.Made.{is_process}
 use Rattle.sim_flat_expansion.proofs.processes.process.Goals as goal

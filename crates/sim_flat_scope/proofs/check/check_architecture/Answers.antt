@@ -1,5 +1,4 @@
 use Rattle.std.proofs.Common.{rules, tests}
-use Rattle.sim_flat_scope.specs.Faults.{earliest}
 use Rattle.sim_flat_scope.proofs.Faults.{of_both}
 use Rattle.sim_flat_scope.specs.DeclarationFaults.{architecture_faults}
 use Rattle.sim_flat_scope.proofs.check.check_architecture.Goals as goal
