@@ -15,7 +15,7 @@ use Rattle.sim_flat_expansion.specs.Hierarchy.{Path, Scene, PathStep, before, dr
 use Rattle.sim_flat_expansion.specs.Flat.{driving, with_drivers, with_ports, type_of, leads_to, of_ports, of_instances, tree_of, port_trees}
 use Rattle.sim_flat_expansion.proofs.Sound.{Each}
 use Rattle.sim_flat_graph.specs.Graph.{Graph, graph_of, block_at, led, Reaches, blocks_of}
-use Rattle.sim_flat_graph.specs.Sources.{driven_by, driven_by_ports, driven_by_instances, driven, times, source_count}
+use Rattle.sim_flat_graph.specs.Sources.{target_of_port, targets_of_ports, targets_of_instances, source_targets, times, source_count}
 use Rattle.sim_flat_graph.proofs.Lists.{by_order, first_in, later_in}
 use Rattle.sim_flat_graph.proofs.Recursions.{led_is}
 use Rattle.sim_flat_graph.proofs.Searches.{one_step}
@@ -58,7 +58,7 @@ times_more m n ns = refl
 
 -- a port that may be a source of the one at place m, and those after it
 port_counted : (m : ℕ) (p : Port) (l : Link) (t : SourceTree) (ts : List SourceTree) (ns : List ℕ) → length ts ≡ times m ns
-    → length (if p.drives && leads_to m l then t ∷ ts else ts) ≡ times m (driven_by p l ++ ns)
+    → length (if p.drives && leads_to m l then t ∷ ts else ts) ≡ times m (target_of_port p l ++ ns)
 port_counted m p (To n) t ts ns e = by_bit p.drives
   where
     by_bit : (b : Bool) → length (if b && (n == m) then t ∷ ts else ts) ≡ times m ((if b then n ∷ [] else []) ++ ns)
@@ -76,25 +76,25 @@ port_counted m p Open t ts ns e = by_bit p.drives
     by_bit false = e
 
 of_ports_counted : (one : ℕ → Object → SourceTree) (links : List Link) (m n : ℕ) (ps : List Port)
-    → length (of_ports one links m n ps) ≡ times m (driven_by_ports links n ps)
-unfolding of_ports driven_by_ports times
+    → length (of_ports one links m n ps) ≡ times m (targets_of_ports links n ps)
+unfolding of_ports targets_of_ports times
 of_ports_counted one links m n [] = refl
 of_ports_counted one links m n (p ∷ ps) =
-    port_counted m p (link_at links n) (one n p.object) (of_ports one links m (n + 1) ps) (driven_by_ports links (n + 1) ps)
+    port_counted m p (link_at links n) (one n p.object) (of_ports one links m (n + 1) ps) (targets_of_ports links (n + 1) ps)
     (of_ports_counted one links m (n + 1) ps)
 
 module _ (blocks : List Block) (all : List Scene) where
   -- below the last level there is none
   port_trees_counted : (k : ℕ) (p : Path) (b : Block) (links : List Link) (m : ℕ)
-      → length (port_trees blocks all k p b links m) ≤ times m (driven_by_ports links 0 b.ports)
+      → length (port_trees blocks all k p b links m) ≤ times m (targets_of_ports links 0 b.ports)
   unfolding port_trees
   port_trees_counted zero p b links m = omega arith
   port_trees_counted (suc k) p b links m =
       let e = of_ports_counted (tree_of blocks all (port_trees blocks all k) p b) links m 0 b.ports in omega arith
 
   of_instances_counted : (k : ℕ) (p : Path) (m j : ℕ) (is : List Instance)
-      → length (of_instances (port_trees blocks all k) blocks p m j is) ≤ times m (driven_by_instances blocks is)
-  unfolding of_instances driven_by_instances
+      → length (of_instances (port_trees blocks all k) blocks p m j is) ≤ times m (targets_of_instances blocks is)
+  unfolding of_instances targets_of_instances
   of_instances_counted k p m j [] = omega arith
   of_instances_counted k p m j (i ∷ is) =
       let s : PathStep = record { instance = i; place = j } in
@@ -102,7 +102,7 @@ module _ (blocks : List Block) (all : List Scene) where
       let one = port_trees_counted k (s ∷ p) (block_of blocks i) i.links m in
       let rest = of_instances_counted k p m (j + 1) is in
       let a = length-append here (of_instances (port_trees blocks all k) blocks p m (j + 1) is) in
-      let t = times_both m (driven_by_ports i.links 0 (block_of blocks i).ports) (driven_by_instances blocks is) in
+      let t = times_both m (targets_of_ports i.links 0 (block_of blocks i).ports) (targets_of_instances blocks is) in
       omega arith
 
   -- the sources of the one at a place
@@ -112,7 +112,7 @@ module _ (blocks : List Block) (all : List Scene) where
       (with_ports (of_instances (port_trees blocks all k) blocks p n 0 b.instances))
 
   sources_counted : (k : ℕ) (p : Path) (b : Block) (n : ℕ) → count_of (sources k p b n) ≤ source_count blocks b n
-  unfolding driven
+  unfolding source_targets
   sources_counted k p b n =
       let ds = driving n (before driver_count all p) (targets_of b.processes) in
       let ts = of_instances (port_trees blocks all k) blocks p n 0 b.instances in
@@ -120,7 +120,7 @@ module _ (blocks : List Block) (all : List Scene) where
       let d = driving_counted n (before driver_count all p) (targets_of b.processes) in
       let e = ports_counted ts in
       let i = of_instances_counted k p n 0 b.instances in
-      let t = times_both n (targets_of b.processes) (driven_by_instances blocks b.instances) in
+      let t = times_both n (targets_of b.processes) (targets_of_instances blocks b.instances) in
       omega arith
 
 -- ---- where the sources are as they may be

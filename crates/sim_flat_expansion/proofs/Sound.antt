@@ -91,27 +91,27 @@ object_nets_sound outer links (suc k) object_nets n o l h =
     (more.0, omega arith, omega arith)
 
 -- ---- flat sources
-abbrev pub Leafy : ℕ → FlatSources → Type 0
-Leafy d flat_sources = Each (λ (l : List Source). Each (IsSource d) l) flat_sources
+abbrev pub AreInRange : ℕ → FlatSources → Type 0
+AreInRange d flat_sources = Each (λ (l : List Source). Each (IsSource d) l) flat_sources
 
 source_more : (d e : ℕ) → d ≤ e → (s : Source) → IsSource d s → IsSource e s
 source_more d e le (source.Driver n) h = omega arith
 source_more d e le (source.Constant value) h = tt
 
-leafy_more : (d e : ℕ) (ls : FlatSources) → d ≤ e → Leafy d ls → Leafy e ls
-leafy_more d e ls le h =
+in_range_more : (d e : ℕ) (ls : FlatSources) → d ≤ e → AreInRange d ls → AreInRange e ls
+in_range_more d e ls le h =
     each_map (λ (l : List Source). Each (IsSource d) l) (λ (l : List Source). Each (IsSource e) l)
     (λ l k. each_map (IsSource d) (IsSource e) (source_more d e le) l k) ls h
 
-leafy_added : (d : ℕ) (ls : FlatSources) (m : ℕ) (more : List Source) → Leafy d ls → Each (IsSource d) more → Leafy d (added ls m more)
+in_range_added : (d : ℕ) (ls : FlatSources) (m : ℕ) (more : List Source) → AreInRange d ls → Each (IsSource d) more → AreInRange d (added ls m more)
 unfolding added
-leafy_added d [] m more h e = tt
-leafy_added d (l ∷ ls) zero more h e = (each_append (IsSource d) l more h.0 e, h.1)
-leafy_added d (l ∷ ls) (suc m) more h e = (h.0, leafy_added d ls m more h.1 e)
+in_range_added d [] m more h e = tt
+in_range_added d (l ∷ ls) zero more h e = (each_append (IsSource d) l more h.0 e, h.1)
+in_range_added d (l ∷ ls) (suc m) more h e = (h.0, in_range_added d ls m more h.1 e)
 
-leafy_none : (d k : ℕ) → Leafy d (replicate k [])
-leafy_none d zero = tt
-leafy_none d (suc k) = (tt, leafy_none d k)
+in_range_none : (d k : ℕ) → AreInRange d (replicate k [])
+in_range_none d zero = tt
+in_range_none d (suc k) = (tt, in_range_none d k)
 
 finished_sound : (d : ℕ) (v : Logic) (l : List Source) → Each (IsSource d) l → (finished v l ≢ []) × Each (IsSource d) (finished v l)
 finished_sound d v [] h = (λ e. cc, (tt, tt))
@@ -138,16 +138,16 @@ drivers_there : (n : ℕ) (object_nets : List ℕ) (b : Block) (q : ℕ) (ts : L
 drivers_there n object_nets b q [] h k = tt
 drivers_there n object_nets b q (t ∷ ts) h k = ((refl, each_there (λ (m : ℕ). m < n) object_nets t 0 h k.0), drivers_there n object_nets b q ts h k.1)
 
-targets_sound : (object_nets : List ℕ) (b : Block) (q : ℕ) (ts : List ℕ) (ls : FlatSources) (ds : List DriverOf) → Leafy (length ds) ls
-    → Leafy (length (targets_expanded object_nets b q ts ls ds).1) (targets_expanded object_nets b q ts ls ds).0
+targets_sound : (object_nets : List ℕ) (b : Block) (q : ℕ) (ts : List ℕ) (ls : FlatSources) (ds : List DriverOf) → AreInRange (length ds) ls
+    → AreInRange (length (targets_expanded object_nets b q ts ls ds).1) (targets_expanded object_nets b q ts ls ds).0
     × ((targets_expanded object_nets b q ts ls ds).1 ≡ ds ++ map (driver_of object_nets b q) ts)
 unfolding targets_expanded
 targets_sound object_nets b q [] ls ds h = (h, sym (append-nil ds))
 targets_sound object_nets b q (t ∷ ts) ls ds h =
     let d = driver_of object_nets b q t in
     let one : length ds < length (ds ++ d ∷ []) = simp length-append (omega arith) in
-    let all : Leafy (length (ds ++ d ∷ [])) (added ls t (source.Driver (length ds) ∷ [])) =
-    leafy_added (length (ds ++ d ∷ [])) ls t (source.Driver (length ds) ∷ []) (leafy_more (length ds) (length (ds ++ d ∷ [])) ls (omega arith) h)
+    let all : AreInRange (length (ds ++ d ∷ [])) (added ls t (source.Driver (length ds) ∷ [])) =
+    in_range_added (length (ds ++ d ∷ [])) ls t (source.Driver (length ds) ∷ []) (in_range_more (length ds) (length (ds ++ d ∷ [])) ls (omega arith) h)
     (one, tt) in
     let more = targets_sound object_nets b q ts (added ls t (source.Driver (length ds) ∷ [])) (ds ++ d ∷ []) all in
     (more.0, more.1 ∙ simp append_assoc)
@@ -216,19 +216,19 @@ process_placed n object_nets first t h k = record {
 
 pub record AfterProcesses (object_nets : List ℕ) (b : Block) (f : Sketch) (x : FlatSources × Sketch) : Type 0 where
   pub fine : Fine f.nets x.1
-  pub leafy : Leafy (length x.1.drivers) x.0
+  pub in_range : AreInRange (length x.1.drivers) x.0
   pub nets : x.1.nets ≡ f.nets
   pub drivers : length f.drivers ≤ length x.1.drivers
 
 processes_sound : (object_nets : List ℕ) (b : Block) (ts : List BlockProcess) (ls : FlatSources) (f : Sketch) → Below f.nets object_nets
     → length object_nets ≡ size b
-    → Each (IsBlockProcess b) ts → Fine f.nets f → Leafy (length f.drivers) ls → AfterProcesses object_nets b f (processes_expanded object_nets b ts ls f)
+    → Each (IsBlockProcess b) ts → Fine f.nets f → AreInRange (length f.drivers) ls → AfterProcesses object_nets b f (processes_expanded object_nets b ts ls f)
 unfolding processes_expanded
-processes_sound object_nets b [] ls f h len each fine leafy = record { fine = fine; leafy = leafy; nets = refl; drivers = omega arith }
-processes_sound object_nets b (t ∷ ts) ls f h len each fine leafy =
+processes_sound object_nets b [] ls f h len each fine in_range = record { fine = fine; in_range = in_range; nets = refl; drivers = omega arith }
+processes_sound object_nets b (t ∷ ts) ls f h len each fine in_range =
     let q = length f.processes in
     let x = targets_expanded object_nets b q t.targets ls f.drivers in
-    let s = targets_sound object_nets b q t.targets ls f.drivers leafy in
+    let s = targets_sound object_nets b q t.targets ls f.drivers in_range in
     let new = map (driver_of object_nets b q) t.targets in
     let p = process_of object_nets (length f.drivers) t in
     let g : Sketch = record { nets = f.nets; processes = f.processes ++ p ∷ []; drivers = x.1 } in
@@ -246,10 +246,10 @@ processes_sound object_nets b (t ∷ ts) ls f h len each fine leafy =
     } in
     let longer : length x.1 ≡ length f.drivers + length new = ap (λ (ds : List DriverOf). length ds) s.1 ∙ length-append f.drivers new in
     let more = processes_sound object_nets b ts x.0 g h len each.1 good s.0 in
-    record { fine = more.fine; leafy = more.leafy; nets = more.nets; drivers = (let k = more.drivers in omega arith) }
+    record { fine = more.fine; in_range = more.in_range; nets = more.nets; drivers = (let k = more.drivers in omega arith) }
 
 -- ---- nets
-leaves_sound : (d : ℕ) (link : Link) (o : Object) (own : FlatSources) (n : ℕ) → Leafy d own
+leaves_sound : (d : ℕ) (link : Link) (o : Object) (own : FlatSources) (n : ℕ) → AreInRange d own
     → (flat_sources_at link o own n ≢ []) × Each (IsSource d) (flat_sources_at link o own n)
 leaves_sound d link o own n h =
     finished_sound d (constant_at link o.default) (slice_index_or own n []) (each_at (λ (l : List Source). Each (IsSource d) l) own n [] h tt)
@@ -258,10 +258,10 @@ net_sound : (d : ℕ) (name : List ℕ) (l : List Source) → (l ≢ []) × Each
 net_sound d name l h = (h.0, all_of (IsSource d) l h.1)
 
 object_expanded_sound : (d : ℕ) (prefix : List ℕ) (link : Link) (drives : Bool) (o : Object) (l : List Source) (nets : List Net) (outer : FlatSources)
-    → (l ≢ []) × Each (IsSource d) l → Each (IsNet d) nets → Leafy d outer
-    → Each (IsNet d) (object_expanded prefix link drives o l nets outer).0 × Leafy d (object_expanded prefix link drives o l nets outer).1
+    → (l ≢ []) × Each (IsSource d) l → Each (IsNet d) nets → AreInRange d outer
+    → Each (IsNet d) (object_expanded prefix link drives o l nets outer).0 × AreInRange d (object_expanded prefix link drives o l nets outer).1
     × (length (object_expanded prefix link drives o l nets outer).0 ≡ length nets + own link)
-object_expanded_sound d prefix (To m) true o l nets outer s h k = (h, leafy_added d outer m l k s.1, omega arith)
+object_expanded_sound d prefix (To m) true o l nets outer s h k = (h, in_range_added d outer m l k s.1, omega arith)
 object_expanded_sound d prefix (To m) false o l nets outer s h k = (h, k, omega arith)
 object_expanded_sound d prefix (Constant value) drives o l nets outer s h k = (
   each_append (IsNet d) nets (record { name = prefix ++ o.name.text; sources = l } ∷ []) h (
@@ -283,8 +283,8 @@ object_expanded_sound d prefix Open drives o l nets outer s h k = (
 )
 
 ports_sound : (d : ℕ) (prefix : List ℕ) (links : List Link) (mine : FlatSources) (n : ℕ) (ps : List Port) (nets : List Net) (outer : FlatSources)
-    → Leafy d mine → Each (IsNet d) nets → Leafy d outer
-    → Each (IsNet d) (ports_expanded prefix links mine n ps nets outer).0 × Leafy d (ports_expanded prefix links mine n ps nets outer).1
+    → AreInRange d mine → Each (IsNet d) nets → AreInRange d outer
+    → Each (IsNet d) (ports_expanded prefix links mine n ps nets outer).0 × AreInRange d (ports_expanded prefix links mine n ps nets outer).1
     × (length (ports_expanded prefix links mine n ps nets outer).0 ≡ length nets + fresh links n (length ps))
 unfolding ports_expanded fresh
 ports_sound d prefix links mine n [] nets outer m h k = (h, k, omega arith)
@@ -296,7 +296,7 @@ ports_sound d prefix links mine n (p ∷ ps) nets outer m h k =
     let more = ports_sound d prefix links mine (n + 1) ps x.0 x.1 m s.0 s.1 in
     (more.0, more.1, (let a = s.2 in let b = more.2 in omega arith))
 
-signals_sound : (d : ℕ) (prefix : List ℕ) (mine : FlatSources) (n : ℕ) (os : List Object) (nets : List Net) → Leafy d mine → Each (IsNet d) nets
+signals_sound : (d : ℕ) (prefix : List ℕ) (mine : FlatSources) (n : ℕ) (os : List Object) (nets : List Net) → AreInRange d mine → Each (IsNet d) nets
     → Each (IsNet d) (signals_expanded prefix mine n os nets) × (length (signals_expanded prefix mine n os nets) ≡ length nets + length os)
 unfolding signals_expanded
 signals_sound d prefix mine n [] nets m h = (h, omega arith)
@@ -341,7 +341,7 @@ net_more d e le x h = (h.0, λ i s lt. source_more d e le (get_or x.sources i s)
 -- what a part of the walk makes, where this many of its nets were counted before it
 pub record After (count : ℕ) (f : Sketch) (x : List Net × FlatSources × Sketch) : Type 0 where
   pub fine : Fine x.2.nets x.2
-  pub leafy : Leafy (length x.2.drivers) x.1
+  pub in_range : AreInRange (length x.2.drivers) x.1
   pub nets : Each (IsNet (length x.2.drivers)) x.0
   pub total : f.nets + length x.0 ≡ x.2.nets + count
   pub rises : f.nets ≤ x.2.nets
@@ -351,32 +351,32 @@ module _ (blocks : List Block) (known : All (IsBlock blocks) blocks) where
   abbrev SoundWalk : Walk → Type 0
   SoundWalk one = (prefix : List ℕ) (links : List Link) (outer : List ℕ) (b : Block) (around : FlatSources) (f : Sketch)
       → IsBlock blocks b → length links ≤ length b.ports → Each (LeadsBelow (length outer)) links → Below f.nets outer
-      → Fine f.nets f → Leafy (length f.drivers) around → After 0 f (one prefix links outer b around f)
+      → Fine f.nets f → AreInRange (length f.drivers) around → After 0 f (one prefix links outer b around f)
 
   instances_sound : (one : Walk) → SoundWalk one → (object_nets prefix : List ℕ) (is : List Instance) (b : Block) (nets : List Net) (ls : FlatSources)
       (f : Sketch)
-      → Each (IsInstance blocks b) is → length object_nets ≡ size b → Below f.nets object_nets → Fine f.nets f → Leafy (length f.drivers) ls
+      → Each (IsInstance blocks b) is → length object_nets ≡ size b → Below f.nets object_nets → Fine f.nets f → AreInRange (length f.drivers) ls
       → Each (IsNet (length f.drivers)) nets → After (length nets) f (instances_expanded one blocks object_nets prefix is nets ls f)
   unfolding instances_expanded
-  instances_sound one sound object_nets prefix [] b nets ls f each len h fine leafy n =
-      record { fine = fine; leafy = leafy; nets = n; total = refl; rises = omega arith; drivers = omega arith }
-  instances_sound one sound object_nets prefix (i ∷ is) b nets ls f each len h fine leafy n =
+  instances_sound one sound object_nets prefix [] b nets ls f each len h fine in_range n =
+      record { fine = fine; in_range = in_range; nets = n; total = refl; rises = omega arith; drivers = omega arith }
+  instances_sound one sound object_nets prefix (i ∷ is) b nets ls f each len h fine in_range n =
       let inner = block_of blocks i in
       let lt : i.block < length blocks = each.0.known in
       let x = one (below prefix i.label.text) i.links object_nets inner ls f in
       let leads : Each (LeadsBelow (length object_nets)) i.links =
       subst (λ (k : ℕ). Each (LeadsBelow k) i.links) (sym len) (each_of (LeadsBelow (size b)) i.links each.0.leads) in
       let a = sound (below prefix i.label.text) i.links object_nets inner ls f (known i.block no_block lt)
-      (let e = each.0.links in omega arith) leads h fine leafy in
+      (let e = each.0.links in omega arith) leads h fine in_range in
       let all : Each (IsNet (length x.2.drivers)) (nets ++ x.0) =
       each_append (IsNet (length x.2.drivers)) nets x.0
       (each_map (IsNet (length f.drivers)) (IsNet (length x.2.drivers)) (net_more (length f.drivers) (length x.2.drivers) a.drivers) nets n) a.nets in
       let more = instances_sound one sound object_nets prefix is b (nets ++ x.0) x.1 x.2 each.1 len
-      (below_more f.nets x.2.nets object_nets a.rises h) a.fine a.leafy all in
+      (below_more f.nets x.2.nets object_nets a.rises h) a.fine a.in_range all in
       let longer : length (nets ++ x.0) ≡ length nets + length x.0 = length-append nets x.0 in
       record {
         fine = more.fine;
-        leafy = more.leafy;
+        in_range = more.in_range;
         nets = more.nets;
         total = (let p = more.total in let q = a.total in omega arith);
         rises = (let p = more.rises in let q = a.rises in omega arith);
@@ -384,28 +384,29 @@ module _ (blocks : List Block) (known : All (IsBlock blocks) blocks) where
       }
 
   inside_sound : (one : Walk) → SoundWalk one → (prefix : List ℕ) (links : List Link) (object_nets : List ℕ) (b : Block) (around : FlatSources) (f : Sketch)
-      → IsBlock blocks b → length object_nets ≡ size b → Below f.nets object_nets → Fine f.nets f → Leafy (length f.drivers) around
+      → IsBlock blocks b → length object_nets ≡ size b → Below f.nets object_nets → Fine f.nets f → AreInRange (length f.drivers) around
       → After (fresh links 0 (length b.ports) + length b.signals) f (inside_expanded one blocks prefix links object_nets b around f)
   unfolding inside_expanded
-  inside_sound one sound prefix links object_nets b around f is len h fine leafy =
+  inside_sound one sound prefix links object_nets b around f is len h fine in_range =
       let none = replicate (size b) [] in
       let p = processes_expanded object_nets b b.processes none f in
-      let a = processes_sound object_nets b b.processes none f h len (each_of (IsBlockProcess b) b.processes is.processes) fine (leafy_none (length f.drivers)
+      let a = processes_sound object_nets b b.processes none f h len (each_of (IsBlockProcess b) b.processes is.processes) fine
+        (in_range_none (length f.drivers)
       (size b)) in
       let same : f.nets ≡ p.1.nets = sym a.nets in
       let x = instances_expanded one blocks object_nets prefix b.instances [] p.0 p.1 in
       let c = instances_sound one sound object_nets prefix b.instances b [] p.0 p.1 (each_of (IsInstance blocks b) b.instances is.instances) len
-      (subst (λ (k : ℕ). Below k object_nets) same h) (subst (λ (k : ℕ). Fine k p.1) same a.fine) a.leafy tt in
+      (subst (λ (k : ℕ). Below k object_nets) same h) (subst (λ (k : ℕ). Fine k p.1) same a.fine) a.in_range tt in
       let d = length x.2.drivers in
       let le : length f.drivers ≤ d = (let u = a.drivers in let v = c.drivers in omega arith) in
-      let s = ports_sound d prefix links x.1 0 b.ports [] around c.leafy tt (leafy_more (length f.drivers) d around le leafy) in
+      let s = ports_sound d prefix links x.1 0 b.ports [] around c.in_range tt (in_range_more (length f.drivers) d around le in_range) in
       let mine = ports_expanded prefix links x.1 0 b.ports [] around in
-      let t = signals_sound d prefix x.1 (length b.ports) b.signals mine.0 c.leafy s.0 in
+      let t = signals_sound d prefix x.1 (length b.ports) b.signals mine.0 c.in_range s.0 in
       let nets = signals_expanded prefix x.1 (length b.ports) b.signals mine.0 in
       let longer : length (nets ++ x.0) ≡ length nets + length x.0 = length-append nets x.0 in
       record {
         fine = c.fine;
-        leafy = s.1;
+        in_range = s.1;
         nets = each_append (IsNet d) nets x.0 t.0 c.nets;
         total = (let u = c.total in let v = s.2 in let w = t.1 in omega arith);
         rises = (let u = c.rises in omega arith);
@@ -414,9 +415,9 @@ module _ (blocks : List Block) (known : All (IsBlock blocks) blocks) where
 
   pub block_expanded_sound : (k : ℕ) → SoundWalk (block_expanded blocks k)
   unfolding block_expanded block_object_nets
-  block_expanded_sound zero prefix links outer b around f is ll leads h fine leafy =
-      record { fine = fine; leafy = leafy; nets = tt; total = refl; rises = omega arith; drivers = omega arith }
-  block_expanded_sound (suc k) prefix links outer b around f is ll leads h fine leafy =
+  block_expanded_sound zero prefix links outer b around f is ll leads h fine in_range =
+      record { fine = fine; in_range = in_range; nets = tt; total = refl; rises = omega arith; drivers = omega arith }
+  block_expanded_sound (suc k) prefix links outer b around f is ll leads h fine in_range =
       let x = object_nets_expanded outer links (size b) [] f.nets in
       let s = object_nets_sound outer links (size b) [] f.nets (λ m le. below_more f.nets m outer le h) leads tt in
       let g : Sketch = record { nets = x.1; processes = f.processes; drivers = f.drivers } in
@@ -424,14 +425,14 @@ module _ (blocks : List Block) (known : All (IsBlock blocks) blocks) where
       let len : length x.0 ≡ size b = (let e = s.2 in omega arith) in
       let up = fine_more f.nets x.1 f le fine in
       let good : Fine x.1 g = record { placed = up.placed; owned = up.owned } in
-      let a = inside_sound (block_expanded blocks k) (block_expanded_sound k) prefix links x.0 b around g is len s.0 good leafy in
+      let a = inside_sound (block_expanded blocks k) (block_expanded_sound k) prefix links x.0 b around g is len s.0 good in_range in
       let both : fresh links 0 (size b) ≡ fresh links 0 (length b.ports) + fresh links (0 + length b.ports) (length b.signals) = fresh_both links 0
       (length b.ports) (length b.signals) in
       let past : fresh links (0 + length b.ports) (length b.signals) ≡ length b.signals = fresh_past links (0 + length b.ports) (length b.signals)
       (omega arith) in
       record {
         fine = a.fine;
-        leafy = a.leafy;
+        in_range = a.in_range;
         nets = a.nets;
         total = (let u = a.total in let e = s.1 in omega arith);
         rises = (let u = a.rises in omega arith);

@@ -8,7 +8,7 @@ use Rattle.sim_flat_blocks.specs.declared.parts.Port.{Port}
 use Rattle.sim_flat_blocks.specs.declared.parts.Block.{Block}
 use Rattle.sim_flat_blocks.specs.Blocks.{objects, size, targets_of}
 use Rattle.sim_flat_graph.specs.Least.{least_of}
-use Rattle.sim_flat_graph.specs.Sources.{noted, all_noted, times, driven, driven_by_instances, source_count, places_of, declared_place}
+use Rattle.sim_flat_graph.specs.Sources.{noted, all_noted, times, source_targets, targets_of_instances, source_count, places_of, declared_place}
 use Rattle.sim_flat_graph.proofs.Noted.{noted_both, least_both}
 
 pub noted_length : (counts : List ℕ) (p : ℕ) → length (noted counts p) ≡ length counts
@@ -44,23 +44,23 @@ all_noted_at counts (p ∷ ps) n x lt h = by_bit (p == n) refl (λ y. all_noted_
     by_bit false t on = on x (noted_other counts p n t ∙ h)
 
 pub counted : (blocks : List Block) (b : Block) (first drivers counts : List ℕ) → length first ≡ size b → ((n : ℕ) → get_or first n 0 ≡ 0)
-    → drivers ≡ all_noted first (targets_of b.processes) → counts ≡ all_noted drivers (driven_by_instances blocks b.instances)
+    → drivers ≡ all_noted first (targets_of b.processes) → counts ≡ all_noted drivers (targets_of_instances blocks b.instances)
     → (n : ℕ) → n < size b → get_or counts n 0 ≡ min 2 (source_count blocks b n)
-unfolding driven
+unfolding source_targets
 counted blocks b first drivers counts same none of_drivers of_instances n lt =
-    let all : counts ≡ all_noted first (driven blocks b) =
-    of_instances ∙ (ap (λ (c : List ℕ). all_noted c (driven_by_instances blocks b.instances)) of_drivers
-    ∙ sym (noted_both first (targets_of b.processes) (driven_by_instances blocks b.instances))) in
+    let all : counts ≡ all_noted first (source_targets blocks b) =
+    of_instances ∙ (ap (λ (c : List ℕ). all_noted c (targets_of_instances blocks b.instances)) of_drivers
+    ∙ sym (noted_both first (targets_of b.processes) (targets_of_instances blocks b.instances))) in
     let zero_at : get_or first n 0 ≡ min 2 0 = none n ∙ (let e : 0 ≡ min 2 0 = omega arith in e) in
     ap (λ (c : List ℕ). get_or c n 0) all
-    ∙ (all_noted_at first (driven blocks b) n 0 (omega arith) zero_at
-    ∙ (let e : min 2 (times n (driven blocks b) + 0) ≡ min 2 (times n (driven blocks b)) = omega arith in e))
+    ∙ (all_noted_at first (source_targets blocks b) n 0 (omega arith) zero_at
+    ∙ (let e : min 2 (times n (source_targets blocks b) + 0) ≡ min 2 (times n (source_targets blocks b)) = omega arith in e))
 
 pub counted_length : (blocks : List Block) (b : Block) (first drivers counts : List ℕ) → length first ≡ size b
-    → drivers ≡ all_noted first (targets_of b.processes) → counts ≡ all_noted drivers (driven_by_instances blocks b.instances) → length counts ≡ size b
+    → drivers ≡ all_noted first (targets_of b.processes) → counts ≡ all_noted drivers (targets_of_instances blocks b.instances) → length counts ≡ size b
 counted_length blocks b first drivers counts same of_drivers of_instances =
     ap (λ (c : List ℕ). length c) of_instances
-    ∙ (all_noted_length drivers (driven_by_instances blocks b.instances)
+    ∙ (all_noted_length drivers (targets_of_instances blocks b.instances)
     ∙ (ap (λ (c : List ℕ). length c) of_drivers ∙ (all_noted_length first (targets_of b.processes) ∙ same)))
 
 -- ---- ports, then signals

@@ -6,7 +6,7 @@ use Rattle.sim_flat_blocks.specs.declared.parts.Instance.{Instance}
 use Rattle.sim_flat_blocks.specs.declared.parts.Block.{Block}
 use Rattle.sim_flat_blocks.specs.Blocks.{block_of, targets_of}
 use Rattle.sim_flat_graph.specs.Least.{lesser, least_of}
-use Rattle.sim_flat_graph.specs.Sources.{noted, all_noted, driven_by_ports, driven_by_instances}
+use Rattle.sim_flat_graph.specs.Sources.{noted, all_noted, targets_of_ports, targets_of_instances}
 
 pub noted_both : (counts xs ys : List ℕ) → all_noted counts (xs ++ ys) ≡ all_noted (all_noted counts xs) ys
 unfolding all_noted
@@ -35,6 +35,6 @@ unfolding targets_of
 targets_open t ts = refl
 
 pub instances_open : (blocks : List Block) (i : Instance) (is : List Instance)
-    → driven_by_instances blocks (i ∷ is) ≡ driven_by_ports i.links 0 (block_of blocks i).ports ++ driven_by_instances blocks is
-unfolding driven_by_instances
+    → targets_of_instances blocks (i ∷ is) ≡ targets_of_ports i.links 0 (block_of blocks i).ports ++ targets_of_instances blocks is
+unfolding targets_of_instances
 instances_open blocks i is = refl

@@ -12,23 +12,23 @@ use Rattle.sim_flat_graph.specs.Graph.{graph_of, block_at, Reaches}
 use Rattle.sim_flat_graph.specs.Least.{least_of}
 
 -- the port or signal of which a port is a source, where there is one
-abbrev pub driven_by : Port → Link → List ℕ
-driven_by p (To n) = if p.drives then n ∷ [] else []
-driven_by p (Constant value) = []
-driven_by p Open = []
+abbrev pub target_of_port : Port → Link → List ℕ
+target_of_port p (To n) = if p.drives then n ∷ [] else []
+target_of_port p (Constant value) = []
+target_of_port p Open = []
 
 -- those of which ports from a place on are sources
-unfoldable pub driven_by_ports : List Link → ℕ → List Port → List ℕ
-driven_by_ports links at [] = []
-driven_by_ports links at (p ∷ ps) = driven_by p (link_at links at) ++ driven_by_ports links (at + 1) ps
+unfoldable pub targets_of_ports : List Link → ℕ → List Port → List ℕ
+targets_of_ports links at [] = []
+targets_of_ports links at (p ∷ ps) = target_of_port p (link_at links at) ++ targets_of_ports links (at + 1) ps
 
-unfoldable pub driven_by_instances : List Block → List Instance → List ℕ
-driven_by_instances blocks [] = []
-driven_by_instances blocks (i ∷ is) = driven_by_ports i.links 0 (block_of blocks i).ports ++ driven_by_instances blocks is
+unfoldable pub targets_of_instances : List Block → List Instance → List ℕ
+targets_of_instances blocks [] = []
+targets_of_instances blocks (i ∷ is) = targets_of_ports i.links 0 (block_of blocks i).ports ++ targets_of_instances blocks is
 
 -- the port or signal of each source in a block, by place: of each driver, and then of each port of an instance that is one
-unfoldable pub driven : List Block → Block → List ℕ
-driven blocks b = targets_of b.processes ++ driven_by_instances blocks b.instances
+unfoldable pub source_targets : List Block → Block → List ℕ
+source_targets blocks b = targets_of b.processes ++ targets_of_instances blocks b.instances
 
 -- how often a number is in a list
 unfoldable pub times : ℕ → List ℕ → ℕ
@@ -37,7 +37,7 @@ times n (m ∷ ms) = if m == n then 1 + times n ms else times n ms
 
 -- how many sources the port or signal at a place has
 abbrev pub source_count : List Block → Block → ℕ → ℕ
-source_count blocks b place = times place (driven blocks b)
+source_count blocks b place = times place (source_targets blocks b)
 
 -- A port or signal of a block that the top reaches has more than one source and is not resolved. It is declared here.
 pub record HasManySources (blocks : List Block) (top at : ℕ) : Type 0 where

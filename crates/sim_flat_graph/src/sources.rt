@@ -61,7 +61,7 @@ fn note_drivers(counts: &mut Vec<usize>, processes: &[BlockProcess])
 /// Notes a port, if it is a source of what it is associated with.
 #[tactic(auto, unfolding(crate::specs::Sources::all_noted))]
 fn note_port(counts: &mut Vec<usize>, port: &Port, link: Link)
-    ensures { counts.new.items ≡ spec.all_noted counts.old.items (spec.driven_by port.now link) }
+    ensures { counts.new.items ≡ spec.all_noted counts.old.items (spec.target_of_port port.now link) }
 {
     match link {
         Link::To(place) => {
@@ -74,9 +74,9 @@ fn note_port(counts: &mut Vec<usize>, port: &Port, link: Link)
 }
 
 /// Notes the ports of an instance.
-#[tactic(auto, using(crate::proofs::Noted::noted_both), unfolding(crate::specs::Sources::all_noted, crate::specs::Sources::driven_by_ports))]
+#[tactic(auto, using(crate::proofs::Noted::noted_both), unfolding(crate::specs::Sources::all_noted, crate::specs::Sources::targets_of_ports))]
 fn note_ports(counts: &mut Vec<usize>, links: &Links, ports: &[Port])
-    ensures { counts.new.items ≡ spec.all_noted counts.old.items (spec.driven_by_ports links.now 0 ports.now) }
+    ensures { counts.new.items ≡ spec.all_noted counts.old.items (spec.targets_of_ports links.now 0 ports.now) }
 {
     for (at, port) in ports.iter().enumerate() {
         note_port(counts, port, links.get(at));
@@ -84,9 +84,9 @@ fn note_ports(counts: &mut Vec<usize>, links: &Links, ports: &[Port])
 }
 
 /// Notes the ports of an instance, whose block is one of these.
-#[tactic(auto, unfolding(crate::specs::Sources::all_noted, crate::specs::Sources::driven_by_ports))]
+#[tactic(auto, unfolding(crate::specs::Sources::all_noted, crate::specs::Sources::targets_of_ports))]
 fn note_instance(counts: &mut Vec<usize>, blocks: &[Block], instance: &Instance)
-    ensures { counts.new.items ≡ spec.all_noted counts.old.items (spec.driven_by_ports instance.now.links 0 (block_of blocks.now instance.now).ports) }
+    ensures { counts.new.items ≡ spec.all_noted counts.old.items (spec.targets_of_ports instance.now.links 0 (block_of blocks.now instance.now).ports) }
 {
     if let Some(block) = blocks.get(instance.block) {
         note_ports(counts, &instance.links, block.ports.as_slice());
@@ -94,9 +94,9 @@ fn note_instance(counts: &mut Vec<usize>, blocks: &[Block], instance: &Instance)
 }
 
 /// Notes the ports of instances.
-#[tactic(auto, using(crate::proofs::Noted::noted_both), unfolding(crate::specs::Sources::all_noted, crate::specs::Sources::driven_by_instances))]
+#[tactic(auto, using(crate::proofs::Noted::noted_both), unfolding(crate::specs::Sources::all_noted, crate::specs::Sources::targets_of_instances))]
 fn note_instances(counts: &mut Vec<usize>, blocks: &[Block], instances: &[Instance])
-    ensures { counts.new.items ≡ spec.all_noted counts.old.items (spec.driven_by_instances blocks.now instances.now) }
+    ensures { counts.new.items ≡ spec.all_noted counts.old.items (spec.targets_of_instances blocks.now instances.now) }
 {
     for instance in instances {
         note_instance(counts, blocks, instance);

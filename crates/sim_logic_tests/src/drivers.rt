@@ -21,7 +21,7 @@ fn pulse_rejected_by(alloc: Global, reject: u64) -> Result<Driver, AllocError>
     Ok(driver)
 }
 
-fn flat_sources(alloc: Global, reject: u64, wanted: &[Transaction]) -> Result<bool, AllocError>
+fn keeps(alloc: Global, reject: u64, wanted: &[Transaction]) -> Result<bool, AllocError>
     requires { reject ≤ 5 }
 {
     let driver = pulse_rejected_by(alloc, reject)?;
@@ -39,9 +39,9 @@ fn leave_the_same(alloc: Global, first: u64, second: u64) -> Result<bool, AllocE
 
 #[test]
 fn the_rejection_limit_decides_what_is_kept(rt: HostRuntime) -> Result<(), Fail> {
-    assert!(rt; flat_sources(rt.alloc(), 1, &[(2, One), (3, Zero), (5, One)])?);
-    assert!(rt; flat_sources(rt.alloc(), 2, &[(2, One), (5, One)])?);
-    assert!(rt; flat_sources(rt.alloc(), 3, &[(5, One)])?);
+    assert!(rt; keeps(rt.alloc(), 1, &[(2, One), (3, Zero), (5, One)])?);
+    assert!(rt; keeps(rt.alloc(), 2, &[(2, One), (5, One)])?);
+    assert!(rt; keeps(rt.alloc(), 3, &[(5, One)])?);
     Ok(())
 }
 

@@ -80,18 +80,18 @@ abbrev has_event : List NetView → ℕ → Bool
 has_event nets n = (net_at nets n).event
 
 -- a net with an event to which a process is sensitive
-record Waker (nets : List NetView) (sensitive : List (List ℕ)) (p : ℕ) : Type 0 where
+record SensitiveNet (nets : List NetView) (sensitive : List (List ℕ)) (p : ℕ) : Type 0 where
   net : ℕ
   there : net < length sensitive
   event : has_event nets net ≡ true
   sensitive_it : is_among (get_or sensitive net []) p ≡ true
 
-woken-waker : (nets : List NetView) (sensitive : List (List ℕ)) (p : ℕ) → is_sensitive nets sensitive p ≡ true → Waker nets sensitive p
-woken-waker [] sensitive p e = absurd cc
-woken-waker (v ∷ nets) [] p e = absurd cc
-woken-waker (v ∷ nets) (ps ∷ sensitive) p e = elim (or_true (v.event && is_among ps p) (is_sensitive nets sensitive p) e) [
+sensitive_net : (nets : List NetView) (sensitive : List (List ℕ)) (p : ℕ) → is_sensitive nets sensitive p ≡ true → SensitiveNet nets sensitive p
+sensitive_net [] sensitive p e = absurd cc
+sensitive_net (v ∷ nets) [] p e = absurd cc
+sensitive_net (v ∷ nets) (ps ∷ sensitive) p e = elim (or_true (v.event && is_among ps p) (is_sensitive nets sensitive p) e) [
   | inl h ↦ record { net = 0; there = omega arith; event = and_left v.event (is_among ps p) h; sensitive_it = and_right v.event (is_among ps p) h }
-  | inr h ↦ (let w = woken-waker nets sensitive p h in record {
+  | inr h ↦ (let w = sensitive_net nets sensitive p h in record {
     net = suc w.net;
     there = omega (
       arith,
@@ -102,12 +102,13 @@ woken-waker (v ∷ nets) (ps ∷ sensitive) p e = elim (or_true (v.event && is_a
   })
 ]
 
-waker-woken : (nets : List NetView) (sensitive : List (List ℕ)) (p n : ℕ) → has_event nets n ≡ true → is_among (get_or sensitive n []) p ≡ true
+net_resumes : (nets : List NetView) (sensitive : List (List ℕ)) (p n : ℕ) → has_event nets n ≡ true → is_among (get_or sensitive n []) p ≡ true
     → is_sensitive nets sensitive p ≡ true
-waker-woken [] sensitive p n e f = e
-waker-woken (v ∷ nets) [] p n e f = f
-waker-woken (v ∷ nets) (ps ∷ sensitive) p zero e f = or_left (v.event && is_among ps p) (is_sensitive nets sensitive p) (both_true v.event (is_among ps p) e f)
-waker-woken (v ∷ nets) (ps ∷ sensitive) p (suc n) e f = or_right (v.event && is_among ps p) (is_sensitive nets sensitive p) (waker-woken nets sensitive p n e f)
+net_resumes [] sensitive p n e f = e
+net_resumes (v ∷ nets) [] p n e f = f
+net_resumes (v ∷ nets) (ps ∷ sensitive) p zero e f = or_left (v.event && is_among ps p) (is_sensitive nets sensitive p) (both_true v.event (is_among ps p) e f)
+net_resumes (v ∷ nets) (ps ∷ sensitive) p (suc n) e f =
+    or_right (v.event && is_among ps p) (is_sensitive nets sensitive p) (net_resumes nets sensitive p n e f)
 
 -- a net of a list with an event
 record Changed (nets : List NetView) (ns : List ℕ) : Type 0 where
@@ -137,15 +138,15 @@ event-there [] n e = absurd cc
 event-there (v ∷ nets) zero e = omega arith
 event-there (v ∷ nets) (suc n) e = let h = event-there nets n e in omega (arith, h)
 
-pub woken-event : (nets : List NetView) (sensitive : List (List ℕ)) (processes : List Process) (p : ℕ) → length sensitive ≡ length nets
+pub sensitive-event : (nets : List NetView) (sensitive : List (List ℕ)) (processes : List Process) (p : ℕ) → length sensitive ≡ length nets
     → AreSensitive processes sensitive
     → is_sensitive nets sensitive p ≡ has_event_in nets (process_at processes p).sensitivity
-woken-event nets sensitive processes p same w = same_bools _ _
-    (λ e. let k = woken-waker nets sensitive p e in changed-event nets (process_at processes p).sensitivity k.net (sym (w k.net p k.there)
+sensitive-event nets sensitive processes p same w = same_bools _ _
+    (λ e. let k = sensitive_net nets sensitive p e in changed-event nets (process_at processes p).sensitivity k.net (sym (w k.net p k.there)
     ∙ k.sensitive_it) k.event)
     (λ e. let k = event-changed nets (process_at processes p).sensitivity e in
     let there : k.net < length sensitive = omega (arith, same, event-there nets k.net k.event) in
-    waker-woken nets sensitive p k.net k.event (w k.net p there ∙ k.among))
+    net_resumes nets sensitive p k.net k.event (w k.net p there ∙ k.among))
 
 -- ---- resuming
 

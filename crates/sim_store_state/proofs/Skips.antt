@@ -34,35 +34,35 @@ quiet {values} {last_values} {touched} i l n other = elim (dec_lt n (length valu
 
 -- ---- who is sensitive to them
 
-woken-none : (nets : List NetView) (p : ℕ) → is_sensitive nets [] p ≡ false
-woken-none [] p = refl
-woken-none (v ∷ nets) p = refl
+sensitive-none : (nets : List NetView) (p : ℕ) → is_sensitive nets [] p ≡ false
+sensitive-none [] p = refl
+sensitive-none (v ∷ nets) p = refl
 
 -- up to the next net with an event
-pub woken-next : (nets : List NetView) (sensitive : List (List ℕ)) (from n p : ℕ) → from ≤ n → n < length nets → n < length sensitive
+pub sensitive-next : (nets : List NetView) (sensitive : List (List ℕ)) (from n p : ℕ) → from ≤ n → n < length nets → n < length sensitive
     → ((m : ℕ) → from ≤ m → m < n → (net_at nets m).event ≡ false)
     → is_sensitive (drop from nets) (drop from sensitive) p
     ≡ (((net_at nets n).event && is_among (get_or sensitive n []) p) || is_sensitive (drop (suc n) nets) (drop (suc n) sensitive) p)
-woken-next [] sensitive from n p le a b q = absurd (omega arith)
-woken-next (v ∷ nets) [] from n p le a b q = absurd (omega arith)
-woken-next (v ∷ nets) (ps ∷ sensitive) zero zero p le a b q = refl
-woken-next (v ∷ nets) (ps ∷ sensitive) zero (suc n) p le a b q =
+sensitive-next [] sensitive from n p le a b q = absurd (omega arith)
+sensitive-next (v ∷ nets) [] from n p le a b q = absurd (omega arith)
+sensitive-next (v ∷ nets) (ps ∷ sensitive) zero zero p le a b q = refl
+sensitive-next (v ∷ nets) (ps ∷ sensitive) zero (suc n) p le a b q =
     ap (λ e. (e && is_among ps p) || is_sensitive nets sensitive p) (q 0 (omega arith) (omega arith))
-    ∙ woken-next nets sensitive zero n p (omega arith) (omega arith) (omega arith) (λ m f g. q (suc m) (omega arith) (omega arith))
-woken-next (v ∷ nets) (ps ∷ sensitive) (suc from) zero p le a b q = absurd (omega arith)
-woken-next (v ∷ nets) (ps ∷ sensitive) (suc from) (suc n) p le a b q =
-    woken-next nets sensitive from n p (omega arith) (omega arith) (omega arith) (λ m f g. q (suc m) (omega arith) (omega arith))
+    ∙ sensitive-next nets sensitive zero n p (omega arith) (omega arith) (omega arith) (λ m f g. q (suc m) (omega arith) (omega arith))
+sensitive-next (v ∷ nets) (ps ∷ sensitive) (suc from) zero p le a b q = absurd (omega arith)
+sensitive-next (v ∷ nets) (ps ∷ sensitive) (suc from) (suc n) p le a b q =
+    sensitive-next nets sensitive from n p (omega arith) (omega arith) (omega arith) (λ m f g. q (suc m) (omega arith) (omega arith))
 
 -- none is left
-pub woken-rest : (nets : List NetView) (sensitive : List (List ℕ)) (from p : ℕ) → ((m : ℕ) → from ≤ m → (net_at nets m).event ≡ false)
+pub sensitive-rest : (nets : List NetView) (sensitive : List (List ℕ)) (from p : ℕ) → ((m : ℕ) → from ≤ m → (net_at nets m).event ≡ false)
     → is_sensitive (drop from nets) (drop from sensitive) p ≡ false
-woken-rest [] sensitive zero p q = refl
-woken-rest [] sensitive (suc from) p q = refl
-woken-rest (v ∷ nets) [] zero p q = refl
-woken-rest (v ∷ nets) [] (suc from) p q = woken-none (drop from nets) p
-woken-rest (v ∷ nets) (ps ∷ sensitive) zero p q =
-    ap (λ e. (e && is_among ps p) || is_sensitive nets sensitive p) (q 0 (omega arith)) ∙ woken-rest nets sensitive zero p (λ m f. q (suc m) (omega arith))
-woken-rest (v ∷ nets) (ps ∷ sensitive) (suc from) p q = woken-rest nets sensitive from p (λ m f. q (suc m) (omega arith))
+sensitive-rest [] sensitive zero p q = refl
+sensitive-rest [] sensitive (suc from) p q = refl
+sensitive-rest (v ∷ nets) [] zero p q = refl
+sensitive-rest (v ∷ nets) [] (suc from) p q = sensitive-none (drop from nets) p
+sensitive-rest (v ∷ nets) (ps ∷ sensitive) zero p q =
+    ap (λ e. (e && is_among ps p) || is_sensitive nets sensitive p) (q 0 (omega arith)) ∙ sensitive-rest nets sensitive zero p (λ m f. q (suc m) (omega arith))
+sensitive-rest (v ∷ nets) (ps ∷ sensitive) (suc from) p q = sensitive-rest nets sensitive from p (λ m f. q (suc m) (omega arith))
 
 -- ---- what is recorded of them
 
@@ -102,13 +102,14 @@ view-at : (values last_values : List Logic) (n : ℕ) → n < length values → 
 view-at values last_values n lt l = sym (view_here values last_values n U U lt (omega (arith, lt, l)))
 
 -- one net more, to which its processes are sensitive
-pub woken-step : {values last_values : List Logic} {touched : List Bool} {from n : ℕ} (sensitive : List (List ℕ)) (p : ℕ) (row : List ℕ) (now new total : Bool)
-    → AreTouched values last_values touched → length values ≡ length last_values → length sensitive ≡ length values → IsNext (is_in touched) from n
+pub sensitive-step : {values last_values : List Logic} {touched : List Bool} {from n : ℕ} (sensitive : List (List ℕ)) (p : ℕ) (row : List ℕ)
+    (now new total : Bool) → AreTouched values last_values touched → length values ≡ length last_values → length sensitive ≡ length values
+    → IsNext (is_in touched) from n
     → n < length values
     → row ≡ get_or sensitive n [] → new ≡ ((not (is_same (value_at last_values n) (value_at values n)) && is_among row p) || now)
     → (is_sensitive (drop from (views_of values last_values)) (drop from sensitive) p || now) ≡ total
     → (is_sensitive (drop (n + 1) (views_of values last_values)) (drop (n + 1) sensitive) p || new) ≡ total
-woken-step {values} {last_values} {touched} {from} {n} sensitive p row now new total i l lw next lt er en e =
+sensitive-step {values} {last_values} {touched} {from} {n} sensitive p row now new total i l lw next lt er en e =
     let views = views_of values last_values in
     let rest = is_sensitive (drop (suc n) views) (drop (suc n) sensitive) p in
     let many : n < length views = omega (arith, lt, length-views_of values last_values l) in
@@ -117,14 +118,14 @@ woken-step {values} {last_values} {touched} {from} {n} sensitive p row now new t
     ∙ ap (λ (v : NetView). (v.event && is_among (get_or sensitive n []) p) || now) (sym (view-at values last_values n lt l))) in
     ap (λ k. is_sensitive (drop k views) (drop k sensitive) p || new) (add-one n) ∙ (ap (λ b. rest || b) here
     ∙ (or-turn rest ((net_at views n).event && is_among (get_or sensitive n []) p) now
-    ∙ (ap (λ b. b || now) (sym (woken-next views sensitive from n p next.further many (omega (arith, lt, lw))
+    ∙ (ap (λ b. b || now) (sym (sensitive-next views sensitive from n p next.further many (omega (arith, lt, lw))
     (between values last_values touched from n i l next))) ∙ e)))
 
-pub woken-end : {values last_values : List Logic} {touched : List Bool} {from : ℕ} (sensitive : List (List ℕ)) (p : ℕ) (now total : Bool)
+pub sensitive-end : {values last_values : List Logic} {touched : List Bool} {from : ℕ} (sensitive : List (List ℕ)) (p : ℕ) (now total : Bool)
     → AreTouched values last_values touched → length values ≡ length last_values → NoneFrom (is_in touched) from
     → (is_sensitive (drop from (views_of values last_values)) (drop from sensitive) p || now) ≡ total → now ≡ total
-woken-end {values} {last_values} {touched} {from} sensitive p now total i l none e =
-    sym (ap (λ b. b || now) (woken-rest (views_of values last_values) sensitive from p (λ m le. quiet i l m (none m le)))) ∙ e
+sensitive-end {values} {last_values} {touched} {from} sensitive p now total i l none e =
+    sym (ap (λ b. b || now) (sensitive-rest (views_of values last_values) sensitive from p (λ m le. quiet i l m (none m le)))) ∙ e
 
 -- ---- and what is recorded of it
 

@@ -4,7 +4,7 @@ use Rattle.sim_store_sets.specs.Numbers.{is_in}
 use Rattle.sim_store_state.specs.Contents.{views_of}
 use Rattle.sim_store_state.specs.Sensitive.{is_sensitive}
 use Rattle.sim_store_state.proofs.Views.{length-views_of}
-use Rattle.sim_store_state.proofs.Sensitivity.{or_false, woken-event}
+use Rattle.sim_store_state.proofs.Sensitivity.{or_false, sensitive-event}
 use Rattle.sim_store_state.proofs.resumption.find_resumed.Goals as goal
 
 pub returns : goal.returns
@@ -24,5 +24,5 @@ returns c =
           let none : is_in c.clear.new.self p ≡ false =
           ap (λ d. is_in d p) c.clear.ensures ∙ get_or-replicate (length c.args.resumed.now) p false false lt in
           c.resume_sensitive.ensures.members p (omega (arith, lt, same)) ∙ (ap (λ b. is_sensitive views c.args.sensitive.now p || b) none
-          ∙ (or_false (is_sensitive views c.args.sensitive.now p) ∙ woken-event views c.args.sensitive.now processes p long w));
+          ∙ (or_false (is_sensitive views c.args.sensitive.now p) ∙ sensitive-event views c.args.sensitive.now processes p long w));
     }

@@ -2,7 +2,7 @@ use Rattle.std.proofs.Common.{refl, sym, arith, ◌∙◌, ◌||◌}
 use Rattle.sim_store_sets.specs.Numbers.{is_in}
 use Rattle.sim_store_state.specs.Contents.{views_of}
 use Rattle.sim_store_state.specs.Sensitive.{is_sensitive}
-use Rattle.sim_store_state.proofs.Skips.{woken-step, woken-end}
+use Rattle.sim_store_state.proofs.Skips.{sensitive-step, sensitive-end}
 use Rattle.sim_store_state.proofs.Walks.{member_within}
 use Rattle.sim_store_state.proofs.resumption.resume_sensitive.Goals as goal
 
@@ -30,7 +30,7 @@ loop-net-preserved c =
     record {
       sized = c.resume_at_event.ensures.sized ∙ c.loop-net.invariant.sized;
       within = omega (arith, within, c.requires.touched.sized);
-      members = λ p lt. woken-step c.args.sensitive.now p c.row.result.now (is_in c.loop-net.resumed p) (is_in c.resume_at_event.new.resumed p)
+      members = λ p lt. sensitive-step c.args.sensitive.now p c.row.result.now (is_in c.loop-net.resumed p) (is_in c.resume_at_event.new.resumed p)
           (is_sensitive views c.args.sensitive.now p || is_in c.args.resumed.now p)
           c.requires.touched (sym c.requires.last_values) c.requires.sensitive c.in-Some.ensures (omega (arith, within, c.requires.touched.sized)) c.row.ensures
           (c.resume_at_event.ensures.members p (omega (arith, lt, c.loop-net.invariant.sized))) (c.loop-net.invariant.members p lt);
@@ -39,7 +39,7 @@ loop-net-preserved c =
 pub returns : goal.returns
 returns c = record {
   sized = c.loop-net.invariant.sized;
-  members = λ p lt. woken-end c.args.sensitive.now p (is_in c.loop-net.resumed p)
+  members = λ p lt. sensitive-end c.args.sensitive.now p (is_in c.loop-net.resumed p)
       (is_sensitive (views_of c.args.values.now c.args.last_values.now) c.args.sensitive.now p ||
       is_in c.args.resumed.now p) c.requires.touched (sym c.requires.last_values) c.in_default.ensures (c.loop-net.invariant.members p lt);
 }
