@@ -1,7 +1,7 @@
 -- What a run answers once its store is finished: the history that is copied from it, or want of memory.
 use Rattle.std.proofs.Common.{◌≡◌, true, Result, Ok, Err, sym, subst, ◌∙◌}
 use Rattle.std.specs.Prelude.{IfOk, IfErr}
-use Rattle.sim_store.specs.Store.{Store}
+use Rattle.sim_store.specs.WaveStore.{WaveStore}
 use Rattle.sim_standard.specs.Behaviour.{Behaviour}
 use Rattle.sim_standard.specs.Histories.{History}
 use Rattle.sim_run_options.specs.declared.options.Options.{Options}
@@ -10,7 +10,7 @@ use Rattle.sim_run.specs.declared.error.RunError.{RunError}
 use Rattle.sim_run.specs.declared.error.RunError.TheVariants as refusal
 use Rattle.sim_run.specs.Run.{Finishes, IsAnswer, IsRunRefusal, history_of}
 
-pub answered : (design : Behaviour) (options : Options) (run : Store) (answer : Result History RunError)
+pub answered : (design : Behaviour) (options : Options) (run : WaveStore) (answer : Result History RunError)
     → are_in_range options.stop options.limit options.workers ≡ true → Finishes design options (history_of run)
     → IfOk answer (λ f. f.names ≡ (history_of run).names) → IfOk answer (λ f. f.records ≡ (history_of run).records)
     → IfErr answer (λ e. e ≡ refusal.Memory) → IsAnswer design options answer

@@ -2,7 +2,7 @@
 use Rattle.std.proofs.Common.{◌≡◌, ◌≢◌, ◌<◌, ℕ, inl, inr, List, Result, Ok, Err, refl, sym, subst}
 use Rattle.std.specs.Prelude.{◌⊎◌, MatchResult, IfOk, IfErr}
 use Rattle.sim_flat_design.specs.Designs.{Design}
-use Rattle.sim_store.specs.Store.{Store}
+use Rattle.sim_store.specs.WaveStore.{WaveStore}
 use Rattle.sim_standard.specs.Behaviour.{Behaviour, behaviour_of}
 use Rattle.sim_run.specs.declared.error.RunError.{RunError}
 use Rattle.sim_run.specs.declared.error.RunError.TheVariants as refusal
@@ -22,13 +22,13 @@ stopped_among text options design e d several (inl p) =
 stopped_among text options design e d several (inr p) = stopped text options design e d p
 
 module _ (text : List ℕ) (options : Options) (design : Design) where
-  pub text_run : (r : Result Store RunError) → IsDesignOf text options design
+  pub text_run : (r : Result WaveStore RunError) → IsDesignOf text options design
       → IfOk r (λ run. Finishes (behaviour_of design) options (history_of run)) → IfErr r (IsRefusalAlone (behaviour_of design) options)
       → MatchResult r (λ run. HasDesign text options (λ b. Finishes b options (history_of run))) (λ e. IsRefusal text options e)
   text_run (Ok run) d f e = record { design = design; is_design = d; holds = f }
   text_run (Err e) d f why = stopped text options design e d why
 
-  pub text_run_among : (r : Result Store RunError) → IsDesignOf text options design → 1 < options.workers
+  pub text_run_among : (r : Result WaveStore RunError) → IsDesignOf text options design → 1 < options.workers
       → IfOk r (λ run. Finishes (behaviour_of design) options (history_of run))
       → IfErr r (λ e. (e ≡ refusal.Stranger) ⊎ IsRefusalAlone (behaviour_of design) options e)
       → MatchResult r (λ run. HasDesign text options (λ b. Finishes b options (history_of run))) (λ e. IsRefusal text options e)

@@ -1,7 +1,7 @@
 -- A run, whatever the design, by how the design behaves.
 use Rattle.std.specs.Prelude.{◌≡◌, ◌↔◌, ◌⊎◌, ◌<◌, ◌-◌, ℕ, suc, List, Option, Some, None, Result, Err, MatchResult, false}
 use Rattle.sim_flat_design.specs.Designs.{Design}
-use Rattle.sim_store.specs.Store.{Store}
+use Rattle.sim_store.specs.WaveStore.{WaveStore}
 use Rattle.sim_store.specs.declared.store.Step.{Step}
 use Rattle.std.specs.Io.KnownBytes.{Appends}
 use Rattle.sim_standard.specs.Behaviour.{Behaviour, behaviour_of}
@@ -61,27 +61,27 @@ pub record ListsPart (design : Behaviour) (options : Options) (old new : Option 
   pub written : AppendsPart old new (listing history.names history.records)
 
 -- what a store has recorded: its design's names, and its records up to as many cycles as it has had
-abbrev pub history_of : Store → History
+abbrev pub history_of : WaveStore → History
 history_of run =
-    let design = behaviour_of run.progress.design in
-    record { names = design.names; records = design.records run.progress.cycles }
+    let design = behaviour_of run.simulation.design in
+    record { names = design.names; records = design.records run.simulation.cycles }
 
 -- This is the store of the run of a design with these options.
-pub record IsRunOf (design : Design) (options : Options) (run : Store) : Type 0 where
-  pub of : run.progress.design ≡ design
+pub record IsRunOf (design : Design) (options : Options) (run : WaveStore) : Type 0 where
+  pub of : run.simulation.design ≡ design
   pub stop : run.stop ≡ options.stop
   pub limit : run.limit ≡ options.limit
 
 -- These are of the run of one design with the same options.
-pub record IsSameRun (run other : Store) : Type 0 where
-  pub design : other.progress.design ≡ run.progress.design
+pub record IsSameRun (run other : WaveStore) : Type 0 where
+  pub design : other.simulation.design ≡ run.simulation.design
   pub stop : other.stop ≡ run.stop
   pub limit : other.limit ≡ run.limit
 
 -- how many steps there may still be: a cycle each, and the last, which ends the run
-abbrev pub steps_left : Store → ℕ
+abbrev pub steps_left : WaveStore → ℕ
 steps_left run = left run.ended
   where
     left : Option Step → ℕ
-    left None = suc (run.limit - run.progress.cycles)
+    left None = suc (run.limit - run.simulation.cycles)
     left (Some s) = 0

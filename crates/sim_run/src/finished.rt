@@ -65,8 +65,8 @@ impl Finished {
 
     /// The history of a store as it is now, copied from its log.
     pub fn of(alloc: Global, run: &WaveStore) -> Result<Finished, RunError>
-        ensures names { IfOk result (λ f. f.names ≡ (behaviour_of run.now.progress.design).names) }
-        ensures records { IfOk result (λ f. f.records ≡ (behaviour_of run.now.progress.design).records run.now.progress.cycles) }
+        ensures names { IfOk result (λ f. f.names ≡ (behaviour_of run.now.simulation.design).names) }
+        ensures records { IfOk result (λ f. f.records ≡ (behaviour_of run.now.simulation.design).records run.now.simulation.cycles) }
         ensures err { IfErr result (λ e. e ≡ refusal.Memory) }
     {
         let names = names_of(alloc, run.design().nets())?;

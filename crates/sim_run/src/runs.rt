@@ -5,7 +5,7 @@ ghost use Rattle.sim_run_listing.specs.Listing.{listing};
 ghost use Rattle.sim_run_listing.specs.Writing.{AppendsPart};
 ghost use Rattle.sim_logic.specs.Time.{largest_time};
 ghost use Rattle.sim_standard.specs.Behaviour.{behaviour_of};
-ghost use Rattle.sim_store.specs.Store as store;
+ghost use Rattle.sim_store.specs.WaveStore as store;
 ghost use Rattle.sim_run.specs.declared.error.RunError.TheVariants as refusal;
 ghost use Rattle.sim_run.specs.Run.{Finishes, IsRefusalAlone, IsAnswer, IsRunOf, IsRunRefusal, IsSameRun, history_of, steps_left};
 

@@ -10,11 +10,11 @@ use Rattle.sim_logic.specs.declared.logic.Logic.{Logic}
 use Rattle.sim_standard.specs.declared.net_view.NetView.{NetView}
 use Rattle.sim_standard.specs.State.{net_at}
 use Rattle.sim_standard.specs.declared.record.Record.{Record}
-use Rattle.sim_store_state.specs.Contents.{Contents}
+use Rattle.sim_store_state.specs.FlatState.{FlatState}
 use Rattle.sim_store_state.specs.Log.{record_at}
 use Rattle.sim_standard.specs.Records.{changes_from, numbered_value}
 use Rattle.sim_standard.specs.Agreement.{is_of, total_of, value_by}
-use Rattle.sim_store.specs.Progress.{AreTotals, IsProgress, Progress, reached}
+use Rattle.sim_store.specs.Simulation.{AreTotals, IsStateOf, Simulation, reached}
 use Rattle.sim_standard.specs.Histories.{records_to}
 use Rattle.sim_standard.proofs.Agreement.{records-give-values, total-few, total-more}
 use Rattle.sim_store.proofs.Going.{net-count}
@@ -87,7 +87,7 @@ totals-go-on nets records now one totals totals' begun e t same counted = record
 }
 
 -- a net had no more events than there were cycles
-pub totals-few : {h : Progress} {time delta : ℕ} {held : Contents} {records : List Record} {due : List Bool} (i : IsProgress h time delta held records due)
+pub totals-few : {h : Simulation} {time delta : ℕ} {held : FlatState} {records : List Record} {due : List Bool} (i : IsStateOf h time delta held records due)
     (totals : List ℕ) → AreTotals (length h.design.nets) records totals → (n : ℕ) → get_or totals n 0 ≤ h.cycles
 totals-few {h} {records = records} i totals t n =
     get_or-all (λ m. m ≤ h.cycles) totals n (omega arith)
@@ -99,7 +99,7 @@ totals-few {h} {records = records} i totals t n =
 -- ---- values
 
 -- the value that a net has is that of its last change in the records
-pub known-value : {h : Progress} {time delta : ℕ} {held : Contents} {records : List Record} {due : List Bool} (i : IsProgress h time delta held records due)
+pub known-value : {h : Simulation} {time delta : ℕ} {held : FlatState} {records : List Record} {due : List Bool} (i : IsStateOf h time delta held records due)
     (n : ℕ) (o : Option Logic) → MatchOption o (length held.nets ≤ n) (λ v. (n < length held.nets) × (v ≡ (net_at held.nets n).value))
     → IfSome o (λ v. value_by (records_to h.design h.cycles) n ≡ Some v)
 known-value i n None m = tt

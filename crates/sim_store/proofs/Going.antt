@@ -24,18 +24,18 @@ use Rattle.sim_standard.specs.declared.record.Record.{Record}
 use Rattle.sim_standard.specs.Cycle.{own_taken, is_resumed, updated, next_delta, has_event_in}
 use Rattle.sim_standard.specs.Initialization.{first_owned, idle, first_state}
 use Rattle.sim_flat_design.specs.declared.design.Source.{Source}
-use Rattle.sim_store_state.specs.Contents.{Contents, contents_of, sources_of}
+use Rattle.sim_store_state.specs.FlatState.{FlatState, flat_state_of, sources_of}
 use Rattle.sim_standard.specs.Records.{first_record, changes_from}
 use Rattle.sim_standard.specs.Together.{merged, executed_together}
 use Rattle.sim_standard.specs.Cycle.{standard, state_of, or_first, onward, cycle_in_turn, executed_in_turn, next_cycle_time}
 use Rattle.sim_standard.specs.Histories.{recorded, records_to}
-use Rattle.sim_store.specs.Progress.{Progress, IsProgress, IsComplete, IsResult, those_in, reached, IsDue, IsMissing, IsOwn, is_due, kept_or, pending_from}
-use Rattle.sim_store.specs.Progress.{cleared, after, next_after, with_one}
+use Rattle.sim_store.specs.Simulation.{Simulation, IsStateOf, IsComplete, IsResult, those_in, reached, IsDue, IsMissing, IsOwn, is_due, kept_or, pending_from}
+use Rattle.sim_store.specs.Simulation.{cleared, after, next_after, with_one}
 use Rattle.sim_standard.proofs.Together.{also, length-merged, merged-same, merged-none, merged-out, merged-also}
 use Rattle.sim_standard.proofs.Parallel.{FitsCycles, length-nets_updated, merged-below, in_turn_is_together, standard_all, standard_fits}
 use Rattle.sim_store.proofs.Readiness.{ready_after}
 
-abbrev results : Progress → ℕ → Owned
+abbrev results : Simulation → ℕ → Owned
 results h q = outcome (process_at h.design.processes q) (part (process_at h.design.processes q) q (reached h))
 
 pub length-records_to : (d : Design) (k : ℕ) → length (records_to d k) ≡ suc k
@@ -54,7 +54,7 @@ one-more marks n k lt = go (eqb n k) refl
         let apart : k ≢ n = grind (arith, nat_tests) in
         sym (get_or-set_other marks n k true false apart)
 
-module _ {h : Progress} {time delta : ℕ} {held : Contents} {records : List Record} {due : List Bool} (i : IsProgress h time delta held records due) where
+module _ {h : Simulation} {time delta : ℕ} {held : FlatState} {records : List Record} {due : List Bool} (i : IsStateOf h time delta held records due) where
   -- each process owns something
   pub reached-all : length (reached h).owned ≡ length h.design.processes
   reached-all = subst (λ (o : Option State). all o) i.there (standard_all h.design i.processes h.cycles)
@@ -85,9 +85,9 @@ module _ {h : Progress} {time delta : ℕ} {held : Contents} {records : List Rec
       ap (λ (os : List Owned). owned_at os p) i.owned_are ∙ merged-out (those_in h.deposited) (results h) 0 p p (reached h).owned (omega arith) out
 
   -- one process more has been executed
-  pub deposited-keeps : (p : ℕ) (own : Owned) (held' : Contents) → IsResult h p own → IsReady (process_at h.design.processes p).body time own
+  pub deposited-keeps : (p : ℕ) (own : Owned) (held' : FlatState) → IsResult h p own → IsReady (process_at h.design.processes p).body time own
       → held' ≡ record { sources = held.sources; nets = held.nets; owned = set held.owned p own }
-      → IsProgress (record h { deposited = set h.deposited p true }) time delta held' records due
+      → IsStateOf (record h { deposited = set h.deposited p true }) time delta held' records due
   deposited-keeps p own held' r is_ready e =
       let f = those_in h.deposited in
       let lt : p < length h.deposited = omega (arith, i.sized, r.number) in
@@ -102,9 +102,9 @@ module _ {h : Progress} {time delta : ℕ} {held : Contents} {records : List Rec
         time_is = i.time_is;
         delta_is = i.delta_is;
         early = i.early;
-        sources_are = ap (λ (w : Contents). w.sources) e ∙ i.sources_are;
-        nets_are = ap (λ (w : Contents). w.nets) e ∙ i.nets_are;
-        owned_are = ap (λ (w : Contents). w.owned) e ∙ (a ∙ (b ∙ m));
+        sources_are = ap (λ (w : FlatState). w.sources) e ∙ i.sources_are;
+        nets_are = ap (λ (w : FlatState). w.nets) e ∙ i.nets_are;
+        owned_are = ap (λ (w : FlatState). w.owned) e ∙ (a ∙ (b ∙ m));
         records_are = i.records_are;
         sized = length-set h.deposited p true ∙ i.sized;
         due_sized = i.due_sized;
@@ -126,7 +126,7 @@ module _ {h : Progress} {time delta : ℕ} {held : Contents} {records : List Rec
           let lt : p < length h.deposited = omega (arith, i.sized, r.number) in
           let there : p < length held.owned = omega (arith, held-count, r.number) in
           let mark : those_in (set h.deposited p true) p ≡ true = get_or-set_same h.deposited p true false lt in
-          let mine : owned_at held'.owned p ≡ own = ap (λ (w : Contents). owned_at w.owned p) e ∙ get_or-set_same held.owned p own nothing_owned there in
+          let mine : owned_at held'.owned p ≡ own = ap (λ (w : FlatState). owned_at w.owned p) e ∙ get_or-set_same held.owned p own nothing_owned there in
           subst (λ (m : ℕ). IsReady (process_at h.design.processes m).body (if those_in (set h.deposited p true) m then time else suc time)
           (owned_at held'.owned m)) at
           (rw (mark, mine) is_ready)
@@ -134,7 +134,7 @@ module _ {h : Progress} {time delta : ℕ} {held : Contents} {records : List Rec
           let apart : q ≢ p = grind (arith, nat_tests) in
           let mark : those_in (set h.deposited p true) q ≡ those_in h.deposited q = get_or-set_other h.deposited p q true false apart in
           let mine : owned_at held'.owned q ≡ owned_at held.owned q =
-          ap (λ (w : Contents). owned_at w.owned q) e ∙ get_or-set_other held.owned p q own nothing_owned apart in
+          ap (λ (w : FlatState). owned_at w.owned q) e ∙ get_or-set_other held.owned p q own nothing_owned apart in
           rw (mark, mine) (i.ready q l)
 
 both : (b c : Bool) → (b ≡ true → c ≡ true) → (c ≡ true → b ≡ true) → b ≡ c
@@ -156,7 +156,7 @@ none-marked-now (b ∷ bs) = ap (λ w. false ∷ w) (none-marked-now bs)
 later-resumed : (d : Design) (k p : ℕ) (s : State) → is_resumed d (suc k) s p ≡ has_event_in s.nets (process_at d.processes p).sensitivity
 later-resumed d k p s = let t : eqb (suc k) 0 ≡ false = grind (arith, nat_tests) in rw t refl
 
-module _ {h : Progress} {time delta : ℕ} {held : Contents} {records : List Record} {due : List Bool} (i : IsProgress h time delta held records due)
+module _ {h : Simulation} {time delta : ℕ} {held : FlatState} {records : List Record} {due : List Bool} (i : IsStateOf h time delta held records due)
     (all : IsComplete h) where
   -- once all that are due have been executed, the state is that of all together
   present-complete : held.owned ≡ (executed_together h.design h.cycles (reached h)).owned
@@ -183,30 +183,30 @@ module _ {h : Progress} {time delta : ℕ} {held : Contents} {records : List Rec
       let d = h.design in
       ap (λ (s : State). s.time) (ap (or_first d) (standard-next ∙ ap (onward d (executed_together d h.cycles (reached h))) some))
 
-  pub held-is : held ≡ contents_of h.design (executed_together h.design h.cycles (reached h))
+  pub held-is : held ≡ flat_state_of h.design (executed_together h.design h.cycles (reached h))
   held-is =
       ap (λ (rows : List (List Source)). record { sources = rows; nets = held.nets; owned = held.owned }) i.sources_are
       ∙ (ap (λ (ns : List NetView). record { sources = sources_of h.design.nets; nets = ns; owned = held.owned }) i.nets_are
       ∙ ap (λ (os : List Owned). record { sources = sources_of h.design.nets; nets = (reached h).nets; owned = os }) present-complete)
 
   -- the nets after the cycle are as many
-  pub advanced-count : (t : ℕ) (held' : Contents)
-      → ((design : Design) (s : State) → held ≡ contents_of design s → held' ≡ contents_of design (updated design s t))
+  pub advanced-count : (t : ℕ) (held' : FlatState)
+      → ((design : Design) (s : State) → held ≡ flat_state_of design s → held' ≡ flat_state_of design (updated design s t))
       → length held'.nets ≡ length h.design.nets
   advanced-count t held' el =
       let x = executed_together h.design h.cycles (reached h) in
-      ap (λ (w : Contents). length w.nets) (el h.design x held-is)
+      ap (λ (w : FlatState). length w.nets) (el h.design x held-is)
       ∙ length-nets_updated (waves (map (own_taken t) x.owned)) h.design.nets (reached h).nets (ap length (sym i.nets_are) ∙ net-count i)
 
   pub advanced-keeps : (t : ℕ) → next_time (waves held.owned) ≡ Some t → t ≤ largest_time
-      → (δ k : ℕ) (held' : Contents) (records' : List Record) (due' deposited' : List Bool)
+      → (δ k : ℕ) (held' : FlatState) (records' : List Record) (due' deposited' : List Bool)
       → δ ≡ next_delta t time delta
-      → ((design : Design) (s : State) → held ≡ contents_of design s → held' ≡ contents_of design (updated design s t))
+      → ((design : Design) (s : State) → held ≡ flat_state_of design s → held' ≡ flat_state_of design (updated design s t))
       → records' ≡ records ++ record { time = t; delta = δ; changes = changes_from 0 held'.nets } ∷ []
       → length due' ≡ length due
       → ((p : ℕ) → p < length due → those_in due' p ≡ has_event_in held'.nets (process_at h.design.processes p).sensitivity)
       → deposited' ≡ cleared h.deposited → k ≡ suc h.cycles
-      → IsProgress (record { design = h.design; cycles = k; deposited = deposited' }) t δ held' records' due'
+      → IsStateOf (record { design = h.design; cycles = k; deposited = deposited' }) t δ held' records' due'
   unfolding records_to
   advanced-keeps t some early δ k held' records' due' deposited' ed el er es eu ep ek =
       let d = h.design in
@@ -214,10 +214,10 @@ module _ {h : Progress} {time delta : ℕ} {held : Contents} {records : List Rec
       let u = updated d x t in
       let p : standard d (suc h.cycles) ≡ Some u = standard-next ∙ ap (onward d x) some in
       let q : state_of d (suc h.cycles) ≡ u = ap (or_first d) p in
-      let l : held' ≡ contents_of d u = el d x held-is in
+      let l : held' ≡ flat_state_of d u = el d x held-is in
       let dl : δ ≡ u.delta = ed ∙ (ap (λ (m : ℕ). next_delta t m delta) i.time_is ∙ ap (λ (m : ℕ). next_delta t (reached h).time m) i.delta_is) in
-      let n : held'.nets ≡ (state_of d (suc h.cycles)).nets = ap (λ (w : Contents). w.nets) l ∙ ap (λ (w : State). w.nets) (sym q) in
-      let o : held'.owned ≡ map (own_taken t) held.owned = ap (λ (w : Contents). w.owned) l ∙ ap (map (own_taken t)) (sym present-complete) in
+      let n : held'.nets ≡ (state_of d (suc h.cycles)).nets = ap (λ (w : FlatState). w.nets) l ∙ ap (λ (w : State). w.nets) (sym q) in
+      let o : held'.owned ≡ map (own_taken t) held.owned = ap (λ (w : FlatState). w.owned) l ∙ ap (map (own_taken t)) (sym present-complete) in
       let r : record { time = t; delta = δ; changes = changes_from 0 held'.nets } ≡ recorded (suc h.cycles) (state_of d (suc h.cycles)) =
       rw (dl, n) (ap (λ (w : State). record { time = w.time; delta = w.delta; changes = changes_from 0 (state_of d (suc h.cycles)).nets }) (sym q)) in
       rw (ek, ep) (record {
@@ -225,9 +225,9 @@ module _ {h : Progress} {time delta : ℕ} {held : Contents} {records : List Rec
         time_is = ap (λ (w : State). w.time) (sym q);
         delta_is = dl ∙ ap (λ (w : State). w.delta) (sym q);
         early = early;
-        sources_are = ap (λ (w : Contents). w.sources) l;
+        sources_are = ap (λ (w : FlatState). w.sources) l;
         nets_are = n;
-        owned_are = ap (λ (w : Contents). w.owned) l ∙ (ap (λ (w : State). w.owned) (sym q)
+        owned_are = ap (λ (w : FlatState). w.owned) l ∙ (ap (λ (w : State). w.owned) (sym q)
             ∙ sym (merged-none (those_in (cleared h.deposited)) (results (after h)) 0 (state_of d (suc h.cycles)).owned (none-in h.deposited)));
         records_are = er ∙ (ap (λ w. w ++ record { time = t; delta = δ; changes = changes_from 0 held'.nets } ∷ []) i.records_are
             ∙ ap (λ w. records_to d h.cycles ++ w ∷ []) r);
@@ -251,7 +251,7 @@ module _ {h : Progress} {time delta : ℕ} {held : Contents} {records : List Rec
 
 -- ---- handing out
 
-module _ {h : Progress} {time delta : ℕ} {held : Contents} {records : List Record} {due : List Bool} (i : IsProgress h time delta held records due) where
+module _ {h : Simulation} {time delta : ℕ} {held : FlatState} {records : List Record} {due : List Bool} (i : IsStateOf h time delta held records due) where
   -- the part of a process that has not been executed
   pub part-is : (p : ℕ) → those_in h.deposited p ≡ false → (views : List NetView) (own : Owned)
       → views ≡ map (net_at held.nets) (process_at h.design.processes p).reads → own ≡ owned_at held.owned p
@@ -292,7 +292,7 @@ ready-sooner body time own is = record {
   pending = All-weaker (λ (d : Waveform). RisesFrom (suc time) d.pending) (λ (d : Waveform). RisesFrom time d.pending) (sooner time) own.drivers is.pending;
 }
 
-module _ {h : Progress} {time delta : ℕ} {held : Contents} {records : List Record} {due : List Bool} (i : IsProgress h time delta held records due)
+module _ {h : Simulation} {time delta : ℕ} {held : FlatState} {records : List Record} {due : List Bool} (i : IsStateOf h time delta held records due)
     (p : ℕ) (lt : p < length h.design.processes) (out : those_in h.deposited p ≡ false) where
   pub ready-here : IsReady (process_at h.design.processes p).body time (owned_at held.owned p)
   ready-here =
@@ -301,14 +301,14 @@ module _ {h : Progress} {time delta : ℕ} {held : Contents} {records : List Rec
       (subst (λ (n : ℕ). IsReady (process_at h.design.processes p).body n (owned_at held.owned p)) from (i.ready p lt))
 
   -- an execution in place keeps what is held that of the simulation
-  pub executed-keeps : (process : Process) (held' : Contents) → process ≡ process_at h.design.processes p → is_due h p ≡ true
+  pub executed-keeps : (process : Process) (held' : FlatState) → process ≡ process_at h.design.processes p → is_due h p ≡ true
       → held' ≡ record {
         sources = held.sources;
         nets = held.nets;
         owned = set held.owned p
             (executed (λ object. net_at held.nets (object_net process object)) time process.body.statements (owned_at held.owned p));
       }
-      → IsReady process.body time (owned_at held'.owned p) → IsProgress (with_one h p) time delta held' records due
+      → IsReady process.body time (owned_at held'.owned p) → IsStateOf (with_one h p) time delta held' records due
   executed-keeps process held' same resumed now is =
       let q = process_at h.design.processes p in
       let own : Owned = executed (λ object. net_at held.nets (object_net q object)) time q.body.statements (owned_at held.owned p) in
@@ -320,13 +320,13 @@ module _ {h : Progress} {time delta : ℕ} {held : Contents} {records : List Rec
         owned = set held.owned p
             (executed (λ object. net_at held.nets (object_net r object)) time r.body.statements (owned_at held.owned p));
       }) same in
-      let mine : owned_at held'.owned p ≡ own = ap (λ (w : Contents). owned_at w.owned p) e ∙ get_or-set_same held.owned p own nothing_owned there in
+      let mine : owned_at held'.owned p ≡ own = ap (λ (w : FlatState). owned_at w.owned p) e ∙ get_or-set_same held.owned p own nothing_owned there in
       deposited-keeps i p own held' (executed-result i p lt resumed out)
       (subst (IsReady q.body time) mine (subst (λ (r : Process). IsReady r.body time (owned_at held'.owned p)) same is)) e
 
 -- ---- jobs
 
-module _ {h : Progress} {time delta : ℕ} {held : Contents} {records : List Record} {due : List Bool} (i : IsProgress h time delta held records due) where
+module _ {h : Simulation} {time delta : ℕ} {held : FlatState} {records : List Record} {due : List Bool} (i : IsStateOf h time delta held records due) where
   -- the part of a process that has not been executed makes a job
   pub job-fits : (p : ℕ) → p < length h.design.processes → those_in h.deposited p ≡ false → (views : List NetView) (own : Owned)
       → views ≡ map (net_at held.nets) (process_at h.design.processes p).reads → own ≡ owned_at held.owned p
@@ -342,7 +342,7 @@ module _ {h : Progress} {time delta : ℕ} {held : Contents} {records : List Rec
 
 -- ---- results
 
-module _ {h : Progress} {time delta : ℕ} {held : Contents} {records : List Record} {due : List Bool} (i : IsProgress h time delta held records due)
+module _ {h : Simulation} {time delta : ℕ} {held : FlatState} {records : List Record} {due : List Bool} (i : IsStateOf h time delta held records due)
     (job : Job) (o : IsOwn h job) where
   pub own-time : job.time ≡ time
   own-time = ap (λ (s : State). s.time) o.shows ∙ sym i.time_is
@@ -402,7 +402,7 @@ module _ {h : Progress} {time delta : ℕ} {held : Contents} {records : List Rec
       let same : map holds_bit x ≡ map holds_bit y = (own-ready f).variables ∙ sym (i.ready job.number d.number).variables in
       ap (λ (w : Owned). length w.variables) e ∙ (sym (length-map x holds_bit) ∙ (ap length same ∙ length-map y holds_bit))
 
-module _ {h : Progress} {time delta : ℕ} {held : Contents} {records : List Record} {due : List Bool} (i : IsProgress h time delta held records due)
+module _ {h : Simulation} {time delta : ℕ} {held : FlatState} {records : List Record} {due : List Bool} (i : IsStateOf h time delta held records due)
     (job : Job) where
   -- a job of these is the process's own
   pub fits-own : those_in h.deposited job.number ≡ false → job.time ≡ time → job.process ≡ process_at h.design.processes job.number
@@ -436,11 +436,11 @@ drivers-there nets number first all ds (p ∷ ps) e o (suc m) lt =
     (sym (drop-drop p.body.drivers first all) ∙ ap (drop p.body.drivers) e) o.3 m (omega (arith, lt))
 
 -- what is held at first is that of the simulation at its start
-pub begins : (d : Design) (k : ℕ) (held : Contents) (records : List Record) (due deposited : List Bool) → length d.nets ≤ most
+pub begins : (d : Design) (k : ℕ) (held : FlatState) (records : List Record) (due deposited : List Bool) → length d.nets ≤ most
     → AreOwned (length d.nets) 0 0 d.processes d.drivers
     → All IsProcess d.processes → k ≡ 0
-    → held ≡ contents_of d (first_state d) → records ≡ first_record (first_state d) ∷ [] → due ≡ replicate (length d.processes) true
-    → deposited ≡ replicate (length d.processes) false → IsProgress (record { design = d; cycles = k; deposited = deposited }) 0 0 held records due
+    → held ≡ flat_state_of d (first_state d) → records ≡ first_record (first_state d) ∷ [] → due ≡ replicate (length d.processes) true
+    → deposited ≡ replicate (length d.processes) false → IsStateOf (record { design = d; cycles = k; deposited = deposited }) 0 0 held records due
 unfolding standard records_to
 begins d k held records due deposited few are all e₀ e er eu ep =
     rw (e₀, e, er, eu, ep) (record {
@@ -476,7 +476,7 @@ begins d k held records due deposited few are all e₀ e er eu ep =
 -- ---- who is missing
 
 -- Where none is missing, all that are due have been executed.
-pub complete-where-none : (h : Progress) → ((p : ℕ) → p < length h.design.processes → IsMissing h p → ⊥) → IsComplete h
+pub complete-where-none : (h : Simulation) → ((p : ℕ) → p < length h.design.processes → IsMissing h p → ⊥) → IsComplete h
 complete-where-none h none p lt resumed = go (those_in h.deposited p) refl
   where
     go : (b : Bool) → those_in h.deposited p ≡ b → those_in h.deposited p ≡ true

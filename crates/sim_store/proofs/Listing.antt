@@ -2,7 +2,7 @@
 use Rattle.std.proofs.Common.{ℕ, zero, suc, ◌+◌, ◌<◌, ◌≤◌, ◌≡◌, Bool, true, false, if◌then◌else◌, cond, List, ◌∷◌, length, refl, ap, subst, arith}
 use Rattle.std.specs.List.{filter, range_with_len}
 use Rattle.sim_store_sets.specs.Numbers.{is_in, members}
-use Rattle.sim_store.specs.Progress.{listed}
+use Rattle.sim_store.specs.Simulation.{listed}
 use Rattle.sim_standard.specs.Cycle.{those}
 
 -- Two tests that agree on these numbers list the same.

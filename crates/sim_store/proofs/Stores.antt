@@ -5,12 +5,12 @@ use Rattle.sim_logic.specs.Time.{largest_time}
 use Rattle.sim_standard.specs.Outcome.{IsOver}
 use Rattle.sim_standard.specs.Cycle.{standard, state_of, next_in}
 use Rattle.sim_store.specs.declared.store.Step.{Step}
-use Rattle.sim_store.specs.Progress.{Progress, IsComplete, after, next_after, reached, with_marks}
-use Rattle.sim_store.specs.Store.{Store, IsStore, HasEnd}
+use Rattle.sim_store.specs.Simulation.{Simulation, IsComplete, after, next_after, reached, with_marks}
+use Rattle.sim_store.specs.WaveStore.{WaveStore, IsStore, HasEnd}
 
 -- a run that begins
-pub store-begins : (g : Progress) (stop limit : ℕ) → stop ≤ largest_time → g.cycles ≡ 0
-    → IsStore (record { progress = g; stop = stop; limit = limit; ended = None })
+pub store-begins : (g : Simulation) (stop limit : ℕ) → stop ≤ largest_time → g.cycles ≡ 0
+    → IsStore (record { simulation = g; stop = stop; limit = limit; ended = None })
 unfolding standard
 store-begins g stop limit early zero = record {
   early = early;
@@ -21,38 +21,38 @@ store-begins g stop limit early zero = record {
 }
 
 -- a run that goes on
-pub store-goes-on : (w : Store) (g : Progress) (time : ℕ) → IsStore w → w.ended ≡ None → g ≡ after w.progress → next_after w.progress ≡ Some time
-    → time ≤ w.stop → w.progress.cycles ≢ w.limit → (reached g).time ≡ time
-    → IsStore (record { progress = g; stop = w.stop; limit = w.limit; ended = w.ended })
+pub store-goes-on : (w : WaveStore) (g : Simulation) (time : ℕ) → IsStore w → w.ended ≡ None → g ≡ after w.simulation → next_after w.simulation ≡ Some time
+    → time ≤ w.stop → w.simulation.cycles ≢ w.limit → (reached g).time ≡ time
+    → IsStore (record { simulation = g; stop = w.stop; limit = w.limit; ended = w.ended })
 store-goes-on w g time is running e next before apart at = record {
   early = is.early;
-  within = let k : g.cycles ≡ suc w.progress.cycles = ap (λ (h : Progress). h.cycles) e in omega (arith, k, is.within, apart);
+  within = let k : g.cycles ≡ suc w.simulation.cycles = ap (λ (h : Simulation). h.cycles) e in omega (arith, k, is.within, apart);
   until = omega (arith, at, before);
-  going = λ m lt over. still m (omega (arith, lt, ap (λ (h : Progress). h.cycles) e)) (eqb m w.progress.cycles) refl
-      (subst (λ d. IsOver (next_in d m) w.stop) (ap (λ (h : Progress). h.design) e) over);
+  going = λ m lt over. still m (omega (arith, lt, ap (λ (h : Simulation). h.cycles) e)) (eqb m w.simulation.cycles) refl
+      (subst (λ d. IsOver (next_in d m) w.stop) (ap (λ (h : Simulation). h.design) e) over);
   end = subst (λ (o : Option Step). MatchOption o (Unit {0})
-      (λ s. IsComplete g × HasEnd (record { progress = g; stop = w.stop; limit = w.limit; ended = w.ended }) s))
+      (λ s. IsComplete g × HasEnd (record { simulation = g; stop = w.stop; limit = w.limit; ended = w.ended }) s))
       (sym running) tt;
 }
   where
-    still : (m : ℕ) → m < suc w.progress.cycles → (b : Bool) → eqb m w.progress.cycles ≡ b → IsOver (next_in w.progress.design m) w.stop → ⊥
+    still : (m : ℕ) → m < suc w.simulation.cycles → (b : Bool) → eqb m w.simulation.cycles ≡ b → IsOver (next_in w.simulation.design m) w.stop → ⊥
     still m lt true q over =
-        let same : m ≡ w.progress.cycles = grind (arith, nat_tests) in
-        let now : IsOver (next_after w.progress) w.stop = subst (λ (n : ℕ). IsOver (next_in w.progress.design n) w.stop) same over in
+        let same : m ≡ w.simulation.cycles = grind (arith, nat_tests) in
+        let now : IsOver (next_after w.simulation) w.stop = subst (λ (n : ℕ). IsOver (next_in w.simulation.design n) w.stop) same over in
         let late : w.stop < time = subst (λ (o : Option ℕ). IsOver o w.stop) next now in
         omega (arith, late, before)
     still m lt false q over =
-        let other : m ≢ w.progress.cycles = grind (arith, nat_tests) in
+        let other : m ≢ w.simulation.cycles = grind (arith, nat_tests) in
         is.going m (omega (arith, lt, other)) over
 
 -- a run whose processes were executed
-pub store-executed : (w : Store) (marks : List Bool) → IsStore w → w.ended ≡ None
-    → IsStore (record { progress = with_marks w.progress marks; stop = w.stop; limit = w.limit; ended = w.ended })
+pub store-executed : (w : WaveStore) (marks : List Bool) → IsStore w → w.ended ≡ None
+    → IsStore (record { simulation = with_marks w.simulation marks; stop = w.stop; limit = w.limit; ended = w.ended })
 store-executed w marks is running = record {
   early = is.early;
   within = is.within;
   until = is.until;
   going = is.going;
-  end = subst (λ (o : Option Step). MatchOption o (Unit {0}) (λ s. IsComplete (with_marks w.progress marks)
-      × HasEnd (record { progress = with_marks w.progress marks; stop = w.stop; limit = w.limit; ended = w.ended }) s)) (sym running) tt;
+  end = subst (λ (o : Option Step). MatchOption o (Unit {0}) (λ s. IsComplete (with_marks w.simulation marks)
+      × HasEnd (record { simulation = with_marks w.simulation marks; stop = w.stop; limit = w.limit; ended = w.ended }) s)) (sym running) tt;
 }

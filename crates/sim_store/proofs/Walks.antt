@@ -6,9 +6,9 @@ use Rattle.std.proofs.lemmas.Bool.Decides.{nat_tests}
 use Rattle.sim_store_sets.specs.Numbers.{is_beside}
 use Rattle.sim_store_sets.specs.Words.{IsNext, NoneFrom}
 use Rattle.sim_standard.specs.declared.record.Record.{Record}
-use Rattle.sim_store_state.specs.Contents.{Contents}
+use Rattle.sim_store_state.specs.FlatState.{FlatState}
 use Rattle.sim_store_state.proofs.Walks.{member_within, not_both}
-use Rattle.sim_store.specs.Progress.{Progress, IsProgress, IsComplete, IsLeastMissing, IsMissing, those_in}
+use Rattle.sim_store.specs.Simulation.{Simulation, IsStateOf, IsComplete, IsLeastMissing, IsMissing, those_in}
 use Rattle.sim_store.proofs.Going.{complete-where-none}
 
 pub due-beside : (b c : Bool) → (b && not c) ≡ true → b ≡ true
@@ -21,13 +21,13 @@ fresh-beside true false e = refl
 fresh-beside false c e = absurd cc
 
 -- None of the processes that the walk has passed is missing.
-pub record Passed (h : Progress) (from : ℕ) : Type 0 where
+pub record Passed (h : Simulation) (from : ℕ) : Type 0 where
   pub none : (p : ℕ) → p < from → IsMissing h p → ⊥
 
-pub none-passed : (h : Progress) → Passed h 0
+pub none-passed : (h : Simulation) → Passed h 0
 none-passed h = record { none = λ p lt m. omega (arith, lt) }
 
-module _ {h : Progress} {time delta : ℕ} {held : Contents} {records : List Record} {due : List Bool} (i : IsProgress h time delta held records due) where
+module _ {h : Simulation} {time delta : ℕ} {held : FlatState} {records : List Record} {due : List Bool} (i : IsStateOf h time delta held records due) where
   -- one that is due is one of the design
   pub due-within : (p : ℕ) → those_in due p ≡ true → p < length h.design.processes
   due-within p e = omega (arith, member_within due p e, i.due_sized)
@@ -71,7 +71,7 @@ module _ {h : Progress} {time delta : ℕ} {held : Contents} {records : List Rec
       }
 
 -- one more is passed that is not missing
-pub one-passed : {h h' : Progress} (n : ℕ) → Passed h n → ((p : ℕ) → IsMissing h' p → IsMissing h p) → (IsMissing h' n → ⊥) → Passed h' (n + 1)
+pub one-passed : {h h' : Simulation} (n : ℕ) → Passed h n → ((p : ℕ) → IsMissing h' p → IsMissing h p) → (IsMissing h' n → ⊥) → Passed h' (n + 1)
 one-passed {h} {h'} n w others gone = record { none = λ p lt m. go p lt m (eqb p n) refl }
   where
     go : (p : ℕ) → p < n + 1 → IsMissing h' p → (b : Bool) → eqb p n ≡ b → ⊥

@@ -1,3 +1,3 @@
 pub mod Made
-pub mod Progress
-pub mod Store
+pub mod Simulation
+pub mod WaveStore

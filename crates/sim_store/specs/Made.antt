@@ -3,12 +3,12 @@
 use Rattle.std.specs.Prelude.{◌-◌, length}
 use Rattle.sim_flat_design.specs.Designs.{Design}
 use Rattle.sim_store.specs.declared.simulation.Made.{Made}
-use Rattle.sim_store.specs.Progress.{Progress, IsSimulation}
+use Rattle.sim_store.specs.Simulation.{Simulation, IsSimulation}
 
 -- as many cycles as records after the first
-abbrev pub progress_of : Design → Made → Progress
-progress_of design m = record { design = design; cycles = length m.log.records - 1; deposited = m.deposited }
+abbrev pub simulation_of : Design → Made → Simulation
+simulation_of design m = record { design = design; cycles = length m.log.records - 1; deposited = m.deposited }
 
 -- It is what the simulation of this design holds.
 abbrev pub IsOf : Design → Made → Type 0
-IsOf design m = IsSimulation (progress_of design m) m.sensitive m.time m.delta m.state m.log.records m.due m.totals.items
+IsOf design m = IsSimulation (simulation_of design m) m.sensitive m.time m.delta m.state m.log.records m.due m.totals.items

@@ -7,7 +7,7 @@ ghost use Rattle.sim_store_sets.specs.Words.{IsNext, NoneFrom};
 ghost use Rattle.sim_standard.specs.Cycle.{has_event_in};
 ghost use Rattle.sim_standard.specs.Processes.{process_at};
 ghost use Rattle.sim_store_state.specs.Sensitive.{AreSensitive};
-ghost use Rattle.sim_store.specs.Progress.{listed, those_in};
+ghost use Rattle.sim_store.specs.Simulation.{listed, those_in};
 
 use sim_store_sets::{NumberSet, RowArray};
 use sim_store_state::FlatState;
@@ -24,7 +24,7 @@ pub struct Due {
 
 impl Model for Due {
     ghost use Rattle.std.specs.Prelude.{◌≡◌, ◌≤◌, List, Bool, length, vec_capacity};
-    ghost use Rattle.sim_store.specs.Progress.{listed};
+    ghost use Rattle.sim_store.specs.Simulation.{listed};
 
     ghost Value = { List Bool };
 

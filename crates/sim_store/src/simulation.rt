@@ -7,16 +7,16 @@ ghost use Rattle.sim_flat_design.specs.Designs.{most};
 ghost use Rattle.sim_flat_design.specs.Processes.{IsProcess};
 ghost use Rattle.sim_standard.specs.Cycle as cycles;
 ghost use Rattle.sim_standard.specs.Initialization.{first_state};
-ghost use Rattle.sim_store_state.specs.Contents.{contents_of};
+ghost use Rattle.sim_store_state.specs.FlatState.{flat_state_of};
 ghost use Rattle.sim_standard.specs.Records.{values_of};
 ghost use Rattle.sim_standard.specs.State.{driver_values, net_at, owned_at};
 ghost use Rattle.sim_logic.specs.Time.{largest_time};
 ghost use Rattle.sim_standard.specs.Agreement.{total_of, value_by};
 ghost use Rattle.sim_standard.specs.Histories.{IsNamed, event_count, records_to};
-ghost use Rattle.sim_store.specs.Made.{IsOf, progress_of};
-ghost use Rattle.sim_store.specs.Progress as spec;
+ghost use Rattle.sim_store.specs.Made.{IsOf, simulation_of};
+ghost use Rattle.sim_store.specs.Simulation as spec;
 ghost use Rattle.sim_standard.specs.Cycle.{resumed, standard};
-ghost use Rattle.sim_store.specs.Store as store;
+ghost use Rattle.sim_store.specs.WaveStore as store;
 
 use crate::due::Due;
 use crate::error::StoreError;
@@ -100,7 +100,7 @@ fn first_log(alloc: Global, state: &FlatState, nets: usize) -> Result<Log, Alloc
 
 /// The first state of a design, and a log that holds its record.
 fn started(alloc: Global, design: &Design) -> Result<(FlatState, Log), AllocError>
-    ensures state { IfOk result (λ s. s.0 ≡ contents_of design.now (first_state design.now)) }
+    ensures state { IfOk result (λ s. s.0 ≡ flat_state_of design.now (first_state design.now)) }
     ensures log { IfOk result (λ s. s.1.records ≡ record { time = 0; delta = 0; changes = values_of s.0.nets } ∷ []) }
 {
     let state = FlatState::first(alloc, design)?;
@@ -154,9 +154,9 @@ fn execute(alloc: Global, design: &Design, made: &mut Made, number: usize) -> Re
     requires due { spec.those_in made.old.due number ≡ true }
     requires fresh { spec.those_in made.old.deposited number ≡ false }
     ensures of { OnOk result (IsOf design.now made.new) }
-    ensures same { OnOk result (progress_of design.now made.new ≡ spec.with_marks (progress_of design.now made.old) made.new.deposited) }
-    ensures gone { OnOk result (spec.IsMissing (progress_of design.now made.new) number → ⊥) }
-    ensures others { OnOk result ((p : ℕ) → spec.IsMissing (progress_of design.now made.new) p → spec.IsMissing (progress_of design.now made.old) p) }
+    ensures same { OnOk result (simulation_of design.now made.new ≡ spec.with_marks (simulation_of design.now made.old) made.new.deposited) }
+    ensures gone { OnOk result (spec.IsMissing (simulation_of design.now made.new) number → ⊥) }
+    ensures others { OnOk result ((p : ℕ) → spec.IsMissing (simulation_of design.now made.new) p → spec.IsMissing (simulation_of design.now made.old) p) }
 {
     let process = &design.processes()[number];
     made.state.execute(alloc, number, process, made.time)?;
@@ -169,8 +169,8 @@ fn execute(alloc: Global, design: &Design, made: &mut Made, number: usize) -> Re
 fn execute_all(alloc: Global, design: &Design, made: &mut Made) -> Result<(), AllocError>
     requires { IsOf design.now made.old }
     ensures of { OnOk result (IsOf design.now made.new) }
-    ensures same { OnOk result (progress_of design.now made.new ≡ spec.with_marks (progress_of design.now made.old) made.new.deposited) }
-    ensures complete { OnOk result (spec.IsComplete (progress_of design.now made.new)) }
+    ensures same { OnOk result (simulation_of design.now made.new ≡ spec.with_marks (simulation_of design.now made.old) made.new.deposited) }
+    ensures complete { OnOk result (spec.IsComplete (simulation_of design.now made.new)) }
 {
     let mut from = 0;
     while let Some(number) = made.due.next_beside(&made.deposited, from) {
@@ -193,14 +193,14 @@ impl Model for Simulation {
     ghost use Rattle.sim_flat_design.specs.contracts.expression.LogicExpression as logic;
     ghost use Rattle.sim_flat_design.specs.contracts.expression.BooleanExpression as boolean;
     ghost use Rattle.sim_flat_design.specs.contracts.statement.Statement as statement;
-    ghost use Rattle.sim_store.specs.Progress.{Progress};
-    ghost use Rattle.sim_store.specs.Made.{IsOf, progress_of};
+    ghost use Rattle.sim_store.specs.Simulation.{Simulation};
+    ghost use Rattle.sim_store.specs.Made.{IsOf, simulation_of};
 
-    ghost Value = { Progress };
+    ghost Value = { Simulation };
 
     ghost coded = { Prim.hlevel (codes, logic.the_row.coded, boolean.the_row.coded, statement.the_row.coded) };
 
-    ghost view = { λ s. progress_of s.design s.made };
+    ghost view = { λ s. simulation_of s.design s.made };
 
     ghost invariant = { λ s. IsOf s.design s.made };
 }

@@ -9,8 +9,8 @@ ghost use Rattle.sim_standard.specs.State.{net_at};
 ghost use Rattle.sim_standard.specs.Agreement.{total_of, value_by};
 ghost use Rattle.sim_standard.specs.Histories.{IsNamed, records_to};
 ghost use Rattle.sim_standard.specs.Outcome.{IsOver};
-ghost use Rattle.sim_store.specs.Progress as progress;
-ghost use Rattle.sim_store.specs.Store as spec;
+ghost use Rattle.sim_store.specs.Simulation as simulations;
+ghost use Rattle.sim_store.specs.WaveStore as spec;
 ghost use Rattle.sim_store.specs.declared.error.StoreError.TheVariants as refusal;
 ghost use Rattle.sim_store.specs.declared.store.Step.TheVariants as step;
 
@@ -49,10 +49,10 @@ pub struct Look {
 
 /// The time of the next cycle, if it is not later than the stop time.
 fn next_within(simulation: &mut Simulation, stop: u64) -> Result<Option<u64>, AllocError>
-    requires { progress.IsComplete simulation.old }
+    requires { simulations.IsComplete simulation.old }
     ensures same { simulation.new ≡ simulation.old }
-    ensures value { IfOk result (λ next. MatchOption next (IsOver (progress.next_after simulation.old) stop)
-        (λ time. (progress.next_after simulation.old ≡ Some time) × (time ≤ stop))) }
+    ensures value { IfOk result (λ next. MatchOption next (IsOver (simulations.next_after simulation.old) stop)
+        (λ time. (simulations.next_after simulation.old ≡ Some time) × (time ≤ stop))) }
 {
     match simulation.next()? {
         Some(time) if time <= stop => Ok(Some(time)),
@@ -75,15 +75,15 @@ impl Model for WaveStore {
     ghost use Rattle.sim_flat_design.specs.contracts.expression.LogicExpression as logic;
     ghost use Rattle.sim_flat_design.specs.contracts.expression.BooleanExpression as boolean;
     ghost use Rattle.sim_flat_design.specs.contracts.statement.Statement as statement;
-    ghost use Rattle.sim_store.specs.Store.{Store, IsStore};
+    ghost use Rattle.sim_store.specs.WaveStore.{WaveStore, IsStore};
 
-    ghost Value = { Store };
+    ghost Value = { WaveStore };
 
     ghost coded = { Prim.hlevel (codes, logic.the_row.coded, boolean.the_row.coded, statement.the_row.coded) };
 
-    ghost view = { λ s. record { progress = s.simulation; stop = s.stop; limit = s.limit; ended = s.ended } };
+    ghost view = { λ s. record { simulation = s.simulation; stop = s.stop; limit = s.limit; ended = s.ended } };
 
-    ghost invariant = { λ s. IsStore (record { progress = s.simulation; stop = s.stop; limit = s.limit; ended = s.ended }) };
+    ghost invariant = { λ s. IsStore (record { simulation = s.simulation; stop = s.stop; limit = s.limit; ended = s.ended }) };
 }
 
 impl WaveStore {
@@ -117,8 +117,8 @@ impl WaveStore {
     /// The job of a process that is due and has not been executed since the last cycle. Refusals:
     /// `Ended`, `NotDue`, `Twice`, `Memory`, in this order.
     pub fn job(&self, alloc: Global, process: usize) -> Result<Job, StoreError>
-        ensures ok { IfOk result (λ job. spec.IsOpen self.now × progress.IsMissing self.now.progress process
-            × progress.IsJobOf self.now.progress process job) }
+        ensures ok { IfOk result (λ job. spec.IsOpen self.now × simulations.IsMissing self.now.simulation process
+            × simulations.IsJobOf self.now.simulation process job) }
         ensures err { IfErr result (spec.IsJobRefusal self.now process) }
     {
         if self.ended.is_some() {
@@ -167,8 +167,8 @@ impl WaveStore {
     /// rising order of their numbers, on this thread. If allocation fails the store is gone: of
     /// the process that wanted it neither the state before its execution is left nor that after it.
     pub fn execute_due(self, alloc: Global) -> Result<WaveStore, AllocError>
-        ensures same { IfOk result (λ s. s ≡ spec.with_deposited self s.progress.deposited) }
-        ensures complete { IfOk result (λ s. progress.IsComplete s.progress) }
+        ensures same { IfOk result (λ s. s ≡ spec.with_deposited self s.simulation.deposited) }
+        ensures complete { IfOk result (λ s. simulations.IsComplete s.simulation) }
     {
         if self.ended.is_some() {
             return Ok(self);
@@ -210,7 +210,7 @@ impl WaveStore {
     /// Goes on where all that are due have been executed.
     fn go_on(&mut self) -> Result<Step, StoreError>
         requires open { spec.IsOpen self.old }
-        requires complete { progress.IsComplete self.old.progress }
+        requires complete { simulations.IsComplete self.old.simulation }
         ensures ok { IfOk result (λ s. spec.WentOn self.old self.new s) }
         ensures err { IfErr result (λ e. e ≡ refusal.Memory) }
         ensures kept { OnErr result (self.new ≡ self.old) }
@@ -229,7 +229,7 @@ impl WaveStore {
 
     /// The run has ended so.
     fn end(&mut self, step: Step) -> Step
-        requires complete { progress.IsComplete self.old.progress }
+        requires complete { simulations.IsComplete self.old.simulation }
         requires end { spec.HasEnd self.old step }
         ensures step { result ≡ step }
         ensures ended { self.new ≡ spec.ended_as self.old step }
@@ -241,14 +241,14 @@ impl WaveStore {
     /// How the run ended; none where it has not.
     pub fn ended(&self) -> Option<Step>
         ensures value { result ≡ self.now.ended }
-        ensures end { MatchOption result Unit (λ s. progress.IsComplete self.now.progress × spec.HasEnd self.now s) }
+        ensures end { MatchOption result Unit (λ s. simulations.IsComplete self.now.simulation × spec.HasEnd self.now s) }
     {
         self.ended
     }
 
     /// The design.
     pub fn design(&self) -> &Design
-        ensures { result.now ≡ self.now.progress.design }
+        ensures { result.now ≡ self.now.simulation.design }
     {
         self.simulation.design()
     }
@@ -284,7 +284,7 @@ impl WaveStore {
     pub fn look(&self) -> Look
         ensures value { result ≡ spec.look_of self.now }
         ensures within { spec.IsWithin self.now }
-        ensures rising { progress.AreRising self.now.progress }
+        ensures rising { simulations.AreRising self.now.simulation }
     {
         let (time, delta) = self.simulation.time();
         Look {
@@ -298,9 +298,9 @@ impl WaveStore {
     /// The value of the net with a number; `None` if out of range. It is also that of its last
     /// change in the records.
     pub fn value(&self, net: usize) -> Option<Logic>
-        ensures value { MatchOption result (length self.now.progress.design.nets ≤ net)
-            (λ v. (net < length self.now.progress.design.nets) × (v ≡ (net_at (progress.reached self.now.progress).nets net).value)) }
-        ensures records { IfSome result (λ v. value_by (records_to self.now.progress.design self.now.progress.cycles) net ≡ Some v) }
+        ensures value { MatchOption result (length self.now.simulation.design.nets ≤ net)
+            (λ v. (net < length self.now.simulation.design.nets) × (v ≡ (net_at (simulations.reached self.now.simulation).nets net).value)) }
+        ensures records { IfSome result (λ v. value_by (records_to self.now.simulation.design self.now.simulation.cycles) net ≡ Some v) }
     {
         self.simulation.value(net)
     }
@@ -308,9 +308,9 @@ impl WaveStore {
     /// How many events the net with a number had after the initialization; `None` if out of range.
     /// They are its changes in the records after the first.
     pub fn total(&self, net: usize) -> Option<u64>
-        ensures { MatchOption result (length self.now.progress.design.nets ≤ net)
-            (λ t. (net < length self.now.progress.design.nets)
-            × (t ≡ total_of (records_to self.now.progress.design self.now.progress.cycles) net)) }
+        ensures { MatchOption result (length self.now.simulation.design.nets ≤ net)
+            (λ t. (net < length self.now.simulation.design.nets)
+            × (t ≡ total_of (records_to self.now.simulation.design self.now.simulation.cycles) net)) }
     {
         self.simulation.total(net)
     }
@@ -318,8 +318,8 @@ impl WaveStore {
     /// The log of all records, in which nothing is copied: for each when it is, and its changes in
     /// net order. Record 0 has every net.
     pub fn history(&self) -> &Log
-        ensures records { result.now.records ≡ records_to self.now.progress.design self.now.progress.cycles }
-        ensures named { All (IsNamed (length self.now.progress.design.nets)) result.now.records }
+        ensures records { result.now.records ≡ records_to self.now.simulation.design self.now.simulation.cycles }
+        ensures named { All (IsNamed (length self.now.simulation.design.nets)) result.now.records }
     {
         self.simulation.history()
     }
@@ -327,9 +327,9 @@ impl WaveStore {
     /// The records from a number on, none where that is how many there are. Refusals: `Behind`
     /// where there are fewer, `Memory`, in this order.
     pub fn records_since(&self, alloc: Global, number: usize) -> Result<Vec<Record>, StoreError>
-        ensures ok { IfOk result (λ v. (number ≤ suc self.now.progress.cycles)
-            × (v.items ≡ drop number (records_to self.now.progress.design self.now.progress.cycles))) }
-        ensures named { IfOk result (λ v. All (IsNamed (length self.now.progress.design.nets)) v.items) }
+        ensures ok { IfOk result (λ v. (number ≤ suc self.now.simulation.cycles)
+            × (v.items ≡ drop number (records_to self.now.simulation.design self.now.simulation.cycles))) }
+        ensures named { IfOk result (λ v. All (IsNamed (length self.now.simulation.design.nets)) v.items) }
         ensures err { IfErr result (spec.IsRecordsRefusal self.now number) }
     {
         let records = self.simulation.records();

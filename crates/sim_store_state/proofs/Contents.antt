@@ -11,7 +11,7 @@ use Rattle.sim_standard.specs.declared.net_view.NetView.{NetView}
 use Rattle.sim_standard.specs.State.{State, Owned, nothing_owned, net_at, waves}
 use Rattle.sim_standard.specs.Nets.{changed_to, net_value, nets_updated}
 use Rattle.sim_standard.specs.Cycle.{own_taken, updated}
-use Rattle.sim_store_state.specs.Contents.{Contents, contents_of, views_of, owned_lists, AreLists, sources_of}
+use Rattle.sim_store_state.specs.FlatState.{FlatState, flat_state_of, views_of, owned_lists, AreLists, sources_of}
 use Rattle.sim_store_state.specs.Changes.{row_value}
 use Rattle.sim_store_state.proofs.Views.{length-views_of}
 
@@ -57,32 +57,32 @@ pub same_owned : {ds es : List Waveform} {vs ws : List Held} → ds ≡ es → v
 same_owned {es = es} {vs = vs} d v = ap (λ w. as_owned w vs) d ∙ ap (as_owned es) v
 
 -- what flat lists hold
-abbrev pub held : List (List Source) → List Logic → List Logic → List (List Waveform) → List (List Held) → Contents
+abbrev pub held : List (List Source) → List Logic → List Logic → List (List Waveform) → List (List Held) → FlatState
 held sources values last_values dss vss = record { sources = sources; nets = views_of values last_values; owned = owned_lists dss vss }
 
-pub owned-by : {h : Contents} {sources : List (List Source)} {values last_values : List Logic} {dss : List (List Waveform)} {vss : List (List Held)}
+pub owned-by : {h : FlatState} {sources : List (List Source)} {values last_values : List Logic} {dss : List (List Waveform)} {vss : List (List Held)}
     → held sources values last_values dss vss ≡ h
     → AreLists values last_values dss vss → (p : ℕ) → get_or h.owned p nothing_owned ≡ record { drivers = get_or dss p []; variables = get_or vss p [] }
-owned-by {dss = dss} {vss = vss} e i p = ap (λ (g : Contents). get_or g.owned p nothing_owned) (sym e) ∙ owned-at dss vss p i.owned
+owned-by {dss = dss} {vss = vss} e i p = ap (λ (g : FlatState). get_or g.owned p nothing_owned) (sym e) ∙ owned-at dss vss p i.owned
 
-pub owned-count : {h : Contents} {sources : List (List Source)} {values last_values : List Logic} {dss : List (List Waveform)} {vss : List (List Held)}
+pub owned-count : {h : FlatState} {sources : List (List Source)} {values last_values : List Logic} {dss : List (List Waveform)} {vss : List (List Held)}
     → held sources values last_values dss vss ≡ h
     → AreLists values last_values dss vss → length h.owned ≡ length dss
-owned-count {dss = dss} {vss = vss} e i = ap (λ (g : Contents). length g.owned) (sym e) ∙ length-owned dss vss i.owned
+owned-count {dss = dss} {vss = vss} e i = ap (λ (g : FlatState). length g.owned) (sym e) ∙ length-owned dss vss i.owned
 
-pub net-count : {h : Contents} {sources : List (List Source)} {values last_values : List Logic} {dss : List (List Waveform)} {vss : List (List Held)}
+pub net-count : {h : FlatState} {sources : List (List Source)} {values last_values : List Logic} {dss : List (List Waveform)} {vss : List (List Held)}
     → held sources values last_values dss vss ≡ h
     → AreLists values last_values dss vss → length h.nets ≡ length values
-net-count {values = values} {last_values = last_values} e i = ap (λ (g : Contents). length g.nets) (sym e) ∙ length-views_of values last_values i.nets
+net-count {values = values} {last_values = last_values} e i = ap (λ (g : FlatState). length g.nets) (sym e) ∙ length-views_of values last_values i.nets
 
-pub drivers-by : {h : Contents} {sources : List (List Source)} {values last_values : List Logic} {dss : List (List Waveform)} {vss : List (List Held)}
+pub drivers-by : {h : FlatState} {sources : List (List Source)} {values last_values : List Logic} {dss : List (List Waveform)} {vss : List (List Held)}
     → held sources values last_values dss vss ≡ h
     → AreLists values last_values dss vss → waves h.owned ≡ joined dss
-drivers-by {dss = dss} {vss = vss} e i = ap (λ (g : Contents). waves g.owned) (sym e) ∙ owned-waves dss vss i.owned
+drivers-by {dss = dss} {vss = vss} e i = ap (λ (g : FlatState). waves g.owned) (sym e) ∙ owned-waves dss vss i.owned
 
 -- ---- one process owns something else
 
-pub held-set : {h : Contents} {sources : List (List Source)} {values last_values : List Logic} {dss : List (List Waveform)} {vss : List (List Held)}
+pub held-set : {h : FlatState} {sources : List (List Source)} {values last_values : List Logic} {dss : List (List Waveform)} {vss : List (List Held)}
     → held sources values last_values dss vss ≡ h
     → AreLists values last_values dss vss → (p : ℕ) (ds : List Waveform) (vs : List Held) (dss' : List (List Waveform)) (vss' : List (List Held))
     → dss' ≡ set dss p ds → vss' ≡ set vss p vs
@@ -90,7 +90,7 @@ pub held-set : {h : Contents} {sources : List (List Source)} {values last_values
 held-set {h} {sources} {values} {last_values} {dss} {vss} e i p ds vs dss' vss' ed ev =
     let o : owned_lists dss' vss' ≡ set (owned_lists dss vss) p (record { drivers = ds; variables = vs }) = rw (ed, ev) (owned-set dss vss p ds vs i.owned) in
     ap (λ w. record { sources = sources; nets = views_of values last_values; owned = w }) o
-    ∙ ap (λ (g : Contents). record { sources = g.sources; nets = g.nets; owned = set g.owned p (record { drivers = ds; variables = vs }) }) e
+    ∙ ap (λ (g : FlatState). record { sources = g.sources; nets = g.nets; owned = set g.owned p (record { drivers = ds; variables = vs }) }) e
 
 -- what it owns then is what the new lists have there
 pub owned-now : {values last_values : List Logic} {dss : List (List Waveform)} {vss : List (List Held)} → AreLists values last_values dss vss → (p : ℕ)
@@ -123,20 +123,20 @@ views-updated ws (n ∷ nets) (v ∷ values) [] e f = absurd (omega arith)
 views-updated ws (n ∷ nets) (v ∷ values) (l ∷ last_values) e f = ap (λ w. changed_to (net_value ws n) v ∷ w)
     (views-updated ws nets values last_values (omega arith) (omega arith))
 
-abbrev after_update : Design → ℕ → Contents → Contents
+abbrev after_update : Design → ℕ → FlatState → FlatState
 after_update design t g =
     let owned = map (own_taken t) g.owned in
     record { sources = sources_of design.nets; nets = nets_updated (waves owned) design.nets g.nets; owned = owned }
 
 -- an update of the flat lists is an update of what they hold
-pub held-updated : {h : Contents} {sources : List (List Source)} {values last_values : List Logic} {dss : List (List Waveform)} {vss : List (List Held)}
+pub held-updated : {h : FlatState} {sources : List (List Source)} {values last_values : List Logic} {dss : List (List Waveform)} {vss : List (List Held)}
     → held sources values last_values dss vss ≡ h
     → AreLists values last_values dss vss → (t : ℕ) (values' last_values' : List Logic) (dss' : List (List Waveform)) (ws : List Waveform)
     → length sources ≡ length values → dss' ≡ map (map (taken t)) dss → ws ≡ joined dss' → values' ≡ map (row_value ws) sources → last_values' ≡ values
-    → (design : Design) (s : State) → h ≡ contents_of design s → held sources values' last_values' dss' vss ≡ contents_of design (updated design s t)
+    → (design : Design) (s : State) → h ≡ flat_state_of design s → held sources values' last_values' dss' vss ≡ flat_state_of design (updated design s t)
 held-updated {h} {sources} {values} {last_values} {dss} {vss} e i t values' last_values' dss' ws long ed ew ev el design s eh =
-    let k : held sources values last_values dss vss ≡ contents_of design s = e ∙ eh in
-    let es : sources ≡ sources_of design.nets = ap (λ (g : Contents). g.sources) k in
+    let k : held sources values last_values dss vss ≡ flat_state_of design s = e ∙ eh in
+    let es : sources ≡ sources_of design.nets = ap (λ (g : FlatState). g.sources) k in
     let o : owned_lists dss' vss ≡ map (own_taken t) (owned_lists dss vss) = ap (λ w. owned_lists w vss) ed ∙ owned-taken t dss vss in
     let same : length dss' ≡ length vss = omega (arith, ap length ed, length-map dss (map (taken t)), i.owned) in
     let w : ws ≡ waves (map (own_taken t) (owned_lists dss vss)) = ew ∙ (sym (owned-waves dss' vss same) ∙ ap waves o) in

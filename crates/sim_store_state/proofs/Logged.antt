@@ -7,7 +7,7 @@ use Rattle.sim_store_state.specs.declared.log.Mark.{Mark}
 use Rattle.sim_logic.specs.declared.logic.Logic.{Logic}
 use Rattle.sim_standard.specs.declared.record.Record.{Record}
 use Rattle.std.specs.List.{enumerate_from}
-use Rattle.sim_store_state.specs.Contents.{views_of}
+use Rattle.sim_store_state.specs.FlatState.{views_of}
 use Rattle.sim_standard.specs.Records.{numbered_value, all_changes}
 use Rattle.sim_store_state.specs.Log.{marks_from, records_in, IsLog, end_mark, record_at}
 

@@ -13,7 +13,7 @@ use Rattle.sim_store_sets.specs.Numbers.{is_in}
 use Rattle.sim_store_sets.specs.Words.{IsNext, NoneFrom}
 use Rattle.sim_standard.specs.Nets.{changed_to}
 use Rattle.sim_store_state.specs.Changes.{AreTouched, value_at}
-use Rattle.sim_store_state.specs.Contents.{views_of}
+use Rattle.sim_store_state.specs.FlatState.{views_of}
 use Rattle.sim_standard.specs.Records.{changes_from}
 use Rattle.sim_standard.specs.Orders.{is_among}
 use Rattle.sim_store_state.specs.Sensitive.{is_sensitive}

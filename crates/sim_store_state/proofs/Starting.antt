@@ -22,7 +22,7 @@ use Rattle.sim_store_state.specs.Changes.{AreFanOut, IsHeld, row_value, value_at
 use Rattle.sim_store_sets.specs.RowArray.{joined}
 use Rattle.sim_standard.specs.Nets.{net_started, net_value}
 use Rattle.sim_standard.specs.Initialization.{idle, first_owned, all_first_owned, first_state}
-use Rattle.sim_store_state.specs.Contents.{contents_of, views_of, owned_lists, sources_of}
+use Rattle.sim_store_state.specs.FlatState.{flat_state_of, views_of, owned_lists, sources_of}
 use Rattle.sim_store_state.proofs.Contents.{held}
 
 -- ---- the drivers of processes stand side by side
@@ -101,7 +101,7 @@ views-first ws (n ∷ nets) =
 pub first-held : (design : Design) (sources : List (List Source)) (dss : List (List Waveform)) (vss : List (List Held)) (values last_values : List Logic)
     → sources ≡ sources_of design.nets → dss ≡ map (drivers_of design.drivers) design.processes → vss ≡ map variables_of design.processes
     → values ≡ map (net_value (joined dss)) design.nets → last_values ≡ values
-    → held sources values last_values dss vss ≡ contents_of design (first_state design)
+    → held sources values last_values dss vss ≡ flat_state_of design (first_state design)
 first-held design sources dss vss values last_values er es ev eu el =
     let owned = all_first_owned design in
     let o : owned_lists dss vss ≡ owned = ap (λ w. owned_lists w vss) es

@@ -3,7 +3,7 @@ use Rattle.std.proofs.Common.{ℕ, zero, suc, ◌<◌, ◌≤◌, ◌≡◌, Lis
 use Rattle.sim_logic.specs.declared.logic.Logic.{Logic}
 use Rattle.sim_standard.specs.State.{no_net}
 use Rattle.sim_standard.specs.Nets.{changed_to}
-use Rattle.sim_store_state.specs.Contents.{views_of}
+use Rattle.sim_store_state.specs.FlatState.{views_of}
 
 pub length-views_of : (values last_values : List Logic) → length values ≡ length last_values → length (views_of values last_values) ≡ length values
 length-views_of [] last_values e = refl

@@ -14,7 +14,7 @@ use Rattle.sim_store_sets.specs.Times.{time_of}
 use Rattle.sim_standard.specs.State.{driver_at}
 use Rattle.sim_standard.specs.Nets.{source_value}
 use Rattle.sim_standard.specs.Orders.{is_among}
-use Rattle.sim_store_state.specs.Contents.{AreLists}
+use Rattle.sim_store_state.specs.FlatState.{AreLists}
 
 -- ---- the times of the drivers
 

@@ -1,4 +1,4 @@
-pub mod Contents
+pub mod FlatState
 pub mod Sensitive
 pub mod Changes
 pub mod Log

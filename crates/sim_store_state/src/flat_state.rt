@@ -15,7 +15,7 @@ ghost use Rattle.sim_standard.specs.Drivers as spec;
 ghost use Rattle.sim_standard.specs.State as states;
 ghost use Rattle.sim_standard.specs.Initialization.{first_state};
 ghost use Rattle.sim_standard.specs.Cycle.{has_event_in, updated};
-ghost use Rattle.sim_store_state.specs.Contents.{contents_of};
+ghost use Rattle.sim_store_state.specs.FlatState.{flat_state_of};
 ghost use Rattle.sim_standard.specs.Records.{changes_from, values_of};
 ghost use Rattle.sim_store_state.specs.Sensitive.{AreSensitive};
 
@@ -55,10 +55,10 @@ pub struct FlatState {
 }
 
 impl Model for FlatState {
-    ghost use Rattle.sim_store_state.specs.Contents.{Contents, views_of, owned_lists};
+    ghost use Rattle.sim_store_state.specs.FlatState.{FlatState, views_of, owned_lists};
     ghost use Rattle.sim_store_state.specs.Changes.{IsHeld};
 
-    ghost Value = { Contents };
+    ghost Value = { FlatState };
 
     ghost view = { λ s. record {
       sources = s.sources;
@@ -88,7 +88,7 @@ impl FlatState {
     /// The state of a design before any process is executed: each driver has its first value, each
     /// net the value of its sources (14.7.5.2).
     pub fn first(alloc: Global, design: &Design) -> Result<FlatState, AllocError>
-        ensures { IfOk result (λ s. s ≡ contents_of design.now (first_state design.now)) }
+        ensures { IfOk result (λ s. s ≡ flat_state_of design.now (first_state design.now)) }
     {
         let first = first_contents(alloc, design)?;
         let count = first.drivers.flat().len();
@@ -201,8 +201,8 @@ impl FlatState {
     /// have one with another value as a source. If allocation fails nothing changes.
     pub fn update(&mut self, time: u64) -> Result<(), AllocError>
         requires next { spec.next_time (states.waves self.old.owned) ≡ Some time }
-        ensures ok { OnOk result ((design : design_value) (s : State) → self.old ≡ contents_of design s
-            → self.new ≡ contents_of design (updated design s time)) }
+        ensures ok { OnOk result ((design : design_value) (s : State) → self.old ≡ flat_state_of design s
+            → self.new ≡ flat_state_of design (updated design s time)) }
         ensures err { OnErr result (self.new ≡ self.old) }
     {
         bring_up_to_date(&mut self.queue, &self.stale, self.drivers.flat())?;

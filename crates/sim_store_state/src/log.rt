@@ -3,7 +3,7 @@
 ghost use Rattle.std.specs.Prelude.{◌≡◌, ◌≢◌, ◌≤◌, ◌<◌, ◌+◌, ◌^◌, ◌++◌, ◌∷◌, [], length, slice_index_or, slice_range, vec_len, vec_capacity, OnOk};
 ghost use Rattle.std.specs.List.{enumerate_from};
 ghost use Rattle.sim_store_state.specs.Changes.{AreTouched};
-ghost use Rattle.sim_store_state.specs.Contents.{views_of};
+ghost use Rattle.sim_store_state.specs.FlatState.{views_of};
 ghost use Rattle.sim_standard.specs.Records.{all_changes, changes_from};
 ghost use Rattle.sim_store_state.specs.Log.{end_mark, record_at};
 

@@ -8,7 +8,7 @@ ghost use Rattle.sim_standard.specs.State.{driver_at, net_at};
 ghost use Rattle.sim_store_sets.specs.Numbers.{is_in};
 ghost use Rattle.sim_store_state.specs.Changes.{AreTouched, row_value, value_at};
 ghost use Rattle.sim_standard.specs.Nets as spec;
-ghost use Rattle.sim_store_state.specs.Contents.{views_of};
+ghost use Rattle.sim_store_state.specs.FlatState.{views_of};
 
 use sim_exec::{NetView, Nets};
 use sim_flat_design::Source;

@@ -3,7 +3,7 @@
 ghost use Rattle.std.specs.Prelude.{ℕ, ◌≡◌, ◌<◌, ◌||◌, ◌&&◌, ◌==◌, not, [], List, length, slice_index_or, IfOk, OnOk};
 ghost use Rattle.sim_logic.specs.Logic.{is_same};
 ghost use Rattle.sim_flat_design.specs.Processes.{Process as process_value};
-ghost use Rattle.sim_store_state.specs.Contents.{views_of};
+ghost use Rattle.sim_store_state.specs.FlatState.{views_of};
 ghost use Rattle.sim_standard.specs.Cycle.{has_event_in};
 ghost use Rattle.sim_standard.specs.Processes.{process_at};
 ghost use Rattle.sim_store_sets.specs.Numbers.{is_in};

@@ -6,7 +6,7 @@ ghost use Rattle.std.specs.List.{All};
 ghost use Rattle.sim_standard.specs.Initialization as at_start;
 ghost use Rattle.sim_standard.specs.Nets.{net_value};
 ghost use Rattle.sim_store_state.specs.Changes.{AreFanOut, is_source, is_driver};
-ghost use Rattle.sim_store_state.specs.Contents.{sources_of};
+ghost use Rattle.sim_store_state.specs.FlatState.{sources_of};
 ghost use Rattle.sim_standard.specs.Orders.{is_among};
 ghost use Rattle.sim_store_sets.specs.RowArray.{joined};
 

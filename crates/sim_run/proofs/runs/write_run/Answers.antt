@@ -8,16 +8,16 @@ use Rattle.sim_run.proofs.runs.write_run.Goals as goal
 
 pub write_listing-requires-clause-history : goal.write_listing-requires-clause-history
 write_listing-requires-clause-history g c =
-    let d = c.args.run.now.progress.design in
+    let d = c.args.run.now.simulation.design in
     let names : length (map string_bytes c.as_slice.result.now) ≡ length d.nets =
     ap (λ xs. length (map string_bytes xs)) c.as_slice.ensures.value ∙ (ap length c.in_ok-names.ensures ∙ (length-map c.nets.result.now (λ (n : Net). n.name)
     ∙ (ap length c.nets.ensures.value ∙ ap (λ (e : Design). length e.nets) c.design.ensures))) in
     is_history (map string_bytes c.as_slice.result.now) c.history.result.now.records (length d.nets) names
-    (omega (arith, ap length c.history.ensures.records, length-records_to d c.args.run.now.progress.cycles)) c.history.ensures.named
+    (omega (arith, ap length c.history.ensures.records, length-records_to d c.args.run.now.simulation.cycles)) c.history.ensures.named
 
 pub returns-in_err-write_listing-clause-part : goal.returns-in_err-write_listing-clause-part
 returns-in_err-write_listing-clause-part g c =
-    let d = c.args.run.now.progress.design in
+    let d = c.args.run.now.simulation.design in
     let names : map string_bytes c.as_slice.result.now ≡ map (λ (n : Net). n.name) d.nets =
     ap (map string_bytes) c.as_slice.ensures.value ∙ (c.in_ok-names.ensures
     ∙ (ap (map (λ (n : Net). n.name)) c.nets.ensures.value ∙ ap (λ (e : Design). map (λ (n : Net). n.name) e.nets) c.design.ensures)) in

@@ -4,13 +4,13 @@ use Rattle.sim_flat_design.specs.Processes.{Process}
 use Rattle.sim_exec.specs.Jobs.{IsReady}
 use Rattle.sim_standard.specs.State.{owned_at}
 use Rattle.sim_standard.specs.Processes.{no_process, process_at}
-use Rattle.sim_store.specs.Made.{progress_of}
-use Rattle.sim_store.specs.Progress.{IsProgress, with_marks}
+use Rattle.sim_store.specs.Made.{simulation_of}
+use Rattle.sim_store.specs.Simulation.{IsStateOf, with_marks}
 use Rattle.sim_store.proofs.Going.{executed-keeps, held-count, ready-here}
 use Rattle.sim_store.proofs.simulation.execute.Goals as goal
 
 pub execute-requires-clause-at : goal.execute-requires-clause-at
-execute-requires-clause-at c = omega (arith, c.requires.at, held-count c.requires.of.progress)
+execute-requires-clause-at c = omega (arith, c.requires.at, held-count c.requires.of.state)
 
 pub execute-requires-clause-ready : goal.execute-requires-clause-ready
 execute-requires-clause-ready c =
@@ -19,18 +19,18 @@ execute-requires-clause-ready c =
     (omega (arith, c.requires.at, ap length c.processes.ensures.value))
     ∙ ap (λ (ps : List Process). process_at ps c.args.number) c.processes.ensures.value) in
     subst (λ (q : Process). IsReady q.body c.args.made.now.time (owned_at c.args.made.now.state.owned c.args.number)) (sym is)
-    (ready-here c.requires.of.progress c.args.number c.requires.at c.requires.fresh)
+    (ready-here c.requires.of.state c.args.number c.requires.at c.requires.fresh)
 
 pub returns-clause-of : goal.returns-clause-of
 returns-clause-of c =
-    let i = c.requires.of.progress in
+    let i = c.requires.of.state in
     let is : c.index-processes-number.result ≡ process_at c.args.design.now.processes c.args.number =
     c.index-processes-number.is ∙ (get_or_default c.processes.result.now c.args.number _ no_process
     (omega (arith, c.requires.at, ap length c.processes.ensures.value))
     ∙ ap (λ (ps : List Process). process_at ps c.args.number) c.processes.ensures.value) in
     record {
       made = c.requires.of.made;
-      progress = subst (λ (marks : List Bool). IsProgress (with_marks (progress_of c.args.design.now c.args.made.now) marks) c.args.made.now.time
+      state = subst (λ (marks : List Bool). IsStateOf (with_marks (simulation_of c.args.design.now c.args.made.now) marks) c.args.made.now.time
           c.args.made.now.delta c.execute.new.self c.args.made.now.log.records c.args.made.now.due) (sym c.insert.ensures)
           (executed-keeps i c.args.number c.requires.at c.requires.fresh c.index-processes-number.result c.execute.new.self is
           (sym (i.due_are c.args.number c.requires.at) ∙ c.requires.due) c.in_ok-execute.ensures.ok c.in_ok-execute.ensures.ready);

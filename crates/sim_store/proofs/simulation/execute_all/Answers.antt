@@ -1,5 +1,5 @@
 use Rattle.std.proofs.Common.{refl, ◌∙◌, ap}
-use Rattle.sim_store.specs.Progress.{Progress, those_in, with_marks}
+use Rattle.sim_store.specs.Simulation.{Simulation, those_in, with_marks}
 use Rattle.sim_store.proofs.Walks.{due-beside, due-within, fresh-beside, none-between, none-missing, none-passed, one-passed}
 use Rattle.sim_store.proofs.simulation.execute_all.Goals as goal
 
@@ -9,7 +9,7 @@ loop-number-init c = record { of = c.requires; same = refl; passed = none-passed
 pub execute-requires-clause-at : goal.execute-requires-clause-at
 execute-requires-clause-at c =
     let made = c.loop-number.made in
-    due-within c.loop-number.invariant.of.progress c.in-Some.number
+    due-within c.loop-number.invariant.of.state c.in-Some.number
     (due-beside (those_in made.due c.in-Some.number) (those_in made.deposited c.in-Some.number) c.in-Some.ensures.value.passes)
 
 pub execute-requires-clause-due : goal.execute-requires-clause-due
@@ -25,12 +25,12 @@ execute-requires-clause-fresh c =
 pub loop-number-preserved : goal.loop-number-preserved
 loop-number-preserved c = record {
   of = c.in_ok-execute.ensures.of;
-  same = c.in_ok-execute.ensures.same ∙ ap (λ (h : Progress). with_marks h c.execute.new.made.deposited) c.loop-number.invariant.same;
+  same = c.in_ok-execute.ensures.same ∙ ap (λ (h : Simulation). with_marks h c.execute.new.made.deposited) c.loop-number.invariant.same;
   passed = one-passed c.in-Some.number
-      (none-between c.loop-number.invariant.of.progress c.loop-number.from c.in-Some.number c.loop-number.invariant.passed c.in-Some.ensures.value)
+      (none-between c.loop-number.invariant.of.state c.loop-number.from c.in-Some.number c.loop-number.invariant.passed c.in-Some.ensures.value)
       c.in_ok-execute.ensures.others c.in_ok-execute.ensures.gone;
 }
 
 pub returns-clause-complete : goal.returns-clause-complete
 returns-clause-complete c =
-    none-missing c.loop-number.invariant.of.progress c.loop-number.from c.loop-number.invariant.passed c.in_default.ensures.value
+    none-missing c.loop-number.invariant.of.state c.loop-number.from c.loop-number.invariant.passed c.in_default.ensures.value

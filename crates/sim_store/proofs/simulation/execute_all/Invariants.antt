@@ -1,6 +1,6 @@
 use Rattle.std.proofs.Common.{◌≡◌, ◌-◌, length}
-use Rattle.sim_store.specs.Made.{IsOf, progress_of}
-use Rattle.sim_store.specs.Progress.{with_marks}
+use Rattle.sim_store.specs.Made.{IsOf, simulation_of}
+use Rattle.sim_store.specs.Simulation.{with_marks}
 use Rattle.sim_store.proofs.Walks.{Passed}
 use Rattle.sim_store.proofs.simulation.execute_all.Given as goal
 
@@ -8,8 +8,8 @@ use Rattle.sim_store.proofs.simulation.execute_all.Given as goal
 abbrev pub invariant-loop-number : goal.invariant-loop-number
 invariant-loop-number l = record {
   of : IsOf l.design l.made;
-  same : progress_of l.design l.made ≡ with_marks (progress_of l.design l.fn.made) l.made.deposited;
-  passed : Passed (progress_of l.design l.made) l.from;
+  same : simulation_of l.design l.made ≡ with_marks (simulation_of l.design l.fn.made) l.made.deposited;
+  passed : Passed (simulation_of l.design l.made) l.from;
 }
 
 abbrev pub decreases-loop-number : goal.decreases-loop-number

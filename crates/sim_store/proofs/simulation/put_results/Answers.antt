@@ -2,7 +2,7 @@ use Rattle.std.proofs.Common.{List, ap, sym, ◌∙◌}
 use Rattle.std.proofs.lemmas.List.{set-get_or}
 use Rattle.std.proofs.Math.ListN.{set}
 use Rattle.sim_standard.specs.State.{Owned, owned_at}
-use Rattle.sim_store.specs.Progress.{kept_or}
+use Rattle.sim_store.specs.Simulation.{kept_or}
 use Rattle.sim_store.proofs.simulation.put_results.Goals as goal
 
 pub returns-in_default : goal.returns-in_default

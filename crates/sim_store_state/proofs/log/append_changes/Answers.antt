@@ -1,5 +1,5 @@
 use Rattle.std.proofs.Common.{◌++◌, refl, sym, arith}
-use Rattle.sim_store_state.specs.Contents.{views_of}
+use Rattle.sim_store_state.specs.FlatState.{views_of}
 use Rattle.sim_standard.specs.Records.{changes_from}
 use Rattle.sim_store_state.proofs.Skips.{changes-step, changes-end}
 use Rattle.sim_store_state.proofs.Walks.{member_within}

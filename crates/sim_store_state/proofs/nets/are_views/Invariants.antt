@@ -1,6 +1,6 @@
 use Rattle.std.proofs.Common.{◌≡◌, map, take}
 use Rattle.sim_standard.specs.State.{net_at}
-use Rattle.sim_store_state.specs.Contents.{views_of}
+use Rattle.sim_store_state.specs.FlatState.{views_of}
 use Rattle.sim_store_state.proofs.nets.are_views.Given as goal
 
 -- they are seen so, as far as this

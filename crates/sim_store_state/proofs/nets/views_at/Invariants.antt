@@ -1,6 +1,6 @@
 use Rattle.std.proofs.Common.{◌≡◌, take, map}
 use Rattle.sim_standard.specs.State.{net_at}
-use Rattle.sim_store_state.specs.Contents.{views_of}
+use Rattle.sim_store_state.specs.FlatState.{views_of}
 use Rattle.sim_store_state.proofs.nets.views_at.Given as goal
 
 abbrev pub invariant-loop-number : goal.invariant-loop-number

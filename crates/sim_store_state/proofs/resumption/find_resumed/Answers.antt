@@ -1,7 +1,7 @@
 use Rattle.std.proofs.Common.{◌≡◌, ◌||◌, ◌∙◌, ap, length, arith, false}
 use Rattle.std.proofs.lemmas.List.{get_or-replicate, length-replicate}
 use Rattle.sim_store_sets.specs.Numbers.{is_in}
-use Rattle.sim_store_state.specs.Contents.{views_of}
+use Rattle.sim_store_state.specs.FlatState.{views_of}
 use Rattle.sim_store_state.specs.Sensitive.{is_sensitive}
 use Rattle.sim_store_state.proofs.Views.{length-views_of}
 use Rattle.sim_store_state.proofs.Sensitivity.{or_false, sensitive-event}

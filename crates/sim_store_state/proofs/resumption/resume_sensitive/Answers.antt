@@ -1,6 +1,6 @@
 use Rattle.std.proofs.Common.{refl, sym, arith, ◌∙◌, ◌||◌}
 use Rattle.sim_store_sets.specs.Numbers.{is_in}
-use Rattle.sim_store_state.specs.Contents.{views_of}
+use Rattle.sim_store_state.specs.FlatState.{views_of}
 use Rattle.sim_store_state.specs.Sensitive.{is_sensitive}
 use Rattle.sim_store_state.proofs.Skips.{sensitive-step, sensitive-end}
 use Rattle.sim_store_state.proofs.Walks.{member_within}

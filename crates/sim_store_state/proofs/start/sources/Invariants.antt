@@ -1,5 +1,5 @@
 use Rattle.std.proofs.Common.{◌≡◌, take}
-use Rattle.sim_store_state.specs.Contents.{sources_of}
+use Rattle.sim_store_state.specs.FlatState.{sources_of}
 use Rattle.sim_store_state.proofs.start.sources.Given as goal
 
 abbrev pub invariant-loop-net : goal.invariant-loop-net

@@ -8,8 +8,8 @@ use Rattle.sim_run.proofs.finished.Finished.of.Goals as goal
 
 pub new-requires-clause-history : goal.new-requires-clause-history
 new-requires-clause-history c =
-    let d = c.args.run.now.progress.design in
-    let k = c.args.run.now.progress.cycles in
+    let d = c.args.run.now.simulation.design in
+    let k = c.args.run.now.simulation.cycles in
     let names : length (map string_bytes c.in_ok-names.names.items) ≡ length d.nets =
     ap length c.in_ok-names.ensures ∙ (length-map c.nets.result.now (λ (n : Net). n.name)
     ∙ (ap length c.nets.ensures.value ∙ ap (λ (e : Design). length e.nets) c.design.ensures)) in

@@ -2,8 +2,8 @@ use Rattle.std.proofs.Common.{rules, ℕ, List, length, ap, sym, subst, arith}
 use Rattle.std.specs.List.{All}
 use Rattle.sim_flat_design.specs.Designs.{AreOwned}
 use Rattle.sim_flat_design.specs.Processes.{Process, IsProcess}
-use Rattle.sim_store.specs.Made.{progress_of}
-use Rattle.sim_store.specs.Progress.{IsProgress}
+use Rattle.sim_store.specs.Made.{simulation_of}
+use Rattle.sim_store.specs.Simulation.{IsStateOf}
 use Rattle.sim_store.proofs.Counting.{totals-begin}
 use Rattle.sim_store.proofs.Going.{begins}
 use Rattle.sim_store.proofs.simulation.Simulation.begin.Goals as goal
@@ -17,9 +17,9 @@ invariant_of-result c =
     (search rules) owned all (omega (arith, ap length m.records_is)) m.held_is m.records_is m.due_is m.deposited_is in
     record {
       made = m.lists;
-      progress = subst (λ (n : ℕ). IsProgress (progress_of c.args.design c.in-Ok.made) n c.in-Ok.made.delta c.in-Ok.made.state c.in-Ok.made.log.records
+      state = subst (λ (n : ℕ). IsStateOf (simulation_of c.args.design c.in-Ok.made) n c.in-Ok.made.delta c.in-Ok.made.state c.in-Ok.made.log.records
           c.in-Ok.made.due) (sym c.in-Ok.ensures.start.0)
-          (subst (λ (n : ℕ). IsProgress (progress_of c.args.design c.in-Ok.made) 0 n c.in-Ok.made.state c.in-Ok.made.log.records c.in-Ok.made.due)
+          (subst (λ (n : ℕ). IsStateOf (simulation_of c.args.design c.in-Ok.made) 0 n c.in-Ok.made.state c.in-Ok.made.log.records c.in-Ok.made.due)
           (sym c.in-Ok.ensures.start.1) begun);
       counts = totals-begin (length c.args.design.nets) _ c.in-Ok.made.log.records c.in-Ok.made.totals.items m.records_is m.totals_is;
     }

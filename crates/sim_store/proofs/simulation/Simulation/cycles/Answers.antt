@@ -3,4 +3,4 @@ use Rattle.sim_store.proofs.Going.{cycle-count}
 use Rattle.sim_store.proofs.simulation.Simulation.cycles.Goals as goal
 
 pub overflow_sub-result : goal.overflow_sub-result
-overflow_sub-result c = omega (arith, c.len.ensures, cycle-count c.self.invariant.progress)
+overflow_sub-result c = omega (arith, c.len.ensures, cycle-count c.self.invariant.state)

@@ -1,6 +1,6 @@
 use Rattle.std.proofs.Common.{◌≡◌, ◌≤◌, length, subst, sym, ap, ◌∙◌, arith}
 use Rattle.sim_flat_design.specs.Designs.{most}
-use Rattle.sim_store.specs.Progress.{Progress, is_due, reached, those_in}
+use Rattle.sim_store.specs.Simulation.{Simulation, is_due, reached, those_in}
 use Rattle.sim_standard.specs.Cycle.{resumed, those}
 use Rattle.sim_store.specs.contracts.simulation.Simulation.{the_view}
 use Rattle.sim_store.proofs.Listing.{those-few, those-same}
@@ -10,15 +10,15 @@ pub returns-clause-value : goal.returns-clause-value
 returns-clause-value c =
     let s = c.self.inside in
     let h = the_view s in
-    let i = c.self.invariant.progress in
+    let i = c.self.invariant.state in
     c.numbers.ensures ∙ (ap (those (those_in s.made.due) 0) i.due_sized
     ∙ (those-same (those_in s.made.due) (is_due h) 0 (length h.design.processes) (λ k ge lt. i.due_are k (omega (arith, lt)))
-    ∙ ap (λ (g : Progress). resumed g.design g.cycles (reached g)) c.self.view_is))
+    ∙ ap (λ (g : Simulation). resumed g.design g.cycles (reached g)) c.self.view_is))
 
 pub returns-clause-few : goal.returns-clause-few
 returns-clause-few c =
     let s = c.self.inside in
-    let i = c.self.invariant.progress in
+    let i = c.self.invariant.state in
     let listed : length c.numbers.result.now ≤ length s.made.due =
     subst (λ ns. length ns ≤ length s.made.due) (sym c.numbers.ensures) (those-few (those_in s.made.due) 0 (length s.made.due)) in
     let bound : length c.processes-processes.result.now ≤ most = c.processes-processes.ensures.bound in

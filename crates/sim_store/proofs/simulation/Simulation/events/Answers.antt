@@ -2,7 +2,7 @@ use Rattle.std.proofs.Common.{◌≡◌, ◌-◌, length, List, ap, ◌∙◌, a
 use Rattle.sim_standard.specs.declared.record.Record.{Record}
 use Rattle.sim_standard.specs.Records.{all_changes}
 use Rattle.sim_standard.specs.Histories.{event_count, records_to}
-use Rattle.sim_store.specs.Progress.{Progress}
+use Rattle.sim_store.specs.Simulation.{Simulation}
 use Rattle.sim_store.specs.contracts.simulation.Simulation.{the_view}
 use Rattle.sim_standard.proofs.Records.{change_count}
 use Rattle.sim_store.proofs.simulation.Simulation.events.Goals as goal
@@ -10,7 +10,7 @@ use Rattle.sim_store.proofs.simulation.Simulation.events.Goals as goal
 pub overflow_sub-result : goal.overflow_sub-result
 overflow_sub-result c =
     let h = the_view c.self.inside in
-    let i = c.self.invariant.progress in
+    let i = c.self.invariant.state in
     omega (
       arith,
       c.count.ensures,
@@ -22,7 +22,7 @@ overflow_sub-result c =
 pub returns : goal.returns
 returns c =
     let h = the_view c.self.inside in
-    let i = c.self.invariant.progress in
+    let i = c.self.invariant.state in
     let here : c.count.result - length c.nets.result.now ≡ event_count (records_to h.design h.cycles) =
     omega (
       arith,
@@ -31,4 +31,4 @@ returns c =
       change_count h.design i.processes h.cycles,
       ap length c.nets.ensures.value,
     ) in
-    here ∙ ap (λ (g : Progress). event_count (records_to g.design g.cycles)) c.self.view_is
+    here ∙ ap (λ (g : Simulation). event_count (records_to g.design g.cycles)) c.self.view_is

@@ -7,7 +7,7 @@ use Rattle.sim_store_state.specs.Log.{record_at}
 use Rattle.sim_standard.specs.Records.{changes_from}
 use Rattle.sim_standard.specs.Cycle.{state_of}
 use Rattle.sim_standard.specs.Agreement.{is_of}
-use Rattle.sim_store.specs.Progress.{AreTotals, Progress, IsComplete, after, next_after}
+use Rattle.sim_store.specs.Simulation.{AreTotals, Simulation, IsComplete, after, next_after}
 use Rattle.sim_store.specs.contracts.simulation.Simulation.{the_view}
 use Rattle.sim_store.proofs.Counting.{changes-few, last-record, totals-few, totals-go-on}
 use Rattle.sim_store.proofs.Going.{advanced-count, advanced-keeps, advanced-time, cycle-count, next-is, none-marked-now, slow}
@@ -15,40 +15,40 @@ use Rattle.sim_store.proofs.simulation.Simulation.go_on.Goals as goal
 
 pub next_delta-self-inside-requires : goal.next_delta-self-inside-requires
 next_delta-self-inside-requires c =
-    let few : (the_view c.self.inside).cycles < 4294967296 = subst (λ (g : Progress). g.cycles < 4294967296) (sym c.self.view_is) c.requires.bound in
-    omega (arith, few, slow c.self.invariant.progress)
+    let few : (the_view c.self.inside).cycles < 4294967296 = subst (λ (g : Simulation). g.cycles < 4294967296) (sym c.self.view_is) c.requires.bound in
+    omega (arith, few, slow c.self.invariant.state)
 
 pub update-requires : goal.update-requires
 update-requires c =
     let all = subst IsComplete (sym c.self.view_is) c.requires.complete in
     record {
-      next = next-is c.self.invariant.progress all ∙ subst (λ (g : Progress). next_after g ≡ Some c.args.time) (sym c.self.view_is) c.requires.next;
+      next = next-is c.self.invariant.state all ∙ subst (λ (g : Simulation). next_after g ≡ Some c.args.time) (sym c.self.view_is) c.requires.next;
     }
 
 pub record-requires-clause-few : goal.record-requires-clause-few
 record-requires-clause-few c =
     let s = c.self.inside in
     let all = subst IsComplete (sym c.self.view_is) c.requires.complete in
-    let count = advanced-count c.self.invariant.progress all c.args.time c.update.new.self c.in_ok-update.ensures.ok in
-    omega (arith, count, c.self.invariant.progress.few)
+    let count = advanced-count c.self.invariant.state all c.args.time c.update.new.self c.in_ok-update.ensures.ok in
+    omega (arith, count, c.self.invariant.state.few)
 
 pub record-requires-clause-changes : goal.record-requires-clause-changes
 record-requires-clause-changes c =
     let all = subst IsComplete (sym c.self.view_is) c.requires.complete in
-    let count = advanced-count c.self.invariant.progress all c.args.time c.update.new.self c.in_ok-update.ensures.ok in
+    let count = advanced-count c.self.invariant.state all c.args.time c.update.new.self c.in_ok-update.ensures.ok in
     omega (arith, count, ap length c.nets-nets.ensures.value, c.in_ok-reserve.ensures.changes)
 
 pub find-requires : goal.find-requires
 find-requires c =
     let all = subst IsComplete (sym c.self.view_is) c.requires.complete in
-    let count = advanced-count c.self.invariant.progress all c.args.time c.update.new.self c.in_ok-update.ensures.ok in
+    let count = advanced-count c.self.invariant.state all c.args.time c.update.new.self c.in_ok-update.ensures.ok in
     c.self.invariant.made.sensitive_sized ∙ sym count
 
 pub count_last-requires-clause-room : goal.count_last-requires-clause-room
 count_last-requires-clause-room c n =
     let s = c.self.inside in
-    let i = c.self.invariant.progress in
-    let few : (the_view s).cycles < 4294967296 = subst (λ (g : Progress). g.cycles < 4294967296) (sym c.self.view_is) c.requires.bound in
+    let i = c.self.invariant.state in
+    let few : (the_view s).cycles < 4294967296 = subst (λ (g : Simulation). g.cycles < 4294967296) (sym c.self.view_is) c.requires.bound in
     let all = subst IsComplete (sym c.self.view_is) c.requires.complete in
     let count = advanced-count i all c.args.time c.update.new.self c.in_ok-update.ensures.ok in
     let one : Record = record { time = c.args.time; delta = c.next_delta-self-inside.result; changes = changes_from 0 c.update.new.self.nets } in
@@ -70,9 +70,9 @@ pub invariant_of-self-2 : goal.invariant_of-self-2
 invariant_of-self-2 c =
     let s = c.self.inside in
     let h = the_view s in
-    let i = c.self.invariant.progress in
+    let i = c.self.invariant.state in
     let all = subst IsComplete (sym c.self.view_is) c.requires.complete in
-    let next = next-is i all ∙ subst (λ (g : Progress). next_after g ≡ Some c.args.time) (sym c.self.view_is) c.requires.next in
+    let next = next-is i all ∙ subst (λ (g : Simulation). next_after g ≡ Some c.args.time) (sym c.self.view_is) c.requires.next in
     let one : Record = record { time = c.args.time; delta = c.next_delta-self-inside.result; changes = changes_from 0 c.update.new.self.nets } in
     let records : c.record.new.log.records ≡ s.made.log.records ++ one ∷ [] = c.record.ensures ∙ ap (λ rs. rs ++ one ∷ []) c.in_ok-reserve.ensures.same in
     let marks = c.clear.ensures ∙ none-marked-now s.made.deposited in
@@ -80,7 +80,7 @@ invariant_of-self-2 c =
     let written = written_back c.count_last.new.totals s.made.totals.items s.made.totals.len (c.count_last.ensures.sized ∙ c.as_mut_slice.ensures.len) in
     record {
       made = c.self.invariant.made;
-      progress = advanced-keeps i all c.args.time next c.requires.early c.next_delta-self-inside.result (length c.record.new.log.records - 1)
+      state = advanced-keeps i all c.args.time next c.requires.early c.next_delta-self-inside.result (length c.record.new.log.records - 1)
           c.update.new.self c.record.new.log.records c.find.new.self _ c.next_delta-self-inside.ensures
           c.in_ok-update.ensures.ok records c.find.ensures.sized (λ p lt. c.find.ensures.found h.design.processes p c.self.invariant.made.sensitive_are
           lt) marks
@@ -102,16 +102,16 @@ returns-clause-ok c =
     let records : c.record.new.log.records ≡ s.made.log.records ++ one ∷ [] = c.record.ensures ∙ ap (λ rs. rs ++ one ∷ []) c.in_ok-reserve.ensures.same in
     let marks = c.clear.ensures ∙ none-marked-now s.made.deposited in
     let cycles : length c.record.new.log.records - 1 ≡ suc (length s.made.log.records - 1) =
-    omega (arith, ap length records, length-append s.made.log.records (one ∷ []), cycle-count c.self.invariant.progress) in
+    omega (arith, ap length records, length-append s.made.log.records (one ∷ []), cycle-count c.self.invariant.state) in
     rw (cycles, marks) (ap after c.self.view_is)
 
 pub returns-clause-at : goal.returns-clause-at
 returns-clause-at c =
     let s = c.self.inside in
     let h = the_view s in
-    let i = c.self.invariant.progress in
+    let i = c.self.invariant.state in
     let all = subst IsComplete (sym c.self.view_is) c.requires.complete in
-    let next = next-is i all ∙ subst (λ (g : Progress). next_after g ≡ Some c.args.time) (sym c.self.view_is) c.requires.next in
+    let next = next-is i all ∙ subst (λ (g : Simulation). next_after g ≡ Some c.args.time) (sym c.self.view_is) c.requires.next in
     let one : Record = record { time = c.args.time; delta = c.next_delta-self-inside.result; changes = changes_from 0 c.update.new.self.nets } in
     let records : c.record.new.log.records ≡ s.made.log.records ++ one ∷ [] = c.record.ensures ∙ ap (λ rs. rs ++ one ∷ []) c.in_ok-reserve.ensures.same in
     let cycles : length c.record.new.log.records - 1 ≡ suc h.cycles =

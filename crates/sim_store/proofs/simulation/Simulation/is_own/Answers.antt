@@ -3,7 +3,7 @@ use Rattle.std.proofs.lemmas.List.{get_or_default}
 use Rattle.sim_flat_design.specs.Processes.{Process}
 use Rattle.sim_standard.specs.Processes.{no_process, process_at}
 use Rattle.sim_standard.specs.State.{net_at, owned_at}
-use Rattle.sim_store.specs.Progress.{Progress, IsOwn, those_in}
+use Rattle.sim_store.specs.Simulation.{Simulation, IsOwn, those_in}
 use Rattle.sim_store.specs.contracts.simulation.Simulation.{the_view}
 use Rattle.sim_store.proofs.Going.{fits-own, held-count, own-owned, own-views}
 use Rattle.sim_store.proofs.simulation.Simulation.is_own.Goals as goal
@@ -11,17 +11,17 @@ use Rattle.sim_store.proofs.simulation.Simulation.is_own.Goals as goal
 pub is_part-requires : goal.is_part-requires
 is_part-requires c =
     let lt : c.args.job.now.number < length c.self.inside.design.processes =
-    subst (λ (g : Progress). c.args.job.now.number < length g.design.processes) (sym c.self.view_is) c.requires.at in
-    omega (arith, lt, c.number-2.ensures, held-count c.self.invariant.progress)
+    subst (λ (g : Simulation). c.args.job.now.number < length g.design.processes) (sym c.self.view_is) c.requires.at in
+    omega (arith, lt, c.number-2.ensures, held-count c.self.invariant.state)
 
 pub returns : goal.returns
 returns c =
     let s = c.self.inside in
     let h = the_view s in
-    let i = c.self.invariant.progress in
+    let i = c.self.invariant.state in
     let job = c.args.job.now in
-    let lt : job.number < length s.design.processes = subst (λ (g : Progress). job.number < length g.design.processes) (sym c.self.view_is) c.requires.at in
-    let out = subst (λ (g : Progress). those_in g.deposited job.number ≡ false) (sym c.self.view_is) c.requires.fresh in
+    let lt : job.number < length s.design.processes = subst (λ (g : Simulation). job.number < length g.design.processes) (sym c.self.view_is) c.requires.at in
+    let out = subst (λ (g : Simulation). those_in g.deposited job.number ≡ false) (sym c.self.view_is) c.requires.fresh in
     let q = process_at s.design.processes job.number in
     let is : c.index-processes-number.result ≡ q =
     c.index-processes-number.is ∙ (get_or_default c.processes.result.now c.number.result _ no_process
@@ -34,7 +34,7 @@ returns c =
     ap (λ ds. record { drivers = ds; variables = c.variables.result.now }) c.drivers.ensures
     ∙ ap (λ vs. record { drivers = job.owned.drivers; variables = vs }) c.variables.ensures in
     let held = ap (owned_at s.made.state.owned) c.number-2.ensures in
-    subst (λ (g : Progress). (IsTrue c.is_part.result → IsOwn g job) × (IsOwn g job → IsTrue c.is_part.result)) c.self.view_is (
+    subst (λ (g : Simulation). (IsTrue c.is_part.result → IsOwn g job) × (IsOwn g job → IsTrue c.is_part.result)) c.self.view_is (
       (λ yes. let both = c.is_part.ensures.0 yes in
           fits-own i job out time process
           (sym c.views.ensures.value ∙ (both.0 ∙ ap (map (net_at s.made.state.nets)) reads))

@@ -1,7 +1,7 @@
 use Rattle.std.proofs.Common.{suc, ap, ◌∙◌}
-use Rattle.sim_store.specs.Progress.{Progress}
+use Rattle.sim_store.specs.Simulation.{Simulation}
 use Rattle.sim_store.proofs.Going.{cycle-count}
 use Rattle.sim_store.proofs.simulation.Simulation.records.Goals as goal
 
 pub returns : goal.returns
-returns c = c.len.ensures ∙ (cycle-count c.self.invariant.progress ∙ ap (λ (g : Progress). suc g.cycles) c.self.view_is)
+returns c = c.len.ensures ∙ (cycle-count c.self.invariant.state ∙ ap (λ (g : Simulation). suc g.cycles) c.self.view_is)

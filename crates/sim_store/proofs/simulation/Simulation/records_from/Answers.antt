@@ -3,7 +3,7 @@ use Rattle.std.proofs.lemmas.List.Elements.{All-drop}
 use Rattle.std.specs.List.{All}
 use Rattle.sim_standard.specs.declared.record.Record.{Record}
 use Rattle.sim_standard.specs.Histories.{IsNamed}
-use Rattle.sim_store.specs.Progress.{Progress}
+use Rattle.sim_store.specs.Simulation.{Simulation}
 use Rattle.sim_store.specs.contracts.simulation.Simulation.{the_view}
 use Rattle.sim_store.proofs.Going.{cycle-count}
 use Rattle.sim_standard.proofs.Records.{all_named}
@@ -11,15 +11,15 @@ use Rattle.sim_store.proofs.simulation.Simulation.records_from.Goals as goal
 
 pub records_from-requires : goal.records_from-requires
 records_from-requires c =
-    let few : c.args.number ≤ suc (the_view c.self.inside).cycles = subst (λ (g : Progress). c.args.number ≤ suc g.cycles) (sym c.self.view_is) c.requires in
-    omega (arith, few, cycle-count c.self.invariant.progress)
+    let few : c.args.number ≤ suc (the_view c.self.inside).cycles = subst (λ (g : Simulation). c.args.number ≤ suc g.cycles) (sym c.self.view_is) c.requires in
+    omega (arith, few, cycle-count c.self.invariant.state)
 
 pub returns-clause-named : goal.returns-clause-named
 returns-clause-named c =
     let h = the_view c.self.inside in
-    let i = c.self.invariant.progress in
+    let i = c.self.invariant.state in
     let all : All (IsNamed (length h.design.nets)) c.self.inside.made.log.records =
     subst (λ (rs : List Record). All (IsNamed (length h.design.nets)) rs) (sym i.records_are) (all_named h.design i.processes h.cycles) in
     let some = All-drop (IsNamed (length h.design.nets)) c.args.number c.self.inside.made.log.records all in
-    subst (λ (g : Progress). All (IsNamed (length g.design.nets)) c.in_ok-found.found.items) c.self.view_is
+    subst (λ (g : Simulation). All (IsNamed (length g.design.nets)) c.in_ok-found.found.items) c.self.view_is
     (subst (λ (rs : List Record). All (IsNamed (length h.design.nets)) rs) (sym c.in_ok-found.ensures) some)

@@ -1,14 +1,14 @@
 use Rattle.std.proofs.Common.{◌≡◌, Some, subst}
-use Rattle.sim_store.specs.Progress.{Progress, AreRising, reached}
+use Rattle.sim_store.specs.Simulation.{Simulation, AreRising, reached}
 use Rattle.sim_standard.specs.Cycle.{standard}
 use Rattle.sim_store.specs.contracts.simulation.Simulation.{the_view}
 use Rattle.sim_store.proofs.simulation.Simulation.time.Goals as goal
 
 pub returns-clause-there : goal.returns-clause-there
 returns-clause-there c =
-    subst (λ (g : Progress). standard g.design g.cycles ≡ Some (reached g)) c.self.view_is c.self.invariant.progress.there
+    subst (λ (g : Simulation). standard g.design g.cycles ≡ Some (reached g)) c.self.view_is c.self.invariant.state.there
 
 pub returns-clause-rising : goal.returns-clause-rising
 returns-clause-rising c =
-    let i = c.self.invariant.progress in
-    subst (λ (g : Progress). AreRising g) c.self.view_is (λ p lt. rw (i.time_is, i.owned_are) at (i.ready p lt))
+    let i = c.self.invariant.state in
+    subst (λ (g : Simulation). AreRising g) c.self.view_is (λ p lt. rw (i.time_is, i.owned_are) at (i.ready p lt))

@@ -1,7 +1,7 @@
 use Rattle.std.proofs.Common.{ℕ, ◌≡◌, ◌<◌, ◌≤◌, List, length, MatchOption, IfSome, Some, subst}
 use Rattle.sim_standard.specs.declared.net_view.NetView.{NetView}
 use Rattle.sim_standard.specs.State.{net_at}
-use Rattle.sim_store.specs.Progress.{Progress, reached}
+use Rattle.sim_store.specs.Simulation.{Simulation, reached}
 use Rattle.sim_standard.specs.Agreement.{value_by}
 use Rattle.sim_standard.specs.Histories.{records_to}
 use Rattle.sim_store.proofs.Counting.{known-value}
@@ -10,16 +10,16 @@ use Rattle.sim_store.proofs.simulation.Simulation.value.Goals as goal
 
 pub returns-clause-value : goal.returns-clause-value
 returns-clause-value c =
-    let i = c.self.invariant.progress in
+    let i = c.self.invariant.state in
     let counted = subst (λ (n : ℕ). MatchOption c.value.result (n ≤ c.args.net)
     (λ v. (c.args.net < n) × (v ≡ (net_at c.self.inside.made.state.nets c.args.net).value)))
     (net-count i) c.value.ensures in
     let seen = subst (λ (ns : List NetView). MatchOption c.value.result (length c.self.inside.design.nets ≤ c.args.net)
     (λ v. (c.args.net < length c.self.inside.design.nets) × (v ≡ (net_at ns c.args.net).value))) i.nets_are counted in
-    subst (λ (g : Progress). MatchOption c.value.result (length g.design.nets ≤ c.args.net)
+    subst (λ (g : Simulation). MatchOption c.value.result (length g.design.nets ≤ c.args.net)
     (λ v. (c.args.net < length g.design.nets) × (v ≡ (net_at (reached g).nets c.args.net).value))) c.self.view_is seen
 
 pub returns-clause-records : goal.returns-clause-records
 returns-clause-records c =
-    subst (λ (g : Progress). IfSome c.value.result (λ v. value_by (records_to g.design g.cycles) c.args.net ≡ Some v)) c.self.view_is
-    (known-value c.self.invariant.progress c.args.net c.value.result c.value.ensures)
+    subst (λ (g : Simulation). IfSome c.value.result (λ v. value_by (records_to g.design g.cycles) c.args.net ≡ Some v)) c.self.view_is
+    (known-value c.self.invariant.state c.args.net c.value.result c.value.ensures)

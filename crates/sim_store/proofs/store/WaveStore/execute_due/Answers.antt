@@ -1,6 +1,6 @@
 use Rattle.std.proofs.Common.{rules, tests, ◌≡◌, None, sym, subst}
-use Rattle.sim_store.specs.Progress.{Progress}
-use Rattle.sim_store.specs.Store.{IsStore}
+use Rattle.sim_store.specs.Simulation.{Simulation}
+use Rattle.sim_store.specs.WaveStore.{IsStore}
 use Rattle.sim_store.specs.contracts.store.WaveStore.{the_view}
 use Rattle.sim_store.proofs.Stores.{store-executed}
 use Rattle.sim_store.proofs.store.WaveStore.execute_due.Goals as goal
@@ -9,5 +9,5 @@ pub invariant_of-result : goal.invariant_of-result
 invariant_of-result c =
     let s = c.self.inside in
     let running : s.ended ≡ None = search (rules, tests) in
-    subst (λ (g : Progress). IsStore (record { progress = g; stop = s.stop; limit = s.limit; ended = s.ended })) (sym c.in_ok-simulation.ensures.same)
+    subst (λ (g : Simulation). IsStore (record { simulation = g; stop = s.stop; limit = s.limit; ended = s.ended })) (sym c.in_ok-simulation.ensures.same)
     (store-executed (the_view s) c.in_ok-simulation.simulation.deposited c.self.invariant running)

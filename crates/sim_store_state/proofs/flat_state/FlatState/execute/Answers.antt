@@ -7,7 +7,7 @@ use Rattle.sim_standard.specs.declared.net_view.NetView.{NetView}
 use Rattle.sim_exec.specs.Jobs.{IsReady}
 use Rattle.sim_standard.specs.State.{Owned, nothing_owned}
 use Rattle.sim_standard.specs.Statements.{executed}
-use Rattle.sim_store_state.specs.Contents.{Contents, views_of, owned_lists}
+use Rattle.sim_store_state.specs.FlatState.{FlatState, views_of, owned_lists}
 use Rattle.sim_store_state.proofs.Contents.{as_owned, owned-by, owned-count, owned-now, held-set, seen, sees}
 use Rattle.sim_standard.specs.Drivers.{Waveform}
 use Rattle.sim_store_sets.specs.RowArray.{joined}
@@ -17,7 +17,7 @@ use Rattle.sim_store_state.proofs.Telling.{put-back}
 use Rattle.sim_store_state.proofs.flat_state.FlatState.execute.Goals as goal
 
 -- in which one process owns this
-abbrev with_own : Contents → ℕ → Owned → Contents
+abbrev with_own : FlatState → ℕ → Owned → FlatState
 with_own h n own = record { sources = h.sources; nets = h.nets; owned = set h.owned n own }
 
 pub execute_at-done-requires : goal.execute_at-done-requires
@@ -63,7 +63,7 @@ returns c =
     let was = owned-by c.self.view_is c.self.invariant.lists n in
     let is = owned-now c.self.invariant.lists n _ _ e.new.drivers e.new.variables e.ensures.drivers e.ensures.variables in
     let now = get_or (owned_lists e.new.drivers e.new.variables) n nothing_owned in
-    let net : views_of s.values.items s.last_values.items ≡ c.args.self.now.nets = ap (λ (h : Contents). h.nets) c.self.view_is in
+    let net : views_of s.values.items s.last_values.items ≡ c.args.self.now.nets = ap (λ (h : FlatState). h.nets) c.self.view_is in
     let look = sees c.args.self.now.nets s.values.items s.last_values.items c.as_slice.result.now c.as_slice-2.result.now c.args.process.now.nets
     c.nets.result.now
     net

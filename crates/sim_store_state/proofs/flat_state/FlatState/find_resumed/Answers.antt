@@ -1,5 +1,5 @@
 use Rattle.std.proofs.Common.{◌∙◌, ap, length, arith}
-use Rattle.sim_store_state.specs.Contents.{Contents, views_of}
+use Rattle.sim_store_state.specs.FlatState.{FlatState, views_of}
 use Rattle.sim_standard.specs.Cycle.{has_event_in}
 use Rattle.sim_standard.specs.Processes.{process_at}
 use Rattle.sim_store_state.proofs.Contents.{net-count}
@@ -22,5 +22,5 @@ returns c = record {
       c.find_resumed.ensures.found processes p w lt
       ∙ (ap (λ v. has_event_in (views_of v c.as_slice-2.result.now) ns) c.as_slice.ensures.value
       ∙ (ap (λ v. has_event_in (views_of c.self.inside.values.items v) ns) c.as_slice-2.ensures.value
-      ∙ ap (λ (h : Contents). has_event_in h.nets ns) c.self.view_is));
+      ∙ ap (λ (h : FlatState). has_event_in h.nets ns) c.self.view_is));
 }

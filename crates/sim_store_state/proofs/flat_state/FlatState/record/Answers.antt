@@ -1,6 +1,6 @@
 use Rattle.std.proofs.Common.{◌++◌, ◌∷◌, [], List, ap, length, arith, ◌∙◌}
 use Rattle.sim_standard.specs.declared.net_view.NetView.{NetView}
-use Rattle.sim_store_state.specs.Contents.{Contents, views_of}
+use Rattle.sim_store_state.specs.FlatState.{FlatState, views_of}
 use Rattle.sim_standard.specs.Records.{changes_from}
 use Rattle.sim_store_state.proofs.Contents.{net-count}
 use Rattle.sim_store_state.proofs.flat_state.FlatState.record.Goals as goal
@@ -22,4 +22,4 @@ returns c =
     let as_record = λ (views : List NetView). c.args.log.now.records ++ record { time = c.args.time; delta = c.args.delta; changes = changes_from 0 views } ∷
     [] in
     c.append.ensures ∙ (ap (λ v. as_record (views_of v c.as_slice-2.result.now)) c.as_slice.ensures.value
-    ∙ (ap (λ v. as_record (views_of c.self.inside.values.items v)) c.as_slice-2.ensures.value ∙ ap (λ (h : Contents). as_record h.nets) c.self.view_is))
+    ∙ (ap (λ v. as_record (views_of c.self.inside.values.items v)) c.as_slice-2.ensures.value ∙ ap (λ (h : FlatState). as_record h.nets) c.self.view_is))

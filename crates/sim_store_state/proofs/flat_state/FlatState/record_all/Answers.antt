@@ -3,7 +3,7 @@ use Rattle.std.specs.List.{enumerate_from}
 use Rattle.sim_logic.specs.declared.logic.Logic.{Logic}
 use Rattle.sim_standard.specs.Records.{values_of}
 use Rattle.sim_store_state.proofs.Logged.{all_values}
-use Rattle.sim_store_state.specs.Contents.{Contents}
+use Rattle.sim_store_state.specs.FlatState.{FlatState}
 use Rattle.sim_store_state.proofs.Contents.{net-count}
 use Rattle.sim_store_state.proofs.flat_state.FlatState.record_all.Goals as goal
 
@@ -23,4 +23,4 @@ returns c =
     let as_record = λ (changes : List (ℕ × Logic)). c.args.log.now.records ++ record { time = c.args.time; delta = c.args.delta; changes = changes } ∷ [] in
     c.append_all.ensures ∙ (ap (λ v. as_record (enumerate_from 0 v)) c.as_slice.ensures.value
     ∙ (ap as_record (sym (all_values 0 s.values.items s.last_values.items c.self.invariant.lists.nets)) ∙ ap
-    (λ (h : Contents). as_record (values_of h.nets)) c.self.view_is))
+    (λ (h : FlatState). as_record (values_of h.nets)) c.self.view_is))

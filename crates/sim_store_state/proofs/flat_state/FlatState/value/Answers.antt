@@ -2,7 +2,7 @@ use Rattle.std.proofs.Common.{◌<◌, length, ap, ◌∙◌, arith}
 use Rattle.sim_logic.specs.declared.logic.Logic.TheVariants.{U}
 use Rattle.sim_standard.specs.declared.net_view.NetView.{NetView}
 use Rattle.sim_standard.specs.State.{net_at}
-use Rattle.sim_store_state.specs.Contents.{Contents}
+use Rattle.sim_store_state.specs.FlatState.{FlatState}
 use Rattle.sim_store_state.proofs.Contents.{net-count}
 use Rattle.sim_store_state.proofs.Views.{view_here}
 use Rattle.sim_store_state.proofs.flat_state.FlatState.value.Goals as goal
@@ -14,7 +14,7 @@ returns-then-net-len c =
     let last : c.args.net < length s.last_values.items = omega (arith, here, c.self.invariant.lists.nets) in (
       omega (arith, here, net-count c.self.view_is c.self.invariant.lists),
       c.index.ensures ∙ (ap (λ (v : NetView). v.value) (view_here s.values.items s.last_values.items c.args.net _ U here last)
-          ∙ ap (λ (g : Contents). (net_at g.nets c.args.net).value) c.self.view_is),
+          ∙ ap (λ (g : FlatState). (net_at g.nets c.args.net).value) c.self.view_is),
     )
 
 pub returns-else-net-len : goal.returns-else-net-len

@@ -15,13 +15,13 @@ abbrev pub sources_of : List Net → List (List Source)
 sources_of nets = map (λ (n : Net). n.sources) nets
 
 -- what is held of a state of a design: the sources of its nets, and of the state all but its time and its delta number
-pub record Contents : Type 0 where
+pub record FlatState : Type 0 where
   pub sources : List (List Source)
   pub nets : List NetView
   pub owned : List Owned
 
-abbrev pub contents_of : Design → State → Contents
-contents_of design s = record { sources = sources_of design.nets; nets = s.nets; owned = s.owned }
+abbrev pub flat_state_of : Design → State → FlatState
+flat_state_of design s = record { sources = sources_of design.nets; nets = s.nets; owned = s.owned }
 
 -- each net, from its value and its last value
 abbrev pub views_of : List Logic → List Logic → List NetView

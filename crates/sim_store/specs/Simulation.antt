@@ -10,7 +10,7 @@ use Rattle.sim_standard.specs.Processes.{part, outcome, process_at}
 use Rattle.sim_logic.specs.Time.{largest_time}
 use Rattle.sim_exec.specs.Jobs.{IsReady, Job, scene}
 use Rattle.sim_standard.specs.declared.record.Record.{Record}
-use Rattle.sim_store_state.specs.Contents.{Contents, contents_of, sources_of}
+use Rattle.sim_store_state.specs.FlatState.{FlatState, flat_state_of, sources_of}
 use Rattle.sim_standard.specs.Records.{first_record}
 use Rattle.sim_store_state.specs.Sensitive.{AreSensitive}
 use Rattle.sim_standard.specs.Cycle.{is_resumed, standard, state_of, next_cycle_time, executed_in_turn, those}
@@ -20,7 +20,7 @@ use Rattle.sim_standard.specs.Together.{together}
 use Rattle.sim_standard.specs.Histories.{records_to}
 
 -- A simulation of a design, after a number of cycles, in which these processes have been executed since. All else follows.
-pub record Progress : Type 0 where
+pub record Simulation : Type 0 where
   pub design : Design
   pub cycles : ℕ
   pub deposited : List Bool
@@ -30,7 +30,7 @@ abbrev pub those_in : List Bool → ℕ → Bool
 those_in marks p = slice_index_or marks p false
 
 -- the state that the last cycle left
-abbrev pub reached : Progress → State
+abbrev pub reached : Simulation → State
 reached h = state_of h.design h.cycles
 
 -- the numbers of those that are marked, rising
@@ -38,25 +38,25 @@ abbrev pub listed : List Bool → List ℕ
 listed marks = those (those_in marks) 0 (length marks)
 
 -- whether the last cycle resumed a process
-abbrev pub is_due : Progress → ℕ → Bool
+abbrev pub is_due : Simulation → ℕ → Bool
 is_due h p = is_resumed h.design h.cycles (reached h) p
 
 -- the state now: the processes that have been executed own their results
-abbrev pub present : Progress → State
+abbrev pub present : Simulation → State
 present h = together h.design.processes (those_in h.deposited) (reached h)
 
 -- from when on transactions of a process are pending: one that has been executed may have some at the time itself
-abbrev pub pending_from : Progress → ℕ → ℕ → ℕ
+abbrev pub pending_from : Simulation → ℕ → ℕ → ℕ
 pending_from h time p = if those_in h.deposited p then time else suc time
 
 -- The waveform of each driver rises strictly, also where its process has been executed since the last cycle: what is pending is later than that cycle, or not
 -- earlier where the process has been executed. What each process owns fits its body (IEEE 1076-2008, 10.5.2.2).
-abbrev pub AreRising : Progress → Type 0
+abbrev pub AreRising : Simulation → Type 0
 AreRising h = (p : ℕ) → p < length h.design.processes
     → IsReady (process_at h.design.processes p).body (pending_from h (reached h).time p) (owned_at (present h).owned p)
 
 -- What is held is that of the simulation.
-pub record IsProgress (h : Progress) (time delta : ℕ) (held : Contents) (records : List Record) (due : List Bool) : Type 0 where
+pub record IsStateOf (h : Simulation) (time delta : ℕ) (held : FlatState) (records : List Record) (due : List Bool) : Type 0 where
   pub there : standard h.design h.cycles ≡ Some (reached h)
   pub time_is : time ≡ (reached h).time
   pub delta_is : delta ≡ (reached h).delta
@@ -79,15 +79,15 @@ abbrev pub cleared : List Bool → List Bool
 cleared marks = map (λ (b : Bool). false) marks
 
 -- Each process that the last cycle resumed has been executed.
-abbrev pub IsComplete : Progress → Type 0
+abbrev pub IsComplete : Simulation → Type 0
 IsComplete h = (p : ℕ) → p < length h.design.processes → is_due h p ≡ true → those_in h.deposited p ≡ true
 
 -- after one cycle more
-abbrev pub after : Progress → Progress
+abbrev pub after : Simulation → Simulation
 after h = record { design = h.design; cycles = suc h.cycles; deposited = cleared h.deposited }
 
 -- This is the result of a process that is due and has not been executed, from its part of the state.
-pub record IsResult (h : Progress) (p : ℕ) (own : Owned) : Type 0 where
+pub record IsResult (h : Simulation) (p : ℕ) (own : Owned) : Type 0 where
   pub number : p < length h.design.processes
   pub resumed : is_due h p ≡ true
   pub result : own ≡ outcome (process_at h.design.processes p) (part (process_at h.design.processes p) p (reached h))
@@ -104,49 +104,49 @@ pub record AreTotals (nets : ℕ) (records : List Record) (totals : List ℕ) : 
 
 -- What is made of a design at first: that list, its first state with its record, that each process is due and none has been executed, and that no net
 -- had an event.
-pub record IsMade (design : Design) (sensitive : List (List ℕ)) (held : Contents) (records : List Record) (due deposited : List Bool)
+pub record IsMade (design : Design) (sensitive : List (List ℕ)) (held : FlatState) (records : List Record) (due deposited : List Bool)
     (totals : List ℕ) : Type 0 where
   pub lists : AreMade design sensitive
-  pub held_is : held ≡ contents_of design (first_state design)
+  pub held_is : held ≡ flat_state_of design (first_state design)
   pub records_is : records ≡ first_record (first_state design) ∷ []
   pub due_is : due ≡ replicate (length design.processes) true
   pub deposited_is : deposited ≡ replicate (length design.processes) false
   pub totals_is : totals ≡ replicate (length design.nets) 0
 
--- What a simulation holds: the list that was made once, the state, records and marks of its progress, and the totals of its nets.
-pub record IsSimulation (h : Progress) (sensitive : List (List ℕ)) (time delta : ℕ) (held : Contents) (records : List Record)
+-- What a simulation holds: the list that was made once, the state, records and marks, and the totals of its nets.
+pub record IsSimulation (h : Simulation) (sensitive : List (List ℕ)) (time delta : ℕ) (held : FlatState) (records : List Record)
     (due : List Bool) (totals : List ℕ) : Type 0 where
   pub made : AreMade h.design sensitive
-  pub progress : IsProgress h time delta held records due
+  pub state : IsStateOf h time delta held records due
   pub counts : AreTotals (length h.design.nets) records totals
 
 -- The job has the process with its number, and the part of the state that this process sees.
-pub record IsOwn (h : Progress) (job : Job) : Type 0 where
+pub record IsOwn (h : Simulation) (job : Job) : Type 0 where
   pub process : job.process ≡ process_at h.design.processes job.number
   pub shows : scene job ≡ part (process_at h.design.processes job.number) job.number (reached h)
 
 -- The job is the one of this process since the last cycle.
-pub record IsJobOf (h : Progress) (p : ℕ) (job : Job) : Type 0 where
+pub record IsJobOf (h : Simulation) (p : ℕ) (job : Job) : Type 0 where
   pub cycle : job.cycle ≡ h.cycles
   pub number : job.number ≡ p
   pub own : IsOwn h job
 
 -- the time of the next cycle, once all that are due have been executed
-abbrev pub next_after : Progress → Option ℕ
+abbrev pub next_after : Simulation → Option ℕ
 next_after h = next_cycle_time (executed_in_turn h.design h.cycles (reached h))
 
 -- The last cycle resumed this process.
-pub record IsDue (h : Progress) (p : ℕ) : Type 0 where
+pub record IsDue (h : Simulation) (p : ℕ) : Type 0 where
   pub number : p < length h.design.processes
   pub resumed : is_due h p ≡ true
 
 -- The last cycle resumed this process, and it has not been executed.
-pub record IsMissing (h : Progress) (p : ℕ) : Type 0 where
+pub record IsMissing (h : Simulation) (p : ℕ) : Type 0 where
   pub due : IsDue h p
   pub fresh : those_in h.deposited p ≡ false
 
 -- It is the least of those.
-pub record IsLeastMissing (h : Progress) (p : ℕ) : Type 0 where
+pub record IsLeastMissing (h : Simulation) (p : ℕ) : Type 0 where
   pub missing : IsMissing h p
   pub least : (q : ℕ) → q < p → IsMissing h q → ⊥
 
@@ -156,9 +156,9 @@ kept_or own None = own
 kept_or own (Some results) = results
 
 -- a simulation in which these processes have been executed since the last cycle
-abbrev pub with_marks : Progress → List Bool → Progress
+abbrev pub with_marks : Simulation → List Bool → Simulation
 with_marks h marks = record { design = h.design; cycles = h.cycles; deposited = marks }
 
 -- a simulation in which one process more has been
-abbrev pub with_one : Progress → ℕ → Progress
+abbrev pub with_one : Simulation → ℕ → Simulation
 with_one h p = with_marks h (slice_set h.deposited p true)
