@@ -1,6 +1,6 @@
 pub mod Times
 pub mod Views
-pub mod FlatState
+pub mod Contents
 pub mod Starting
 pub mod Sensitivity
 pub mod Logged
