@@ -119,16 +119,16 @@ fn tell<E: Write>(err: &mut E, failure: Failure) {
     let _ = write_whole(err, line.as_slice());
 }
 
-/// Writes the text of the help.
-fn show<W: Write>(out: &mut W, text: &str) -> u8
+/// Writes the text of the help; a write that fails is told as that of a listing.
+fn show<W: Write, E: Write>(out: &mut W, err: &mut E, text: &str) -> u8
     ensures { ((result ≡ 0) × Appends (W.contents out.old) (W.contents out.new) text.now)
         ⊎ ((result ≡ 4) × AppendsPart (W.contents out.old) (W.contents out.new) text.now) }
 {
     if write_whole(out, text.as_bytes()).is_ok() {
-        0
-    } else {
-        4
+        return 0;
     }
+    tell(err, Failure::Run(RunError::Write));
+    4
 }
 
 /// Answers words that are no options.
@@ -136,7 +136,7 @@ fn explain<W: Write, E: Write>(fault: &CliFault, out: &mut W, err: &mut E) -> u8
     ensures { IsAnswerTo fault.now result (W.contents out.old) (W.contents out.new) }
 {
     match fault {
-        CliFault::Help(text) => show(out, text.as_str()),
+        CliFault::Help(text) => show(out, err, text.as_str()),
         CliFault::Refused(text) => {
             let _ = write_whole(err, text.as_bytes());
             2

@@ -1,10 +1,11 @@
-//! Times parts of the simulator: `sim_run_bench SUBJECT COUNT`, and of `elaboration` also the top.
-//! The times go to standard error, and what was computed to standard output.
+//! Times parts of the simulator: `sim_run_bench SUBJECT COUNT`, and of `elaboration`
+//! and `jobs` also the top. The times go to standard error, and what was computed to standard output.
 #![tactic(auto)]
 
 mod drivers;
 mod elaboration;
 mod execution;
+mod jobs;
 mod listing;
 mod reading;
 
@@ -28,6 +29,10 @@ fn run<R: Print + Eprint + Input + Clock + AllocGlobal>(
             elaboration::run(rt, count, top.as_str())
         }
         "execution" => execution::run(rt, count),
+        "jobs" => {
+            let top = top.context("no top")?;
+            jobs::run(rt, count, top.as_str())
+        }
         "listing" => listing::run(rt, count),
         "tokens" => reading::run(rt, Step::Tokens, count),
         "parse" => reading::run(rt, Step::Parse, count),

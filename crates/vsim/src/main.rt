@@ -8,6 +8,12 @@ use std::io::Write;
 use std::process::ExitCode;
 use std::{env, io};
 
+/// What is said of words that are no text, as clap says it.
+const NO_TEXT: &[u8] = b"error: invalid UTF-8 was detected in one or more arguments
+
+For more information, try '--help'.
+";
+
 /// The words after the program's name.
 fn words(rt: &HostRuntime, alloc: Global) -> io::Result<Vec<String>> {
     let words = env::args(rt)?.skip(1).collect(alloc)?;
@@ -23,6 +29,10 @@ fn main(rt: HostRuntime) -> io::Result<ExitCode> {
         Err(fault) if fault.kind() == io::ErrorKind::OutOfMemory => {
             let _reported = err.write_all(b"vsim: Memory\n");
             return Ok(ExitCode::from(4));
+        }
+        Err(fault) if fault.kind() == io::ErrorKind::InvalidData => {
+            let _reported = err.write_all(NO_TEXT);
+            return Ok(ExitCode::from(2));
         }
         Err(fault) => return Err(fault),
     };
