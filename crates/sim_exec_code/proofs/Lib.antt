@@ -9,3 +9,4 @@ pub mod FromTheEnd
 pub mod HeldVariables
 pub mod Executions
 pub mod Assembled
+pub mod SharedCodes

@@ -4,8 +4,10 @@
 mod assembly;
 mod backward;
 mod code;
+mod codes;
 mod execution;
 mod expressions;
+mod fingerprint;
 mod frame;
 mod gathering;
 pub mod laws;
@@ -16,9 +18,11 @@ mod packed;
 mod packing;
 mod program;
 mod running;
+mod sharing;
 mod statements;
 mod step;
 
 pub use code::Code;
+pub use codes::Codes;
 pub use execution::execute;
 pub use frame::Frame;
