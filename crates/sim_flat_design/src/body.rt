@@ -119,7 +119,7 @@ impl Body {
     }
 
     /// Whether it is the same body as another.
-    pub(crate) fn same(&self, other: &Body) -> bool
+    pub fn same(&self, other: &Body) -> bool
         ensures { Decides result (self.now ≡ other.now) }
     {
         self.objects() == other.objects()

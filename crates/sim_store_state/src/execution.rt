@@ -3,10 +3,12 @@
 ghost use Rattle.std.specs.Prelude.{◌≡◌, ◌<◌, ◌≤◌, ◌++◌, [], length, take, drop, slice_range, slice_index_or, slice_set, OnOk};
 ghost use Rattle.sim_logic.specs.Time.{largest_time};
 ghost use Rattle.sim_exec.specs.Jobs.{IsReady};
+ghost use Rattle.sim_exec_code.specs.Codes as code;
 ghost use Rattle.sim_standard.specs.State.{driver_values};
 ghost use Rattle.sim_standard.specs.Statements.{executed};
 
 use sim_exec::Nets;
+use sim_exec_code::Codes;
 use sim_flat_design::{Body, Held};
 use sim_store_sets::{RowArray, bounds};
 use sim_wave::Driver;
@@ -17,6 +19,8 @@ fn execute_between<N: Nets>(
     alloc: Global,
     nets: &N,
     now: u64,
+    codes: &mut Codes,
+    number: usize,
     body: &Body,
     drivers: &mut [Driver],
     owned: (usize, usize),
@@ -24,9 +28,11 @@ fn execute_between<N: Nets>(
     held: (usize, usize),
 ) -> Result<(), AllocError>
     requires now { now ≤ largest_time }
+    requires code { code.IsCodeOf body.now (code.code_at codes.old number) }
     requires owned { (owned.0 ≤ owned.1) × (owned.1 ≤ length drivers.old) }
     requires held { (held.0 ≤ held.1) × (held.1 ≤ length variables.old) }
     requires ready { IsReady body.now now (record { drivers = slice_range drivers.old owned.0 owned.1; variables = slice_range variables.old held.0 held.1 }) }
+    ensures same { codes.new ≡ codes.old }
     ensures drivers { drivers.new ≡ take owned.0 drivers.old ++ slice_range drivers.new owned.0 owned.1 ++ drop owned.1 drivers.old }
     ensures variables { variables.new ≡ take held.0 variables.old ++ slice_range variables.new held.0 held.1 ++ drop held.1 variables.old }
     ensures ok { OnOk result (record { drivers = slice_range drivers.new owned.0 owned.1; variables = slice_range variables.new held.0 held.1 }
@@ -35,10 +41,11 @@ fn execute_between<N: Nets>(
     ensures ready { IsReady body.now now (record { drivers = slice_range drivers.new owned.0 owned.1; variables = slice_range variables.new held.0 held.1 }) }
     ensures values { driver_values (slice_range drivers.new owned.0 owned.1) ≡ driver_values (slice_range drivers.old owned.0 owned.1) }
 {
-    sim_exec::execute(
+    codes.execute(
         alloc,
         nets,
         now,
+        number,
         body,
         &mut drivers[owned.0..owned.1],
         &mut variables[held.0..held.1],
@@ -50,15 +57,18 @@ pub fn execute_at<N: Nets>(
     alloc: Global,
     nets: &N,
     now: u64,
-    body: &Body,
+    codes: &mut Codes,
     number: usize,
+    body: &Body,
     drivers: &mut RowArray<Driver>,
     variables: &mut RowArray<Held>,
 ) -> Result<(), AllocError>
     requires now { now ≤ largest_time }
+    requires code { code.IsCodeOf body.now (code.code_at codes.old number) }
     requires drivers { number < length drivers.old }
     requires variables { number < length variables.old }
     requires ready { IsReady body.now now (record { drivers = slice_index_or drivers.old number []; variables = slice_index_or variables.old number [] }) }
+    ensures same { codes.new ≡ codes.old }
     ensures drivers { drivers.new ≡ slice_set drivers.old number (slice_index_or drivers.new number []) }
     ensures variables { variables.new ≡ slice_set variables.old number (slice_index_or variables.new number []) }
     ensures ok { OnOk result (record { drivers = slice_index_or drivers.new number []; variables = slice_index_or variables.new number [] }
@@ -73,6 +83,8 @@ pub fn execute_at<N: Nets>(
         alloc,
         nets,
         now,
+        codes,
+        number,
         body,
         drivers.flat.as_mut_slice(),
         owned,

@@ -8,6 +8,7 @@ ghost use Rattle.sim_flat_design.specs.Designs.{Design as design_value};
 ghost use Rattle.sim_flat_design.specs.Processes.{Process as process_value};
 ghost use Rattle.sim_store_sets.specs.Numbers.{is_in};
 ghost use Rattle.sim_exec.specs.Jobs.{IsReady};
+ghost use Rattle.sim_exec_code.specs.Codes as code;
 ghost use Rattle.sim_standard.specs.Processes.{object_net, process_at};
 ghost use Rattle.sim_standard.specs.State.{State, driver_values, net_at, owned_at};
 ghost use Rattle.sim_standard.specs.Statements.{executed};
@@ -26,6 +27,7 @@ use crate::nets::{Seen, are_views, resolve_touched, settle, views_at};
 use crate::resumption::find_resumed;
 use crate::start::{connections, first_contents, nothing_pending};
 use sim_exec::NetView;
+use sim_exec_code::Codes;
 use sim_flat_design::{Design, Held, Process, Source};
 use sim_logic::Logic;
 use sim_store_sets::{NumberSet, RowArray, TimeQueue};
@@ -229,18 +231,21 @@ impl FlatState {
         Ok(())
     }
 
-    /// Executes a process, which has this number, in place. If allocation fails, what it owns must
-    /// not be executed again.
+    /// Executes a process, which has this number, in place, by its code. If allocation fails, what
+    /// it owns must not be executed again.
     pub fn execute(
         &mut self,
         alloc: Global,
         number: usize,
         process: &Process,
         time: u64,
+        codes: &mut Codes,
     ) -> Result<(), AllocError>
         requires at { number < length self.old.owned }
         requires time { time ≤ largest_time }
+        requires code { code.IsCodeOf process.now.body (code.code_at codes.old number) }
         requires ready { IsReady process.now.body time (owned_at self.old.owned number) }
+        ensures same { codes.new ≡ codes.old }
         ensures alone { self.new ≡ record self.old { owned = slice_set self.old.owned number (owned_at self.new.owned number) } }
         ensures ok { OnOk result (self.new ≡ record self.old {
           owned = slice_set self.old.owned number
@@ -257,8 +262,9 @@ impl FlatState {
             alloc,
             &seen,
             time,
-            process.body(),
+            codes,
             number,
+            process.body(),
             &mut self.drivers,
             &mut self.variables,
         );

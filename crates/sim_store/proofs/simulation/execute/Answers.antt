@@ -2,15 +2,24 @@ use Rattle.std.proofs.Common.{◌≡◌, Bool, List, length, ap, sym, ◌∙◌,
 use Rattle.std.proofs.lemmas.List.{get_or_default}
 use Rattle.sim_flat_design.specs.Processes.{Process}
 use Rattle.sim_exec.specs.Jobs.{IsReady}
+use Rattle.sim_exec_code.specs.Codes.{IsCodeOf, code_at}
 use Rattle.sim_standard.specs.State.{owned_at}
 use Rattle.sim_standard.specs.Processes.{no_process, process_at}
 use Rattle.sim_store.specs.Made.{simulation_of}
-use Rattle.sim_store.specs.Simulation.{IsStateOf, with_marks}
+use Rattle.sim_store.specs.Simulation.{AreMade, IsStateOf, with_marks}
 use Rattle.sim_store.proofs.Going.{executed-keeps, held-count, ready-here}
 use Rattle.sim_store.proofs.simulation.execute.Goals as goal
 
 pub execute-requires-clause-at : goal.execute-requires-clause-at
 execute-requires-clause-at c = omega (arith, c.requires.at, held-count c.requires.of.state)
+
+pub execute-requires-clause-code : goal.execute-requires-clause-code
+execute-requires-clause-code c =
+    let is : c.index-processes-number.result ≡ process_at c.args.design.now.processes c.args.number =
+    c.index-processes-number.is ∙ (get_or_default c.processes.result.now c.args.number _ no_process
+    (omega (arith, c.requires.at, ap length c.processes.ensures.value))
+    ∙ ap (λ (ps : List Process). process_at ps c.args.number) c.processes.ensures.value) in
+    subst (λ (q : Process). IsCodeOf q.body (code_at c.args.made.now.codes c.args.number)) (sym is) (c.requires.of.made.codes_are c.args.number)
 
 pub execute-requires-clause-ready : goal.execute-requires-clause-ready
 execute-requires-clause-ready c =
@@ -29,7 +38,7 @@ returns-clause-of c =
     (omega (arith, c.requires.at, ap length c.processes.ensures.value))
     ∙ ap (λ (ps : List Process). process_at ps c.args.number) c.processes.ensures.value) in
     record {
-      made = c.requires.of.made;
+      made = subst (AreMade c.args.design.now c.args.made.now.sensitive) (sym c.in_ok-execute.ensures.same) c.requires.of.made;
       state = subst (λ (marks : List Bool). IsStateOf (with_marks (simulation_of c.args.design.now c.args.made.now) marks) c.args.made.now.time
           c.args.made.now.delta c.execute.new.self c.args.made.now.log.records c.args.made.now.due) (sym c.insert.ensures)
           (executed-keeps i c.args.number c.requires.at c.requires.fresh c.index-processes-number.result c.execute.new.self is

@@ -5,6 +5,7 @@ use Rattle.std.proofs.lemmas.Result.{on_ok_weaker}
 use Rattle.sim_flat_design.specs.Bodies.{Body}
 use Rattle.sim_standard.specs.declared.net_view.NetView.{NetView}
 use Rattle.sim_exec.specs.Jobs.{IsReady}
+use Rattle.sim_exec_code.specs.Codes.{IsCodeOf, code_at}
 use Rattle.sim_standard.specs.State.{Owned, nothing_owned}
 use Rattle.sim_standard.specs.Statements.{executed}
 use Rattle.sim_store_state.specs.FlatState.{FlatState, views_of, owned_lists}
@@ -23,6 +24,7 @@ with_own h n own = record { sources = h.sources; nets = h.nets; owned = set h.ow
 pub execute_at-done-requires : goal.execute_at-done-requires
 execute_at-done-requires c = record {
   now = c.requires.time;
+  code = subst (λ (b : Body). IsCodeOf b (code_at c.args.codes.now c.args.number)) (sym c.body.ensures) c.requires.code;
   drivers = omega (arith, c.requires.at, owned-count c.self.view_is c.self.invariant.lists);
   variables = omega (arith, c.requires.at, owned-count c.self.view_is c.self.invariant.lists, c.self.invariant.lists.owned);
   ready = subst (λ (b : Body). IsReady b c.args.time (as_owned (get_or c.self.inside.drivers c.args.number [])
@@ -83,6 +85,7 @@ returns c =
     (subst (λ (f : ℕ → NetView). OnOk e.result (as_owned (get_or e.new.drivers n []) (get_or e.new.variables n [])
     ≡ executed f c.args.time c.body.result.now.statements left)) look e.ensures.ok))) in
     record {
+      same = e.ensures.same;
       alone = alone;
       ok = on_ok_weaker e.result (λ (is_done : now ≡ done). alone ∙ ap (with_own h n) is_done) ok;
       ready = subst (IsReady process.body c.args.time) (sym is)

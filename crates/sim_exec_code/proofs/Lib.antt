@@ -1,0 +1,12 @@
+pub mod ExpressionRules
+pub mod StatementRules
+pub mod ExpressionsRight
+pub mod BodiesRight
+pub mod Slots
+pub mod StepsLeft
+pub mod StepsRight
+pub mod FromTheEnd
+pub mod HeldVariables
+pub mod Executions
+pub mod Assembled
+pub mod SharedCodes

@@ -1,0 +1,4 @@
+pub mod Operations
+pub mod Bodies
+pub mod Frames
+pub mod Codes

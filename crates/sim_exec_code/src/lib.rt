@@ -1,0 +1,28 @@
+//! The bodies of processes as code: flat lists of steps on one list of values, the frame.
+#![tactic(auto)]
+
+mod assembly;
+mod backward;
+mod code;
+mod codes;
+mod execution;
+mod expressions;
+mod fingerprint;
+mod frame;
+mod gathering;
+pub mod laws;
+mod lowering;
+mod operation;
+mod operators;
+mod packed;
+mod packing;
+mod program;
+mod running;
+mod sharing;
+mod statements;
+mod step;
+
+pub use code::Code;
+pub use codes::Codes;
+pub use execution::execute;
+pub use frame::Frame;
