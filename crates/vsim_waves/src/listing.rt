@@ -1,0 +1,86 @@
+//! The lines of a listing.
+
+use sim_logic::Logic;
+
+/// When a change is: its time in femtoseconds, and the delta cycle at that time.
+#[derive(Clone, Copy, Debug, PartialEq, Eq)]
+pub struct Moment {
+    pub time: u64,
+    pub delta: u64,
+}
+
+/// A line of a listing.
+#[derive(Clone, Copy)]
+pub enum Line<'a> {
+    /// A net has another value from now on; in the first lines, the value that it begins with.
+    Change {
+        at: Moment,
+        name: &'a str,
+        value: Logic,
+    },
+    /// The last line, with the number of cycles and of events.
+    Done,
+}
+
+/// Whether this is a byte of the names of a design.
+fn is_of_name(byte: u8) -> bool {
+    byte.is_ascii_alphanumeric() || byte == b'_'
+}
+
+/// Whether this is a label of an instance, or the name of a signal in it.
+fn is_label(text: &str) -> bool {
+    !text.is_empty() && text.bytes().all(is_of_name)
+}
+
+/// Whether this is the name of a net: labels with a dot between them.
+fn is_name(text: &str) -> bool {
+    text.split('.').all(is_label)
+}
+
+/// The value that a word is.
+fn value(word: &str) -> Option<Logic> {
+    match word.as_bytes() {
+        [byte] => Logic::from_byte(*byte),
+        _ => None,
+    }
+}
+
+/// A line of a listing: a time, a delta number, a name and a value, or `done` and two numbers.
+pub fn read(text: &str) -> Option<Line<'_>> {
+    let mut words = text.split(' ');
+    let (first, second) = (words.next()?, words.next()?);
+    let third = words.next()?;
+    let Some(fourth) = words.next() else {
+        return last(first, second, third);
+    };
+    if words.next().is_some() {
+        return None;
+    }
+    change(first, second, third, fourth)
+}
+
+/// The last line, of these words.
+fn last<'a>(first: &str, cycles: &str, events: &str) -> Option<Line<'a>> {
+    let are_numbers = cycles.parse::<u64>().is_ok() && events.parse::<u64>().is_ok();
+    if first == "done" && are_numbers {
+        Some(Line::Done)
+    } else {
+        None
+    }
+}
+
+/// The line of a change, of these words.
+fn change<'a>(time: &str, delta: &str, name: &'a str, word: &str) -> Option<Line<'a>> {
+    let (Ok(time), Ok(delta)) = (time.parse::<u64>(), delta.parse::<u64>()) else {
+        return None;
+    };
+    if !is_name(name) {
+        return None;
+    }
+    let value = value(word)?;
+    Some(Line::Change {
+        at: Moment { time, delta },
+        name,
+        value,
+    })
+}

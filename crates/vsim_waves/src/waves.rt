@@ -1,0 +1,219 @@
+//! The values of nets from time to time.
+
+use crate::hierarchy::{write_identifier, write_nets};
+use crate::listing::Moment;
+use indexmap::IndexSet;
+use sim_logic::Logic;
+use std::alloc::{AllocError, Global};
+use std::io::{self, Write};
+
+/// How far a listing was read.
+#[derive(Clone, Copy, PartialEq, Eq)]
+enum Stage {
+    /// The first lines, which name all nets.
+    Names,
+    /// Changes.
+    Changes,
+    /// The last line.
+    Done,
+}
+
+/// The value of a net, and the one that was written last.
+#[derive(Clone, Copy)]
+struct Shown {
+    value: Logic,
+    written: Option<Logic>,
+}
+
+/// What was read of a listing, of which all before the last time is written.
+#[derive(Drop)]
+pub struct Waves {
+    has_deltas: bool,
+    stage: Stage,
+    names: IndexSet<String>,
+    nets: Vec<Shown>,
+    /// The nets that changed at the last moment, some of them more than once.
+    changed: Vec<usize>,
+    last: Moment,
+    /// The time that was written last.
+    stamp: Option<u64>,
+}
+
+/// Writes what comes before the nets.
+fn write_head<W: Write>(out: &mut W) -> io::Result<()> {
+    out.write_all(b"$version vsim_waves $end\n$timescale 1 fs $end\n$scope module top $end\n")
+}
+
+/// Writes the value of a net: `0`, `1`, `x` and `z` as a VCD has them, the others alike.
+fn write_value<W: Write>(out: &mut W, number: usize, value: Logic) -> io::Result<()> {
+    out.write_all(&[value.to_byte().to_ascii_lowercase()])?;
+    write_identifier(out, number)?;
+    out.write_all(b"\n")
+}
+
+/// Writes the value of a net, if it is another than the one that was written last.
+fn write_change<W: Write>(out: &mut W, nets: &mut Vec<Shown>, number: usize) -> io::Result<()> {
+    let Some(net) = nets.get_mut(number) else {
+        return Ok(());
+    };
+    if net.written == Some(net.value) {
+        return Ok(());
+    }
+    net.written = Some(net.value);
+    let value = net.value;
+    write_value(out, number, value)
+}
+
+/// Writes the values of these nets.
+fn write_changes<W: Write>(
+    out: &mut W,
+    nets: &mut Vec<Shown>,
+    changed: &[usize],
+) -> io::Result<()> {
+    for number in changed {
+        write_change(out, nets, *number)?;
+    }
+    Ok(())
+}
+
+impl Waves {
+    /// Nothing was read.
+    pub fn new(alloc: Global, has_deltas: bool) -> Waves {
+        Waves {
+            has_deltas,
+            stage: Stage::Names,
+            names: IndexSet::new(alloc),
+            nets: Vec::new(alloc),
+            changed: Vec::new(alloc),
+            last: Moment { time: 0, delta: 0 },
+            stamp: None,
+        }
+    }
+
+    /// Whether the last line was read.
+    pub fn is_done(&self) -> bool {
+        self.stage == Stage::Done
+    }
+
+    /// A net, with the value that it begins with; `false` where another one has its name.
+    fn add(&mut self, alloc: Global, name: &str, value: Logic) -> Result<bool, AllocError> {
+        let number = self.names.len();
+        if !self.names.insert(String::from_str(alloc, name)?)? {
+            return Ok(false);
+        }
+        self.put(number, value)?;
+        Ok(true)
+    }
+
+    /// The net with a number has a value: it is the next one that is there, or one of them.
+    fn put(&mut self, number: usize, value: Logic) -> Result<(), AllocError> {
+        self.changed.push(number)?;
+        if let Some(net) = self.nets.get_mut(number) {
+            net.value = value;
+            return Ok(());
+        }
+        self.nets.push(Shown {
+            value,
+            written: None,
+        })?;
+        Ok(())
+    }
+
+    /// Writes what stands before all values, once all nets are named.
+    fn begin<W: Write>(&mut self, out: &mut W) -> io::Result<()> {
+        if self.stage != Stage::Names {
+            return Ok(());
+        }
+        self.stage = Stage::Changes;
+        write_head(out)?;
+        write_nets(out, &self.names)?;
+        out.write_all(b"$upscope $end\n$enddefinitions $end\n")
+    }
+
+    /// The time under which the last moment is written: later than the one before it, in any case.
+    fn next_stamp(&self) -> u64 {
+        let own = if self.has_deltas {
+            self.last.time.saturating_add(self.last.delta)
+        } else {
+            self.last.time
+        };
+        match self.stamp {
+            Some(stamp) => own.max(stamp.saturating_add(1)),
+            None => own,
+        }
+    }
+
+    /// Writes the changes of the last moment.
+    fn write<W: Write>(&mut self, out: &mut W) -> io::Result<()> {
+        let stamp = self.next_stamp();
+        writeln!(out, "#{stamp}")?;
+        match self.stamp {
+            None => self.write_first(out)?,
+            Some(_) => write_changes(out, &mut self.nets, self.changed.as_slice())?,
+        }
+        self.stamp = Some(stamp);
+        self.changed.clear();
+        Ok(())
+    }
+
+    /// Writes the values of all nets, which a VCD begins with.
+    fn write_first<W: Write>(&mut self, out: &mut W) -> io::Result<()> {
+        out.write_all(b"$dumpvars\n")?;
+        write_changes(out, &mut self.nets, self.changed.as_slice())?;
+        out.write_all(b"$end\n")
+    }
+
+    /// Whether a moment is written apart from the last one.
+    fn is_apart(&self, at: Moment) -> bool {
+        at.time != self.last.time || (self.has_deltas && at.delta != self.last.delta)
+    }
+
+    /// Whether a moment is before the last one.
+    fn is_before(&self, at: Moment) -> bool {
+        at.time < self.last.time || (at.time == self.last.time && at.delta < self.last.delta)
+    }
+
+    /// A change; `false` where none of that moment or that net may stand there.
+    pub fn change<W: Write>(
+        &mut self,
+        alloc: Global,
+        out: &mut W,
+        at: Moment,
+        name: &str,
+        value: Logic,
+    ) -> io::Result<bool> {
+        if at.time == 0 && at.delta == 0 {
+            return Ok(self.stage == Stage::Names && self.add(alloc, name, value)?);
+        }
+        let Some(number) = self.names.get_index_of(name) else {
+            return Ok(false);
+        };
+        if self.stage == Stage::Done || self.is_before(at) {
+            return Ok(false);
+        }
+        self.go_to(out, at)?;
+        self.put(number, value)?;
+        Ok(true)
+    }
+
+    /// Goes on to a moment: what is of an earlier one is written.
+    fn go_to<W: Write>(&mut self, out: &mut W, at: Moment) -> io::Result<()> {
+        self.begin(out)?;
+        if self.is_apart(at) {
+            self.write(out)?;
+        }
+        self.last = at;
+        Ok(())
+    }
+
+    /// The last line; `false` where one was read already.
+    pub fn end<W: Write>(&mut self, out: &mut W) -> io::Result<bool> {
+        if self.stage == Stage::Done {
+            return Ok(false);
+        }
+        self.begin(out)?;
+        self.write(out)?;
+        self.stage = Stage::Done;
+        Ok(true)
+    }
+}

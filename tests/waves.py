@@ -1,0 +1,253 @@
+#!/usr/bin/env python3
+"""Reads back the waves that vsim_waves makes of listings.
+
+    waves.py VSIM VSIM_WAVES
+
+Listings are those of examples/*.vhd, which VSIM runs, and one of many nets, deep in a hierarchy. Each is made a VCD, with and
+without `--deltas`, and read by a reader that knows the rules of a VCD alone. Then
+- the nets are those of the listing, by their paths below the scope top;
+- the times are those of the listing; with `--deltas` one for each delta cycle, later than the one before it in any case;
+- at each time each net has the value that the listing gives it by then.
+
+Listings with a fault, and wrong words, are refused with a line on standard error.
+
+What differs is told, and the last line is `N passed, M failed`.
+"""
+import glob
+import os
+import random
+import subprocess
+import sys
+
+TOP = os.path.dirname(os.path.dirname(os.path.realpath(__file__)))
+VALUES = "UX01ZWLH-"
+# a listing, and the line at which it is refused
+REFUSED = [
+    ("", None),
+    ("0 0 s 0\n", None),
+    ("0 0 s 0\n5 0 s 1\n", None),
+    ("\n", 1),
+    ("entity t is end;\n", 1),
+    ("0 0 s 0\n0 0 s 1\ndone 0 0\n", 2),
+    ("0 0 s 0\n5 0 r 1\ndone 1 1\n", 2),
+    ("0 0 s 0\n5 0 s 1\n4 0 s 0\ndone 2 2\n", 3),
+    ("0 0 s 0\n5 1 s 1\n5 0 s 0\ndone 2 2\n", 3),
+    ("0 0 s 0\n5 0 s 1\n0 0 r 0\ndone 2 2\n", 3),
+    ("0 0 s 0\ndone 0 0\ndone 0 0\n", 3),
+    ("0 0 s 0\ndone 0 0\n5 0 s 1\n", 3),
+    ("0 0 s 2\ndone 0 0\n", 1),
+    ("0 0 s u\ndone 0 0\n", 1),
+    ("0 0  0\ndone 0 0\n", 1),
+    ("0 0 u..s 0\ndone 0 0\n", 1),
+    ("0 0 $end 0\ndone 0 0\n", 1),
+    ("0 0 s 0 0\ndone 0 0\n", 1),
+    ("0 x s 0\ndone 0 0\n", 1),
+    ("0 18446744073709551616 s 0\ndone 0 0\n", 1),
+    ("0 0 s 0\ndone 0 x\n", 2),
+]
+
+
+class Fault(Exception):
+    """What a VCD, or an answer of the program, has that it may not have."""
+
+
+def demand(holds, text):
+    if not holds:
+        raise Fault(text)
+
+
+def run(program, words, text):
+    ran = subprocess.run([program, *words], input=text, stdout=subprocess.PIPE, stderr=subprocess.PIPE, timeout=120)
+    return ran.returncode, ran.stdout, ran.stderr.decode(errors="replace")
+
+
+class Waves:
+    """A VCD: for each path of a variable its identifier, and for each time the values that identifiers take then."""
+
+    def __init__(self, text):
+        self.words, self.variables, self.times = iter(text.split()), {}, []
+        self.read_nets()
+        self.read_values()
+
+    def section(self):
+        """Returns the words up to the next $end."""
+        found = []
+        for word in self.words:
+            if word == "$end":
+                return found
+            found.append(word)
+        raise Fault("a section has no $end")
+
+    def read_nets(self):
+        scopes, scale = [], None
+        for word in self.words:
+            rest = self.section()
+            if word == "$enddefinitions":
+                demand(not rest and not scopes and scale == "1fs", "the definitions end too early")
+                return
+            if word == "$timescale":
+                scale = "".join(rest)
+            elif word == "$scope":
+                demand(len(rest) == 2 and rest[0] == "module", f"scope {rest}")
+                scopes.append(rest[1])
+            elif word == "$upscope":
+                demand(scopes and not rest, "no scope is left")
+                scopes.pop()
+            elif word == "$var":
+                self.declare(scopes, rest)
+            else:
+                demand(word in ("$version", "$comment"), f"unknown section {word}")
+        raise Fault("the definitions have no end")
+
+    def declare(self, scopes, rest):
+        demand(len(rest) == 4 and rest[:2] == ["wire", "1"], f"variable {rest}")
+        path = ".".join([*scopes, rest[3]])
+        demand(path not in self.variables, f"{path} is there twice")
+        demand(all("!" <= it <= "~" for it in rest[2]), f"identifier {rest[2]}")
+        self.variables[path] = rest[2]
+
+    def read_values(self):
+        known = set(self.variables.values())
+        demand(len(known) == len(self.variables), "an identifier is there twice")
+        is_dump = False
+        for word in self.words:
+            if word.startswith("#"):
+                time = int(word[1:])
+                demand(not is_dump and (not self.times or time > self.times[-1][0]), f"{word} is no later time")
+                self.times.append((time, {}))
+            elif word == "$dumpvars":
+                demand(len(self.times) == 1 and not self.times[0][1], "$dumpvars is late")
+                is_dump = True
+            elif word == "$end":
+                demand(is_dump and self.times[0][1].keys() == known, "the first values are not those of all variables")
+                is_dump = False
+            else:
+                demand(self.times and word[0] in VALUES.lower() and word[1:] in known, f"{word} is no value")
+                self.times[-1][1][word[1:]] = word[0].upper()
+        demand(not is_dump, "$dumpvars has no end")
+
+
+def moments(listing):
+    """Returns for each moment of a listing the values that nets take then."""
+    found = {}
+    for line in listing.splitlines()[:-1]:
+        time, delta, name, value = line.split(" ")
+        found.setdefault((int(time), int(delta)), {})[name] = value
+    return found
+
+
+def by_time(found):
+    """Returns the same for each time, with the last value of each net."""
+    joined = {}
+    for (time, _), values in found.items():
+        joined.setdefault(time, {}).update(values)
+    return joined
+
+
+def by_delta(found):
+    """Returns the same with a time for each delta cycle."""
+    spread, last = {}, -1
+    for (time, delta), values in found.items():
+        last = max(time + delta, last + 1)
+        spread[last] = values
+    return spread
+
+
+def compare(waves, wanted):
+    """Compares the values at each time."""
+    demand([time for time, _ in waves.times] == (list(wanted) or [0]), "the times are others")
+    names = list(next(iter(wanted.values()), []))
+    demand(sorted(waves.variables) == sorted(f"top.{it}" for it in names), "the nets are others")
+    now, then = {}, {}
+    for time, values in waves.times:
+        now.update(values)
+        then.update(wanted.get(time, {}))
+        for name in names:
+            shown = now[waves.variables[f"top.{name}"]]
+            demand(shown == then[name], f"{name} is {shown} at {time}, and not {then[name]}")
+
+
+def check(program, words, wanted, listing):
+    status, out, err = run(program, words, listing.encode())
+    demand(status == 0 and not err, f"status {status}: {err}")
+    compare(Waves(out.decode("ascii")), wanted(moments(listing)))
+
+
+def check_refusal(program, text, line):
+    status, _, err = run(program, [], text.encode())
+    demand(status == 1, f"status {status}")
+    demand(err.startswith(f"vsim_waves: line {line}: " if line else "vsim_waves: the listing has no last line"), f"it says {err}")
+    demand(err.count("\n") == 1, f"it says {err}")
+
+
+def check_words(program, words):
+    status, out, err = run(program, words, b"done 0 0\n")
+    demand(status == 2 and not out and err.startswith("usage: vsim_waves "), f"status {status}: {err}")
+
+
+def made():
+    """Returns a listing of 9,000 nets, whose identifiers have up to three bytes."""
+    chance, names = random.Random(1), [f"s{it}" for it in range(50)]
+
+    def enter(path, depth):
+        for label in range(4 if depth < 6 else 0):
+            names.extend(f"{path}u{label}.s{it}" for it in range(chance.randint(0, 6)))
+            enter(f"{path}u{label}.", depth + 1)
+
+    enter("", 0)
+    names = names[:9000]
+    values = {it: chance.choice(VALUES) for it in names}
+    lines, events = [f"0 0 {it} {values[it]}" for it in names], 0
+    instants = sorted({(chance.randint(0, 40), chance.randint(0, 9)) for _ in range(200)} - {(0, 0)})
+    for time, delta in instants:
+        for name in chance.sample(names, 20):
+            values[name] = chance.choice(VALUES.replace(values[name], ""))
+            lines.append(f"{time} {delta} {name} {values[name]}")
+            events += 1
+    return "\n".join([*lines, f"done {len(instants)} {events}", ""])
+
+
+def listings(vsim):
+    """Yields the name and the listing of each example that runs to its end."""
+    for path in sorted(glob.glob(f"{TOP}/examples/*.vhd")):
+        words = ["--top", "t"]
+        if os.path.exists(f"{path[:-4]}.words"):
+            with open(f"{path[:-4]}.words", encoding="utf-8") as file:
+                words = file.read().split()
+        with open(path, "rb") as file:
+            status, out, _ = run(vsim, words, file.read())
+        if status == 0:
+            yield os.path.relpath(path, TOP), out.decode("ascii")
+    yield "9,000 nets", made()
+    yield "no net", "done 0 0\n"
+
+
+def checks(vsim, program):
+    """Yields the name of each check, and what makes it."""
+    for name, listing in listings(vsim):
+        yield name, lambda: check(program, [], by_time, listing)
+        yield f"{name} --deltas", lambda: check(program, ["--deltas"], by_delta, listing)
+    for text, line in REFUSED:
+        yield f"refusal of {text!r}", lambda: check_refusal(program, text, line)
+    for words in (["--delta"], ["--deltas", "--deltas"], ["FILE.vcd"], [""]):
+        yield f"the words {words}", lambda: check_words(program, words)
+
+
+def main(vsim, program):
+    passed = failed = 0
+    for name, made_check in checks(vsim, program):
+        try:
+            made_check()
+            passed += 1
+        except (Fault, subprocess.TimeoutExpired) as fault:
+            failed += 1
+            print(f"{name}: {fault}")
+    print(f"{passed} passed, {failed} failed")
+    return 1 if failed or not passed else 0
+
+
+if __name__ == "__main__":
+    if len(sys.argv) != 3:
+        print(__doc__.rstrip())
+        sys.exit(2)
+    sys.exit(main(*map(os.path.abspath, sys.argv[1:])))
