@@ -391,7 +391,7 @@ module _ (blocks : List Block) (known : All (IsBlock blocks) blocks) where
       let none = replicate (size b) [] in
       let p = processes_expanded object_nets b b.processes none f in
       let a = processes_sound object_nets b b.processes none f h len (each_of (IsBlockProcess b) b.processes is.processes) fine
-        (in_range_none (length f.drivers)
+      (in_range_none (length f.drivers)
       (size b)) in
       let same : f.nets ≡ p.1.nets = sym a.nets in
       let x = instances_expanded one blocks object_nets prefix b.instances [] p.0 p.1 in
