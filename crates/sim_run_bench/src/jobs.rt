@@ -28,7 +28,10 @@ struct Spent {
 fn jobs(alloc: Global, store: &WaveStore) -> Result<Vec<Job>, StoreError> {
     let mut jobs = Vec::new(alloc);
     for process in store.due() {
-        jobs.push(store.job(alloc, *process)?)?;
+        let job = store.job(alloc, *process)?;
+        if jobs.push(job).is_err() {
+            return Err(StoreError::Memory);
+        }
     }
     Ok(jobs)
 }
