@@ -1,5 +1,5 @@
 -- The processes of a flat design (IEEE 1076-2008, 11.3).
-use Rattle.std.specs.Prelude.{ℕ, ◌≡◌, ◌==◌, nat_lt, List, [], ◌∷◌, if◌then◌else◌, length, map, slice_index_or}
+use Rattle.std.specs.Prelude.{ℕ, ◌≡◌, ◌==◌, nat_lt, Bool, List, [], ◌∷◌, if◌then◌else◌, length, map, slice_index_or}
 use Rattle.sim_flat_design.specs.Bodies.{Body, objects_of}
 
 -- a list that rises, with one number more, unless it is there
@@ -13,12 +13,13 @@ rising [] = []
 rising (n ∷ ns) = with_number n (rising ns)
 
 -- A process: the nets to which it is sensitive, the nets that it reads, the net of each port and signal of its architecture, the number
--- of its first driver, and its body, which all instances of the architecture share. Its drivers stand side by side.
+-- of its first driver, whether it is postponed, and its body, which all instances of the architecture share. Its drivers stand side by side.
 pub record Process : Type 0 where
   pub sensitivity : List ℕ
   pub reads : List ℕ
   pub nets : List ℕ
   pub first_driver : ℕ
+  pub postponed : Bool
   pub body : Body
 
 -- the nets of ports and signals

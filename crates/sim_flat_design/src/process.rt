@@ -54,6 +54,7 @@ struct Parts {
     reads: Items<usize>,
     object_nets: ObjectNets,
     first_driver: usize,
+    postponed: bool,
     body: Body,
 }
 
@@ -76,10 +77,24 @@ impl Model for Process {
     ghost coded = { Prim.hlevel (codes, logic.the_row.coded, boolean.the_row.coded, statement.the_row.coded) };
 
     ghost view = { λ p. let x = arc_value p.parts in
-        record { sensitivity = x.sensitivity; reads = x.reads; nets = x.object_nets; first_driver = x.first_driver; body = x.body } };
+        record {
+          sensitivity = x.sensitivity;
+          reads = x.reads;
+          nets = x.object_nets;
+          first_driver = x.first_driver;
+          postponed = x.postponed;
+          body = x.body;
+        } };
 
     ghost invariant = { λ p. let x = arc_value p.parts in
-        IsProcess (record { sensitivity = x.sensitivity; reads = x.reads; nets = x.object_nets; first_driver = x.first_driver; body = x.body }) };
+        IsProcess (record {
+          sensitivity = x.sensitivity;
+          reads = x.reads;
+          nets = x.object_nets;
+          first_driver = x.first_driver;
+          postponed = x.postponed;
+          body = x.body;
+        }) };
 }
 
 impl Process {
@@ -89,17 +104,32 @@ impl Process {
     ghost use Rattle.sim_flat_design.specs.Processes.{IsProcess, nets_of, rising};
 
     /// The process with this sensitivity, these nets that it reads, the nets of its architecture's
-    /// ports and signals, this number of its first driver, and this body.
+    /// ports and signals, this number of its first driver, whether it is postponed, and this body.
     pub fn new(
         alloc: Global,
         sensitivity: Items<usize>,
         reads: Items<usize>,
         object_nets: ObjectNets,
         first_driver: usize,
+        postponed: bool,
         body: Body,
     ) -> Result<Process, AllocError>
-        requires { IsProcess (record { sensitivity = sensitivity; reads = reads; nets = object_nets; first_driver = first_driver; body = body }) }
-        ensures { IfOk result (λ p. p ≡ record { sensitivity = sensitivity; reads = reads; nets = object_nets; first_driver = first_driver; body = body }) }
+        requires { IsProcess (record {
+          sensitivity = sensitivity;
+          reads = reads;
+          nets = object_nets;
+          first_driver = first_driver;
+          postponed = postponed;
+          body = body;
+        }) }
+        ensures { IfOk result (λ p. p ≡ record {
+          sensitivity = sensitivity;
+          reads = reads;
+          nets = object_nets;
+          first_driver = first_driver;
+          postponed = postponed;
+          body = body;
+        }) }
     {
         let parts = Arc::new(
             alloc,
@@ -108,6 +138,7 @@ impl Process {
                 reads,
                 object_nets,
                 first_driver,
+                postponed,
                 body,
             },
         )?;
@@ -153,6 +184,13 @@ impl Process {
         self.parts.first_driver
     }
 
+    /// Whether it is a postponed process, which is executed once a time has settled (14.7.5.3).
+    pub fn postponed(&self) -> bool
+        ensures { result ≡ self.now.postponed }
+    {
+        self.parts.postponed
+    }
+
     /// What it executes.
     pub fn body(&self) -> &Body
         ensures { result.now ≡ self.now.body }
@@ -165,6 +203,7 @@ impl Process {
         ensures { Decides result (self.now ≡ other.now) }
     {
         self.first_driver() == other.first_driver()
+            && self.postponed() == other.postponed()
             && self.sensitivity() == other.sensitivity()
             && self.reads() == other.reads()
             && self.nets() == other.nets()

@@ -21,7 +21,7 @@ use Rattle.sim_standard.specs.Records.{all_changes, changes_from, numbered_value
 use Rattle.sim_standard.specs.Nets.{net_value, nets_updated}
 use Rattle.sim_standard.specs.Agreement.{changed, changes_of, is_of, total_of, value_by}
 use Rattle.sim_standard.specs.Histories.{recorded, records_to}
-use Rattle.sim_standard.proofs.Parallel.{FitsCycles, in_turn_is_together, standard_all, standard_fits}
+use Rattle.sim_standard.proofs.Parallel.{FitsCycles, executed_nets, in_turn_is_together, standard_all, standard_fits}
 use Rattle.sim_standard.proofs.Records.{first-recorded}
 
 -- ---- filters
@@ -155,7 +155,7 @@ module _ (d : Design) (is : All IsProcess d.processes) where
   cycle-follows k now (Some s) at e =
       let x = executed_in_turn d k s in
       let counted : length s.owned ≡ length d.processes = subst (λ (o : Option State). all o) at (standard_all d is k) in
-      let same : x.nets ≡ s.nets = ap (λ (y : State). y.nets) (in_turn_is_together d is k s counted) in
+      let same : x.nets ≡ s.nets = ap (λ (y : State). y.nets) (in_turn_is_together d is k s counted) ∙ executed_nets d k s in
       let f = onward-follows x now (next_cycle_time x) e in
       record {
         before = s;

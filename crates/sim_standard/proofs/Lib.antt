@@ -13,3 +13,4 @@ pub mod Weaves
 pub mod Keeping
 pub mod Least
 pub mod Ends
+pub mod WithoutPostponed

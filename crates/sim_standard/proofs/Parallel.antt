@@ -10,11 +10,12 @@ use Rattle.sim_standard.specs.State.{State, Owned, waves}
 use Rattle.sim_standard.specs.Processes.{part, outcome, process_at}
 use Rattle.sim_standard.specs.Drivers.{Waveform}
 use Rattle.sim_standard.specs.declared.net_view.NetView.{NetView}
-use Rattle.sim_standard.specs.Cycle.{own_taken, is_resumed, next_delta, those, next_cycle_time, onward, executed_in_turn, cycle_in_turn, standard}
+use Rattle.sim_standard.specs.Cycle.{own_taken, is_at_once, is_waiting, first_in_turn, next_delta, those, next_cycle_time, onward}
+use Rattle.sim_standard.specs.Cycle.{precedes_delta, waiting_now, with_waiting, executed_in_turn, cycle_in_turn, standard}
 use Rattle.sim_standard.specs.Initialization.{first_owned, all_first_owned}
 use Rattle.sim_standard.specs.Nets.{net_started, nets_updated}
-use Rattle.sim_standard.specs.Orders.{is_among, NoRepeats, AllBelow}
-use Rattle.sim_standard.specs.Together.{merged, executed_together, cycle_together, parallel}
+use Rattle.sim_standard.specs.Orders.{is_among, one_by_one, NoRepeats, AllBelow}
+use Rattle.sim_standard.specs.Together.{merged, together, first_together, executed_together, cycle_together, parallel}
 use Rattle.sim_standard.proofs.Together.{length-merged, in_any_order}
 
 those-out : (f : ℕ → Bool) (i n k : ℕ) → k < i → is_among (those f i n) k ≡ false
@@ -77,16 +78,61 @@ abbrev pub FitsCycles : Design → ℕ → Option State → Type 0
 FitsCycles d k None = Unit {0}
 FitsCycles d k (Some s) = (length s.nets ≡ length d.nets) × (s.delta ≤ k)
 
+-- ---- what processes that are executed together leave as it was
+
+module _ (d : Design) (k : ℕ) (s : State) where
+  together_owned : (f : ℕ → Bool) (x : State) → length (together d.processes f x).owned ≡ length x.owned
+  together_owned f x = length-merged f (λ p. outcome (process_at d.processes p) (part (process_at d.processes p) p x)) 0 x.owned
+
+  pub executed_owned : length (executed_together d k s).owned ≡ length s.owned
+  executed_owned =
+      let x = first_together d k s in
+      go (precedes_delta k x) x (together d.processes (is_waiting d k s) x) (together_owned (is_at_once d k s) s)
+      (together_owned (is_waiting d k s) x ∙ together_owned (is_at_once d k s) s)
+    where
+      go : (b : Bool) (x y : State) → length x.owned ≡ length s.owned → length y.owned ≡ length s.owned
+          → length (if b then with_waiting (waiting_now d k s) x else with_waiting [] y).owned ≡ length s.owned
+      go true x y ex ey = ex
+      go false x y ex ey = ey
+
+  pub executed_nets : (executed_together d k s).nets ≡ s.nets
+  executed_nets = let x = first_together d k s in go (precedes_delta k x) x (together d.processes (is_waiting d k s) x) refl refl
+    where
+      go : (b : Bool) (x y : State) → x.nets ≡ s.nets → y.nets ≡ s.nets
+          → (if b then with_waiting (waiting_now d k s) x else with_waiting [] y).nets ≡ s.nets
+      go true x y ex ey = ex
+      go false x y ex ey = ey
+
+  pub executed_delta : (executed_together d k s).delta ≡ s.delta
+  executed_delta = let x = first_together d k s in go (precedes_delta k x) x (together d.processes (is_waiting d k s) x) refl refl
+    where
+      go : (b : Bool) (x y : State) → x.delta ≡ s.delta → y.delta ≡ s.delta
+          → (if b then with_waiting (waiting_now d k s) x else with_waiting [] y).delta ≡ s.delta
+      go true x y ex ey = ex
+      go false x y ex ey = ey
+
 module _ (d : Design) (is : All IsProcess d.processes) where
-  -- the processes of a cycle, one after another, leave what they leave together
-  pub in_turn_is_together : (k : ℕ) (s : State) → length s.owned ≡ length d.processes → executed_in_turn d k s ≡ executed_together d k s
-  in_turn_is_together k s len =
-      let f = is_resumed d k s in
+  -- those of a set, one after another, leave what they leave together
+  pub set_is_together : (f : ℕ → Bool) (s : State) → length s.owned ≡ length d.processes
+      → one_by_one d.processes (those f 0 (length d.processes)) s ≡ together d.processes f s
+  set_is_together f s len =
       let n = length d.processes in
       in_any_order d.processes (those f 0 n) s is len (those-once f 0 n) (those-below f 0 n (length s.owned) (omega (arith, len)))
       ∙ ap (λ (os : List Owned). record s { owned = os })
       (merged-below (is_among (those f 0 n)) f (λ p. outcome (process_at d.processes p) (part (process_at d.processes p) p s)) 0 s.owned
       (λ j h l. those-in f 0 n j h (omega (arith, l, len))))
+
+  pub first_is_together : (k : ℕ) (s : State) → length s.owned ≡ length d.processes → first_in_turn d k s ≡ first_together d k s
+  first_is_together k s len = set_is_together (is_at_once d k s) s len
+
+  -- the processes of a cycle, one after another, leave what they leave together
+  pub in_turn_is_together : (k : ℕ) (s : State) → length s.owned ≡ length d.processes → executed_in_turn d k s ≡ executed_together d k s
+  in_turn_is_together k s len =
+      let x = first_together d k s in
+      let ps = waiting_now d k s in
+      ap (λ (y : State). if precedes_delta k y then with_waiting ps y else with_waiting [] (one_by_one d.processes ps y)) (first_is_together k s len)
+      ∙ ap (λ (y : State). if precedes_delta k x then with_waiting ps x else with_waiting [] y)
+      (set_is_together (is_waiting d k s) x (together_owned d k s (is_at_once d k s) s ∙ len))
 
   -- each state has what each process owns
   abbrev HasAll : Option State → Type 0
@@ -101,8 +147,7 @@ module _ (d : Design) (is : All IsProcess d.processes) where
   cycle_all k None h = tt
   cycle_all k (Some s) h =
       let x = executed_together d k s in
-      onward_all x (next_cycle_time x) (length-merged (is_resumed d k s)
-      (λ p. outcome (process_at d.processes p) (part (process_at d.processes p) p s)) 0 s.owned ∙ h)
+      onward_all x (next_cycle_time x) (executed_owned d k s ∙ h)
 
   pub parallel_all : (k : ℕ) → HasAll (parallel d k)
   unfolding parallel
@@ -131,7 +176,10 @@ module _ (d : Design) (is : All IsProcess d.processes) where
 
   cycle_fits : (k : ℕ) (o : Option State) → FitsCycles d k o → FitsCycles d (suc k) (cycle_together d k o)
   cycle_fits k None f = tt
-  cycle_fits k (Some s) f = let x = executed_together d k s in onward_fits k x (next_cycle_time x) f.0 f.1
+  cycle_fits k (Some s) f =
+      let x = executed_together d k s in
+      let slow = executed_delta d k s in
+      onward_fits k x (next_cycle_time x) (ap (λ (ns : List NetView). length ns) (executed_nets d k s) ∙ f.0) (omega (arith, slow, f.1))
 
   parallel_fits : (k : ℕ) → FitsCycles d k (parallel d k)
   unfolding parallel

@@ -66,7 +66,7 @@ module _ (ps : List Process) (s : State) where
   -- the part of a process outside the set is as it was
   part-together : (f : ℕ → Bool) (p : ℕ) → f p ≡ false → part (process_at ps p) p (together ps f s) ≡ part (process_at ps p) p s
   part-together f p out =
-      ap (λ (o : Owned). record { time = s.time; delta = 0; nets = map (net_at s.nets) (process_at ps p).reads; owned = o ∷ [] })
+      ap (λ (o : Owned). record { time = s.time; delta = 0; nets = map (net_at s.nets) (process_at ps p).reads; owned = o ∷ []; waiting = [] })
       (merged-out f results 0 p p s.owned (omega arith) out)
 
   -- a process more

@@ -1,16 +1,16 @@
 -- How a design behaves, as far as a run shows it.
-use Rattle.std.specs.Prelude.{ℕ, List, Option, map}
+use Rattle.std.specs.Prelude.{ℕ, List, map}
 use Rattle.sim_flat_design.specs.Designs.{Design, Net}
 use Rattle.sim_standard.specs.declared.record.Record.{Record}
 use Rattle.sim_standard.specs.Histories.{records_to}
-use Rattle.sim_standard.specs.Cycle.{next_in}
+use Rattle.sim_standard.specs.Cycle.{Following, next_in}
 
--- the nets' names by number; the records of the initialization and of the first n cycles, by n; and the time of the next transaction
--- after n cycles, by n (IEEE 1076-2008, 14.7.5)
+-- the nets' names by number; the records of the initialization and of the first n cycles, by n; and what follows after n
+-- cycles, by n (IEEE 1076-2008, 14.7.5)
 pub record Behaviour : Type 0 where
   pub names : List (List ℕ)
   pub records : ℕ → List Record
-  pub next : ℕ → Option ℕ
+  pub next : ℕ → Following
 
 -- how the design behaves, by the standard's cycle
 abbrev pub behaviour_of : Design → Behaviour

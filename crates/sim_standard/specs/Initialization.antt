@@ -21,8 +21,8 @@ first_owned drivers p =
 abbrev pub all_first_owned : Design → List Owned
 all_first_owned design = map (first_owned design.drivers) design.processes
 
--- the time is 0, each driver has its first value, each net the value of its sources, each variable its first value
+-- the time is 0, each driver has its first value, each net the value of its sources, each variable its first value, and no process waits
 abbrev pub first_state : Design → State
 first_state design =
     let owned = all_first_owned design in
-    record { time = 0; delta = 0; nets = map (net_started (waves owned)) design.nets; owned = owned }
+    record { time = 0; delta = 0; nets = map (net_started (waves owned)) design.nets; owned = owned; waiting = [] }

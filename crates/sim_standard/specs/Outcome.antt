@@ -1,18 +1,34 @@
--- How a run ends (IEEE 1076-2008, 14.7.5.1).
-use Rattle.std.specs.Prelude.{ℕ, ◌<◌, ◌≤◌, Option, Some, None}
+-- How a run ends (IEEE 1076-2008, 14.7.5.1, 14.7.5.3 h).
+use Rattle.std.specs.Prelude.{ℕ, ◌<◌, ◌≤◌}
+use Rattle.sim_standard.specs.Cycle.{Following, NothingPending, CycleAt, PostponedDelta}
 
--- There is no pending transaction, or the next one is later than the stop time.
-abbrev pub IsOver : Option ℕ → ℕ → Type 0
-IsOver None stop = Unit {0}
-IsOver (Some time) stop = stop < time
+-- Nothing follows up to the stop time.
+abbrev pub IsOver : Following → ℕ → Type 0
+IsOver NothingPending stop = Unit {0}
+IsOver (CycleAt time) stop = stop < time
+IsOver PostponedDelta stop = ⊥
 
--- a run is finished after this number of cycles, or it needs more of them than the limit
+-- A postponed process makes a delta cycle follow.
+abbrev pub IsPostponedDelta : Following → Type 0
+IsPostponedDelta NothingPending = ⊥
+IsPostponedDelta (CycleAt time) = ⊥
+IsPostponedDelta PostponedDelta = Unit {0}
+
+-- The run goes on: a cycle up to the stop time follows.
+abbrev pub GoesOn : Following → ℕ → Type 0
+GoesOn NothingPending stop = ⊥
+GoesOn (CycleAt time) stop = time ≤ stop
+GoesOn PostponedDelta stop = ⊥
+
+-- a run is finished after this number of cycles; a postponed process makes a delta cycle follow after this number of them; or it needs more of them
+-- than the limit
 pub data Outcome : Type 0 where
   FinishedAfter : ℕ → Outcome
+  PostponedDeltaAfter : ℕ → Outcome
   LimitReached : Outcome
 
--- The outcome of a run, where `next n` is the time of the next transaction after n cycles: it is over after the least
--- number of cycles after which there is none up to the stop time.
-abbrev pub HasOutcome : (ℕ → Option ℕ) → ℕ → ℕ → Outcome → Type 0
-HasOutcome next stop limit (FinishedAfter n) = (n ≤ limit) × IsOver (next n) stop × ((m : ℕ) → m < n → IsOver (next m) stop → ⊥)
-HasOutcome next stop limit LimitReached = (m : ℕ) → m ≤ limit → IsOver (next m) stop → ⊥
+-- The outcome of a run, where `next n` follows after n cycles: it ends after the least number of cycles after which it does not go on.
+abbrev pub HasOutcome : (ℕ → Following) → ℕ → ℕ → Outcome → Type 0
+HasOutcome next stop limit (FinishedAfter n) = (n ≤ limit) × IsOver (next n) stop × ((m : ℕ) → m < n → GoesOn (next m) stop)
+HasOutcome next stop limit (PostponedDeltaAfter n) = (n ≤ limit) × IsPostponedDelta (next n) × ((m : ℕ) → m < n → GoesOn (next m) stop)
+HasOutcome next stop limit LimitReached = (m : ℕ) → m ≤ limit → GoesOn (next m) stop

@@ -1,5 +1,5 @@
 -- The execution of a process (IEEE 1076-2008, 11.3, 14.7.5): on the whole state, and on its part of it.
-use Rattle.std.specs.Prelude.{ℕ, ◌+◌, ◌==◌, List, [], ◌∷◌, if◌then◌else◌, map, slice_index_or}
+use Rattle.std.specs.Prelude.{ℕ, ◌+◌, ◌==◌, false, List, [], ◌∷◌, if◌then◌else◌, map, slice_index_or}
 use Rattle.sim_flat_design.specs.Processes.{Process}
 use Rattle.sim_standard.specs.declared.net_view.NetView.{NetView}
 use Rattle.sim_standard.specs.State.{State, Owned, net_at, owned_at, with_owned}
@@ -13,7 +13,14 @@ pub record Names : Type 0 where
 
 -- the process with a number; beyond the last there is none that does anything
 abbrev pub no_process : Process
-no_process = record { sensitivity = []; reads = []; nets = []; first_driver = 0; body = record { objects = 0; drivers = 0; variables = []; statements = [] } }
+no_process = record {
+  sensitivity = [];
+  reads = [];
+  nets = [];
+  first_driver = 0;
+  postponed = false;
+  body = record { objects = 0; drivers = 0; variables = []; statements = [] };
+}
 
 abbrev pub process_at : List Process → ℕ → Process
 process_at processes n = slice_index_or processes n no_process
@@ -59,7 +66,7 @@ meaning process number s = carried_out (state_steps (names_of process number)) p
 -- the part of a state that a process sees: the time, the nets that it reads, and what it owns
 abbrev pub part : Process → ℕ → State → State
 part process number s =
-    record { time = s.time; delta = 0; nets = map (net_at s.nets) process.reads; owned = owned_at s.owned number ∷ [] }
+    record { time = s.time; delta = 0; nets = map (net_at s.nets) process.reads; owned = owned_at s.owned number ∷ []; waiting = [] }
 
 -- the place of a number in a list
 unfoldable pub place_in : List ℕ → ℕ → ℕ

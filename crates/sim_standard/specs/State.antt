@@ -13,12 +13,14 @@ pub record Owned : Type 0 where
   pub drivers : List Waveform
   pub variables : List Held
 
--- A state: the time and the delta number of the last cycle, each net as that cycle left it, by number, and what each process owns, by its number.
+-- A state: the time and the delta number of the last cycle, each net as that cycle left it, by number, what each process owns, by its number, and the
+-- postponed processes that were resumed in an earlier cycle and have not been executed since, rising (14.7.5.3 h).
 pub record State : Type 0 where
   pub time : ℕ
   pub delta : ℕ
   pub nets : List NetView
   pub owned : List Owned
+  pub waiting : List ℕ
 
 -- ---- what stands beyond the lists: nothing asks for it in the state of a design
 

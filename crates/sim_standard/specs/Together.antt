@@ -6,7 +6,7 @@ use Rattle.sim_flat_design.specs.Designs.{Design}
 use Rattle.sim_standard.specs.State.{State, Owned}
 use Rattle.sim_standard.specs.Processes.{part, outcome, process_at}
 use Rattle.sim_standard.specs.Initialization.{first_state}
-use Rattle.sim_standard.specs.Cycle.{is_resumed, next_cycle_time, onward}
+use Rattle.sim_standard.specs.Cycle.{is_at_once, is_waiting, next_cycle_time, onward, precedes_delta, waiting_now, with_waiting}
 
 -- what each process owns, from a number on: those of a set own their results, the others what they had
 unfoldable pub merged : (ℕ → Bool) → (ℕ → Owned) → ℕ → List Owned → List Owned
@@ -17,14 +17,22 @@ merged set results n (own ∷ owned) = (if set n then results n else own) ∷ me
 abbrev pub together : List Process → (ℕ → Bool) → State → State
 together processes set s = record s { owned = merged set (λ p. outcome (process_at processes p) (part (process_at processes p) p s)) 0 s.owned }
 
+-- f) the resumed processes that are not postponed
+abbrev pub first_together : Design → ℕ → State → State
+first_together design cycles s = together design.processes (is_at_once design cycles s) s
+
+-- h) and those that are postponed and wait, unless a delta cycle follows
 abbrev pub executed_together : Design → ℕ → State → State
-executed_together design cycles s = together design.processes (is_resumed design cycles s) s
+executed_together design cycles s =
+    let x = first_together design cycles s in
+    if precedes_delta cycles x then with_waiting (waiting_now design cycles s) x
+    else with_waiting [] (together design.processes (is_waiting design cycles s) x)
 
 abbrev pub cycle_together : Design → ℕ → Option State → Option State
 cycle_together design cycles None = None
 cycle_together design cycles (Some s) = let x = executed_together design cycles s in onward design x (next_cycle_time x)
 
--- the state after a number of cycles in which all that are resumed are executed together
+-- the state after a number of cycles, in each of which processes are executed together
 unfoldable pub parallel : Design → ℕ → Option State
 parallel design zero = Some (first_state design)
 parallel design (suc cycles) = cycle_together design cycles (parallel design cycles)

@@ -1,6 +1,6 @@
 //! Laws of the simulation cycle: each is what an empty function ensures.
 
-ghost use Rattle.std.specs.Prelude.{ℕ, suc, Bool, List, Some, ◌≡◌, ◌<◌, ◌↔◌, if◌then◌else◌, length};
+ghost use Rattle.std.specs.Prelude.{ℕ, suc, Bool, false, List, [], Some, ◌≡◌, ◌<◌, ◌↔◌, if◌then◌else◌, length};
 ghost use Rattle.std.specs.List.{All};
 ghost use Rattle.sim_flat_design.specs.Processes.{Process, IsProcess};
 ghost use Rattle.sim_standard.specs.State.{State, net_at};
@@ -9,7 +9,7 @@ ghost use Rattle.sim_standard.specs.Together.{together, parallel};
 ghost use Rattle.sim_flat_design.specs.Designs.{Design};
 ghost use Rattle.sim_standard.specs.Agreement.{total_of, value_by};
 ghost use Rattle.sim_standard.specs.Histories.{records_to};
-ghost use Rattle.sim_standard.specs.Cycle.{ended, standard, to_end};
+ghost use Rattle.sim_standard.specs.Cycle.{ended, executed_in_turn, is_resumed, standard, those, to_end};
 ghost use Rattle.sim_standard.specs.Weaving.{Woven, bodies};
 
 /// Processes that are executed one after another, in any order, each once, leave the state that
@@ -32,6 +32,14 @@ pub fn any_interleaving_is_together()
 /// whole state.
 pub fn the_states_are_the_standards()
     ensures { (design : Design) (cycles : ℕ) → All IsProcess design.processes → parallel design cycles ≡ standard design cycles }
+{}
+
+/// A cycle of a design without postponed processes executes the processes that it resumes, and
+/// nothing else.
+pub fn without_postponed_processes_those_resumed_are_executed()
+    ensures { (design : Design) (cycles : ℕ) (s : State) → All IsProcess design.processes → All (λ p. p.postponed ≡ false) design.processes
+        → length s.owned ≡ length design.processes → s.waiting ≡ []
+        → executed_in_turn design cycles s ≡ one_by_one design.processes (those (is_resumed design cycles s) 0 (length design.processes)) s }
 {}
 
 /// The standard ends a cycle once what it resumes has been executed, and our states stand in the
