@@ -40,7 +40,7 @@ pub record IsJob (time : ℕ) (process : Process) (views : List NetView) (own : 
 
 -- the part of a state that it holds
 abbrev pub scene : Job → State
-scene job = record { time = job.time; delta = 0; nets = job.views; owned = job.owned ∷ [] }
+scene job = record { time = job.time; delta = 0; nets = job.views; owned = job.owned ∷ []; waiting = [] }
 
 -- what its process owns once it is executed
 abbrev pub result_of : Job → Owned

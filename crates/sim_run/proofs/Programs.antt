@@ -60,6 +60,7 @@ refusal_of source text options (refusal.Text (fault.TooDeep at)) long longer p =
 refusal_of source text options (refusal.Text (fault.TimeRange at)) long longer p = absurd (too_much source long p.short)
 refusal_of source text options (refusal.Flat f) long longer p = absurd (too_much source long p.is_text.short)
 refusal_of source text options (refusal.CycleLimit l) long longer p = absurd (too_much source long p.1.is_design.is_text.short)
+refusal_of source text options refusal.PostponedDelta long longer p = absurd (too_much source long p.is_design.is_text.short)
 refusal_of source text options refusal.Stranger long longer p = absurd (too_much source long p.is_design.is_text.short)
 refusal_of source text options refusal.Memory long longer p = absurd (too_much source long p.is_design.is_text.short)
 refusal_of source text options refusal.Write long longer p = absurd p
@@ -80,6 +81,8 @@ run_fails unread left source options refusal.Options r p = text_refused unread l
 run_fails unread left source options (refusal.Text f) r p = text_refused unread left source options (refusal.Text f) r (p (λ q. absurd cc))
 run_fails unread left source options (refusal.Flat f) r p = text_refused unread left source options (refusal.Flat f) r (p (λ q. absurd cc))
 run_fails unread left source options (refusal.CycleLimit l) r p = text_refused unread left source options (refusal.CycleLimit l) r (p (λ q. absurd cc))
+run_fails unread left source options refusal.PostponedDelta r p =
+    text_refused unread left source options refusal.PostponedDelta r (p (λ q. absurd cc))
 run_fails unread left source options refusal.Stranger r p = text_refused unread left source options refusal.Stranger r (p (λ q. absurd cc))
 run_fails unread left source options refusal.Memory r p = text_refused unread left source options refusal.Memory r (p (λ q. absurd cc))
 
@@ -172,6 +175,7 @@ module _ (words : List (List ℕ)) (unread : Option (List ℕ)) (options : Optio
   status_1 (failure.Run (refusal.Text (fault.TimeRange at))) e p = faulty (fault.TimeRange at) (λ q. absurd cc) p
   status_1 (failure.Run (refusal.Flat f)) e p = unelaborated f (flat_status f) e p
   status_1 (failure.Run (refusal.CycleLimit l)) e p = absurd (omega arith)
+  status_1 (failure.Run refusal.PostponedDelta) e p = absurd (omega arith)
   status_1 (failure.Run refusal.Write) e p = absurd (omega arith)
   status_1 (failure.Run refusal.Stranger) e p = absurd (omega arith)
   status_1 (failure.Run refusal.Memory) e p = absurd (omega arith)
@@ -187,10 +191,14 @@ module _ (words : List (List ℕ)) (unread : Option (List ℕ)) (options : Optio
       let d = p.holds.1 in
       has_run (λ text o. HasDesign text o (λ design. IsCutShort design o))
       (record { text = p.text; whole = p.whole; holds = record { design = d.design; is_design = d.is_design; holds = inl d.holds } })
+  status_3 (failure.Run refusal.PostponedDelta) e p =
+      let d = p.holds in
+      has_run (λ text o. HasDesign text o (λ design. IsCutShort design o))
+      (record { text = p.text; whole = p.whole; holds = record { design = d.design; is_design = d.is_design; holds = inr (inl d.holds) } })
   status_3 (failure.Run refusal.Stranger) e p =
       let d = p.holds in
       has_run (λ text o. HasDesign text o (λ design. IsCutShort design o))
-      (record { text = p.text; whole = p.whole; holds = record { design = d.design; is_design = d.is_design; holds = inr d.holds } })
+      (record { text = p.text; whole = p.whole; holds = record { design = d.design; is_design = d.is_design; holds = inr (inr d.holds) } })
   status_3 (failure.Run refusal.Write) e p = absurd (omega arith)
   status_3 (failure.Run refusal.Memory) e p = absurd (omega arith)
 
@@ -202,6 +210,7 @@ module _ (words : List (List ℕ)) (unread : Option (List ℕ)) (options : Optio
   out_of_range unread' (failure.Run (refusal.Text f)) e p = absurd (text_not_words f e)
   out_of_range unread' (failure.Run (refusal.Flat f)) e p = absurd (flat_not_words f (flat_status f) e)
   out_of_range unread' (failure.Run (refusal.CycleLimit l)) e p = absurd (omega arith)
+  out_of_range unread' (failure.Run refusal.PostponedDelta) e p = absurd (omega arith)
   out_of_range unread' (failure.Run refusal.Write) e p = absurd (omega arith)
   out_of_range unread' (failure.Run refusal.Stranger) e p = absurd (omega arith)
   out_of_range unread' (failure.Run refusal.Memory) e p = absurd (omega arith)
@@ -220,6 +229,7 @@ module _ (words : List (List ℕ)) (unread : Option (List ℕ)) (options : Optio
   stopped Holds (failure.Run (refusal.Text f)) quiet part = inl (quiet (λ e. absurd cc))
   stopped Holds (failure.Run (refusal.Flat f)) quiet part = inl (quiet (λ e. absurd cc))
   stopped Holds (failure.Run (refusal.CycleLimit l)) quiet part = inl (quiet (λ e. absurd cc))
+  stopped Holds (failure.Run refusal.PostponedDelta) quiet part = inl (quiet (λ e. absurd cc))
   stopped Holds (failure.Run refusal.Stranger) quiet part = inl (quiet (λ e. absurd cc))
   stopped Holds (failure.Run refusal.Memory) quiet part = inl (quiet (λ e. absurd cc))
   stopped Holds (failure.Run refusal.Write) quiet part = inr (inl (has_run Holds (part refl)))

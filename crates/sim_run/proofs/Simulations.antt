@@ -13,7 +13,8 @@ use Rattle.sim_run.specs.Simulation.{IsDesignOf, HasDesign, IsRefusal}
 stopped : (text : List ℕ) (options : Options) (design : Design) (e : RunError) → IsDesignOf text options design
     → IsRefusalAlone (behaviour_of design) options e → IsRefusal text options e
 stopped text options design e d (inl p) = subst (IsRefusal text options) (sym p) (record { design = design; is_design = d; holds = tt })
-stopped text options design e d (inr p) = subst (IsRefusal text options) (sym p.0) (refl, record { design = design; is_design = d; holds = p.1 })
+stopped text options design e d (inr (inl p)) = subst (IsRefusal text options) (sym p.0) (refl, record { design = design; is_design = d; holds = p.1 })
+stopped text options design e d (inr (inr p)) = subst (IsRefusal text options) (sym p.0) (record { design = design; is_design = d; holds = p.1 })
 
 stopped_among : (text : List ℕ) (options : Options) (design : Design) (e : RunError) → IsDesignOf text options design → 1 < options.workers
     → (e ≡ refusal.Stranger) ⊎ IsRefusalAlone (behaviour_of design) options e → IsRefusal text options e

@@ -1,12 +1,14 @@
 -- A run, whatever the design, by how the design behaves.
-use Rattle.std.specs.Prelude.{◌≡◌, ◌↔◌, ◌⊎◌, ◌<◌, ◌-◌, ℕ, suc, List, Option, Some, None, Result, Err, MatchResult, false}
+use Rattle.std.specs.Prelude.{◌≡◌, ◌↔◌, ◌⊎◌, ◌<◌, ◌+◌, ◌-◌, ◌*◌, ℕ, List, Option, Some, None, Result, Err, MatchResult, false}
 use Rattle.sim_flat_design.specs.Designs.{Design}
 use Rattle.sim_store.specs.WaveStore.{WaveStore}
+use Rattle.sim_store.specs.declared.phase.Phase.{Phase}
+use Rattle.sim_store.specs.declared.phase.Phase.TheVariants as phase
 use Rattle.sim_store.specs.declared.store.Step.{Step}
 use Rattle.std.specs.Io.KnownBytes.{Appends}
 use Rattle.sim_standard.specs.Behaviour.{Behaviour, behaviour_of}
 use Rattle.sim_standard.specs.Histories.{History}
-use Rattle.sim_standard.specs.Outcome.{FinishedAfter, LimitReached, HasOutcome}
+use Rattle.sim_standard.specs.Outcome.{FinishedAfter, LimitReached, PostponedDeltaAfter, HasOutcome}
 use Rattle.sim_run_options.specs.declared.options.Options.{Options}
 use Rattle.sim_run_options.specs.Options.{are_in_range}
 use Rattle.sim_run.specs.declared.error.RunError.{RunError}
@@ -25,15 +27,25 @@ pub record Finishes (design : Behaviour) (options : Options) (history : History)
 abbrev pub ReachesLimit : Behaviour → Options → Type 0
 ReachesLimit design options = HasOutcome design.next options.stop options.limit LimitReached
 
--- Why a run on one thread has no history: there was no memory, or it needs more cycles than the limit.
-abbrev pub IsRefusalAlone : Behaviour → Options → RunError → Type 0
-IsRefusalAlone design options e = (e ≡ refusal.Memory) ⊎ ((e ≡ refusal.CycleLimit options.limit) × ReachesLimit design options)
+-- A postponed process makes a delta cycle follow (IEEE 1076-2008, 14.7.5.3 h).
+abbrev pub MakesPostponedDelta : Behaviour → Options → Type 0
+MakesPostponedDelta design options = (n : ℕ) × HasOutcome design.next options.stop options.limit (PostponedDeltaAfter n)
 
--- Why the run of a design has no history: an option is out of its range, it needs more cycles than the limit, the store under the lock is not that of this
--- run, or there was no memory.
+-- The run is cut short: it needs more cycles than the limit, or a postponed process makes a delta cycle follow.
+abbrev pub IsCut : Behaviour → Options → RunError → Type 0
+IsCut design options e =
+    ((e ≡ refusal.CycleLimit options.limit) × ReachesLimit design options) ⊎ ((e ≡ refusal.PostponedDelta) × MakesPostponedDelta design options)
+
+-- Why a run on one thread has no history: there was no memory, or it is cut short.
+abbrev pub IsRefusalAlone : Behaviour → Options → RunError → Type 0
+IsRefusalAlone design options e = (e ≡ refusal.Memory) ⊎ IsCut design options e
+
+-- Why the run of a design has no history: an option is out of its range, it needs more cycles than the limit, a postponed process makes a delta cycle
+-- follow, the store under the lock is not that of this run, or there was no memory.
 abbrev pub IsRunRefusal : Behaviour → Options → RunError → Type 0
 IsRunRefusal design options refusal.Options = are_in_range options.stop options.limit options.workers ≡ false
 IsRunRefusal design options (refusal.CycleLimit limit) = (limit ≡ options.limit) × ReachesLimit design options
+IsRunRefusal design options refusal.PostponedDelta = MakesPostponedDelta design options
 IsRunRefusal design options refusal.Stranger = Unit {0}
 IsRunRefusal design options refusal.Memory = Unit {0}
 IsRunRefusal design options e = ⊥
@@ -44,9 +56,9 @@ pub record IsAnswer (design : Behaviour) (options : Options) (answer : Result Hi
   pub answered : MatchResult answer (λ history. Finishes design options history) (λ e. IsRunRefusal design options e)
   pub ranges : (answer ≡ Err refusal.Options) ↔ (are_in_range options.stop options.limit options.workers ≡ false)
 
--- The run needs more cycles than the limit; or threads share its store, of which a lock tells no more than its type, so that it may be a stranger's.
+-- The run needs more cycles than the limit; or a postponed process makes a delta cycle follow; or threads share its store, of which a lock tells no more than its type, so that it may be a stranger's.
 abbrev pub IsCutShort : Behaviour → Options → Type 0
-IsCutShort design options = ReachesLimit design options ⊎ (1 < options.workers)
+IsCutShort design options = ReachesLimit design options ⊎ MakesPostponedDelta design options ⊎ (1 < options.workers)
 
 -- The run is finished, and its listing was written.
 pub record Lists (design : Behaviour) (options : Options) (old new : Option (List ℕ)) : Type 0 where
@@ -78,10 +90,15 @@ pub record IsSameRun (run other : WaveStore) : Type 0 where
   pub stop : other.stop ≡ run.stop
   pub limit : other.limit ≡ run.limit
 
--- how many steps there may still be: a cycle each, and the last, which ends the run
+-- how many phases of a cycle there may still be
+abbrev pub phases_left : Phase → ℕ
+phases_left phase.AtOnce = 2
+phases_left phase.Postponed = 1
+
+-- how many steps there may still be: two phases for each cycle up to the limit
 abbrev pub steps_left : WaveStore → ℕ
 steps_left run = left run.ended
   where
     left : Option Step → ℕ
-    left None = suc (run.limit - run.simulation.cycles)
+    left None = 2 * (run.limit - run.simulation.cycles) + phases_left run.simulation.phase
     left (Some s) = 0

@@ -73,6 +73,7 @@ status_of (failure.Run (refusal.Text _)) = 1
 status_of (failure.Run (refusal.Flat flat.Memory)) = 4
 status_of (failure.Run (refusal.Flat _)) = 1
 status_of (failure.Run (refusal.CycleLimit limit)) = 3
+status_of (failure.Run refusal.PostponedDelta) = 3
 status_of (failure.Run refusal.Stranger) = 3
 status_of (failure.Run refusal.Write) = 4
 status_of (failure.Run refusal.Memory) = 4

@@ -13,7 +13,7 @@ use Rattle.sim_run.specs.declared.error.RunError.{RunError}
 use Rattle.sim_run.specs.declared.error.RunError.TheVariants as refusal
 use Rattle.sim_run_options.specs.declared.options.Options.{Options}
 use Rattle.sim_run_options.specs.Options.{are_in_range}
-use Rattle.sim_run.specs.Run.{ReachesLimit}
+use Rattle.sim_run.specs.Run.{MakesPostponedDelta, ReachesLimit}
 
 -- The text is a file, and this is its design under the top.
 pub record IsDesignOf (text : List ℕ) (options : Options) (design : Design) : Type 0 where
@@ -49,6 +49,7 @@ IsRefusal text options refusal.Options = are_in_range options.stop options.limit
 IsRefusal text options (refusal.Text fault) = IsFault text fault
 IsRefusal text options (refusal.Flat fault) = HasNoDesign text options fault
 IsRefusal text options (refusal.CycleLimit limit) = (limit ≡ options.limit) × HasDesign text options (λ design. ReachesLimit design options)
+IsRefusal text options refusal.PostponedDelta = HasDesign text options (λ design. MakesPostponedDelta design options)
 IsRefusal text options refusal.Stranger = HasDesign text options (λ design. 1 < options.workers)
 IsRefusal text options refusal.Memory = HasDesign text options (λ design. Unit {0})
 IsRefusal text options refusal.Write = ⊥

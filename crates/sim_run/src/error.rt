@@ -25,6 +25,9 @@ pub enum RunError {
     /// The run needs more cycles than the limit.
     #[error("CycleLimit {limit}")]
     CycleLimit { limit: u32 },
+    /// A postponed process makes a delta cycle follow.
+    #[error("PostponedDelta")]
+    PostponedDelta,
     /// The store under the lock is not that of this run: its design, its stop time or its limit is
     /// another.
     #[error("Stranger")]

@@ -21,8 +21,8 @@ use std::io::Write;
 use std::sync::{Mutex, Wait};
 use std::thread::Threads;
 
-/// Carries out one cycle: executes all processes that are due, in place and in rising order, and
-/// goes on.
+/// Carries out one phase of a cycle: executes all processes that are due, in place and in rising
+/// order, and goes on.
 fn go_on(alloc: Global, run: WaveStore) -> Result<WaveStore, RunError>
     requires { store.IsOpen run }
     ensures bounds { IfOk result (IsSameRun run) }
@@ -130,10 +130,12 @@ fn run_shared<R: Threads + Wait + Sync, G: Gate + Sync>(
 fn finished_run(run: WaveStore) -> Result<WaveStore, RunError>
     requires { run.ended ≢ None }
     ensures finished { IfOk result (λ r. (r ≡ run) × store.HasEnd run Step.Finished) }
-    ensures refused { IfErr result (λ e. (e ≡ refusal.CycleLimit run.limit) × store.HasEnd run Step.LimitReached) }
+    ensures refused { IfErr result (λ e. ((e ≡ refusal.CycleLimit run.limit) × store.HasEnd run Step.LimitReached)
+        ⊎ ((e ≡ refusal.PostponedDelta) × store.HasEnd run Step.PostponedDelta)) }
 {
     match run.ended() {
         Some(Step::LimitReached) => Err(RunError::CycleLimit { limit: run.limit() }),
+        Some(Step::PostponedDelta) => Err(RunError::PostponedDelta),
         _ => Ok(run),
     }
 }
@@ -185,6 +187,7 @@ fn answer_of(
         Some(Step::LimitReached) => Err(RunError::CycleLimit {
             limit: options.limit,
         }),
+        Some(Step::PostponedDelta) => Err(RunError::PostponedDelta),
         Some(_) => {
             let finished = Finished::of(alloc, run)?;
             Ok(Some(finished))
@@ -231,7 +234,8 @@ fn run_either<R: Threads + Wait + Sync, G: Gate + Sync>(
 /// processes are executed by as many workers as the options say; the gate is reported of each
 /// execution where it watches. With one worker and a gate that does not watch all is done on the
 /// calling thread, with no lock. The refusals: `Options` where an option is out of its range,
-/// `CycleLimit` where the run needs more cycles than the limit, `Memory`.
+/// `CycleLimit` where the run needs more cycles than the limit, `PostponedDelta` where a postponed
+/// process makes a delta cycle follow, `Memory`.
 pub fn run<R: Threads + Wait + Sync, G: Gate + Sync>(
     rt: &R,
     alloc: Global,

@@ -46,7 +46,7 @@ those-below f i (suc n) m le = go (f i) (those-below f (suc i) n m (omega arith)
     go true rest = (omega arith, rest)
     go false rest = rest
 
-those-in : (f : ℕ → Bool) (i n k : ℕ) → i ≤ k → k < i + n → is_among (those f i n) k ≡ f k
+pub those-in : (f : ℕ → Bool) (i n k : ℕ) → i ≤ k → k < i + n → is_among (those f i n) k ≡ f k
 unfolding those
 those-in f i zero k ge lt = absurd (omega (arith, ge, lt))
 those-in f i (suc n) k ge lt = go (f i) refl (eqb i k) refl (those-in f (suc i) n k)
@@ -108,6 +108,14 @@ module _ (d : Design) (k : ℕ) (s : State) where
     where
       go : (b : Bool) (x y : State) → x.delta ≡ s.delta → y.delta ≡ s.delta
           → (if b then with_waiting (waiting_now d k s) x else with_waiting [] y).delta ≡ s.delta
+      go true x y ex ey = ex
+      go false x y ex ey = ey
+
+  pub executed_time : (executed_together d k s).time ≡ s.time
+  executed_time = let x = first_together d k s in go (precedes_delta k x) x (together d.processes (is_waiting d k s) x) refl refl
+    where
+      go : (b : Bool) (x y : State) → x.time ≡ s.time → y.time ≡ s.time
+          → (if b then with_waiting (waiting_now d k s) x else with_waiting [] y).time ≡ s.time
       go true x y ex ey = ex
       go false x y ex ey = ey
 

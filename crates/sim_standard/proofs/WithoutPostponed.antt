@@ -20,7 +20,7 @@ those-same f g i zero same = refl
 those-same f g i (suc n) same =
     rw (same i) (ap (λ (ps : List ℕ). if g i then i ∷ ps else ps) (those-same f g (suc i) n same))
 
-those-none : (f : ℕ → Bool) (i n : ℕ) → ((p : ℕ) → f p ≡ false) → those f i n ≡ []
+pub those-none : (f : ℕ → Bool) (i n : ℕ) → ((p : ℕ) → f p ≡ false) → those f i n ≡ []
 unfolding those
 those-none f i zero none = refl
 those-none f i (suc n) none = rw (none i) (those-none f (suc i) n none)

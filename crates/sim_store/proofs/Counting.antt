@@ -14,7 +14,7 @@ use Rattle.sim_store_state.specs.FlatState.{FlatState}
 use Rattle.sim_store_state.specs.Log.{record_at}
 use Rattle.sim_standard.specs.Records.{changes_from, numbered_value}
 use Rattle.sim_standard.specs.Agreement.{is_of, total_of, value_by}
-use Rattle.sim_store.specs.Simulation.{AreTotals, IsStateOf, Simulation, reached}
+use Rattle.sim_store.specs.Simulation.{AreTotals, IsStateOf, Simulation, updated_last}
 use Rattle.sim_standard.specs.Histories.{records_to}
 use Rattle.sim_standard.proofs.Agreement.{records-give-values, total-few, total-more}
 use Rattle.sim_store.proofs.Going.{net-count}
@@ -87,22 +87,22 @@ totals-go-on nets records now one totals totals' begun e t same counted = record
 }
 
 -- a net had no more events than there were cycles
-pub totals-few : {h : Simulation} {time delta : ℕ} {held : FlatState} {records : List Record} {due : List Bool} (i : IsStateOf h time delta held records due)
+pub totals-few : {h : Simulation} {time delta : ℕ} {held : FlatState} {records : List Record} {due waiting : List Bool} (i : IsStateOf h time delta held records due waiting)
     (totals : List ℕ) → AreTotals (length h.design.nets) records totals → (n : ℕ) → get_or totals n 0 ≤ h.cycles
 totals-few {h} {records = records} i totals t n =
     get_or-all (λ m. m ≤ h.cycles) totals n (omega arith)
     (λ lt. let there : n < length h.design.nets = omega (arith, lt, t.sized) in
-    let few = total-few h.design i.processes h.cycles n (reached h) i.there there in
+    let few = total-few h.design i.processes h.cycles n (updated_last h) i.there there in
     let same = ap (λ (rs : List Record). total_of rs n) i.records_are in
     omega (arith, t.counted n there, same, few))
 
 -- ---- values
 
 -- the value that a net has is that of its last change in the records
-pub known-value : {h : Simulation} {time delta : ℕ} {held : FlatState} {records : List Record} {due : List Bool} (i : IsStateOf h time delta held records due)
+pub known-value : {h : Simulation} {time delta : ℕ} {held : FlatState} {records : List Record} {due waiting : List Bool} (i : IsStateOf h time delta held records due waiting)
     (n : ℕ) (o : Option Logic) → MatchOption o (length held.nets ≤ n) (λ v. (n < length held.nets) × (v ≡ (net_at held.nets n).value))
     → IfSome o (λ v. value_by (records_to h.design h.cycles) n ≡ Some v)
 known-value i n None m = tt
 known-value {h} {held = held} i n (Some v) m =
-    records-give-values h.design i.processes h.cycles n (reached h) i.there (omega (arith, m.0, net-count i))
+    records-give-values h.design i.processes h.cycles n (updated_last h) i.there (omega (arith, m.0, net-count i))
     ∙ ap Some (sym (m.1 ∙ ap (λ (ns : List NetView). (net_at ns n).value) i.nets_are))

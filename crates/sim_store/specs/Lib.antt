@@ -1,3 +1,4 @@
+pub mod Waiting
 pub mod Made
 pub mod Simulation
 pub mod WaveStore

@@ -7,8 +7,9 @@ use Rattle.sim_store.specs.Simulation.{Simulation, IsSimulation}
 
 -- as many cycles as records after the first
 abbrev pub simulation_of : Design → Made → Simulation
-simulation_of design m = record { design = design; cycles = length m.log.records - 1; deposited = m.deposited }
+simulation_of design m = record { design = design; cycles = length m.log.records - 1; phase = m.phase; deposited = m.deposited }
 
 -- It is what the simulation of this design holds.
 abbrev pub IsOf : Design → Made → Type 0
-IsOf design m = IsSimulation (simulation_of design m) m.sensitive m.codes m.time m.delta m.state m.log.records m.due m.totals.items
+IsOf design m =
+    IsSimulation (simulation_of design m) m.sensitive m.codes m.time m.delta m.state m.log.records m.due m.waiting.postponed m.waiting.waiting m.totals.items

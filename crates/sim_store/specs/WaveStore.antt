@@ -10,9 +10,11 @@ use Rattle.sim_store.specs.declared.store.Step.{Step}
 use Rattle.sim_store.specs.declared.store.Step.TheVariants as step
 use Rattle.sim_store.specs.declared.store.Look.{Look}
 use Rattle.sim_standard.specs.Histories.{event_count, records_to}
-use Rattle.sim_standard.specs.Cycle.{resumed, standard, next_in}
-use Rattle.sim_standard.specs.Outcome.{FinishedAfter, LimitReached, HasOutcome, IsOver}
-use Rattle.sim_store.specs.Simulation.{Simulation, IsComplete, IsDue, IsMissing, IsLeastMissing, IsOwn, after, next_after, reached, those_in, with_marks}
+use Rattle.sim_standard.specs.Cycle.{CycleAt, standard, next_in}
+use Rattle.sim_standard.specs.Outcome.{FinishedAfter, LimitReached, PostponedDeltaAfter, HasOutcome, GoesOn}
+use Rattle.sim_store.specs.Simulation.{Simulation, ArePostponedNext, IsComplete, IsDue, IsExecuted, IsMissing, IsLeastMissing, IsOwn, after, due_numbers}
+use Rattle.sim_store.specs.Simulation.{in_postponed_phase, next_after, reached, those_in, updated_last, with_marks}
+use Rattle.sim_store.specs.declared.phase.Phase.TheVariants as phase
 
 -- A store: its simulation, the stop time, the limit of cycles, and how the run ended.
 pub record WaveStore : Type 0 where
@@ -24,16 +26,18 @@ pub record WaveStore : Type 0 where
 -- The run ended so.
 abbrev pub HasEnd : WaveStore → Step → Type 0
 HasEnd w step.Next = ⊥
+HasEnd w step.Postponed = ⊥
+HasEnd w step.PostponedDelta = HasOutcome (next_in w.simulation.design) w.stop w.limit (PostponedDeltaAfter w.simulation.cycles)
 HasEnd w step.Finished = HasOutcome (next_in w.simulation.design) w.stop w.limit (FinishedAfter w.simulation.cycles)
 HasEnd w step.LimitReached = HasOutcome (next_in w.simulation.design) w.stop w.limit LimitReached
 
--- The run is within its bounds, was not over before, and where it ended all that are due have been executed and this is its outcome.
+-- The run is within its bounds, was not over before, and where it ended all of the cycle have been executed and this is its outcome.
 pub record IsStore (w : WaveStore) : Type 0 where
   pub early : w.stop ≤ largest_time
   pub within : w.simulation.cycles ≤ w.limit
   pub until : (reached w.simulation).time ≤ w.stop
-  pub going : (m : ℕ) → m < w.simulation.cycles → IsOver (next_in w.simulation.design m) w.stop → ⊥
-  pub end : MatchOption w.ended (Unit {0}) (λ s. IsComplete w.simulation × HasEnd w s)
+  pub going : (m : ℕ) → m < w.simulation.cycles → GoesOn (next_in w.simulation.design m) w.stop
+  pub end : MatchOption w.ended (Unit {0}) (λ s. IsExecuted w.simulation × HasEnd w s)
 
 -- The run has not ended.
 abbrev pub IsOpen : WaveStore → Type 0
@@ -81,7 +85,7 @@ IsNewRefusal stop _ = ⊥
 -- the store of a design that was initialized
 abbrev pub begun : Design → ℕ → ℕ → WaveStore
 begun design stop limit = record {
-  simulation = record { design = design; cycles = 0; deposited = replicate (length design.processes) false };
+  simulation = record { design = design; cycles = 0; phase = phase.AtOnce; deposited = replicate (length design.processes) false };
   stop = stop;
   limit = limit;
   ended = None;
@@ -99,32 +103,38 @@ deposited w p = with_deposited w (slice_set w.simulation.deposited p true)
 abbrev pub ended_as : WaveStore → Step → WaveStore
 ended_as w s = record w { ended = Some s }
 
--- What one step of an open store leaves, all of whose due processes have been executed: one cycle more, at a time up to the stop time; or nothing is
--- pending up to the stop time; or the limit is reached, and a further cycle would be needed. With the last two the run has ended, and all else is as it was.
+-- What one step of an open store leaves, all of whose due processes have been executed: the phase of postponed processes; or, once they need no phase or
+-- have had it, one cycle more, at a time up to the stop time; or a postponed process makes a delta cycle follow; or nothing is pending up to the stop time;
+-- or the limit is reached, and a further cycle would be needed. With the last three the run has ended, and all else is as it was.
 abbrev pub WentOn : WaveStore → WaveStore → Step → Type 0
+WentOn old new step.Postponed =
+    (old.simulation.phase ≡ phase.AtOnce) × ArePostponedNext old.simulation.design old.simulation.cycles (updated_last old.simulation)
+    × (new ≡ record old { simulation = in_postponed_phase old.simulation })
 WentOn old new step.Next =
-    (time : ℕ) × (next_after old.simulation ≡ Some time) × (time ≤ old.stop) × (old.simulation.cycles < old.limit)
+    (time : ℕ) × IsExecuted old.simulation × (next_after old.simulation ≡ CycleAt time) × (time ≤ old.stop) × (old.simulation.cycles < old.limit)
     × (new ≡ record old { simulation = after old.simulation })
-WentOn old new step.Finished = HasEnd old step.Finished × (new ≡ ended_as old step.Finished)
-WentOn old new step.LimitReached = (old.simulation.cycles ≡ old.limit) × HasEnd old step.LimitReached × (new ≡ ended_as old step.LimitReached)
+WentOn old new step.PostponedDelta = IsExecuted old.simulation × HasEnd old step.PostponedDelta × (new ≡ ended_as old step.PostponedDelta)
+WentOn old new step.Finished = IsExecuted old.simulation × HasEnd old step.Finished × (new ≡ ended_as old step.Finished)
+WentOn old new step.LimitReached =
+    IsExecuted old.simulation × (old.simulation.cycles ≡ old.limit) × HasEnd old step.LimitReached × (new ≡ ended_as old step.LimitReached)
 
 -- A store went on: it had not ended, and no process was missing.
 abbrev pub IsAdvanced : WaveStore → WaveStore → Step → Type 0
 IsAdvanced old new s = IsOpen old × IsComplete old.simulation × WentOn old new s
 
--- the processes that the last cycle resumed; none where the run has ended
+-- the processes that this phase executes; none where the run has ended
 abbrev pub due_of : WaveStore → List ℕ
 due_of w = go w.ended
   where
     go : Option Step → List ℕ
-    go None = resumed w.simulation.design w.simulation.cycles (reached w.simulation)
+    go None = due_numbers w.simulation
     go (Some s) = []
 
 -- Whoever has a store knows: it has had no more cycles than the limit, none later than the stop time, and the standard's cycle gives a state after as many.
 pub record IsWithin (w : WaveStore) : Type 0 where
   pub cycles : w.simulation.cycles ≤ w.limit
   pub time : (reached w.simulation).time ≤ w.stop
-  pub there : standard w.simulation.design w.simulation.cycles ≡ Some (reached w.simulation)
+  pub there : standard w.simulation.design w.simulation.cycles ≡ Some (updated_last w.simulation)
 
 -- how far it has come
 abbrev pub look_of : WaveStore → Look

@@ -1,6 +1,6 @@
 //! The processes that are due.
 
-ghost use Rattle.std.specs.Prelude.{ℕ, ◌≡◌, ◌<◌, List, length, replicate, true, ◌+◌, ◌^◌, IfOk, IfSome, MatchOption};
+ghost use Rattle.std.specs.Prelude.{ℕ, ◌≡◌, ◌<◌, ◌&&◌, ◌||◌, not, List, length, ◌+◌, ◌^◌, IfOk, IfSome, MatchOption};
 ghost use Rattle.sim_flat_design.specs.Processes.{Process};
 ghost use Rattle.sim_store_sets.specs.Numbers.{is_beside};
 ghost use Rattle.sim_store_sets.specs.Words.{IsNext, NoneFrom};
@@ -9,6 +9,7 @@ ghost use Rattle.sim_standard.specs.Processes.{process_at};
 ghost use Rattle.sim_store_state.specs.Sensitive.{AreSensitive};
 ghost use Rattle.sim_store.specs.Simulation.{listed, those_in};
 
+use crate::waiting::Waiting;
 use sim_store_sets::{NumberSet, RowArray};
 use sim_store_state::FlatState;
 use std::alloc::{AllocError, Global};
@@ -34,12 +35,19 @@ impl Model for Due {
 }
 
 impl Due {
-    /// This number of processes, all of them due.
-    pub fn all(alloc: Global, count: usize) -> Result<Due, AllocError>
-        ensures { IfOk result (λ d. d ≡ replicate count true) }
+    /// All of this number of processes, but for the postponed ones, which wait.
+    pub fn first(alloc: Global, count: usize, waiting: &mut Waiting) -> Result<Due, AllocError>
+        requires { length waiting.old.postponed ≡ count }
+        ensures postponed { waiting.new.postponed ≡ waiting.old.postponed }
+        ensures waiting_sized { length waiting.new.waiting ≡ length waiting.old.waiting }
+        ensures sized { IfOk result (λ d. length d ≡ count) }
+        ensures due { IfOk result (λ d. (p : ℕ) → p < count → those_in d p ≡ not (those_in waiting.old.postponed p)) }
+        ensures moved { IfOk result (λ _. (p : ℕ) → p < count → those_in waiting.new.waiting p
+            ≡ (those_in waiting.old.waiting p || those_in waiting.old.postponed p)) }
     {
-        let set = NumberSet::full(alloc, count)?;
+        let mut set = NumberSet::full(alloc, count)?;
         let mut numbers = Vec::with_capacity(alloc, count)?;
+        waiting.set_aside(&mut set);
         set.list(&mut numbers);
         Ok(Due { set, numbers })
     }
@@ -66,15 +74,32 @@ impl Due {
         self.numbers.as_slice()
     }
 
-    /// Finds those that are due after a cycle: those that are sensitive to a net with an event. It
-    /// takes no memory.
-    pub fn find(&mut self, state: &FlatState, sensitive: &RowArray<usize>)
-        requires { length sensitive.now ≡ length state.now.nets }
+    /// Finds those that are due after a cycle: those that are sensitive to a net with an event, but
+    /// for the postponed ones, which wait. It takes no memory.
+    pub fn find(&mut self, state: &FlatState, sensitive: &RowArray<usize>, waiting: &mut Waiting)
+        requires nets { length sensitive.now ≡ length state.now.nets }
+        requires processes { length waiting.old.postponed ≡ length self.old }
+        ensures postponed { waiting.new.postponed ≡ waiting.old.postponed }
+        ensures waiting_sized { length waiting.new.waiting ≡ length waiting.old.waiting }
         ensures sized { length self.new ≡ length self.old }
         ensures found { (processes : List Process) (p : ℕ) → AreSensitive processes sensitive.now → p < length self.old
-            → those_in self.new p ≡ has_event_in state.now.nets (process_at processes p).sensitivity }
+            → those_in self.new p ≡ (has_event_in state.now.nets (process_at processes p).sensitivity && not (those_in waiting.old.postponed p)) }
+        ensures moved { (processes : List Process) (p : ℕ) → AreSensitive processes sensitive.now → p < length self.old
+            → those_in waiting.new.waiting p ≡ (those_in waiting.old.waiting p
+            || (has_event_in state.now.nets (process_at processes p).sensitivity && those_in waiting.old.postponed p)) }
     {
         state.find_resumed(&mut self.set, sensitive);
+        waiting.set_aside(&mut self.set);
+        self.set.list(&mut self.numbers);
+    }
+
+    /// Those that wait are due, and no others. It takes no memory.
+    pub fn take(&mut self, waiting: &Waiting)
+        requires { length waiting.now.waiting ≡ length self.old }
+        ensures sized { length self.new ≡ length self.old }
+        ensures same { (p : ℕ) → those_in self.new p ≡ those_in waiting.now.waiting p }
+    {
+        waiting.copy_to(&mut self.set);
         self.set.list(&mut self.numbers);
     }
 }

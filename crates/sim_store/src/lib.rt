@@ -5,9 +5,11 @@
 mod due;
 mod error;
 mod history;
+mod phase;
 mod simulation;
 mod store;
 mod totals;
+mod waiting;
 
 pub use error::StoreError;
 pub use sim_store_state::{Log, Record};

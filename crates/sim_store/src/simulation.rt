@@ -15,13 +15,18 @@ ghost use Rattle.sim_standard.specs.Agreement.{total_of, value_by};
 ghost use Rattle.sim_standard.specs.Histories.{IsNamed, event_count, records_to};
 ghost use Rattle.sim_store.specs.Made.{IsOf, simulation_of};
 ghost use Rattle.sim_store.specs.Simulation as spec;
-ghost use Rattle.sim_standard.specs.Cycle.{resumed, standard};
+ghost use Rattle.sim_standard.specs.Cycle.{CycleAt, is_postponed, standard};
+ghost use Rattle.sim_store_state.specs.Sensitive.{AreSensitive};
+ghost use Rattle.sim_exec_code.specs.Codes.{AreCodesOf};
+ghost use Rattle.sim_store.specs.declared.phase.Phase.TheVariants as phase;
 ghost use Rattle.sim_store.specs.WaveStore as store;
 
 use crate::due::Due;
 use crate::error::StoreError;
 use crate::history::records_from;
+use crate::phase::{Phase, Upcoming};
 use crate::totals::{count_last, none};
+use crate::waiting::Waiting;
 use sim_exec::{Done, Job, Results};
 use sim_exec_code::Codes;
 use sim_flat_design::{Design, Process};
@@ -73,6 +78,31 @@ fn put_results(state: &mut FlatState, number: usize, results: Option<Results>)
     }
 }
 
+/// What comes, by the phase, whether a delta cycle would follow, whether a process waits, and the
+/// first pending time.
+fn upcoming(phase: Phase, is_delta: bool, is_waited: bool, next: Option<u64>) -> Upcoming
+    ensures { result ≡ spec.upcoming_of phase is_delta is_waited next }
+{
+    match (phase, next) {
+        (Phase::AtOnce, _) if !is_delta && is_waited => Upcoming::Postponed,
+        (Phase::Postponed, _) if is_delta => Upcoming::PostponedDelta,
+        (_, Some(time)) => Upcoming::Cycle(time),
+        (_, None) => Upcoming::Nothing,
+    }
+}
+
+/// At the end of a cycle: where those that waited have been executed, none waits any more.
+fn leave(waiting: &mut Waiting, phase: Phase)
+    ensures postponed { waiting.new.postponed ≡ waiting.old.postponed }
+    ensures sized { length waiting.new.waiting ≡ length waiting.old.waiting }
+    ensures left { (p : ℕ) → spec.those_in waiting.new.waiting p ≡ spec.is_left phase (spec.those_in waiting.old.waiting p) }
+{
+    match phase {
+        Phase::AtOnce => {}
+        Phase::Postponed => waiting.clear(),
+    }
+}
+
 /// What is made of a design, and carried on from cycle to cycle: the time and the delta number of
 /// the last cycle, and the lists.
 #[derive(Drop)]
@@ -83,7 +113,10 @@ struct Made {
     codes: Codes,
     state: FlatState,
     log: Log,
+    /// Which processes are executed now.
+    phase: Phase,
     due: Due,
+    waiting: Waiting,
     deposited: NumberSet,
     totals: Vec<u64>,
 }
@@ -110,26 +143,33 @@ fn started(alloc: Global, design: &Design) -> Result<(FlatState, Log), AllocErro
     Ok((state, log))
 }
 
-/// That each of these processes is to be executed, none has been, and none of these nets had an
-/// event.
-fn marks(
-    alloc: Global,
-    processes: usize,
-    nets: usize,
-) -> Result<(Due, NumberSet, Vec<u64>), AllocError>
-    ensures due { IfOk result (λ m. m.0 ≡ replicate processes true) }
-    ensures deposited { IfOk result (λ m. m.1 ≡ replicate processes false) }
-    ensures totals { IfOk result (λ m. m.2.items ≡ replicate nets 0) }
+/// That of this number of processes none has been executed, and none of these nets had an event.
+fn marks(alloc: Global, processes: usize, nets: usize) -> Result<(NumberSet, Vec<u64>), AllocError>
+    ensures deposited { IfOk result (λ m. m.0 ≡ replicate processes false) }
+    ensures totals { IfOk result (λ m. m.1.items ≡ replicate nets 0) }
 {
-    let due = Due::all(alloc, processes)?;
     let deposited = NumberSet::new(alloc, processes)?;
     let totals = none(alloc, nets)?;
-    Ok((due, deposited, totals))
+    Ok((deposited, totals))
+}
+
+/// Which processes of a design are to be executed first, and which postponed ones wait.
+fn parted(alloc: Global, design: &Design) -> Result<(Due, Waiting), AllocError>
+    ensures parted { IfOk result (λ m. spec.AreParted design.now m.0 m.1.waiting) }
+    ensures postponed_sized { IfOk result (λ m. length m.1.postponed ≡ length design.now.processes) }
+    ensures postponed { IfOk result (λ m. (p : ℕ) → p < length design.now.processes → spec.those_in m.1.postponed p ≡ is_postponed design.now p) }
+{
+    let processes = design.processes();
+    let mut waiting = Waiting::of(alloc, processes)?;
+    let due = Due::first(alloc, processes.len(), &mut waiting)?;
+    Ok((due, waiting))
 }
 
 /// For each net of a design the processes that are sensitive to it, and for each process its code.
 fn lists(alloc: Global, design: &Design) -> Result<(RowArray<usize>, Codes), AllocError>
-    ensures { IfOk result (λ l. spec.AreMade design.now l.0 l.1) }
+    ensures sensitive_sized { IfOk result (λ l. length l.0 ≡ length design.now.nets) }
+    ensures sensitive { IfOk result (λ l. AreSensitive design.now.processes l.0) }
+    ensures codes { IfOk result (λ l. AreCodesOf design.now.processes l.1) }
 {
     let sensitive = sensitive(alloc, design)?;
     let codes = Codes::of(alloc, design.processes())?;
@@ -137,13 +177,14 @@ fn lists(alloc: Global, design: &Design) -> Result<(RowArray<usize>, Codes), All
 }
 
 /// What is made of a design: the flat lists of its nets, the codes of its processes, its first state
-/// with its record, that each process is to be executed, and that no net had an event.
+/// with its record, which processes are to be executed, and that no net had an event.
 fn prepared(alloc: Global, design: &Design) -> Result<Made, AllocError>
-    ensures start { IfOk result (λ m. (m.time ≡ 0) × (m.delta ≡ 0)) }
-    ensures lists { IfOk result (λ m. spec.IsMade design.now m.sensitive m.codes m.state m.log.records m.due m.deposited m.totals.items) }
+    ensures start { IfOk result (λ m. (m.time ≡ 0) × (m.delta ≡ 0) × (m.phase ≡ phase.AtOnce)) }
+    ensures lists { IfOk result (λ m. spec.IsMade design.now m.sensitive m.codes m.state m.log.records m.due m.deposited m.waiting.postponed m.waiting.waiting
+        m.totals.items) }
 {
-    let nets = design.nets().len();
-    let (due, deposited, totals) = marks(alloc, design.processes().len(), nets)?;
+    let (deposited, totals) = marks(alloc, design.processes().len(), design.nets().len())?;
+    let (due, waiting) = parted(alloc, design)?;
     let (sensitive, codes) = lists(alloc, design)?;
     let (state, log) = started(alloc, design)?;
     Ok(Made {
@@ -153,7 +194,9 @@ fn prepared(alloc: Global, design: &Design) -> Result<Made, AllocError>
         codes,
         state,
         log,
+        phase: Phase::AtOnce,
         due,
+        waiting,
         deposited,
         totals,
     })
@@ -226,7 +269,7 @@ impl Simulation {
     /// The simulation of a design at its start: the initialization is recorded, and each process is
     /// due. If allocation fails, the design comes back.
     pub fn begin(alloc: Global, design: Design) -> Result<Simulation, (AllocError, Design)>
-        ensures ok { IfOk result (λ s. s ≡ record { design = design; cycles = 0; deposited = replicate (length design.processes) false }) }
+        ensures ok { IfOk result (λ s. s ≡ record { design = design; cycles = 0; phase = phase.AtOnce; deposited = replicate (length design.processes) false }) }
         ensures err { IfErr result (λ e. e.1 ≡ design) }
     {
         let _nets = design.nets();
@@ -238,11 +281,9 @@ impl Simulation {
         }
     }
 
-    /// The job of a process that has not been executed since the last cycle: a copy of its part of
-    /// the state.
+    /// The job of a process that is due and has not been executed: a copy of its part of the state.
     pub fn job(&self, alloc: Global, number: usize) -> Result<Job, AllocError>
-        requires at { number < length self.now.design.processes }
-        requires fresh { spec.those_in self.now.deposited number ≡ false }
+        requires { spec.IsMissing self.now number }
         ensures { IfOk result (λ job. spec.IsJobOf self.now number job) }
     {
         let process = &self.design.processes()[number];
@@ -259,12 +300,40 @@ impl Simulation {
         ))
     }
 
-    /// The time of the next cycle (14.7.5.1).
-    pub fn next(&mut self) -> Result<Option<u64>, AllocError>
-        ensures same { self.new ≡ self.old }
-        ensures value { IfOk result (λ next. spec.IsComplete self.old → next ≡ spec.next_after self.old) }
+    /// Whether a pending time is that of the last cycle, so that a delta cycle would follow; none
+    /// counts as one after the initialization.
+    fn is_delta(&self, next: Option<u64>) -> bool
+        ensures { result ≡ (not (self.now.cycles == 0) && cycles.is_time_of (spec.updated_last self.now) next) }
     {
-        self.made.state.next()
+        self.cycles() != 0 && next == Some(self.made.time)
+    }
+
+    /// What comes once all that are due have been executed (14.7.5.3 g, h): the phase of postponed
+    /// processes, or what follows the cycle.
+    pub fn upcoming(&mut self) -> Result<Upcoming, AllocError>
+        requires { spec.IsComplete self.old }
+        ensures same { self.new ≡ self.old }
+        ensures value { IfOk result (spec.IsUpcoming self.old) }
+    {
+        let next = self.made.state.next()?;
+        Ok(upcoming(
+            self.made.phase,
+            self.is_delta(next),
+            !self.made.waiting.is_empty(),
+            next,
+        ))
+    }
+
+    /// Begins the phase of postponed processes: those that wait are due (14.7.5.3 h).
+    pub fn begin_postponed(&mut self)
+        requires complete { spec.IsComplete self.old }
+        requires phase { self.old.phase ≡ phase.AtOnce }
+        requires next { spec.ArePostponedNext self.old.design self.old.cycles (spec.updated_last self.old) }
+        ensures { self.new ≡ spec.in_postponed_phase self.old }
+    {
+        self.made.phase = Phase::Postponed;
+        self.made.due.take(&self.made.waiting);
+        self.made.deposited.clear();
     }
 
     /// How many cycles there were.
@@ -281,14 +350,14 @@ impl Simulation {
         self.made.log.len()
     }
 
-    /// Whether the last cycle resumed the process with a number.
+    /// Whether this phase executes the process with a number.
     pub fn is_due(&self, number: usize) -> bool
         ensures { IsTrue result ↔ spec.IsDue self.now number }
     {
         self.made.due.has(number)
     }
 
-    /// Whether the process with a number has been executed since the last cycle.
+    /// Whether the process with a number has been executed in this phase.
     pub fn is_deposited(&self, number: usize) -> bool
         ensures { result ≡ spec.those_in self.now.deposited number }
     {
@@ -332,11 +401,11 @@ impl Simulation {
         self.made.deposited.insert(number);
     }
 
-    /// Carries out the cycle at the time of the next, once all that are due have been executed
+    /// Carries out the cycle at the time of the next, once all of the last one have been executed
     /// (14.7.5.3). If allocation fails nothing changes.
     pub fn go_on(&mut self, time: u64) -> Result<(), AllocError>
-        requires complete { spec.IsComplete self.old }
-        requires next { spec.next_after self.old ≡ Some time }
+        requires executed { spec.IsExecuted self.old }
+        requires next { spec.next_after self.old ≡ CycleAt time }
         requires early { time ≤ largest_time }
         requires bound { self.old.cycles < 2 ^ 32 }
         ensures ok { OnOk result (self.new ≡ spec.after self.old) }
@@ -352,7 +421,13 @@ impl Simulation {
             .state
             .record(&mut self.made.log, time, self.made.delta);
         count_last(self.made.totals.as_mut_slice(), &self.made.log);
-        self.made.due.find(&self.made.state, &self.made.sensitive);
+        leave(&mut self.made.waiting, self.made.phase);
+        self.made.phase = Phase::AtOnce;
+        self.made.due.find(
+            &self.made.state,
+            &self.made.sensitive,
+            &mut self.made.waiting,
+        );
         self.made.deposited.clear();
         Ok(())
     }
@@ -397,9 +472,9 @@ impl Simulation {
         Ok(Simulation { design, made })
     }
 
-    /// The numbers of the processes that the last cycle resumed, rising.
+    /// The numbers of the processes that this phase executes, rising.
     pub fn due(&self) -> &[usize]
-        ensures value { result.now ≡ resumed self.now.design self.now.cycles (spec.reached self.now) }
+        ensures value { result.now ≡ spec.due_numbers self.now }
         ensures few { length result.now ≤ most }
     {
         let _processes = self.design.processes();
@@ -409,7 +484,7 @@ impl Simulation {
     /// The time and the delta number of the last cycle.
     pub fn time(&self) -> (u64, u64)
         ensures value { result ≡ ((spec.reached self.now).time, (spec.reached self.now).delta) }
-        ensures there { standard self.now.design self.now.cycles ≡ Some (spec.reached self.now) }
+        ensures there { standard self.now.design self.now.cycles ≡ Some (spec.updated_last self.now) }
         ensures rising { spec.AreRising self.now }
     {
         (self.made.time, self.made.delta)

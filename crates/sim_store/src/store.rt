@@ -8,13 +8,14 @@ ghost use Rattle.std.specs.List.{All};
 ghost use Rattle.sim_standard.specs.State.{net_at};
 ghost use Rattle.sim_standard.specs.Agreement.{total_of, value_by};
 ghost use Rattle.sim_standard.specs.Histories.{IsNamed, records_to};
-ghost use Rattle.sim_standard.specs.Outcome.{IsOver};
+ghost use Rattle.sim_standard.specs.Cycle.{CycleAt};
 ghost use Rattle.sim_store.specs.Simulation as simulations;
 ghost use Rattle.sim_store.specs.WaveStore as spec;
 ghost use Rattle.sim_store.specs.declared.error.StoreError.TheVariants as refusal;
 ghost use Rattle.sim_store.specs.declared.store.Step.TheVariants as step;
 
 use crate::error::StoreError;
+use crate::phase::Upcoming;
 use crate::simulation::Simulation;
 use sim_exec::{Done, Job};
 use sim_flat_design::Design;
@@ -28,6 +29,12 @@ use std::marker::Model;
 pub enum Step {
     /// There is one more cycle, and one more record.
     Next,
+    /// All that are not postponed have been executed, and no delta cycle follows: the due are now
+    /// the postponed processes that wait. There is no further record.
+    Postponed,
+    /// A postponed process makes a delta cycle follow, which is an error (14.7.5.3 h): the run has
+    /// ended.
+    PostponedDelta,
     /// Nothing is pending up to the stop time: the run has ended.
     Finished,
     /// The run needs more cycles than the limit: it has ended.
@@ -45,19 +52,6 @@ pub struct Look {
     pub delta: u64,
     /// How many events the cycles after the initialization had.
     pub events: u64,
-}
-
-/// The time of the next cycle, if it is not later than the stop time.
-fn next_within(simulation: &mut Simulation, stop: u64) -> Result<Option<u64>, AllocError>
-    requires { simulations.IsComplete simulation.old }
-    ensures same { simulation.new ≡ simulation.old }
-    ensures value { IfOk result (λ next. MatchOption next (IsOver (simulations.next_after simulation.old) stop)
-        (λ time. (simulations.next_after simulation.old ≡ Some time) × (time ≤ stop))) }
-{
-    match simulation.next()? {
-        Some(time) if time <= stop => Ok(Some(time)),
-        _ => Ok(None),
-    }
 }
 
 /// The state of a run, and its history: by its type, what is recorded is what the simulation cycle
@@ -215,21 +209,37 @@ impl WaveStore {
         ensures err { IfErr result (λ e. e ≡ refusal.Memory) }
         ensures kept { OnErr result (self.new ≡ self.old) }
     {
-        match next_within(&mut self.simulation, self.stop)? {
-            None => Ok(self.end(Step::Finished)),
-            Some(_) if self.simulation.cycles() == self.limit as usize => {
-                Ok(self.end(Step::LimitReached))
+        match self.simulation.upcoming()? {
+            Upcoming::Postponed => {
+                self.simulation.begin_postponed();
+                Ok(Step::Postponed)
             }
-            Some(time) => {
-                self.simulation.go_on(time)?;
-                Ok(Step::Next)
-            }
+            Upcoming::PostponedDelta => Ok(self.end(Step::PostponedDelta)),
+            Upcoming::Cycle(time) if time <= self.stop => self.go_to(time),
+            _ => Ok(self.end(Step::Finished)),
         }
+    }
+
+    /// Carries out the cycle at this time, if the limit allows it.
+    fn go_to(&mut self, time: u64) -> Result<Step, StoreError>
+        requires open { spec.IsOpen self.old }
+        requires executed { simulations.IsExecuted self.old.simulation }
+        requires next { simulations.next_after self.old.simulation ≡ CycleAt time }
+        requires until { time ≤ self.old.stop }
+        ensures ok { IfOk result (λ s. spec.WentOn self.old self.new s) }
+        ensures err { IfErr result (λ e. e ≡ refusal.Memory) }
+        ensures kept { OnErr result (self.new ≡ self.old) }
+    {
+        if self.simulation.cycles() == self.limit as usize {
+            return Ok(self.end(Step::LimitReached));
+        }
+        self.simulation.go_on(time)?;
+        Ok(Step::Next)
     }
 
     /// The run has ended so.
     fn end(&mut self, step: Step) -> Step
-        requires complete { simulations.IsComplete self.old.simulation }
+        requires executed { simulations.IsExecuted self.old.simulation }
         requires end { spec.HasEnd self.old step }
         ensures step { result ≡ step }
         ensures ended { self.new ≡ spec.ended_as self.old step }
@@ -241,7 +251,7 @@ impl WaveStore {
     /// How the run ended; none where it has not.
     pub fn ended(&self) -> Option<Step>
         ensures value { result ≡ self.now.ended }
-        ensures end { MatchOption result Unit (λ s. simulations.IsComplete self.now.simulation × spec.HasEnd self.now s) }
+        ensures end { MatchOption result Unit (λ s. simulations.IsExecuted self.now.simulation × spec.HasEnd self.now s) }
     {
         self.ended
     }
@@ -267,8 +277,8 @@ impl WaveStore {
         self.limit
     }
 
-    /// The numbers of the processes that the last cycle resumed, rising, whether or not they have
-    /// been executed since; none where the run has ended.
+    /// The numbers of the processes that this phase executes, rising, whether or not they have been
+    /// executed; none where the run has ended.
     pub fn due(&self) -> &[usize]
         ensures value { result.now ≡ spec.due_of self.now }
         ensures few { length result.now ≤ most }

@@ -27,6 +27,8 @@ struct State {
     views: Vec<NetView>,
     drivers: Vec<Driver>,
     variables: Vec<Vec<Held>>,
+    /// Of each process, whether it is postponed, was resumed and has not been executed since.
+    waiting: Vec<bool>,
 }
 
 /// The drivers at first.
@@ -54,17 +56,26 @@ fn first_views(alloc: Global, design: &Design, drivers: &[Driver]) -> Option<Vec
     views_of(alloc, values.as_slice(), values.as_slice())
 }
 
+/// That no process waits.
+fn none_waiting(alloc: Global, count: usize) -> Option<Vec<bool>> {
+    let mut waiting = Vec::new(alloc);
+    waiting.resize(count, false).ok()?;
+    Some(waiting)
+}
+
 /// The state at the start (14.7.5.2).
 fn first_state(alloc: Global, design: &Design) -> Option<State> {
     let drivers = first_drivers(alloc, design)?;
     let variables = first_variables(alloc, design)?;
     let views = first_views(alloc, design, drivers.as_slice())?;
+    let waiting = none_waiting(alloc, design.processes().len())?;
     Some(State {
         time: 0,
         delta: 0,
         views,
         drivers,
         variables,
+        waiting,
     })
 }
 
@@ -110,22 +121,51 @@ fn execute(alloc: Global, design: &Design, state: &mut State, number: usize) -> 
     put_done(alloc, state, process.first_driver(), &done, number)
 }
 
-/// Whether a process is due.
-fn is_due(design: &Design, state: &State, number: usize, all: bool) -> bool {
-    match design.processes().get(number) {
-        Some(process) => all || is_resumed(state.views.as_slice(), process.sensitivity()),
-        None => false,
-    }
+/// Whether a process is resumed.
+fn is_resumed_now(state: &State, process: &Process, all: bool) -> bool {
+    all || is_resumed(state.views.as_slice(), process.sensitivity())
 }
 
-/// Executes those that are due, one after another.
-fn execute_due(alloc: Global, design: &Design, state: &mut State, all: bool) -> Option<()> {
-    for number in 0..design.processes().len() {
-        if is_due(design, state, number, all) {
+/// Those that are resumed and postponed wait (14.7.5.3 h).
+fn wait(design: &Design, state: &mut State, all: bool) -> Option<()> {
+    for (number, process) in design.processes().iter().enumerate() {
+        if process.postponed() && is_resumed_now(state, process, all) {
+            *state.waiting.get_mut(number)? = true;
+        }
+    }
+    Some(())
+}
+
+/// Executes those that are resumed and not postponed, one after another (14.7.5.3 f).
+fn execute_resumed(alloc: Global, design: &Design, state: &mut State, all: bool) -> Option<()> {
+    for (number, process) in design.processes().iter().enumerate() {
+        if !process.postponed() && is_resumed_now(state, process, all) {
             execute(alloc, design, state, number)?;
         }
     }
     Some(())
+}
+
+/// Executes those that wait, one after another (14.7.5.3 h).
+fn execute_waiting(alloc: Global, design: &Design, state: &mut State) -> Option<()> {
+    for number in 0..design.processes().len() {
+        if *state.waiting.get(number)? {
+            execute(alloc, design, state, number)?;
+            *state.waiting.get_mut(number)? = false;
+        }
+    }
+    Some(())
+}
+
+/// Executes the processes of a cycle: first those that are not postponed, then, unless a delta cycle
+/// follows, those that wait. The initialization is followed by none in this sense.
+fn execute_all(alloc: Global, design: &Design, state: &mut State, is_first: bool) -> Option<()> {
+    wait(design, state, is_first)?;
+    execute_resumed(alloc, design, state, is_first)?;
+    if !is_first && next_time(state.drivers.as_slice()) == Some(state.time) {
+        return Some(());
+    }
+    execute_waiting(alloc, design, state)
 }
 
 /// The earlier of two times.
@@ -202,7 +242,7 @@ fn update(alloc: Global, design: &Design, state: &mut State, time: u64) -> Optio
 /// Executes what is due and carries out the cycle after it, if anything is pending; says whether
 /// there was one. In the first cycle all are due.
 fn go_on(alloc: Global, design: &Design, state: &mut State, is_first: bool) -> Option<bool> {
-    execute_due(alloc, design, state, is_first)?;
+    execute_all(alloc, design, state, is_first)?;
     let Some(time) = next_time(state.drivers.as_slice()) else {
         return Some(false);
     };

@@ -38,9 +38,11 @@ returns-clause-of c =
     (omega (arith, c.requires.at, ap length c.processes.ensures.value))
     ∙ ap (λ (ps : List Process). process_at ps c.args.number) c.processes.ensures.value) in
     record {
-      made = subst (AreMade c.args.design.now c.args.made.now.sensitive) (sym c.in_ok-execute.ensures.same) c.requires.of.made;
+      made = subst (λ codes. AreMade c.args.design.now c.args.made.now.sensitive codes c.args.made.now.waiting.postponed)
+          (sym c.in_ok-execute.ensures.same) c.requires.of.made;
       state = subst (λ (marks : List Bool). IsStateOf (with_marks (simulation_of c.args.design.now c.args.made.now) marks) c.args.made.now.time
-          c.args.made.now.delta c.execute.new.self c.args.made.now.log.records c.args.made.now.due) (sym c.insert.ensures)
+          c.args.made.now.delta c.execute.new.self c.args.made.now.log.records c.args.made.now.due c.args.made.now.waiting.waiting)
+          (sym c.insert.ensures)
           (executed-keeps i c.args.number c.requires.at c.requires.fresh c.index-processes-number.result c.execute.new.self is
           (sym (i.due_are c.args.number c.requires.at) ∙ c.requires.due) c.in_ok-execute.ensures.ok c.in_ok-execute.ensures.ready);
       counts = c.requires.of.counts;

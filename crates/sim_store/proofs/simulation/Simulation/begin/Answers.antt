@@ -2,8 +2,6 @@ use Rattle.std.proofs.Common.{rules, ℕ, List, length, ap, sym, subst, arith}
 use Rattle.std.specs.List.{All}
 use Rattle.sim_flat_design.specs.Designs.{AreOwned}
 use Rattle.sim_flat_design.specs.Processes.{Process, IsProcess}
-use Rattle.sim_store.specs.Made.{simulation_of}
-use Rattle.sim_store.specs.Simulation.{IsStateOf}
 use Rattle.sim_store.proofs.Counting.{totals-begin}
 use Rattle.sim_store.proofs.Going.{begins}
 use Rattle.sim_store.proofs.simulation.Simulation.begin.Goals as goal
@@ -13,13 +11,10 @@ invariant_of-result c =
     let m = c.in-Ok.ensures.lists in
     let owned : AreOwned (length c.args.design.nets) 0 0 c.args.design.processes c.args.design.drivers = search rules in
     let all : All IsProcess c.args.design.processes = subst (λ (ps : List Process). All IsProcess ps) c.processes.ensures.value c.are_processes.ensures in
-    let begun = begins c.args.design _ c.in-Ok.made.state c.in-Ok.made.log.records c.in-Ok.made.due c.in-Ok.made.deposited
-    (search rules) owned all (omega (arith, ap length m.records_is)) m.held_is m.records_is m.due_is m.deposited_is in
+    let begun = begins c.args.design _ c.in-Ok.made.state c.in-Ok.made.log.records c.in-Ok.made.due c.in-Ok.made.waiting.waiting c.in-Ok.made.deposited
+    (search rules) owned all (omega (arith, ap length m.records_is)) m.held_is m.records_is m.parted m.deposited_is in
     record {
       made = m.lists;
-      state = subst (λ (n : ℕ). IsStateOf (simulation_of c.args.design c.in-Ok.made) n c.in-Ok.made.delta c.in-Ok.made.state c.in-Ok.made.log.records
-          c.in-Ok.made.due) (sym c.in-Ok.ensures.start.0)
-          (subst (λ (n : ℕ). IsStateOf (simulation_of c.args.design c.in-Ok.made) 0 n c.in-Ok.made.state c.in-Ok.made.log.records c.in-Ok.made.due)
-          (sym c.in-Ok.ensures.start.1) begun);
+      state = rw (c.in-Ok.ensures.start.0, c.in-Ok.ensures.start.1, c.in-Ok.ensures.start.2) begun;
       counts = totals-begin (length c.args.design.nets) _ c.in-Ok.made.log.records c.in-Ok.made.totals.items m.records_is m.totals_is;
     }

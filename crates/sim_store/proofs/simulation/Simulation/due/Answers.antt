@@ -1,7 +1,7 @@
 use Rattle.std.proofs.Common.{◌≡◌, ◌≤◌, length, subst, sym, ap, ◌∙◌, arith}
 use Rattle.sim_flat_design.specs.Designs.{most}
-use Rattle.sim_store.specs.Simulation.{Simulation, is_due, reached, those_in}
-use Rattle.sim_standard.specs.Cycle.{resumed, those}
+use Rattle.sim_store.specs.Simulation.{Simulation, due_numbers, is_due, those_in}
+use Rattle.sim_standard.specs.Cycle.{those}
 use Rattle.sim_store.specs.contracts.simulation.Simulation.{the_view}
 use Rattle.sim_store.proofs.Listing.{those-few, those-same}
 use Rattle.sim_store.proofs.simulation.Simulation.due.Goals as goal
@@ -13,7 +13,7 @@ returns-clause-value c =
     let i = c.self.invariant.state in
     c.numbers.ensures ∙ (ap (those (those_in s.made.due) 0) i.due_sized
     ∙ (those-same (those_in s.made.due) (is_due h) 0 (length h.design.processes) (λ k ge lt. i.due_are k (omega (arith, lt)))
-    ∙ ap (λ (g : Simulation). resumed g.design g.cycles (reached g)) c.self.view_is))
+    ∙ ap (λ (g : Simulation). due_numbers g) c.self.view_is))
 
 pub returns-clause-few : goal.returns-clause-few
 returns-clause-few c =

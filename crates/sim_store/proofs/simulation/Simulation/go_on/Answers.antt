@@ -1,16 +1,17 @@
-use Rattle.std.proofs.Common.{ℕ, suc, ◌+◌, ◌-◌, ◌<◌, ◌≡◌, ◌++◌, [], ◌∷◌, List, Some, length, get_or, ap, sym, ◌∙◌, subst, arith}
+use Rattle.std.proofs.Common.{ℕ, suc, ◌+◌, ◌-◌, ◌<◌, ◌≡◌, ◌&&◌, ◌||◌, not, Bool, ◌++◌, [], ◌∷◌, List, length, get_or, ap, sym, ◌∙◌, subst, arith}
 use Rattle.std.proofs.lemmas.List.{length-append}
 use Rattle.std.specs.List.{filter}
 use Rattle.sim_store_sets.proofs.Flat.{written_back}
 use Rattle.sim_standard.specs.declared.record.Record.{Record}
 use Rattle.sim_store_state.specs.Log.{record_at}
 use Rattle.sim_standard.specs.Records.{changes_from}
-use Rattle.sim_standard.specs.Cycle.{state_of}
+use Rattle.sim_standard.specs.Cycle.{CycleAt, has_event_in, state_of}
+use Rattle.sim_standard.specs.Processes.{process_at}
 use Rattle.sim_standard.specs.Agreement.{is_of}
-use Rattle.sim_store.specs.Simulation.{AreTotals, Simulation, IsComplete, after, next_after}
+use Rattle.sim_store.specs.Simulation.{AreMade, AreTotals, Simulation, IsExecuted, after, next_after, those_in}
 use Rattle.sim_store.specs.contracts.simulation.Simulation.{the_view}
 use Rattle.sim_store.proofs.Counting.{changes-few, last-record, totals-few, totals-go-on}
-use Rattle.sim_store.proofs.Going.{advanced-count, advanced-keeps, advanced-time, cycle-count, next-is, none-marked-now, slow}
+use Rattle.sim_store.proofs.Going.{advanced-count, advanced-keeps, advanced-time, cycle-count, next-time-is, none-marked-now, slow}
 use Rattle.sim_store.proofs.simulation.Simulation.go_on.Goals as goal
 
 pub next_delta-self-inside-requires : goal.next_delta-self-inside-requires
@@ -20,37 +21,42 @@ next_delta-self-inside-requires c =
 
 pub update-requires : goal.update-requires
 update-requires c =
-    let all = subst IsComplete (sym c.self.view_is) c.requires.complete in
+    let done = subst IsExecuted (sym c.self.view_is) c.requires.executed in
     record {
-      next = next-is c.self.invariant.state all ∙ subst (λ (g : Simulation). next_after g ≡ Some c.args.time) (sym c.self.view_is) c.requires.next;
+      next = next-time-is c.self.invariant.state done c.args.time
+          (subst (λ (g : Simulation). next_after g ≡ CycleAt c.args.time) (sym c.self.view_is) c.requires.next);
     }
 
 pub record-requires-clause-few : goal.record-requires-clause-few
 record-requires-clause-few c =
     let s = c.self.inside in
-    let all = subst IsComplete (sym c.self.view_is) c.requires.complete in
-    let count = advanced-count c.self.invariant.state all c.args.time c.update.new.self c.in_ok-update.ensures.ok in
+    let done = subst IsExecuted (sym c.self.view_is) c.requires.executed in
+    let count = advanced-count c.self.invariant.state done c.args.time c.update.new.self c.in_ok-update.ensures.ok in
     omega (arith, count, c.self.invariant.state.few)
 
 pub record-requires-clause-changes : goal.record-requires-clause-changes
 record-requires-clause-changes c =
-    let all = subst IsComplete (sym c.self.view_is) c.requires.complete in
-    let count = advanced-count c.self.invariant.state all c.args.time c.update.new.self c.in_ok-update.ensures.ok in
+    let done = subst IsExecuted (sym c.self.view_is) c.requires.executed in
+    let count = advanced-count c.self.invariant.state done c.args.time c.update.new.self c.in_ok-update.ensures.ok in
     omega (arith, count, ap length c.nets-nets.ensures.value, c.in_ok-reserve.ensures.changes)
 
-pub find-requires : goal.find-requires
-find-requires c =
-    let all = subst IsComplete (sym c.self.view_is) c.requires.complete in
-    let count = advanced-count c.self.invariant.state all c.args.time c.update.new.self c.in_ok-update.ensures.ok in
+pub find-requires-clause-nets : goal.find-requires-clause-nets
+find-requires-clause-nets c =
+    let done = subst IsExecuted (sym c.self.view_is) c.requires.executed in
+    let count = advanced-count c.self.invariant.state done c.args.time c.update.new.self c.in_ok-update.ensures.ok in
     c.self.invariant.made.sensitive_sized ∙ sym count
+
+pub find-requires-clause-processes : goal.find-requires-clause-processes
+find-requires-clause-processes c =
+    omega (arith, ap length c.leave.ensures.postponed, c.self.invariant.made.postponed_sized, c.self.invariant.state.due_sized)
 
 pub count_last-requires-clause-room : goal.count_last-requires-clause-room
 count_last-requires-clause-room c n =
     let s = c.self.inside in
     let i = c.self.invariant.state in
     let few : (the_view s).cycles < 4294967296 = subst (λ (g : Simulation). g.cycles < 4294967296) (sym c.self.view_is) c.requires.bound in
-    let all = subst IsComplete (sym c.self.view_is) c.requires.complete in
-    let count = advanced-count i all c.args.time c.update.new.self c.in_ok-update.ensures.ok in
+    let done = subst IsExecuted (sym c.self.view_is) c.requires.executed in
+    let count = advanced-count i done c.args.time c.update.new.self c.in_ok-update.ensures.ok in
     let one : Record = record { time = c.args.time; delta = c.next_delta-self-inside.result; changes = changes_from 0 c.update.new.self.nets } in
     let records : c.record.new.log.records ≡ s.made.log.records ++ one ∷ [] = c.record.ensures ∙ ap (λ rs. rs ++ one ∷ []) c.in_ok-reserve.ensures.same in
     let last = last-record s.made.log.records c.record.new.log.records one records in
@@ -71,19 +77,29 @@ invariant_of-self-2 c =
     let s = c.self.inside in
     let h = the_view s in
     let i = c.self.invariant.state in
-    let all = subst IsComplete (sym c.self.view_is) c.requires.complete in
-    let next = next-is i all ∙ subst (λ (g : Simulation). next_after g ≡ Some c.args.time) (sym c.self.view_is) c.requires.next in
+    let done = subst IsExecuted (sym c.self.view_is) c.requires.executed in
+    let next = next-time-is i done c.args.time (subst (λ (g : Simulation). next_after g ≡ CycleAt c.args.time) (sym c.self.view_is) c.requires.next) in
     let one : Record = record { time = c.args.time; delta = c.next_delta-self-inside.result; changes = changes_from 0 c.update.new.self.nets } in
     let records : c.record.new.log.records ≡ s.made.log.records ++ one ∷ [] = c.record.ensures ∙ ap (λ rs. rs ++ one ∷ []) c.in_ok-reserve.ensures.same in
+    let same : c.find.new.waiting.postponed ≡ s.made.waiting.postponed = c.find.ensures.postponed ∙ c.leave.ensures.postponed in
     let marks = c.clear.ensures ∙ none-marked-now s.made.deposited in
     let last = last-record s.made.log.records c.record.new.log.records one records in
     let written = written_back c.count_last.new.totals s.made.totals.items s.made.totals.len (c.count_last.ensures.sized ∙ c.as_mut_slice.ensures.len) in
     record {
-      made = c.self.invariant.made;
-      state = advanced-keeps i all c.args.time next c.requires.early c.next_delta-self-inside.result (length c.record.new.log.records - 1)
-          c.update.new.self c.record.new.log.records c.find.new.self _ c.next_delta-self-inside.ensures
-          c.in_ok-update.ensures.ok records c.find.ensures.sized (λ p lt. c.find.ensures.found h.design.processes p c.self.invariant.made.sensitive_are
-          lt) marks
+      made = subst (AreMade s.design s.made.sensitive s.made.codes) (sym same) c.self.invariant.made;
+      state = advanced-keeps i done c.args.time next c.requires.early c.next_delta-self-inside.result (length c.record.new.log.records - 1)
+          c.update.new.self c.record.new.log.records s.made.waiting.postponed c.find.new.self c.find.new.waiting.waiting _ c.next_delta-self-inside.ensures
+          c.in_ok-update.ensures.ok records c.find.ensures.sized (c.find.ensures.waiting_sized ∙ c.leave.ensures.sized)
+          c.self.invariant.made.postponed_are
+          (λ p lt. c.find.ensures.found h.design.processes p c.self.invariant.made.sensitive_are lt
+          ∙ ap (λ (ps : List Bool). has_event_in c.update.new.self.nets (process_at h.design.processes p).sensitivity && not (those_in ps p))
+          c.leave.ensures.postponed)
+          (λ p lt. c.find.ensures.moved h.design.processes p c.self.invariant.made.sensitive_are lt
+          ∙ (ap (λ (ps : List Bool). those_in c.leave.new.waiting.waiting p
+          || (has_event_in c.update.new.self.nets (process_at h.design.processes p).sensitivity && those_in ps p)) c.leave.ensures.postponed
+          ∙ ap (λ (b : Bool). b
+          || (has_event_in c.update.new.self.nets (process_at h.design.processes p).sensitivity && those_in s.made.waiting.postponed p))
+          (c.leave.ensures.left p))) marks
           (omega (arith, ap length records, length-append s.made.log.records (one ∷ []), cycle-count i));
       counts = subst (AreTotals (length s.design.nets) c.record.new.log.records) (sym written)
           (totals-go-on (length s.design.nets) s.made.log.records c.record.new.log.records one s.made.totals.items c.count_last.new.totals
@@ -110,10 +126,10 @@ returns-clause-at c =
     let s = c.self.inside in
     let h = the_view s in
     let i = c.self.invariant.state in
-    let all = subst IsComplete (sym c.self.view_is) c.requires.complete in
-    let next = next-is i all ∙ subst (λ (g : Simulation). next_after g ≡ Some c.args.time) (sym c.self.view_is) c.requires.next in
+    let done = subst IsExecuted (sym c.self.view_is) c.requires.executed in
+    let next = next-time-is i done c.args.time (subst (λ (g : Simulation). next_after g ≡ CycleAt c.args.time) (sym c.self.view_is) c.requires.next) in
     let one : Record = record { time = c.args.time; delta = c.next_delta-self-inside.result; changes = changes_from 0 c.update.new.self.nets } in
     let records : c.record.new.log.records ≡ s.made.log.records ++ one ∷ [] = c.record.ensures ∙ ap (λ rs. rs ++ one ∷ []) c.in_ok-reserve.ensures.same in
     let cycles : length c.record.new.log.records - 1 ≡ suc h.cycles =
     omega (arith, ap length records, length-append s.made.log.records (one ∷ []), cycle-count i) in
-    subst (λ (k : ℕ). (state_of s.design k).time ≡ c.args.time) (sym cycles) (advanced-time i all c.args.time next)
+    subst (λ (k : ℕ). (state_of s.design k).time ≡ c.args.time) (sym cycles) (advanced-time i done c.args.time next)

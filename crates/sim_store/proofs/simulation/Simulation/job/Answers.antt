@@ -1,17 +1,17 @@
-use Rattle.std.proofs.Common.{◌≡◌, ◌<◌, List, length, map, false, arith, sym, ap, ◌∙◌, subst}
+use Rattle.std.proofs.Common.{◌≡◌, ◌<◌, List, length, map, true, false, arith, sym, ap, ◌∙◌, subst}
 use Rattle.std.proofs.lemmas.List.{get_or_default}
 use Rattle.sim_flat_design.specs.Processes.{Process}
 use Rattle.sim_standard.specs.Processes.{no_process, process_at}
 use Rattle.sim_exec.specs.Jobs.{Job, IsJob}
 use Rattle.sim_standard.specs.State.{Owned, net_at}
-use Rattle.sim_store.specs.Simulation.{Simulation, IsJobOf, IsOwn, those_in}
+use Rattle.sim_store.specs.Simulation.{Simulation, IsJobOf, IsOwn, is_due, those_in}
 use Rattle.sim_store.specs.contracts.simulation.Simulation.{the_view}
 use Rattle.sim_store.proofs.Going.{held-count, job-fits, length-records_to, part-is}
 use Rattle.sim_store.proofs.simulation.Simulation.job.Goals as goal
 
 pub part-requires : goal.part-requires
 part-requires c =
-    omega (arith, c.requires.at, ap (λ (h : Simulation). length h.design.processes) c.self.view_is, held-count c.self.invariant.state)
+    omega (arith, c.requires.due.number, ap (λ (h : Simulation). length h.design.processes) c.self.view_is, held-count c.self.invariant.state)
 
 pub overflow_sub-len : goal.overflow_sub-len
 overflow_sub-len c =
@@ -27,7 +27,7 @@ new-requires c =
     let s = c.self.inside in
     let h = the_view s in
     let lt : c.args.number < length s.design.processes = subst (λ (g : Simulation). c.args.number < length g.design.processes)
-    (sym c.self.view_is) c.requires.at in
+    (sym c.self.view_is) c.requires.due.number in
     let out = subst (λ (g : Simulation). those_in g.deposited c.args.number ≡ false) (sym c.self.view_is) c.requires.fresh in
     let is : c.index-processes-number.result ≡ process_at s.design.processes c.args.number =
     c.index-processes-number.is ∙ (get_or_default c.processes.result.now c.args.number _ no_process (omega (arith, lt, ap length c.processes.ensures.value))
@@ -35,15 +35,16 @@ new-requires c =
     let views = c.in_ok-part.ensures.views ∙ (ap (map (net_at s.made.state.nets)) c.reads.ensures.value
     ∙ ap (λ (q : Process). map (net_at s.made.state.nets) q.reads) is) in
     let own : Owned = record { drivers = c.in_ok-part.part.drivers.items; variables = c.in_ok-part.part.variables.items } in
+    let due = subst (λ (g : Simulation). is_due g c.args.number ≡ true) (sym c.self.view_is) c.requires.due.resumed in
     subst (λ (q : Process). IsJob s.made.time q c.in_ok-part.part.views.items own) (sym (c.in_ok-process.ensures ∙ is))
-    (job-fits c.self.invariant.state c.args.number lt out c.in_ok-part.part.views.items own views c.in_ok-part.ensures.owned)
+    (job-fits c.self.invariant.state c.args.number lt due out c.in_ok-part.part.views.items own views c.in_ok-part.ensures.owned)
 
 pub returns : goal.returns
 returns c =
     let s = c.self.inside in
     let h = the_view s in
     let lt : c.args.number < length s.design.processes = subst (λ (g : Simulation). c.args.number < length g.design.processes)
-    (sym c.self.view_is) c.requires.at in
+    (sym c.self.view_is) c.requires.due.number in
     let out = subst (λ (g : Simulation). those_in g.deposited c.args.number ≡ false) (sym c.self.view_is) c.requires.fresh in
     let is : c.index-processes-number.result ≡ process_at s.design.processes c.args.number =
     c.index-processes-number.is ∙ (get_or_default c.processes.result.now c.args.number _ no_process (omega (arith, lt, ap length c.processes.ensures.value))
