@@ -1,4 +1,5 @@
 pub mod Counting
+pub mod Members
 pub mod Phases
 pub mod Going
 pub mod Listing

@@ -3,7 +3,7 @@
 ghost use Rattle.std.specs.Prelude.{ℕ, ◌≡◌, ◌<◌, ◌&&◌, ◌||◌, not, false, List, Some, length, slice_index_or, IfOk, IsTrue, ◌↔◌};
 ghost use Rattle.sim_flat_design.specs.Processes.{Process as process_value};
 ghost use Rattle.sim_standard.specs.Processes.{process_at};
-ghost use Rattle.sim_store.specs.Simulation.{those_in};
+ghost use Rattle.sim_store_sets.specs.Numbers.{is_in};
 
 use sim_flat_design::Process;
 use sim_store_sets::NumberSet;
@@ -29,12 +29,11 @@ impl Model for Waiting {
     ghost invariant = { λ w. length w.postponed ≡ length w.waiting };
 }
 
-/// Makes each of these processes that is postponed a member of an empty set.
+/// Makes each of these processes that is postponed a member of a set, and the others none.
 fn mark_postponed(set: &mut NumberSet, processes: &[Process])
-    requires sized { length set.old ≡ length processes.now }
-    requires none { (p : ℕ) → those_in set.old p ≡ false }
+    requires { length set.old ≡ length processes.now }
     ensures sized { length set.new ≡ length processes.now }
-    ensures marked { (p : ℕ) → p < length processes.now → those_in set.new p ≡ (process_at processes.now p).postponed }
+    ensures marked { (p : ℕ) → p < length processes.now → is_in set.new p ≡ (process_at processes.now p).postponed }
 {
     for number in 0..processes.len() {
         set.put(number, processes[number].postponed());
@@ -47,15 +46,15 @@ fn set_aside(set: &mut NumberSet, postponed: &NumberSet, waiting: &mut NumberSet
     requires waiting { length waiting.old ≡ length set.old }
     ensures sized { length set.new ≡ length set.old }
     ensures waiting_sized { length waiting.new ≡ length waiting.old }
-    ensures left { (p : ℕ) → those_in set.new p ≡ (those_in set.old p && not (those_in postponed.now p)) }
-    ensures moved { (p : ℕ) → those_in waiting.new p ≡ (those_in waiting.old p || (those_in set.old p && those_in postponed.now p)) }
+    ensures left { (p : ℕ) → is_in set.new p ≡ (is_in set.old p && not (is_in postponed.now p)) }
+    ensures moved { (p : ℕ) → is_in waiting.new p ≡ (is_in waiting.old p || (is_in set.old p && is_in postponed.now p)) }
 {
+    let _count = set.len();
     let mut from = 0;
     while let Some(number) = set.next(from) {
-        if postponed.contains(number) {
-            set.remove(number);
-            waiting.insert(number);
-        }
+        let is_postponed = postponed.contains(number);
+        waiting.put(number, waiting.contains(number) | is_postponed);
+        set.put(number, !is_postponed);
         from = number + 1;
     }
 }
@@ -64,7 +63,7 @@ fn set_aside(set: &mut NumberSet, postponed: &NumberSet, waiting: &mut NumberSet
 fn copy(set: &mut NumberSet, others: &NumberSet)
     requires { length others.now ≡ length set.old }
     ensures sized { length set.new ≡ length set.old }
-    ensures same { (p : ℕ) → those_in set.new p ≡ those_in others.now p }
+    ensures same { (p : ℕ) → is_in set.new p ≡ is_in others.now p }
 {
     set.clear();
     insert_members(set, others);
@@ -73,10 +72,11 @@ fn copy(set: &mut NumberSet, others: &NumberSet)
 /// Inserts the members of a set.
 fn insert_members(set: &mut NumberSet, others: &NumberSet)
     requires sized { length others.now ≡ length set.old }
-    requires none { (p : ℕ) → those_in set.old p ≡ false }
+    requires none { (p : ℕ) → is_in set.old p ≡ false }
     ensures sized { length set.new ≡ length set.old }
-    ensures same { (p : ℕ) → those_in set.new p ≡ those_in others.now p }
+    ensures same { (p : ℕ) → is_in set.new p ≡ is_in others.now p }
 {
+    let _count = others.len();
     let mut from = 0;
     while let Some(number) = others.next(from) {
         set.insert(number);
@@ -88,9 +88,9 @@ impl Waiting {
     /// Of these processes, none of which waits.
     pub fn of(alloc: Global, processes: &[Process]) -> Result<Waiting, AllocError>
         ensures postponed_sized { IfOk result (λ w. length w.postponed ≡ length processes.now) }
-        ensures postponed { IfOk result (λ w. (p : ℕ) → p < length processes.now → those_in w.postponed p ≡ (process_at processes.now p).postponed) }
+        ensures postponed { IfOk result (λ w. (p : ℕ) → p < length processes.now → is_in w.postponed p ≡ (process_at processes.now p).postponed) }
         ensures waiting_sized { IfOk result (λ w. length w.waiting ≡ length processes.now) }
-        ensures none { IfOk result (λ w. (p : ℕ) → those_in w.waiting p ≡ false) }
+        ensures none { IfOk result (λ w. (p : ℕ) → is_in w.waiting p ≡ false) }
     {
         let mut postponed = NumberSet::new(alloc, processes.len())?;
         let waiting = NumberSet::new(alloc, processes.len())?;
@@ -104,16 +104,19 @@ impl Waiting {
         ensures postponed { self.new.postponed ≡ self.old.postponed }
         ensures sized { length set.new ≡ length set.old }
         ensures waiting_sized { length self.new.waiting ≡ length self.old.waiting }
-        ensures left { (p : ℕ) → those_in set.new p ≡ (those_in set.old p && not (those_in self.old.postponed p)) }
-        ensures moved { (p : ℕ) → those_in self.new.waiting p
-            ≡ (those_in self.old.waiting p || (those_in set.old p && those_in self.old.postponed p)) }
+        ensures left { (p : ℕ) → is_in set.new p ≡ (is_in set.old p && not (is_in self.old.postponed p)) }
+        ensures moved { (p : ℕ) → is_in self.new.waiting p
+            ≡ (is_in self.old.waiting p || (is_in set.old p && is_in self.old.postponed p)) }
     {
+        if self.postponed.is_empty() {
+            return;
+        }
         set_aside(set, &self.postponed, &mut self.waiting);
     }
 
     /// Whether none waits.
     pub fn is_empty(&self) -> bool
-        ensures { IsTrue result ↔ ((p : ℕ) → those_in self.now.waiting p ≡ false) }
+        ensures { IsTrue result ↔ ((p : ℕ) → is_in self.now.waiting p ≡ false) }
     {
         self.waiting.is_empty()
     }
@@ -122,7 +125,7 @@ impl Waiting {
     pub fn copy_to(&self, set: &mut NumberSet)
         requires { length self.now.waiting ≡ length set.old }
         ensures sized { length set.new ≡ length set.old }
-        ensures same { (p : ℕ) → those_in set.new p ≡ those_in self.now.waiting p }
+        ensures same { (p : ℕ) → is_in set.new p ≡ is_in self.now.waiting p }
     {
         copy(set, &self.waiting);
     }
@@ -131,7 +134,7 @@ impl Waiting {
     pub fn clear(&mut self)
         ensures postponed { self.new.postponed ≡ self.old.postponed }
         ensures sized { length self.new.waiting ≡ length self.old.waiting }
-        ensures none { (p : ℕ) → those_in self.new.waiting p ≡ false }
+        ensures none { (p : ℕ) → is_in self.new.waiting p ≡ false }
     {
         self.waiting.clear();
     }

@@ -4,6 +4,6 @@ use Rattle.sim_store.proofs.due.Due.find.Goals as goal
 
 pub invariant_of-self : goal.invariant_of-self
 invariant_of-self c = (
-  c.list.ensures.numbers ∙ members-listed c.find_resumed.new.resumed,
-  omega (arith, c.self.invariant.1, c.list.ensures.capacity, c.find_resumed.ensures.sized),
+  c.list.ensures.numbers ∙ members-listed c.set_aside.new.set,
+  omega (arith, c.self.invariant.1, c.list.ensures.capacity, c.set_aside.ensures.sized, c.find_resumed.ensures.sized),
 )
