@@ -1,5 +1,5 @@
 -- A simulation goes on: each step leaves what it holds that of the simulation after it.
-use Rattle.std.proofs.Common.{ℕ, zero, suc, ◌+◌, ◌<◌, ◌≤◌, ◌≡◌, ◌≢◌, ◌&&◌, ◌||◌, not, eqb, Bool, true, false, if◌then◌else◌, List, [], ◌∷◌, ◌++◌}
+use Rattle.std.proofs.Common.{ℕ, zero, suc, ◌+◌, ◌<◌, ◌≤◌, ◌≡◌, ◌≢◌, ◌==◌, ◌&&◌, ◌||◌, ◌↔◌, IsTrue, not, eqb, Bool, true, false, if◌then◌else◌, List, [], ◌∷◌, ◌++◌}
 use Rattle.std.proofs.Common.{length, get_or, set, map, take, drop, replicate, refl, ap, sym, ◌∙◌, subst, arith, Option, None, Some, MatchOption}
 use Rattle.std.specs.List.{All}
 use Rattle.std.proofs.lemmas.Bool.Decides.{nat_tests}
@@ -33,10 +33,16 @@ use Rattle.sim_standard.specs.Cycle.{standard, state_of, or_first, onward, cycle
 use Rattle.sim_standard.specs.Histories.{recorded, records_to}
 use Rattle.sim_store.specs.Simulation.{Simulation, ArePostponedNext, AreParted, IsStateOf, IsComplete, IsExecuted, IsResult, IsDue, IsMissing, IsOwn}
 use Rattle.sim_store.specs.Simulation.{cleared, after, in_postponed_phase, is_before, is_due, is_left, is_of_phase, kept_or, next_after, pending_from}
+use Rattle.sim_store.specs.Simulation.{IsUpcoming, upcoming_of}
 use Rattle.sim_store.specs.Simulation.{reached, those_in, updated_last, with_one}
 use Rattle.sim_store.specs.declared.phase.Phase.{Phase}
 use Rattle.sim_store.specs.declared.phase.Phase.TheVariants as phase
-use Rattle.sim_store.proofs.Phases.{before-all, last-owned, last-waiting, not-before, phase_end}
+use Rattle.sim_store.proofs.Listing.{those-same}
+use Rattle.sim_store.proofs.Phases.{before-all, last-owned, last-waiting, none-waits, not-before, phase_end, upcoming-is}
+use Rattle.sim_standard.specs.Cycle.{is_time_of, waiting_now}
+use Rattle.sim_standard.proofs.WithoutPostponed.{those-none}
+use Rattle.std.proofs.Math.Decide.{dec_lt}
+use Rattle.std.proofs.lemmas.List.{get_or_past}
 use Rattle.sim_standard.proofs.Together.{also, length-merged, merged-same, merged-none, merged-out, merged-also}
 use Rattle.sim_standard.proofs.Parallel.{FitsCycles, length-nets_updated, merged-below, in_turn_is_together, standard_all, standard_fits}
 use Rattle.sim_standard.proofs.Parallel.{executed_delta, executed_nets, executed_time}
@@ -226,6 +232,10 @@ module _ {h : Simulation} {time delta : ℕ} {held : FlatState} {records : List 
         ready = λ p lt. rw (none-in h.deposited p) (ready p lt (those_in h.deposited p) (first-marks p lt) refl (i.ready p lt));
       })
     where
+      or-none : (b c : Bool) → b ≡ c → (if b || false then time else suc time) ≡ (if c then time else suc time)
+      or-none true c e = rw (sym e) refl
+      or-none false c e = rw (sym e) refl
+
       ready : (p : ℕ) → p < length h.design.processes → (b : Bool) → b ≡ is_at_once h.design h.cycles (updated_last h) p → b ≡ those_in h.deposited p
           → IsReady (process_at h.design.processes p).body (pending_from h time p) (owned_at held.owned p)
           → IsReady (process_at h.design.processes p).body
@@ -235,10 +245,6 @@ module _ {h : Simulation} {time delta : ℕ} {held : FlatState} {records : List 
           ap (λ (f : Phase). is_before f h.design h.cycles (updated_last h) p) first in
           subst (λ (n : ℕ). IsReady (process_at h.design.processes p).body n (owned_at held.owned p))
           (rw none (or-none (those_in h.deposited p) (is_at_once h.design h.cycles (updated_last h) p) (sym q ∙ e))) r
-
-      or-none : (b c : Bool) → b ≡ c → (if b || false then time else suc time) ≡ (if c then time else suc time)
-      or-none true c e = rw (sym e) refl
-      or-none false c e = rw (sym e) refl
 
 module _ {h : Simulation} {time delta : ℕ} {held : FlatState} {records : List Record} {due waiting : List Bool}
     (i : IsStateOf h time delta held records due waiting) (done : IsExecuted h) where
@@ -360,14 +366,14 @@ module _ {h : Simulation} {time delta : ℕ} {held : FlatState} {records : List 
           ap (λ w. has_event_in w (process_at h.design.processes m).sensitivity) n
           ∙ sym (later-resumed h.design h.cycles m (state_of h.design (suc h.cycles)))
 
+      left_of : (b c : Bool) → (b && c) ≡ true → b ≡ true
+      left_of true c e = refl
+      left_of false c e = absurd (cc e)
+
       -- who still waits is postponed
       left_postponed : (f : Phase) (m : ℕ) → is_left f (is_waiting h.design h.cycles (updated_last h) m) ≡ true → is_postponed h.design m ≡ true
       left_postponed phase.AtOnce m e = left_of (is_postponed h.design m) _ e
       left_postponed phase.Postponed m e = absurd (cc e)
-
-      left_of : (b c : Bool) → (b && c) ≡ true → b ≡ true
-      left_of true c e = refl
-      left_of false c e = absurd (cc e)
 
       parts : (postponed resumed left : Bool) → (left ≡ true → postponed ≡ true) → (left || (resumed && postponed)) ≡ (postponed && (resumed || left))
       parts true true true f = refl
@@ -631,3 +637,38 @@ complete-where-none h none p lt resumed = go (those_in h.deposited p) refl
     go : (b : Bool) → those_in h.deposited p ≡ b → those_in h.deposited p ≡ true
     go true e = e
     go false e = absurd (none p lt (record { due = record { number = lt; resumed = resumed }; fresh = e }))
+
+-- ---- who waits
+
+module _ {h : Simulation} {time delta : ℕ} {held : FlatState} {records : List Record} {due waiting : List Bool}
+    (i : IsStateOf h time delta held records due waiting) where
+  -- where none is marked, none waits
+  pub none-waiting : ((p : ℕ) → those_in waiting p ≡ false) → waiting_now h.design h.cycles (updated_last h) ≡ []
+  none-waiting none =
+      those-same (is_waiting h.design h.cycles (updated_last h)) (λ p. false) 0 (length h.design.processes)
+      (λ p ge lt. sym (i.waiting_are p (omega (arith, lt))) ∙ none p)
+      ∙ those-none (λ p. false) 0 (length h.design.processes) (λ p. refl)
+
+  -- where none waits, none is marked
+  pub waiting-none : waiting_now h.design h.cycles (updated_last h) ≡ [] → (p : ℕ) → those_in waiting p ≡ false
+  waiting-none e p = elim (dec_lt p (length h.design.processes)) [
+    | yes l ↦ i.waiting_are p l ∙ none-waits h.design i.processes h.cycles (updated_last h) (updated-all i) e p l
+    | no l ↦ get_or_past waiting p false (omega (arith, l, i.waiting_sized))
+  ]
+
+  -- what comes after a phase, by what is asked of the lists
+  pub coming : IsComplete h → (next : Option ℕ) (is_delta is_empty : Bool) → next ≡ next_time (waves held.owned)
+      → is_delta ≡ (not (h.cycles == 0) && is_time_of (updated_last h) next) → IsTrue is_empty ↔ ((p : ℕ) → those_in waiting p ≡ false)
+      → IsUpcoming h (upcoming_of h.phase is_delta (not is_empty) next)
+  coming all next is_delta is_empty en ed ee =
+      rw ed (upcoming-is h i.processes (updated-all i) next (not is_empty) some none i.phased (sym (next-is i all) ∙ sym en))
+    where
+      some : not is_empty ≡ true → waiting_now h.design h.cycles (updated_last h) ≢ []
+      some w e = let t : is_empty ≡ true = ee.1 (waiting-none e) in absurd (cc (sym w ∙ ap not t))
+
+      none : not is_empty ≡ false → waiting_now h.design h.cycles (updated_last h) ≡ []
+      none w = none-waiting (ee.0 (go is_empty w))
+        where
+          go : (b : Bool) → not b ≡ false → b ≡ true
+          go true q = refl
+          go false q = absurd (cc q)

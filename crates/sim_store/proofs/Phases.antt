@@ -11,7 +11,7 @@ use Rattle.sim_standard.specs.Together.{merged, together, first_together, execut
 use Rattle.sim_standard.specs.Cycle.{is_at_once, is_postponed, is_resumed, is_waiting, is_time_of, first_in_turn, executed_in_turn, precedes_delta, those}
 use Rattle.sim_standard.specs.Cycle.{waiting_now, with_waiting, next_cycle_time, has_postponed_delta, following, following_of, PostponedDelta}
 use Rattle.sim_standard.proofs.Together.{length-merged, merged-none}
-use Rattle.sim_standard.proofs.Parallel.{executed_time, first_is_together, in_turn_is_together, merged-below, those-in, those-none}
+use Rattle.sim_standard.proofs.Parallel.{executed_time, first_is_together, in_turn_is_together, merged-below, those-in}
 use Rattle.sim_store.specs.declared.phase.Phase.{Phase}
 use Rattle.sim_store.specs.declared.phase.Phase.TheVariants as phase
 use Rattle.sim_store.specs.declared.phase.Upcoming.{Upcoming}
@@ -22,9 +22,6 @@ use Rattle.sim_store.specs.Simulation.{next_after, upcoming_of, updated_last}
 -- the state once a phase has been executed
 abbrev pub phase_end : Phase → Design → ℕ → State → State
 phase_end f d k s = together d.processes (is_of_phase f d k s) (record s { owned = owned_before f d k s })
-
-both_false : (b c : Bool) → (b ≡ true → c ≡ false) → b ≡ true → (b && not c) ≡ true
-both_false b c f e = rw (e, f e) refl
 
 -- whoever is due has not been executed in this cycle
 pub not-before : (f : Phase) (d : Design) (k : ℕ) (s : State) (p : ℕ) → is_of_phase f d k s p ≡ true → is_before f d k s p ≡ false
@@ -47,7 +44,7 @@ module _ (d : Design) (is : All IsProcess d.processes) (k : ℕ) (s : State) (le
   waits : (p : ℕ) → p < length d.processes → is_among (waiting_now d k s) p ≡ is_waiting d k s p
   waits p lt = those-in (is_waiting d k s) 0 (length d.processes) p (omega arith) (omega (arith, lt))
 
-  none-waits : waiting_now d k s ≡ [] → (p : ℕ) → p < length d.processes → is_waiting d k s p ≡ false
+  pub none-waits : waiting_now d k s ≡ [] → (p : ℕ) → p < length d.processes → is_waiting d k s p ≡ false
   none-waits e p lt = sym (waits p lt) ∙ ap (λ (ps : List ℕ). is_among ps p) e
 
   settled-together : precedes_delta k (first_in_turn d k s) ≡ precedes_delta k (first_together d k s)
@@ -63,7 +60,7 @@ module _ (d : Design) (is : All IsProcess d.processes) (k : ℕ) (s : State) (le
       ∙ merged-none (λ p. false) r 0 x.owned (λ p. refl)
 
   -- what the cycle leaves, by whether a delta cycle follows
-  left_by : Bool → State
+  abbrev left_by : Bool → State
   left_by b =
       let x = first_together d k s in
       if b then with_waiting (waiting_now d k s) x else with_waiting [] (together d.processes (is_waiting d k s) x)
@@ -128,6 +125,9 @@ and-false : (b c : Bool) → c ≡ false → (b && c) ≡ false
 and-false true c e = e
 and-false false c e = refl
 
+settled-and : (b c : Bool) → b ≡ false → c ≡ true → (not b && c) ≡ true
+settled-and b c e q = rw (e, q) refl
+
 -- a cycle follows, or none
 cycle-is : (h : Simulation) → IsLastPhase h.phase h.design h.cycles (updated_last h) → (next : Option ℕ) → next_after h ≡ following_of next
     → IsUpcoming h (cycle_of next)
@@ -169,7 +169,9 @@ module _ (h : Simulation) (is : All IsProcess h.design.processes) (len : length 
       let k = h.cycles in
       let s = updated_last h in
       let delta : precedes_delta k (executed_in_turn d k s) ≡ true = delta-after d is k s len phase.Postponed a tt next n ∙ q in
-      (subst (λ (f : Phase). IsLastPhase f d k s) (sym e) tt, rw (a.settled, delta) refl)
+      let is : has_postponed_delta d k s ≡ true =
+      settled-and (precedes_delta k (first_in_turn d k s)) (precedes_delta k (executed_in_turn d k s)) a.settled delta in
+      (subst (λ (f : Phase). IsLastPhase f d k s) (sym e) tt, rw is refl)
   after-postponed e a n false q =
       let d = h.design in
       let k = h.cycles in
