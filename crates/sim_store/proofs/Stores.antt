@@ -5,7 +5,9 @@ use Rattle.sim_logic.specs.Time.{largest_time}
 use Rattle.sim_standard.specs.Outcome.{GoesOn}
 use Rattle.sim_standard.specs.Cycle.{CycleAt, Following, standard, state_of, next_in}
 use Rattle.sim_store.specs.declared.store.Step.{Step}
-use Rattle.sim_store.specs.Simulation.{Simulation, IsExecuted, after, in_postponed_phase, next_after, reached, with_marks}
+use Rattle.sim_store.specs.declared.store.Step.TheVariants as step
+use Rattle.std.specs.Prelude.{is_some}
+use Rattle.sim_store.specs.Simulation.{Simulation, IsComplete, IsExecuted, after, in_postponed_phase, next_after, reached, with_marks}
 use Rattle.sim_store.specs.WaveStore.{WaveStore, IsStore, HasEnd}
 
 -- a run that begins
@@ -68,3 +70,25 @@ store-executed w marks is running = record {
   end = subst (λ (o : Option Step). MatchOption o (Unit {0}) (λ s. IsExecuted (with_marks w.simulation marks)
       × HasEnd (record { simulation = with_marks w.simulation marks; stop = w.stop; limit = w.limit; ended = w.ended }) s)) (sym running) tt;
 }
+
+-- a run that has ended has executed all of its last cycle
+pub ended-complete : (w : WaveStore) → IsStore w → is_some w.ended ≡ true → IsComplete w.simulation
+ended-complete w is e = go w.ended e is.end
+  where
+    go : (o : Option Step) → is_some o ≡ true → MatchOption o (Unit {0}) (λ s. IsExecuted w.simulation × HasEnd w s) → IsComplete w.simulation
+    go None e h = absurd (cc e)
+    go (Some s) e h = h.0.complete
+
+-- a run that has had as many cycles as the limit, and needs one more
+pub limit-reached : (w : WaveStore) (time : ℕ) → IsStore w → w.simulation.cycles ≡ w.limit → next_after w.simulation ≡ CycleAt time → time ≤ w.stop
+    → HasEnd w step.LimitReached
+limit-reached w time is at next before m le = go (eqb m w.simulation.cycles) refl
+  where
+    go : (b : Bool) → eqb m w.simulation.cycles ≡ b → GoesOn (next_in w.simulation.design m) w.stop
+    go true q =
+        let same : m ≡ w.simulation.cycles = grind (arith, nat_tests) in
+        let now : GoesOn (next_after w.simulation) w.stop = subst (λ (f : Following). GoesOn f w.stop) (sym next) before in
+        subst (λ (n : ℕ). GoesOn (next_in w.simulation.design n) w.stop) (sym same) now
+    go false q =
+        let other : m ≢ w.simulation.cycles = grind (arith, nat_tests) in
+        is.going m (omega (arith, le, at, other))

@@ -1,7 +1,7 @@
 //! A simulation of a design, as far as it has come (IEEE 1076-2008, 14.7.5).
 
 ghost use Rattle.std.specs.Prelude.{ℕ, suc, ◌≡◌, ◌<◌, ◌≤◌, ◌^◌, ◌+◌, Some, None, Option, true, false, [], ◌∷◌, length, replicate, drop};
-ghost use Rattle.std.specs.Prelude.{slice_set, MatchOption, MatchResult, IfSome, IfOk, IfErr, OnOk, OnErr, ◌↔◌, IsTrue};
+ghost use Rattle.std.specs.Prelude.{not, ◌==◌, ◌&&◌, slice_set, MatchOption, MatchResult, IfSome, IfOk, IfErr, OnOk, OnErr, ◌↔◌, IsTrue};
 ghost use Rattle.std.specs.List.{All};
 ghost use Rattle.sim_flat_design.specs.Designs.{most};
 ghost use Rattle.sim_flat_design.specs.Processes.{IsProcess};

@@ -1,8 +1,8 @@
 use Rattle.std.proofs.Common.{rules, tests, ◌≡◌, None, sym, subst}
-use Rattle.sim_store.specs.Simulation.{Simulation}
-use Rattle.sim_store.specs.WaveStore.{IsStore}
+use Rattle.sim_store.specs.Simulation.{Simulation, IsComplete}
+use Rattle.sim_store.specs.WaveStore.{WaveStore, IsStore}
 use Rattle.sim_store.specs.contracts.store.WaveStore.{the_view}
-use Rattle.sim_store.proofs.Stores.{store-executed}
+use Rattle.sim_store.proofs.Stores.{ended-complete, store-executed}
 use Rattle.sim_store.proofs.store.WaveStore.execute_due.Goals as goal
 
 pub invariant_of-result : goal.invariant_of-result
@@ -11,3 +11,7 @@ invariant_of-result c =
     let running : s.ended ≡ None = search (rules, tests) in
     subst (λ (g : Simulation). IsStore (record { simulation = g; stop = s.stop; limit = s.limit; ended = s.ended })) (sym c.in_ok-simulation.ensures.same)
     (store-executed (the_view s) c.in_ok-simulation.simulation.deposited c.self.invariant running)
+
+pub returns-then-is_some-clause-complete : goal.returns-then-is_some-clause-complete
+returns-then-is_some-clause-complete c =
+    subst (λ (w : WaveStore). IsComplete w.simulation) c.self.view_is (ended-complete (the_view c.self.inside) c.self.invariant (search (rules, tests)))

@@ -1,0 +1,29 @@
+use Rattle.std.proofs.Common.{◌≡◌, ◌≤◌, None, ap, sym, ◌∙◌, subst}
+use Rattle.sim_standard.specs.Cycle.{CycleAt}
+use Rattle.sim_store.specs.Simulation.{Simulation, after, next_after}
+use Rattle.sim_store.specs.WaveStore.{WaveStore, IsStore}
+use Rattle.sim_store.specs.contracts.store.WaveStore.{the_view}
+use Rattle.sim_store.proofs.Stores.{limit-reached, store-goes-on}
+use Rattle.sim_store.proofs.store.WaveStore.go_to.Goals as goal
+
+pub returns-then-cycles-self-clause-ok : goal.returns-then-cycles-self-clause-ok
+returns-then-cycles-self-clause-ok c =
+    let is : IsStore c.args.self.now = subst IsStore c.self.view_is c.self.invariant in
+    let at = sym c.cycles.ensures ∙ c.if-cycles-self.true in
+    let reached = ap (λ (w : WaveStore). w.simulation.cycles) (sym c.self.view_is) ∙ (at ∙ ap (λ (w : WaveStore). w.limit) c.self.view_is) in
+    rw c.end.ensures.step (
+      c.requires.executed,
+      reached,
+      limit-reached c.args.self.now c.args.time is reached c.requires.next c.requires.until,
+      c.end.ensures.ended,
+    )
+
+pub invariant_of-self-2 : goal.invariant_of-self-2
+invariant_of-self-2 c =
+    let s = c.self.inside in
+    let w = the_view s in
+    let running = subst (λ (v : WaveStore). v.ended ≡ None) (sym c.self.view_is) c.requires.open in
+    let next = subst (λ (v : WaveStore). next_after v.simulation ≡ CycleAt c.args.time) (sym c.self.view_is) c.requires.next in
+    let before = subst (λ (v : WaveStore). c.args.time ≤ v.stop) (sym c.self.view_is) c.requires.until in
+    store-goes-on w c.go_on.new.self c.args.time c.self.invariant running c.in_ok-go_on.ensures.ok next before
+    (λ e. c.if-cycles-self.false (c.cycles.ensures ∙ e)) c.in_ok-go_on.ensures.at
