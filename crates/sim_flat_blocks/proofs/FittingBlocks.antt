@@ -1,5 +1,5 @@
 -- A process whose parts keep to what there is may stand in a block.
-use Rattle.std.proofs.Common.{◌≡◌, ℕ, true, List, length, Option, Some, None, refl, sym, subst}
+use Rattle.std.proofs.Common.{◌≡◌, ℕ, true, List, length, Option, Some, None, refl, sym, subst, Bool}
 use Rattle.std.specs.List.{All}
 use Rattle.sim_flat_design.specs.declared.held.Held.{Held}
 use Rattle.sim_flat_design.specs.declared.statement.Statement.{Statement}
