@@ -1,5 +1,5 @@
 -- The readers that the code reads in parts: a call and its argument, and an assignment.
-use Rattle.std.proofs.Common.{◌≡◌, refl, Option}
+use Rattle.std.proofs.Common.{◌≡◌, refl, Option, Bool}
 use Rattle.sim_text_tokens.specs.declared.kind.Kind.TheVariants as k
 use Rattle.sim_text_tree.specs.Name.{Name}
 use Rattle.sim_text_tree.specs.Input.{Input, next}
