@@ -1,5 +1,5 @@
 -- A process whose parts keep to what there is may stand in a block.
-use Rattle.std.proofs.Common.{◌≡◌, ℕ, true, List, length, Option, Some, None, refl, sym, subst}
+use Rattle.std.proofs.Common.{◌≡◌, ℕ, true, List, length, Option, Some, None, refl, sym, subst, Bool}
 use Rattle.std.specs.List.{All}
 use Rattle.sim_flat_design.specs.declared.held.Held.{Held}
 use Rattle.sim_flat_design.specs.declared.statement.Statement.{Statement}
@@ -19,10 +19,10 @@ sensitive_there : (objects : ℕ) (listed : Option (List ℕ)) (reads : List ℕ
 sensitive_there objects None reads h g = g
 sensitive_there objects (Some places) reads h g = h
 
-pub block_process_fits : (objects : ℕ) (listed : Option (List ℕ)) (targets : List ℕ) (vs : List Held) (xs : List Statement)
+pub block_process_fits : (objects : ℕ) (postponed : Bool) (listed : Option (List ℕ)) (targets : List ℕ) (vs : List Held) (xs : List Statement)
     → All (λ x. statement_fits objects (length targets) vs x ≡ true) xs → AreThere objects targets → AreListed objects listed
-    → FitsBlocks objects (block_process objects listed targets vs xs)
-block_process_fits objects listed targets vs xs h g k b e = record {
+    → FitsBlocks objects (block_process objects postponed listed targets vs xs)
+block_process_fits objects postponed listed targets vs xs h g k b e = record {
   objects = sym e;
   drivers = refl;
   reads = refl;

@@ -1,5 +1,5 @@
 -- The processes of an architecture, each translated once for all instances (IEEE 1076-2008, 11.3, 11.6, 14.7.2): names by place.
-use Rattle.std.specs.Prelude.{ℕ, ◌≡◌, ◌<◌, List, [], ◌∷◌, ◌++◌, Option, Some, None, length, map}
+use Rattle.std.specs.Prelude.{ℕ, ◌≡◌, ◌<◌, Bool, List, [], ◌∷◌, ◌++◌, Option, Some, None, length, map}
 use Rattle.std.specs.List.{All}
 use Rattle.sim_flat_design.specs.declared.held.Held.{Held}
 use Rattle.sim_flat_design.specs.declared.statement.Statement.{Statement}
@@ -33,12 +33,13 @@ abbrev pub sensitivity_of : Option (List ℕ) → List ℕ → List ℕ
 sensitivity_of None reads = reads
 sensitivity_of (Some ns) reads = ns
 
--- a process, from the ports and signals that are listed and those that it assigns, its variables and its statements
-abbrev pub block_process : ℕ → Option (List ℕ) → List ℕ → List Held → List Statement → BlockProcess
-block_process objects listed targets variables statements = record {
+-- a process, from whether it is postponed, the ports and signals that are listed and those that it assigns, its variables and its statements
+abbrev pub block_process : ℕ → Bool → Option (List ℕ) → List ℕ → List Held → List Statement → BlockProcess
+block_process objects postponed listed targets variables statements = record {
   sensitivity = sensitivity_of listed (rising (objects_of statements));
   reads = rising (objects_of statements);
   targets = targets;
+  postponed = postponed;
   body = record { objects = objects; drivers = length targets; variables = variables; statements = statements };
 }
 
@@ -47,14 +48,14 @@ unfoldable pub translated_process : Region → ℕ → Process → BlockProcess
 translated_process architecture objects p =
     let look = means (process_region architecture p) architecture in
     let targets = targets_of look p.statements in
-    block_process objects (listed look p.sensitivity) targets (first_values architecture p) (map (sequential_of look targets) p.statements)
+    block_process objects p.postponed (listed look p.sensitivity) targets (first_values architecture p) (map (sequential_of look targets) p.statements)
 
 -- a concurrent signal assignment, which is sensitive to all that it reads (11.6)
 unfoldable pub translated_assignment : Region → ℕ → ConcurrentSignalAssignment → BlockProcess
 translated_assignment architecture objects a =
     let look = means [] architecture in
     let targets = gathered [] (target_of (look a.target.text)) in
-    block_process objects None targets [] (concurrent_of look targets a ∷ [])
+    block_process objects a.postponed None targets [] (concurrent_of look targets a ∷ [])
 
 -- A process that may stand in each block with this number of ports and signals.
 abbrev pub FitsBlocks : ℕ → BlockProcess → Type 0

@@ -63,6 +63,7 @@ process_of object_nets first t = record {
   reads = rising (nets_of object_nets (objects_of t.body.statements));
   nets = object_nets;
   first_driver = first;
+  postponed = t.postponed;
   body = t.body;
 }
 

@@ -122,6 +122,7 @@ fn sensitivity_and_reads(
 fn block_process(
     alloc: Global,
     objects: usize,
+    postponed: bool,
     listed: Option<Items<usize>>,
     targets: &Targets,
     variables: Items<Held>,
@@ -130,7 +131,7 @@ fn block_process(
     requires fits { All (λ x. statement_fits objects (length targets.now) variables x ≡ true) statements }
     requires targets { AreThere objects targets.now }
     requires listed { AreListed objects listed }
-    ensures value { IfOk result (λ t. t ≡ spec.block_process objects listed targets.now variables statements) }
+    ensures value { IfOk result (λ t. t ≡ spec.block_process objects postponed listed targets.now variables statements) }
     ensures blocks { IfOk result (λ t. FitsBlocks objects t) }
 {
     let sensitivity_and_reads = sensitivity_and_reads(alloc, listed, statements.as_slice())?;
@@ -141,6 +142,7 @@ fn block_process(
         sensitivity: sensitivity_and_reads.sensitivity,
         reads: sensitivity_and_reads.reads,
         targets,
+        postponed,
         body,
     })
 }
@@ -237,7 +239,15 @@ pub fn translated_process(
         targets,
         statements,
     } = made?;
-    block_process(alloc, objects, listed, &targets, variables, statements)
+    block_process(
+        alloc,
+        objects,
+        process.postponed,
+        listed,
+        &targets,
+        variables,
+        statements,
+    )
 }
 
 /// A concurrent signal assignment of an architecture that has this number of ports and signals. It
@@ -275,6 +285,7 @@ pub fn translated_assignment(
     block_process(
         alloc,
         objects,
+        assignment.postponed,
         listed,
         &targets,
         Items::new(alloc),

@@ -76,6 +76,8 @@ pub struct BlockProcess {
     pub reads: Items<usize>,
     /// The name of each driver, by its place.
     pub targets: Items<usize>,
+    /// Whether it is a postponed process.
+    pub postponed: bool,
     pub body: Body,
 }
 

@@ -1,16 +1,16 @@
 -- A process that is made of a block process is a process of a flat design.
-use Rattle.std.proofs.Common.{◌≡◌, ℕ, ◌<◌, List, length, get_or, All, ap, sym, ◌∙◌, subst}
+use Rattle.std.proofs.Common.{◌≡◌, ℕ, ◌<◌, Bool, List, length, get_or, All, ap, sym, ◌∙◌, subst}
 use Rattle.sim_flat_design.specs.Bodies.{Body, objects_of}
 use Rattle.sim_flat_design.specs.Processes.{IsProcess, rising, nets_of}
 use Rattle.sim_flat_blocks.specs.declared.parts.Block.{Block}
 use Rattle.sim_flat_blocks.specs.Blocks.{IsBlock}
 use Rattle.sim_flat_blocks.proofs.Rises.{sensitivity_rises, reads_rise}
 
-pub is_process : (s x r us vs object_nets h reads : List ℕ) (b body : Body) (first : ℕ)
+pub is_process : (s x r us vs object_nets h reads : List ℕ) (b body : Body) (first : ℕ) (postponed : Bool)
     → s ≡ rising x → r ≡ rising (nets_of us vs) → us ≡ object_nets → vs ≡ reads → h ≡ object_nets → b ≡ body
     → length object_nets ≡ body.objects → reads ≡ rising (objects_of body.statements)
-    → IsProcess (record { sensitivity = s; reads = r; nets = h; first_driver = first; body = b })
-is_process s x r us vs object_nets h reads b body first e d eu ev eh eb placed names =
+    → IsProcess (record { sensitivity = s; reads = r; nets = h; first_driver = first; postponed = postponed; body = b })
+is_process s x r us vs object_nets h reads b body first postponed e d eu ev eh eb placed names =
     let there : length h ≡ b.objects = ap (λ (xs : List ℕ). length xs) eh ∙ (placed ∙ ap (λ (y : Body). y.objects) (sym eb)) in
     let one : r ≡ rising (nets_of object_nets reads) =
     d ∙ (ap (λ (xs : List ℕ). rising (nets_of xs vs)) eu ∙ ap (λ (xs : List ℕ). rising (nets_of object_nets xs)) ev) in

@@ -95,6 +95,7 @@ fn process(
         reads,
         object_nets.try_copy()?,
         first_driver,
+        block_process.postponed,
         block_process.body.try_copy()?,
     )
 }

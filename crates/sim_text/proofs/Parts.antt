@@ -15,7 +15,7 @@ use Rattle.sim_text_tree.specs.declared.unit.ContextItem.TheVariants as items
 use Rattle.sim_text_grammar.specs.Readers.{Outcome, Parser, and_then, pure, eat, expect, word, left, many_from}
 use Rattle.sim_text_grammar.specs.Declarations.{names, object, initial, ports, port_list, component, component_end, declarations, repeated, variables}
 use Rattle.sim_text_grammar.specs.Statements.{statements, label_again}
-use Rattle.sim_text_grammar.specs.Concurrents.{associations, chosen, concurrents, entity_named, instance, port_map, process, process_body, sensitivity}
+use Rattle.sim_text_grammar.specs.Concurrents.{associations, chosen, concurrents, entity_named, instance, port_map, postponed_again, process, process_body, sensitivity}
 use Rattle.sim_text_grammar.specs.Units.{entity, architecture, architecture_body, item_by, selected_names, unit, units_of, goes_on}
 use Rattle.sim_text_grammar.proofs.Parts.{within, beyond}
 
@@ -64,27 +64,30 @@ component_in_parts i = within (expect k.Component i) _ _ (λ _ i. refl)
 
 -- ---- concurrent statements
 
-pub process_body_in_parts : (label : Option Name) (sensitive : Sensitivity) (is : Bool) (found : List ObjectDeclaration) (i : Input)
-    → process_body label sensitive is found i
-    ≡ and_then (and_then (expect k.Begin i) (λ _. statements)) (λ body i. and_then (and_then (expect k.End i) (λ _. expect k.Process)) (λ _ i.
+pub process_body_in_parts : (label : Option Name) (postponed : Bool) (sensitive : Sensitivity) (is : Bool) (found : List ObjectDeclaration) (i : Input)
+    → process_body label postponed sensitive is found i
+    ≡ and_then (and_then (expect k.Begin i) (λ _. statements)) (λ body i. and_then (and_then (expect k.End i) (λ _ i.
+    and_then (postponed_again postponed i) (λ word_again i. and_then (expect k.Process i) (λ _. pure word_again)))) (λ word_again i.
     and_then (ended (label_again label i)) (λ again. pure (record {
       label = label;
+      postponed = postponed;
       sensitivity = sensitive;
       is = is;
       variables = found;
       statements = body;
+      postponed_repeated = word_again;
       label_repeated = again;
     }))))
 unfolding process_body
-process_body_in_parts label sensitive is found i = within (expect k.Begin i) _ _ (λ _ i. beyond (statements i) (λ body i.
-    within (expect k.End i) _ _ (λ _ i. beyond (expect k.Process i) (λ _ i.
-    within (label_again label i) _ _ (λ again i. within (expect k.Semicolon i) _ _ (λ _ i. refl))))))
+process_body_in_parts label postponed sensitive is found i = within (expect k.Begin i) _ _ (λ _ i. beyond (statements i) (λ body i.
+    within (expect k.End i) _ _ (λ _ i. within (postponed_again postponed i) _ _ (λ word_again i. within (expect k.Process i) _ _ (λ _ i.
+    within (label_again label i) _ _ (λ again i. within (expect k.Semicolon i) _ _ (λ _ i. refl)))))))
 
-pub process_in_parts : (label : Option Name) (i : Input) → process label i
+pub process_in_parts : (label : Option Name) (postponed : Bool) (i : Input) → process label postponed i
     ≡ and_then (and_then (expect k.Process i) (λ _. expect k.LeftParen)) (λ _ i. and_then (closed (sensitivity i)) (λ sensitive i.
-    and_then (eat k.Is i) (λ is i. and_then (variables i) (λ found. process_body label sensitive is found))))
+    and_then (eat k.Is i) (λ is i. and_then (variables i) (λ found. process_body label postponed sensitive is found))))
 unfolding process
-process_in_parts label i = within (expect k.Process i) _ _ (λ _ i. beyond (expect k.LeftParen i) (λ _ i.
+process_in_parts label postponed i = within (expect k.Process i) _ _ (λ _ i. beyond (expect k.LeftParen i) (λ _ i.
     within (sensitivity i) _ _ (λ sensitive i. within (expect k.RightParen i) _ _ (λ _ i. refl))))
 
 port_map_written : (is_written : Bool) (i : Input)

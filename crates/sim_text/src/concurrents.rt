@@ -1,6 +1,6 @@
 //! Concurrent statements (IEEE 1076-2008, 11).
 
-ghost use Rattle.std.specs.Prelude.{◌≡◌};
+ghost use Rattle.std.specs.Prelude.{◌≡◌, Ok};
 ghost use Rattle.sim_text_grammar.specs.Concurrents as spec;
 ghost use Rattle.sim_text_tree.specs.Grammar.{is_named};
 ghost use Rattle.sim_text_tree.specs.Input.{kind};
@@ -45,27 +45,51 @@ fn process_statements(alloc: Global, tokens: &mut Cursor) -> Result<Items<Sequen
     statements(alloc, tokens)
 }
 
-/// `begin {seq} end process [NAME] ;`
+/// `[postponed]` at the end of a process, where it stood before it.
+fn postponed_again(tokens: &mut Cursor, postponed: bool) -> bool
+    ensures { spec.postponed_again postponed (view tokens.old) ≡ Ok (result, view tokens.new) }
+{
+    if !postponed {
+        return false;
+    }
+    tokens.eat(Kind::Postponed)
+}
+
+/// `end [postponed] process`
+fn process_ended(tokens: &mut Cursor, postponed: bool) -> Result<bool, ParseError>
+    ensures { Reads (and_then (expect k.End (view tokens.old)) (λ _ i. and_then (spec.postponed_again postponed i) (λ again i.
+        and_then (expect k.Process i) (λ _. pure again)))) result (view tokens.new) }
+{
+    tokens.expect(Kind::End)?;
+    let again = postponed_again(tokens, postponed);
+    tokens.expect(Kind::Process)?;
+    Ok(again)
+}
+
+/// `begin {seq} end [postponed] process [NAME] ;`
 #[tactic(auto, using(crate::proofs::Parts::process_body_in_parts))]
 fn process_body(
     alloc: Global,
     tokens: &mut Cursor,
     label: Option<Name>,
+    postponed: bool,
     sensitivity: Sensitivity,
     is: bool,
     variables: Items<ObjectDeclaration>,
 ) -> Result<Process, ParseError>
-    ensures { Reads (spec.process_body label sensitivity is variables (view tokens.old)) result (view tokens.new) }
+    ensures { Reads (spec.process_body label postponed sensitivity is variables (view tokens.old)) result (view tokens.new) }
 {
     let statements = process_statements(alloc, tokens)?;
-    tokens.expect_both(Kind::End, Kind::Process)?;
+    let postponed_repeated = process_ended(tokens, postponed)?;
     let label_repeated = label_ended(tokens, &label)?;
     Ok(Process {
         label,
+        postponed,
         sensitivity,
         is,
         variables,
         statements,
+        postponed_repeated,
         label_repeated,
     })
 }
@@ -79,16 +103,21 @@ fn sensitivity_closed(alloc: Global, tokens: &mut Cursor) -> Result<Sensitivity,
     Ok(sensitivity)
 }
 
-/// `process ( sens ) [is] {var} begin {seq} end process [NAME] ;`
+/// `process ( sens ) [is] {var} begin {seq} end [postponed] process [NAME] ;`
 #[tactic(auto, using(crate::proofs::Parts::process_in_parts))]
-fn process(alloc: Global, tokens: &mut Cursor, label: Option<Name>) -> Result<Process, ParseError>
-    ensures { Reads (spec.process label (view tokens.old)) result (view tokens.new) }
+fn process(
+    alloc: Global,
+    tokens: &mut Cursor,
+    label: Option<Name>,
+    postponed: bool,
+) -> Result<Process, ParseError>
+    ensures { Reads (spec.process label postponed (view tokens.old)) result (view tokens.new) }
 {
     tokens.expect_both(Kind::Process, Kind::LeftParen)?;
     let sensitivity = sensitivity_closed(alloc, tokens)?;
     let is = tokens.eat(Kind::Is);
     let variables = variables(alloc, tokens)?;
-    process_body(alloc, tokens, label, sensitivity, is, variables)
+    process_body(alloc, tokens, label, postponed, sensitivity, is, variables)
 }
 
 /// `actual = id | lit | open`
@@ -271,25 +300,47 @@ fn concurrent_assigned(
     alloc: Global,
     tokens: &mut Cursor,
     label: Option<Name>,
+    postponed: bool,
     target: Name,
 ) -> Result<Concurrent, ParseError>
-    ensures { Reads (spec.concurrent_assigned label target (view tokens.old)) result (view tokens.new) }
+    ensures { Reads (spec.concurrent_assigned label postponed target (view tokens.old)) result (view tokens.new) }
 {
-    let found = assigned(alloc, tokens, label, target)?;
+    let found = assigned(alloc, tokens, label, postponed, target)?;
     Ok(Concurrent::Assignment(found))
 }
 
-/// `process ( sens ) [is] {var} begin {seq} end process [NAME] ;`, after a label or without one.
+/// `process ( sens ) [is] {var} begin {seq} end [postponed] process [NAME] ;`, after what stands
+/// before it.
 #[tactic(auto, unfolding(sim_text_grammar::specs::Concurrents::concurrent_process))]
 fn concurrent_process(
     alloc: Global,
     tokens: &mut Cursor,
     label: Option<Name>,
+    postponed: bool,
 ) -> Result<Concurrent, ParseError>
-    ensures { Reads (spec.concurrent_process label (view tokens.old)) result (view tokens.new) }
+    ensures { Reads (spec.concurrent_process label postponed (view tokens.old)) result (view tokens.new) }
 {
-    let found = process(alloc, tokens, label)?;
+    let found = process(alloc, tokens, label, postponed)?;
     Ok(Concurrent::Process(found))
+}
+
+/// `postponed`, and the process or assignment after it.
+#[tactic(auto, unfolding(sim_text_grammar::specs::Concurrents::postponed))]
+fn postponed(
+    alloc: Global,
+    tokens: &mut Cursor,
+    label: Option<Name>,
+) -> Result<Concurrent, ParseError>
+    ensures { Reads (spec.postponed label (view tokens.old)) result (view tokens.new) }
+{
+    tokens.take();
+    match tokens.peek() {
+        Kind::Process => concurrent_process(alloc, tokens, label, true),
+        _ => {
+            let name = tokens.word()?;
+            concurrent_assigned(alloc, tokens, label, true, name)
+        }
+    }
 }
 
 /// Reads an assignment to this name, or an instance of the component with this name.
@@ -302,7 +353,7 @@ fn after_name(
     ensures { Reads (spec.target_by label name (kind (view tokens.old)) (view tokens.old)) result (view tokens.new) }
 {
     match tokens.peek() {
-        Kind::SignalAssign => concurrent_assigned(alloc, tokens, Some(label), name),
+        Kind::SignalAssign => concurrent_assigned(alloc, tokens, Some(label), false, name),
         _ => instance(
             alloc,
             tokens,
@@ -321,7 +372,8 @@ fn labelled(alloc: Global, tokens: &mut Cursor, label: Name) -> Result<Concurren
     ensures { Reads (spec.labelled label (view tokens.old)) result (view tokens.new) }
 {
     match tokens.peek() {
-        Kind::Process => concurrent_process(alloc, tokens, Some(label)),
+        Kind::Process => concurrent_process(alloc, tokens, Some(label), false),
+        Kind::Postponed => postponed(alloc, tokens, Some(label)),
         Kind::Component => {
             tokens.take();
             let name = tokens.word()?;
@@ -351,7 +403,7 @@ fn after_first(alloc: Global, tokens: &mut Cursor, first: Name) -> Result<Concur
     ensures { Reads (spec.first_by first (kind (view tokens.old)) (view tokens.old)) result (view tokens.new) }
 {
     match tokens.peek() {
-        Kind::SignalAssign => concurrent_assigned(alloc, tokens, None, first),
+        Kind::SignalAssign => concurrent_assigned(alloc, tokens, None, false, first),
         _ => {
             tokens.expect(Kind::Colon)?;
             labelled(alloc, tokens, first)
@@ -365,7 +417,8 @@ fn concurrent(alloc: Global, tokens: &mut Cursor) -> Result<Concurrent, ParseErr
     ensures { Reads (spec.concurrent (view tokens.old)) result (view tokens.new) }
 {
     match tokens.peek() {
-        Kind::Process => concurrent_process(alloc, tokens, None),
+        Kind::Process => concurrent_process(alloc, tokens, None, false),
+        Kind::Postponed => postponed(alloc, tokens, None),
         _ => {
             let first = tokens.word()?;
             after_first(alloc, tokens, first)
@@ -377,7 +430,7 @@ fn concurrent(alloc: Global, tokens: &mut Cursor) -> Result<Concurrent, ParseErr
 fn begins_concurrent(kind: Kind) -> bool
     ensures { result ≡ spec.begins_concurrent kind }
 {
-    matches!(kind, Kind::Word | Kind::Process)
+    matches!(kind, Kind::Word | Kind::Process | Kind::Postponed)
 }
 
 /// Reads the statements of an architecture (IEEE 1076-2008, 11.1).

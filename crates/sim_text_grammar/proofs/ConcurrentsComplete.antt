@@ -10,6 +10,7 @@ use Rattle.sim_text_tree.specs.declared.declaration.ObjectDeclaration.{ObjectDec
 use Rattle.sim_text_tree.specs.declared.sequential.Sequential.{Sequential}
 use Rattle.sim_text_tree.specs.declared.waveform.DelayMechanism.{DelayMechanism}
 use Rattle.sim_text_tree.specs.declared.waveform.ConditionalWaveforms.{ConditionalWaveforms}
+use Rattle.sim_text_tree.specs.declared.waveform.ConcurrentSignalAssignment.{ConcurrentSignalAssignment}
 use Rattle.sim_text_tree.specs.declared.unit.Sensitivity.{Sensitivity}
 use Rattle.sim_text_tree.specs.declared.unit.Sensitivity.TheVariants as sensitivities
 use Rattle.sim_text_tree.specs.declared.unit.Process.{Process}
@@ -23,7 +24,7 @@ use Rattle.sim_text_tree.specs.declared.unit.Concurrent.{Concurrent}
 use Rattle.sim_text_tree.specs.declared.unit.Concurrent.TheVariants as c
 use Rattle.sim_text_tree.specs.Input.{Input, kind}
 use Rattle.sim_text_grammar.specs.Readers.{left}
-use Rattle.sim_text_tree.specs.Writing.{Mark, WordAt, mark, ◌▸◌, all_of, if_written, Fits}
+use Rattle.sim_text_tree.specs.Writing.{Mark, WordAt, mark, ◌▸◌, all_of, if_written, Fits, word_at}
 use Rattle.sim_text_tree.specs.Grammar as g
 use Rattle.sim_text_tree.specs.Grammar.{of_concurrent_assignment, of_sensitivity, of_variable, of_sequence, of_process, of_actual}
 use Rattle.sim_text_tree.specs.Grammar.{formally, is_named, of_association, of_port_map, of_chosen, of_instantiated, of_instance, of_concurrent}
@@ -33,7 +34,7 @@ use Rattle.sim_text_grammar.proofs.Lists.{many_all_again, all_begin}
 use Rattle.sim_text_grammar.proofs.WaveformsComplete as waves
 use Rattle.sim_text_grammar.specs.Concurrents.{sensitivity, process_body, process, actual, associated, named_association, free_association, association}
 use Rattle.sim_text_grammar.specs.Concurrents.{associations_from, associations, port_map, instance, chosen, entity_named, concurrent_assigned}
-use Rattle.sim_text_grammar.specs.Concurrents.{concurrent_process, target_by, labelled, first_by, concurrent, begins_concurrent, concurrents}
+use Rattle.sim_text_grammar.specs.Concurrents.{concurrent_process, postponed, postponed_again, target_by, labelled, first_by, concurrent, begins_concurrent, concurrents}
 use Rattle.sim_text_grammar.proofs.DeclarationsComplete.{names_begin, names_again, variables_again}
 use Rattle.sim_text_grammar.proofs.StatementsComplete.{label_again_again, statements_again}
 use Rattle.sim_text_grammar.proofs.ConcurrentsSound.{of_open}
@@ -51,11 +52,19 @@ variable_kind : (v : ObjectDeclaration) (i j : Input) → Fits 64 64 (of_variabl
 unfolding of_variable
 variable_kind v i j h = let s = split h in other (mark_read i s.mid k.Variable s.front).0 (λ z. absurd cc)
 
--- a process after its label
+postponed_again_again : (b postponed : Bool) (i j : Input) → Fits 64 64 (g.postponed_again b postponed) i j → kind j ≡ k.Process
+    → postponed_again postponed i ≡ Ok (b, j)
+postponed_again_again false false i j h e = rw (none_read h) refl
+postponed_again_again false true i j h e = rw (none_read h) (eat_not k.Postponed j (other e (λ z. absurd cc)))
+postponed_again_again true false i j h e = absurd (never_fits i j h)
+postponed_again_again true true i j h e = eat_read k.Postponed i j h
+
+-- a process after its label and `postponed`
 process_again : (y : Process) (i j : Input) → Fits 64 64
     (mark k.Process ▸ mark k.LeftParen ▸ of_sensitivity y.sensitivity ▸ mark k.RightParen ▸ if_written y.is (mark k.Is) ▸
-    all_of (map of_variable y.variables) ▸ mark k.Begin ▸ of_sequence y.statements ▸ mark k.End ▸ mark k.Process ▸
-    g.label_again y.label_repeated y.label ▸ mark k.Semicolon) i j → process y.label i ≡ Ok (y, j)
+    all_of (map of_variable y.variables) ▸ mark k.Begin ▸ of_sequence y.statements ▸ mark k.End ▸
+    g.postponed_again y.postponed_repeated y.postponed ▸ mark k.Process ▸
+    g.label_again y.label_repeated y.label ▸ mark k.Semicolon) i j → process y.label y.postponed i ≡ Ok (y, j)
 unfolding process process_body
 process_again y i j h =
     let a = split h in
@@ -67,7 +76,8 @@ process_again y i j h =
     let m = split l.back in
     let n = split m.back in
     let o = split n.back in
-    let p = split o.back in
+    let again = split o.back in
+    let p = split again.back in
     let q = split p.back in
     let begin = (mark_read l.mid m.mid k.Begin m.front).0 in
     let end = (mark_read n.mid o.mid k.End o.front).0 in
@@ -84,7 +94,8 @@ process_again y i j h =
       statements_again
           y.statements m.mid n.mid n.front (rw end refl),
       expect_read k.End n.mid o.mid o.front,
-      expect_read k.Process o.mid p.mid p.front,
+      postponed_again_again y.postponed_repeated y.postponed o.mid again.mid again.front (mark_read again.mid p.mid k.Process p.front).0,
+      expect_read k.Process again.mid p.mid p.front,
       label_again_again y.label_repeated y.label p.mid q.mid q.front (other (mark_read q.mid j k.Semicolon q.back).0 (λ z. absurd cc)),
       expect_read
           k.Semicolon q.mid j q.back,
@@ -246,30 +257,59 @@ Again y i j = (begins_concurrent (kind i) ≡ true) × (suc (length j) ≤ lengt
 first_stops : (w : Name) (i m : Input) → Fits 64 64 (mark k.Colon) i m → first_by w (kind i) i ≡ labelled w m
 first_stops w i m h = let r = mark_read i m k.Colon h in rw (r.0, expect_read k.Colon i m h) refl
 
-assignment_again : (l : Option Name) (t : Name) (d : DelayMechanism) (w : ConditionalWaveforms) (i j : Input)
-    → Fits 64 64 (of_concurrent_assignment (record { label = l; target = t; delay = d; waveforms = w })) i j
-    → Again (c.Assignment (record { label = l; target = t; delay = d; waveforms = w })) i j
-unfolding of_concurrent_assignment concurrent labelled concurrent_assigned
-assignment_again None t d w i j h =
+-- what stands after `postponed`
+postponed_process : (l : Option Name) (i m : Input) → Fits 64 64 (mark k.Postponed) i m → kind m ≡ k.Process → postponed l i ≡ concurrent_process l true m
+unfolding postponed
+postponed_process l i m h e = let r = mark_read i m k.Postponed h in rw (r.1, e) refl
+
+postponed_assignment : (l : Option Name) (t : Name) (i m j : Input) → Fits 64 64 (mark k.Postponed) i m → Fits 64 64 (word_at t) m j
+    → postponed l i ≡ concurrent_assigned l true t j
+unfolding postponed
+postponed_assignment l t i m j h w =
+    let r = mark_read i m k.Postponed h in
+    rw (r.1, word_kind m j t w, word_read m j t w) refl
+
+-- an assignment after its label and `postponed`
+assigned_all : (a : ConcurrentSignalAssignment) (i j : Input)
+    → Fits 64 64 (mark k.SignalAssign ▸ g.of_delay a.delay ▸ g.of_waveforms a.waveforms ▸ mark k.Semicolon) i j
+    → concurrent_assigned a.label a.postponed a.target i ≡ Ok (c.Assignment a, j)
+unfolding concurrent_assigned
+assigned_all a i j h = rw (waves.assigned_again {n = 64} a i j h) refl
+
+assignment_again : (l : Option Name) (postponed : Bool) (t : Name) (d : DelayMechanism) (w : ConditionalWaveforms) (i j : Input)
+    → Fits 64 64 (of_concurrent_assignment (record { label = l; postponed = postponed; target = t; delay = d; waveforms = w })) i j
+    → Again (c.Assignment (record { label = l; postponed = postponed; target = t; delay = d; waveforms = w })) i j
+unfolding of_concurrent_assignment concurrent labelled
+assignment_again None false t d w i j h =
     let s = split h in
     let v = only (none_read s.front) s.back in
-    let u = split v in
+    let o = split v in
+    let v₁ = only (none_read o.front) o.back in
+    let u = split v₁ in
     let m = (mark_read u.mid (split u.back).mid k.SignalAssign (split u.back).front).0 in
     let e = word_kind i u.mid t u.front in (
       rw e refl,
-      less (WordAt t.text t.at) _ i j v,
-      rw (
-        e,
-        word_read i u.mid t u.front,
-        m,
-        waves.assigned_again {n = 64}
-            (record { label = None; target = t; delay = d; waveforms = w }) u.mid j u.back,
-      ) refl,
+      less (WordAt t.text t.at) _ i j v₁,
+      rw (e, word_read i u.mid t u.front, m)
+          (assigned_all (record { label = None; postponed = false; target = t; delay = d; waveforms = w }) u.mid j u.back),
     )
-assignment_again (Some l) t d w i j h =
+assignment_again None true t d w i j h =
+    let s = split h in
+    let v = only (none_read s.front) s.back in
+    let o = split v in
+    let u = split o.back in
+    let e = (mark_read i o.mid k.Postponed o.front).0 in (
+      rw e refl,
+      less (Mark k.Postponed) _ i j v,
+      rw (e, postponed_assignment None t i o.mid u.mid o.front u.front)
+          (assigned_all (record { label = None; postponed = true; target = t; delay = d; waveforms = w }) u.mid j u.back),
+    )
+assignment_again (Some l) false t d w i j h =
     let s = split h in
     let r = split s.front in
-    let u = split s.back in
+    let o = split s.back in
+    let v₁ = only (none_read o.front) o.back in
+    let u = split v₁ in
     let m = (mark_read u.mid (split u.back).mid k.SignalAssign (split u.back).front).0 in
     let e = word_kind i r.mid l r.front in (
       rw e refl,
@@ -281,30 +321,14 @@ assignment_again (Some l) t d w i j h =
         word_kind s.mid u.mid t u.front,
         word_read s.mid u.mid t u.front,
         m,
-        waves.assigned_again {n = 64} (record { label = Some l; target = t; delay = d; waveforms = w }) u.mid j u.back,
-      ) refl,
+      ) (assigned_all (record { label = Some l; postponed = false; target = t; delay = d; waveforms = w }) u.mid j u.back),
     )
-
-process_all : (l : Option Name) (y : Sensitivity) (is : Bool) (vs : List ObjectDeclaration) (ss : List Sequential) (again : Bool) (i j : Input)
-    → Fits 64 64 (of_process (record { label = l; sensitivity = y; is = is; variables = vs; statements = ss; label_repeated = again })) i j
-    → Again (c.Process (record { label = l; sensitivity = y; is = is; variables = vs; statements = ss; label_repeated = again })) i j
-unfolding of_process concurrent labelled concurrent_process
-process_all None y is vs ss again i j h =
-    let s = split h in
-    let v = only (none_read s.front) s.back in
-    let m = (mark_read i (split v).mid k.Process (split v).front).0 in (
-      rw m refl,
-      less (Mark k.Process) _ i j v,
-      rw (
-        m,
-        process_again (record
-            { label = None; sensitivity = y; is = is; variables = vs; statements = ss; label_repeated = again }) i j v,
-      ) refl,
-    )
-process_all (Some l) y is vs ss again i j h =
+assignment_again (Some l) true t d w i j h =
     let s = split h in
     let r = split s.front in
-    let m = (mark_read s.mid (split s.back).mid k.Process (split s.back).front).0 in
+    let o = split s.back in
+    let u = split o.back in
+    let m = (mark_read s.mid o.mid k.Postponed o.front).0 in
     let e = word_kind i r.mid l r.front in (
       rw e refl,
       less_then i j s (less (WordAt l.text l.at) _ i s.mid s.front),
@@ -313,9 +337,88 @@ process_all (Some l) y is vs ss again i j h =
         word_read i r.mid l r.front,
         first_stops l r.mid s.mid r.back,
         m,
-        process_again
-            (record { label = Some l; sensitivity = y; is = is; variables = vs; statements = ss; label_repeated = again }) s.mid j s.back,
-      ) refl,
+        postponed_assignment (Some l) t s.mid o.mid u.mid o.front u.front,
+      ) (assigned_all (record { label = Some l; postponed = true; target = t; delay = d; waveforms = w }) u.mid j u.back),
+    )
+
+-- a process after its label and `postponed`
+processed_all : (p : Process) (i j : Input) → process p.label p.postponed i ≡ Ok (p, j) → concurrent_process p.label p.postponed i ≡ Ok (c.Process p, j)
+unfolding concurrent_process
+processed_all p i j e = rw e refl
+
+abbrev process_of : Option Name → Bool → Sensitivity → Bool → List ObjectDeclaration → List Sequential → Bool → Bool → Process
+process_of l postponed y is vs ss word_again again = record {
+  label = l;
+  postponed = postponed;
+  sensitivity = y;
+  is = is;
+  variables = vs;
+  statements = ss;
+  postponed_repeated = word_again;
+  label_repeated = again;
+}
+
+process_all : (l : Option Name) (postponed : Bool) (y : Sensitivity) (is : Bool) (vs : List ObjectDeclaration) (ss : List Sequential)
+    (word_again again : Bool) (i j : Input)
+    → Fits 64 64 (of_process (process_of l postponed y is vs ss word_again again)) i j
+    → Again (c.Process (process_of l postponed y is vs ss word_again again)) i j
+unfolding of_process concurrent labelled
+process_all None false y is vs ss word_again again i j h =
+    let s = split h in
+    let v = only (none_read s.front) s.back in
+    let o = split v in
+    let v₁ = only (none_read o.front) o.back in
+    let p = process_of None false y is vs ss word_again again in
+    let m = (mark_read i (split v₁).mid k.Process (split v₁).front).0 in (
+      rw m refl,
+      less (Mark k.Process) _ i j v₁,
+      rw m (processed_all p i j (process_again p i j v₁)),
+    )
+process_all None true y is vs ss word_again again i j h =
+    let s = split h in
+    let v = only (none_read s.front) s.back in
+    let o = split v in
+    let p = process_of None true y is vs ss word_again again in
+    let e = (mark_read i o.mid k.Postponed o.front).0 in
+    let m = (mark_read o.mid (split o.back).mid k.Process (split o.back).front).0 in (
+      rw e refl,
+      less (Mark k.Postponed) _ i j v,
+      rw (e, postponed_process None i o.mid o.front m) (processed_all p o.mid j (process_again p o.mid j o.back)),
+    )
+process_all (Some l) false y is vs ss word_again again i j h =
+    let s = split h in
+    let r = split s.front in
+    let o = split s.back in
+    let v₁ = only (none_read o.front) o.back in
+    let p = process_of (Some l) false y is vs ss word_again again in
+    let m = (mark_read s.mid (split v₁).mid k.Process (split v₁).front).0 in
+    let e = word_kind i r.mid l r.front in (
+      rw e refl,
+      less_then i j s (less (WordAt l.text l.at) _ i s.mid s.front),
+      rw (
+        e,
+        word_read i r.mid l r.front,
+        first_stops l r.mid s.mid r.back,
+        m,
+      ) (processed_all p s.mid j (process_again p s.mid j v₁)),
+    )
+process_all (Some l) true y is vs ss word_again again i j h =
+    let s = split h in
+    let r = split s.front in
+    let o = split s.back in
+    let p = process_of (Some l) true y is vs ss word_again again in
+    let n = (mark_read s.mid o.mid k.Postponed o.front).0 in
+    let m = (mark_read o.mid (split o.back).mid k.Process (split o.back).front).0 in
+    let e = word_kind i r.mid l r.front in (
+      rw e refl,
+      less_then i j s (less (WordAt l.text l.at) _ i s.mid s.front),
+      rw (
+        e,
+        word_read i r.mid l r.front,
+        first_stops l r.mid s.mid r.back,
+        n,
+        postponed_process (Some l) s.mid o.mid o.front m,
+      ) (processed_all p o.mid j (process_again p o.mid j o.back)),
     )
 
 instance_all : (y : Instance) (i j : Input) → Fits 64 64 (of_instance y) i j → Again (c.Instance y) i j
@@ -332,8 +435,9 @@ instance_all y i j h =
 
 concurrent_again : (y : Concurrent) (i j : Input) → Fits 64 64 (of_concurrent y) i j → Again y i j
 unfolding of_concurrent
-concurrent_again (c.Assignment a) i j h = assignment_again a.label a.target a.delay a.waveforms i j h
-concurrent_again (c.Process p) i j h = process_all p.label p.sensitivity p.is p.variables p.statements p.label_repeated i j h
+concurrent_again (c.Assignment a) i j h = assignment_again a.label a.postponed a.target a.delay a.waveforms i j h
+concurrent_again (c.Process p) i j h =
+    process_all p.label p.postponed p.sensitivity p.is p.variables p.statements p.postponed_repeated p.label_repeated i j h
 concurrent_again (c.Instance y) i j h = instance_all y i j h
 
 pub concurrents_again : (xs : List Concurrent) (i j : Input) → Fits 64 64 (all_of (map of_concurrent xs)) i j → begins_concurrent (kind j) ≡ false

@@ -23,7 +23,8 @@ use Rattle.sim_text_grammar.proofs.Lists.{many_all_gives}
 use Rattle.sim_text_grammar.proofs.WaveformsSound as waves
 use Rattle.sim_text_grammar.specs.Concurrents.{sensitivity, process_body, process, actual, actual_by, associated, named_association, free_association}
 use Rattle.sim_text_grammar.specs.Concurrents.{free_by, association, associations_from, associations, port_map, instance, chosen, entity_named}
-use Rattle.sim_text_grammar.specs.Concurrents.{concurrent_assigned, concurrent_process, target_by, labelled, labelled_by, first_by, concurrent}
+use Rattle.sim_text_grammar.specs.Concurrents.{concurrent_assigned, concurrent_process, postponed, postponed_again, postponed_by, target_by, labelled, labelled_by, first_by}
+use Rattle.sim_text_grammar.specs.Concurrents.{concurrent}
 use Rattle.sim_text_grammar.specs.Concurrents.{concurrent_by, begins_concurrent, concurrents}
 use Rattle.sim_text_grammar.proofs.DeclarationsSound.{names_give, variables_give}
 use Rattle.sim_text_grammar.proofs.StatementsSound.{label_again_gives, statements_give}
@@ -32,30 +33,40 @@ sensitivity_gives : (i : Input) → Gives (λ x m. Fits 64 64 (of_sensitivity x)
 unfolding sensitivity
 sensitivity_gives i = eat_then _ _ 64 64 k.All i (λ z. absurd cc) (λ x. done x) (λ x. then_ (names_give {p = 64} {n = 64} i) (λ ns j y. done y))
 
-process_body_gives : (label : Option Name) (x : Sensitivity) (is : Bool) (vs : List ObjectDeclaration) (i a b c d e f t : Input)
-    → Fits 64 64 (g.labelled label) i a → Fits 64 64 (mark k.Process) a b → Fits 64 64 (mark k.LeftParen) b c → Fits 64 64 (of_sensitivity x) c d
+postponed_again_gives : (postponed : Bool) (i : Input) → Gives (λ b j. Fits 64 64 (g.postponed_again b postponed) i j) (postponed_again postponed i)
+postponed_again_gives true i = map_ (eat_gives {p = 64} {n = 64} k.Postponed i (λ z. absurd cc)) (λ b j e. again b j (eaten_written k.Postponed i j b e))
+  where
+    again : (b : Bool) (j : Input) → Fits 64 64 (if_written b (mark k.Postponed)) i j → Fits 64 64 (g.postponed_again b true) i j
+    again true j h = h
+    again false j h = h
+postponed_again_gives false i = done none
+
+process_body_gives : (label : Option Name) (postponed : Bool) (x : Sensitivity) (is : Bool) (vs : List ObjectDeclaration) (i z a b c d e f t : Input)
+    → Fits 64 64 (g.labelled label) i z → Fits 64 64 (if_written postponed (mark k.Postponed)) z a → Fits 64 64 (mark k.Process) a b → Fits 64 64 (mark k.LeftParen) b c → Fits 64 64 (of_sensitivity x) c d
     → Fits 64 64 (mark k.RightParen) d e → Fits 64 64 (if_written is (mark k.Is)) e f → Fits 64 64 (all_of (map of_variable vs)) f t
-    → Gives (λ y m. Fits 64 64 (of_process y) i m) (process_body label x is vs t)
+    → Gives (λ y m. Fits 64 64 (of_process y) i m) (process_body label postponed x is vs t)
 unfolding process_body of_process
-process_body_gives label x is vs i a b c d e f t q r s u v w y =
+process_body_gives label postponed x is vs i z₀ a b c d e f t q written r s u v w y =
     then_ (expect_gives {p = 64} {n = 64} k.Begin t (λ z. absurd cc)) (λ h j l.
     then_ (statements_give j) (λ ss m o.
     then_ (expect_gives {p = 64} {n = 64} k.End m (λ z. absurd cc)) (λ h n p.
-    then_ (expect_gives {p = 64} {n = 64} k.Process n (λ z. absurd cc)) (λ h i2 p2.
+    then_ (postponed_again_gives postponed n) (λ word_again i1 p1.
+    then_ (expect_gives {p = 64} {n = 64} k.Process i1 (λ z. absurd cc)) (λ h i2 p2.
     then_ (label_again_gives {p = 64} {n = 64} label i2) (λ again i3 p3.
     then_ (expect_gives {p = 64} {n = 64} k.Semicolon i3 (λ z. absurd cc)) (λ h i4 p4.
-    done (q & r & s & u & v & w & y & l & o & p & p2 & p3 & p4)))))))
+    done (q & written & r & s & u & v & w & y & l & o & p & p1 & p2 & p3 & p4))))))))
 
-process_gives : (label : Option Name) (i a : Input) → Fits 64 64 (g.labelled label) i a → Gives (λ y m. Fits 64 64 (of_process y) i m) (process label a)
+process_gives : (label : Option Name) (postponed : Bool) (i z a : Input) → Fits 64 64 (g.labelled label) i z
+    → Fits 64 64 (if_written postponed (mark k.Postponed)) z a → Gives (λ y m. Fits 64 64 (of_process y) i m) (process label postponed a)
 unfolding process
-process_gives label i a q =
+process_gives label postponed i z a q written =
     then_ (expect_gives {p = 64} {n = 64} k.Process a (λ z. absurd cc)) (λ h b r.
     then_ (expect_gives {p = 64} {n = 64} k.LeftParen b (λ z. absurd cc)) (λ h c s.
     then_ (sensitivity_gives c) (λ x d u.
     then_ (expect_gives {p = 64} {n = 64} k.RightParen d (λ z. absurd cc)) (λ h e v.
     then_ (eat_gives {p = 64} {n = 64} k.Is e (λ z. absurd cc)) (λ is f w.
     then_ (variables_give {p = 64} {n = 64} f) (λ vs t y.
-    process_body_gives label x is vs i a b c d e f t q r s u v (eaten_written k.Is e f is w) y))))))
+    process_body_gives label postponed x is vs i z a b c d e f t q written r s u v (eaten_written k.Is e f is w) y))))))
 
 -- ---- instances
 
@@ -163,24 +174,39 @@ entity_named_gives i e =
 
 -- ---- statements
 
-assigned_gives : (label : Option Name) (target : Name) (i t j : Input) → Fits 64 64 (g.labelled label) i t → Fits 64 64 (word_at target) t j
-    → Gives (λ y m. Fits 64 64 (of_concurrent y) i m) (concurrent_assigned label target j)
+assigned_gives : (label : Option Name) (postponed : Bool) (target : Name) (i s t j : Input) → Fits 64 64 (g.labelled label) i s
+    → Fits 64 64 (if_written postponed (mark k.Postponed)) s t → Fits 64 64 (word_at target) t j
+    → Gives (λ y m. Fits 64 64 (of_concurrent y) i m) (concurrent_assigned label postponed target j)
 unfolding concurrent_assigned of_concurrent
-assigned_gives label target i t j l w = then_ (waves.assigned_gives {n = 64} label target i t j l w) (λ a m h. done h)
+assigned_gives label postponed target i s t j l o w = then_ (waves.assigned_gives {n = 64} label postponed target i s t j l o w) (λ a m h. done h)
 
-processed_gives : (label : Option Name) (i a : Input) → Fits 64 64 (g.labelled label) i a
-    → Gives (λ y m. Fits 64 64 (of_concurrent y) i m) (concurrent_process label a)
+processed_gives : (label : Option Name) (postponed : Bool) (i s a : Input) → Fits 64 64 (g.labelled label) i s
+    → Fits 64 64 (if_written postponed (mark k.Postponed)) s a
+    → Gives (λ y m. Fits 64 64 (of_concurrent y) i m) (concurrent_process label postponed a)
 unfolding concurrent_process of_concurrent
-processed_gives label i a l = then_ (process_gives label i a l) (λ x m h. done h)
+processed_gives label postponed i s a l o = then_ (process_gives label postponed i s a l o) (λ x m h. done h)
+
+postponed_by_gives : (label : Option Name) (i a : Input) → Fits 64 64 (g.labelled label) i a → kind a ≡ k.Postponed → (x : Kind)
+    → Gives (λ y m. Fits 64 64 (of_concurrent y) i m) (postponed_by label x (next a))
+postponed_by_gives label i a l e k.Process = processed_gives label true i a (next a) l (marks a k.Postponed e (λ z. absurd cc))
+postponed_by_gives label i a l e _ =
+    then_ (word_gives {p = 64} {n = 64} (next a)) (λ x j w.
+    assigned_gives label true x i a (next a) j l (marks a k.Postponed e (λ z. absurd cc)) w)
+
+postponed_gives : (label : Option Name) (i a : Input) → Fits 64 64 (g.labelled label) i a → kind a ≡ k.Postponed
+    → Gives (λ y m. Fits 64 64 (of_concurrent y) i m) (postponed label a)
+unfolding postponed
+postponed_gives label i a l e = postponed_by_gives label i a l e (kind (next a))
 
 target_by_gives : (label x : Name) (i a b j : Input) → Fits 64 64 (word_at label) i a → Fits 64 64 (mark k.Colon) a b → Fits 64 64 (word_at x) b j
     → (y : Kind) → Gives (λ y m. Fits 64 64 (of_concurrent y) i m) (target_by label x y j)
-target_by_gives label x i a b j l c w k.SignalAssign = assigned_gives (Some label) x i b j (l & c) w
+target_by_gives label x i a b j l c w k.SignalAssign = assigned_gives (Some label) false x i b b j (l & c) none w
 target_by_gives label x i a b j l c w _ = instance_gives label (made.Component false x) i a b j l c (none & w)
 
 labelled_by_gives : (label : Name) (i a b : Input) → Fits 64 64 (word_at label) i a → Fits 64 64 (mark k.Colon) a b → (x : Kind) → kind b ≡ x
     → Gives (λ y m. Fits 64 64 (of_concurrent y) i m) (labelled_by label x b)
-labelled_by_gives label i a b l c k.Process e = processed_gives (Some label) i b (l & c)
+labelled_by_gives label i a b l c k.Process e = processed_gives (Some label) false i b b (l & c) none
+labelled_by_gives label i a b l c k.Postponed e = postponed_gives (Some label) i b (l & c) e
 labelled_by_gives label i a b l c k.Component e =
     then_ (word_gives {p = 64} {n = 64} (next b)) (λ x j w.
     instance_gives label (made.Component true x) i a b j l c (marks b k.Component e (λ z. absurd cc) & w))
@@ -191,18 +217,19 @@ labelled_by_gives label i a b l c _ e =
 
 first_by_gives : (x : Name) (i j : Input) → Fits 64 64 (word_at x) i j → (y : Kind) → Gives (λ y m. Fits 64 64 (of_concurrent y) i m) (first_by x y j)
 unfolding labelled
-first_by_gives x i j w k.SignalAssign = assigned_gives None x i i j none w
+first_by_gives x i j w k.SignalAssign = assigned_gives None false x i i i j none none w
 first_by_gives x i j w _ =
     then_ (expect_gives {p = 64} {n = 64} k.Colon j (λ z. absurd cc)) (λ h b c.
     labelled_by_gives x i j b w c (kind b) refl)
 
-concurrent_by_gives : (i : Input) (x : Kind) → Gives (λ y m. Fits 64 64 (of_concurrent y) i m) (concurrent_by x i)
-concurrent_by_gives i k.Process = processed_gives None i i none
-concurrent_by_gives i _ = then_ (word_gives {p = 64} {n = 64} i) (λ x j w. first_by_gives x i j w (kind j))
+concurrent_by_gives : (i : Input) (x : Kind) → kind i ≡ x → Gives (λ y m. Fits 64 64 (of_concurrent y) i m) (concurrent_by x i)
+concurrent_by_gives i k.Process e = processed_gives None false i i i none none
+concurrent_by_gives i k.Postponed e = postponed_gives None i i none e
+concurrent_by_gives i _ e = then_ (word_gives {p = 64} {n = 64} i) (λ x j w. first_by_gives x i j w (kind j))
 
 concurrent_gives : (i : Input) → Gives (λ y m. Fits 64 64 (of_concurrent y) i m) (concurrent i)
 unfolding concurrent
-concurrent_gives i = concurrent_by_gives i (kind i)
+concurrent_gives i = concurrent_by_gives i (kind i) refl
 
 pub concurrents_give : (i : Input) → Gives (λ xs m. Fits 64 64 (all_of (map of_concurrent xs)) i m) (concurrents i)
 unfolding concurrents

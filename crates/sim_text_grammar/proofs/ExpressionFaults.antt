@@ -182,7 +182,7 @@ pub conditional_blames : (i : Input) → Blames i (waveforms i)
 unfolding waveforms left
 conditional_blames i = alternatives_blames (length i) [] i
 
-pub assigned_blames : (label : Option Name) (target : Name) (i : Input) → Blames i (assigned label target i)
+pub assigned_blames : (label : Option Name) (postponed : Bool) (target : Name) (i : Input) → Blames i (assigned label postponed target i)
 unfolding assigned
-assigned_blames label target i = blames_then (expect_blames k.SignalAssign i)
+assigned_blames label postponed target i = blames_then (expect_blames k.SignalAssign i)
     (λ u j. blames_then (delay_blames j) (λ d m. blames_then (conditional_blames m) (λ w q. blames_then (expect_blames k.Semicolon q) (λ v r. blames_done r))))

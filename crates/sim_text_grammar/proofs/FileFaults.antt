@@ -184,17 +184,22 @@ sensitivity_blames : (i : Input) → Blames i (c.sensitivity i)
 unfolding c.sensitivity
 sensitivity_blames i = blames_then (eat_blames k.All i) (λ b j. blames_if b _ _ j (blames_done j) (blames_then (names_blames j) (λ ns m. blames_done m)))
 
-process_body_blames : (l : Option Name) (x : Sensitivity) (b : Bool) (vs : List ObjectDeclaration) (i : Input) → Blames i (c.process_body l x b vs i)
-unfolding c.process_body
-process_body_blames l x b vs i = blames_then (expect_blames k.Begin i) (λ a j. blames_then (statements_blames j)
-    (λ ss m. blames_then (expect_blames k.End m) (λ a q. blames_then (expect_blames k.Process q)
-    (λ a r. blames_then (label_blames l r) (λ g t. blames_then (expect_blames k.Semicolon t) (λ a v. blames_done v))))))
+postponed_again_blames : (p : Bool) (i : Input) → Blames i (c.postponed_again p i)
+postponed_again_blames true i = eat_blames k.Postponed i
+postponed_again_blames false i = blames_done i
 
-process_blames : (l : Option Name) (i : Input) → Blames i (c.process l i)
+process_body_blames : (l : Option Name) (p : Bool) (x : Sensitivity) (b : Bool) (vs : List ObjectDeclaration) (i : Input)
+    → Blames i (c.process_body l p x b vs i)
+unfolding c.process_body
+process_body_blames l p x b vs i = blames_then (expect_blames k.Begin i) (λ a j. blames_then (statements_blames j)
+    (λ ss m. blames_then (expect_blames k.End m) (λ a n. blames_then (postponed_again_blames p n) (λ g q. blames_then (expect_blames k.Process q)
+    (λ a r. blames_then (label_blames l r) (λ g t. blames_then (expect_blames k.Semicolon t) (λ a v. blames_done v)))))))
+
+process_blames : (l : Option Name) (p : Bool) (i : Input) → Blames i (c.process l p i)
 unfolding c.process
-process_blames l i = blames_then (expect_blames k.Process i) (λ a j. blames_then (expect_blames k.LeftParen j)
+process_blames l p i = blames_then (expect_blames k.Process i) (λ a j. blames_then (expect_blames k.LeftParen j)
     (λ a m. blames_then (sensitivity_blames m) (λ x q. blames_then (expect_blames k.RightParen q)
-    (λ a r. blames_then (eat_blames k.Is r) (λ b t. blames_then (variables_blames t) (λ vs v. process_body_blames l x b vs v))))))
+    (λ a r. blames_then (eat_blames k.Is r) (λ b t. blames_then (variables_blames t) (λ vs v. process_body_blames l p x b vs v))))))
 
 actual_by_blames : (x : Kind) (i : Input) → Blames i (c.actual_by x i)
 actual_by_blames k.Literal i = blames_then (literal_blames i) (λ v j. blames_done j)
@@ -246,31 +251,41 @@ unfolding c.entity_named
 entity_named_blames i = blames_next i _ (blames_then (word_blames (next i))
     (λ l j. blames_then (expect_blames k.Dot j) (λ a m. blames_then (word_blames m) (λ w q. blames_then (chosen_blames q) (λ o r. blames_done r)))))
 
-concurrent_assigned_blames : (l : Option Name) (t : Name) (i : Input) → Blames i (c.concurrent_assigned l t i)
+concurrent_assigned_blames : (l : Option Name) (p : Bool) (t : Name) (i : Input) → Blames i (c.concurrent_assigned l p t i)
 unfolding c.concurrent_assigned
-concurrent_assigned_blames l t i = blames_then (e.assigned_blames l t i) (λ x j. blames_done j)
+concurrent_assigned_blames l p t i = blames_then (e.assigned_blames l p t i) (λ x j. blames_done j)
 
-concurrent_process_blames : (l : Option Name) (i : Input) → Blames i (c.concurrent_process l i)
+concurrent_process_blames : (l : Option Name) (p : Bool) (i : Input) → Blames i (c.concurrent_process l p i)
 unfolding c.concurrent_process
-concurrent_process_blames l i = blames_then (process_blames l i) (λ x j. blames_done j)
+concurrent_process_blames l p i = blames_then (process_blames l p i) (λ x j. blames_done j)
+
+postponed_by_blames : (l : Option Name) (x : Kind) (i : Input) → Blames i (c.postponed_by l x i)
+postponed_by_blames l k.Process i = concurrent_process_blames l true i
+postponed_by_blames l _ i = blames_then (word_blames i) (λ w j. concurrent_assigned_blames l true w j)
+
+postponed_blames : (l : Option Name) (i : Input) → Blames i (c.postponed l i)
+unfolding c.postponed
+postponed_blames l i = blames_next i _ (postponed_by_blames l (kind (next i)) (next i))
 
 target_by_blames : (l w : Name) (x : Kind) (i : Input) → Blames i (c.target_by l w x i)
-target_by_blames l w k.SignalAssign i = concurrent_assigned_blames (Some l) w i
+target_by_blames l w k.SignalAssign i = concurrent_assigned_blames (Some l) false w i
 target_by_blames l w _ i = instance_blames l (made.Component false w) i
 
 labelled_after : (l : Name) (x : Kind) (i : Input) → Blames i (c.labelled_by l x i)
-labelled_after l k.Process i = concurrent_process_blames (Some l) i
+labelled_after l k.Process i = concurrent_process_blames (Some l) false i
+labelled_after l k.Postponed i = postponed_blames (Some l) i
 labelled_after l k.Component i = blames_next i _ (blames_then (word_blames (next i)) (λ w j. instance_blames l (made.Component true w) j))
 labelled_after l k.Entity i = blames_then (entity_named_blames i) (λ x j. instance_blames l x j)
 labelled_after l _ i = blames_then (word_blames i) (λ w j. target_by_blames l w (kind j) j)
 
 first_by_blames : (w : Name) (x : Kind) (i : Input) → Blames i (c.first_by w x i)
 unfolding c.labelled
-first_by_blames w k.SignalAssign i = concurrent_assigned_blames None w i
+first_by_blames w k.SignalAssign i = concurrent_assigned_blames None false w i
 first_by_blames w _ i = blames_then (expect_blames k.Colon i) (λ a j. labelled_after w (kind j) j)
 
 concurrent_by_blames : (x : Kind) (i : Input) → Blames i (c.concurrent_by x i)
-concurrent_by_blames k.Process i = concurrent_process_blames None i
+concurrent_by_blames k.Process i = concurrent_process_blames None false i
+concurrent_by_blames k.Postponed i = postponed_blames None i
 concurrent_by_blames _ i = blames_then (word_blames i) (λ w j. first_by_blames w (kind j) j)
 
 concurrents_blames : (i : Input) → Blames i (c.concurrents i)

@@ -201,7 +201,7 @@ opens_no_delay _ e = absurd cc
 
 -- a concurrent assignment after its target
 pub assigned_again : {n : ℕ} (a : ConcurrentSignalAssignment) (i j : Input)
-    → Fits 64 n (mark k.SignalAssign ▸ of_delay a.delay ▸ of_waveforms a.waveforms ▸ mark k.Semicolon) i j → assigned a.label a.target i ≡ Ok (a, j)
+    → Fits 64 n (mark k.SignalAssign ▸ of_delay a.delay ▸ of_waveforms a.waveforms ▸ mark k.Semicolon) i j → assigned a.label a.postponed a.target i ≡ Ok (a, j)
 unfolding assigned
 assigned_again {n} a i j h =
     let s = split h in

@@ -17,7 +17,7 @@ use Rattle.sim_text_tree.specs.declared.waveform.ConditionalWaveforms.{Condition
 use Rattle.sim_text_tree.specs.Times.{is_time}
 use Rattle.sim_text_tree.specs.Input.{Input, kind, next}
 use Rattle.sim_text_grammar.specs.Readers.{pure, left}
-use Rattle.sim_text_tree.specs.Writing.{NumberAt, UnitWord, just, mark, word_at, Fits}
+use Rattle.sim_text_tree.specs.Writing.{NumberAt, UnitWord, just, mark, word_at, Fits, if_written}
 use Rattle.sim_text_tree.specs.Grammar.{of_expression, of_time, of_element, of_waveform, of_conditional, of_more, of_alternatives, of_waveforms, of_delay}
 use Rattle.sim_text_tree.specs.Grammar.{labelled, of_concurrent_assignment}
 use Rattle.sim_text_tree.proofs.Writings.{◌&◌, none, none_to, never_fits, marks, takes_append}
@@ -127,12 +127,13 @@ unfolding waveforms of_waveforms left
 conditional_gives {n} i = map_ (alternatives_give n (length i) [] i) (λ c q f. rw f.whole f.fits)
 
 -- a concurrent assignment after its target
-pub assigned_gives : {n : ℕ} (label : Option Name) (target : Name) (i t j : Input) → Fits 64 n (labelled label) i t → Fits 64 n (word_at target) t j
-    → Gives (λ a q. Fits 64 n (of_concurrent_assignment a) i q) (assigned label target j)
+pub assigned_gives : {n : ℕ} (label : Option Name) (postponed : Bool) (target : Name) (i s t j : Input) → Fits 64 n (labelled label) i s
+    → Fits 64 n (if_written postponed (mark k.Postponed)) s t → Fits 64 n (word_at target) t j
+    → Gives (λ a q. Fits 64 n (of_concurrent_assignment a) i q) (assigned label postponed target j)
 unfolding assigned of_concurrent_assignment
-assigned_gives {n} label target i t j l x =
+assigned_gives {n} label postponed target i s t j l o x =
     then_ (expect_gives {p = 64} {n = n} k.SignalAssign j (λ z. absurd cc)) (λ u m y.
     then_ (delay_gives {n = n} m) (λ d q z.
     then_ (conditional_gives {n = n} q) (λ c r v.
-    then_ (expect_gives {p = 64} {n = n} k.Semicolon r (λ z. absurd cc)) (λ u s w.
-    done (l & x & y & z & v & w)))))
+    then_ (expect_gives {p = 64} {n = n} k.Semicolon r (λ z. absurd cc)) (λ u f w.
+    done (l & o & x & y & z & v & w)))))

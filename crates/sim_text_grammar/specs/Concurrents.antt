@@ -30,27 +30,42 @@ sensitivity = do
     ns ← names
     pure (sensitivities.Names ns))
 
+-- `postponed` again, which only a postponed process has
+abbrev pub postponed_again : Bool → Parser Bool
+postponed_again true = eat k.Postponed
+postponed_again false = pure false
+
 -- the statements of a process, and its end
-unfoldable pub process_body : Option Name → Sensitivity → Bool → List ObjectDeclaration → Parser Process
-process_body label sensitive is found = do
+unfoldable pub process_body : Option Name → Bool → Sensitivity → Bool → List ObjectDeclaration → Parser Process
+process_body label postponed sensitive is found = do
   expect k.Begin
   body ← statements
   expect k.End
+  word_again ← postponed_again postponed
   expect k.Process
   again ← label_again label
   expect k.Semicolon
-  pure (record { label = label; sensitivity = sensitive; is = is; variables = found; statements = body; label_repeated = again })
+  pure (record {
+    label = label;
+    postponed = postponed;
+    sensitivity = sensitive;
+    is = is;
+    variables = found;
+    statements = body;
+    postponed_repeated = word_again;
+    label_repeated = again;
+  })
 
--- a process after its label
-unfoldable pub process : Option Name → Parser Process
-process label = do
+-- a process after its label and `postponed`
+unfoldable pub process : Option Name → Bool → Parser Process
+process label postponed = do
   expect k.Process
   expect k.LeftParen
   sensitive ← sensitivity
   expect k.RightParen
   is ← eat k.Is
   found ← variables
-  process_body label sensitive is found
+  process_body label postponed sensitive is found
 
 -- ---- instances
 
@@ -153,25 +168,40 @@ entity_named = do
 -- ---- statements
 
 -- a concurrent assignment from after its target (11.6)
-unfoldable pub concurrent_assigned : Option Name → Name → Parser Concurrent
-concurrent_assigned label target = do
-  found ← assigned label target
+unfoldable pub concurrent_assigned : Option Name → Bool → Name → Parser Concurrent
+concurrent_assigned label postponed target = do
+  found ← assigned label postponed target
   pure (c.Assignment found)
 
--- a process after its label
-unfoldable pub concurrent_process : Option Name → Parser Concurrent
-concurrent_process label = do
-  found ← process label
+-- a process after its label and `postponed`
+unfoldable pub concurrent_process : Option Name → Bool → Parser Concurrent
+concurrent_process label postponed = do
+  found ← process label postponed
   pure (c.Process found)
+
+-- a process or an assignment after `postponed`, by the kind of its first token
+abbrev pub postponed_by : Option Name → Kind → Parser Concurrent
+postponed_by label k.Process = concurrent_process label true
+postponed_by label _ = do
+  n ← word
+  concurrent_assigned label true n
+
+-- a process or an assignment from `postponed` on
+unfoldable pub postponed : Option Name → Parser Concurrent
+postponed label = do
+  take_token
+  kind ← peek
+  postponed_by label kind
 
 -- an assignment or an instance, from after its first name
 abbrev pub target_by : Name → Name → Kind → Parser Concurrent
-target_by label n k.SignalAssign = concurrent_assigned (Some label) n
+target_by label n k.SignalAssign = concurrent_assigned (Some label) false n
 target_by label n _ = instance label (made.Component false n)
 
 -- a statement after its label, by the kind of its first token
 abbrev pub labelled_by : Name → Kind → Parser Concurrent
-labelled_by label k.Process = concurrent_process (Some label)
+labelled_by label k.Process = concurrent_process (Some label) false
+labelled_by label k.Postponed = postponed (Some label)
 labelled_by label k.Component = do
   take_token
   n ← word
@@ -190,14 +220,15 @@ labelled label = peek >>= labelled_by label
 
 -- a statement from after its first name
 abbrev pub first_by : Name → Kind → Parser Concurrent
-first_by first k.SignalAssign = concurrent_assigned None first
+first_by first k.SignalAssign = concurrent_assigned None false first
 first_by first _ = do
   expect k.Colon
   labelled first
 
 -- a concurrent statement, by the kind of its first token
 abbrev pub concurrent_by : Kind → Parser Concurrent
-concurrent_by k.Process = concurrent_process None
+concurrent_by k.Process = concurrent_process None false
+concurrent_by k.Postponed = postponed None
 concurrent_by _ = do
   first ← word
   kind ← peek
@@ -211,6 +242,7 @@ concurrent = peek >>= concurrent_by
 abbrev pub begins_concurrent : Kind → Bool
 begins_concurrent k.Word = true
 begins_concurrent k.Process = true
+begins_concurrent k.Postponed = true
 begins_concurrent _ = false
 
 -- the statements of an architecture (3.3.3)

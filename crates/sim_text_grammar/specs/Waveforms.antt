@@ -82,10 +82,10 @@ unfoldable pub waveforms : Parser ConditionalWaveforms
 waveforms = λ i. alternatives_from (left i) [] i
 
 -- a concurrent assignment from after its target (11.6)
-unfoldable pub assigned : Option Name → Name → Parser ConcurrentSignalAssignment
-assigned label target = do
+unfoldable pub assigned : Option Name → Bool → Name → Parser ConcurrentSignalAssignment
+assigned label postponed target = do
   expect k.SignalAssign
   d ← delay
   w ← waveforms
   expect k.Semicolon
-  pure (record { label = label; target = target; delay = d; waveforms = w })
+  pure (record { label = label; postponed = postponed; target = target; delay = d; waveforms = w })

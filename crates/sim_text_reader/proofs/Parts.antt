@@ -1,5 +1,5 @@
 -- The readers that the code reads in parts: a call and its argument, and an assignment.
-use Rattle.std.proofs.Common.{◌≡◌, refl, Option}
+use Rattle.std.proofs.Common.{◌≡◌, refl, Option, Bool}
 use Rattle.sim_text_tokens.specs.declared.kind.Kind.TheVariants as k
 use Rattle.sim_text_tree.specs.Name.{Name}
 use Rattle.sim_text_tree.specs.Input.{Input, next}
@@ -13,10 +13,10 @@ pub call_in_parts : (function : Name) (i : Input) → named_by function k.LeftPa
     ≡ and_then (and_then (word (next i)) (λ name i. and_then (expect k.RightParen i) (λ _. pure name))) (λ argument. pure (e.Call function argument))
 call_in_parts function i = within (word (next i)) _ _ (λ name i. within (expect k.RightParen i) _ _ (λ _ i. refl))
 
-pub assigned_in_parts : (label : Option Name) (target : Name) (i : Input) → assigned label target i
+pub assigned_in_parts : (label : Option Name) (postponed : Bool) (target : Name) (i : Input) → assigned label postponed target i
     ≡ and_then (expect k.SignalAssign i) (λ _ i. and_then (delay i) (λ d i.
     and_then (and_then (waveforms i) (λ found i. and_then (expect k.Semicolon i) (λ _. pure found))) (λ w.
-    pure (record { label = label; target = target; delay = d; waveforms = w }))))
+    pure (record { label = label; postponed = postponed; target = target; delay = d; waveforms = w }))))
 unfolding assigned
-assigned_in_parts label target i = beyond (expect k.SignalAssign i) (λ _ i. beyond (delay i) (λ d i. within (waveforms i) _ _ (λ w i.
+assigned_in_parts label postponed target i = beyond (expect k.SignalAssign i) (λ _ i. beyond (delay i) (λ d i. within (waveforms i) _ _ (λ w i.
     within (expect k.Semicolon i) _ _ (λ _ i. refl))))

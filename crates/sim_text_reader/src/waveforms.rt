@@ -165,15 +165,17 @@ pub fn assigned(
     alloc: Global,
     tokens: &mut Cursor,
     label: Option<Name>,
+    postponed: bool,
     target: Name,
 ) -> Result<ConcurrentSignalAssignment, ParseError>
-    ensures { Reads (spec.assigned label target (view tokens.old)) result (view tokens.new) }
+    ensures { Reads (spec.assigned label postponed target (view tokens.old)) result (view tokens.new) }
 {
     tokens.expect(Kind::SignalAssign)?;
     let delay = delay(tokens)?;
     let waveforms = waveforms_ended(alloc, tokens)?;
     Ok(ConcurrentSignalAssignment {
         label,
+        postponed,
         target,
         delay,
         waveforms,

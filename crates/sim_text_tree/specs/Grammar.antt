@@ -215,10 +215,17 @@ label_again false label = nothing
 label_again true None = never
 label_again true (Some n) = just (This n.text)
 
+-- `postponed` again, where it is written and stood before
+abbrev pub postponed_again : Bool → Bool → Writing
+postponed_again false postponed = nothing
+postponed_again true false = never
+postponed_again true true = mark k.Postponed
+
 -- a concurrent signal assignment (11.6)
 unfoldable pub of_concurrent_assignment : ConcurrentSignalAssignment → Writing
 of_concurrent_assignment a =
-    labelled a.label ▸ word_at a.target ▸ mark k.SignalAssign ▸ of_delay a.delay ▸ of_waveforms a.waveforms ▸ mark k.Semicolon
+    labelled a.label ▸ if_written a.postponed (mark k.Postponed) ▸ word_at a.target ▸ mark k.SignalAssign ▸ of_delay a.delay ▸
+    of_waveforms a.waveforms ▸ mark k.Semicolon
 
 -- ---- sequential statements (10)
 
@@ -327,9 +334,9 @@ of_sensitivity (sensitivity.Names ns) = of_names ns
 
 -- a process statement (11.3)
 unfoldable pub of_process : Process → Writing
-of_process p = labelled p.label ▸ mark k.Process ▸ mark k.LeftParen ▸ of_sensitivity p.sensitivity ▸ mark k.RightParen ▸ if_written p.is (mark k.Is) ▸
-    all_of (map of_variable p.variables) ▸ mark k.Begin ▸ of_sequence p.statements ▸ mark k.End ▸ mark k.Process ▸ label_again p.label_repeated
-    p.label ▸ mark k.Semicolon
+of_process p = labelled p.label ▸ if_written p.postponed (mark k.Postponed) ▸ mark k.Process ▸ mark k.LeftParen ▸ of_sensitivity p.sensitivity ▸
+    mark k.RightParen ▸ if_written p.is (mark k.Is) ▸ all_of (map of_variable p.variables) ▸ mark k.Begin ▸ of_sequence p.statements ▸ mark k.End ▸
+    postponed_again p.postponed_repeated p.postponed ▸ mark k.Process ▸ label_again p.label_repeated p.label ▸ mark k.Semicolon
 
 -- an actual of a port map (6.5.7)
 abbrev pub of_actual : Actual → Writing

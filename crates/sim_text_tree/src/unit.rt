@@ -19,11 +19,14 @@ pub enum Sensitivity {
 #[derive(Drop)]
 pub struct Process {
     pub label: Option<Name>,
+    pub postponed: bool,
     pub sensitivity: Sensitivity,
     /// Whether `is` is written.
     pub is: bool,
     pub variables: Items<ObjectDeclaration>,
     pub statements: Items<Sequential>,
+    /// Whether `postponed` is written again at the end.
+    pub postponed_repeated: bool,
     /// Whether the label is written again at the end.
     pub label_repeated: bool,
 }

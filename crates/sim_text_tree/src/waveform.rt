@@ -45,6 +45,7 @@ pub enum DelayMechanism {
 #[derive(Drop)]
 pub struct ConcurrentSignalAssignment {
     pub label: Option<Name>,
+    pub postponed: bool,
     pub target: Name,
     pub delay: DelayMechanism,
     pub waveforms: ConditionalWaveforms,

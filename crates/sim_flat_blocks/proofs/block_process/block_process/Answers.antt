@@ -18,5 +18,5 @@ returns-clause-blocks c =
       c.in_ok-targets.ensures,
       c.as_slice-2.ensures,
     )
-    (block_process_fits c.args.objects c.args.listed c.args.targets.now c.args.variables c.args.statements c.requires.fits c.requires.targets
+    (block_process_fits c.args.objects c.args.postponed c.args.listed c.args.targets.now c.args.variables c.args.statements c.requires.fits c.requires.targets
     c.requires.listed)
