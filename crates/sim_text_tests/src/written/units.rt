@@ -16,9 +16,10 @@ fn put_sensitivity(line: &mut Line, sensitivity: &Sensitivity) {
     }
 }
 
-/// Puts a process, and whether its label is repeated at its end.
+/// Puts a process, and whether `postponed` and its label are repeated at its end.
 fn put_process(line: &mut Line, process: &Process) {
     line.put_label(&process.label);
+    line.put_if(process.postponed, "postponed ");
     line.put("process(");
     put_sensitivity(line, &process.sensitivity);
     line.put(")");
@@ -26,7 +27,9 @@ fn put_process(line: &mut Line, process: &Process) {
     put_variables(line, process.variables.as_slice());
     line.put("begin ");
     put_statements(line, process.statements.as_slice());
-    line.put("end process");
+    line.put("end ");
+    line.put_if(process.postponed_repeated, "postponed ");
+    line.put("process");
     line.put_if(process.label_repeated, " again");
     line.put(";");
 }

@@ -73,6 +73,7 @@ fn put_waveforms(line: &mut Line, waveforms: &ConditionalWaveforms) {
 /// Puts a concurrent assignment with its label.
 pub fn put_assignment(line: &mut Line, assignment: &ConcurrentSignalAssignment) {
     line.put_label(&assignment.label);
+    line.put_if(assignment.postponed, "postponed ");
     line.put_name(&assignment.target);
     line.put("<=");
     put_delay(line, &assignment.delay);
