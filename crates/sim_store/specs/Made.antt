@@ -11,4 +11,4 @@ simulation_of design m = record { design = design; cycles = length m.log.records
 
 -- It is what the simulation of this design holds.
 abbrev pub IsOf : Design → Made → Type 0
-IsOf design m = IsSimulation (simulation_of design m) m.sensitive m.codes m.time m.delta m.state m.log.records m.due m.totals.items
+IsOf design m = IsSimulation (simulation_of design m) m.sensitive m.codes m.frame m.time m.delta m.state m.log.records m.due m.totals.items

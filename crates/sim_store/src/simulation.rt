@@ -23,7 +23,7 @@ use crate::error::StoreError;
 use crate::history::records_from;
 use crate::totals::{count_last, none};
 use sim_exec::{Done, Job, Results};
-use sim_exec_code::Codes;
+use sim_exec_code::{Codes, Frame};
 use sim_flat_design::{Design, Process};
 use sim_logic::Logic;
 use sim_store_sets::{NumberSet, RowArray};
@@ -81,6 +81,8 @@ struct Made {
     delta: u64,
     sensitive: RowArray<usize>,
     codes: Codes,
+    /// On which they are executed.
+    frame: Frame,
     state: FlatState,
     log: Log,
     due: Due,
@@ -127,30 +129,33 @@ fn marks(
     Ok((due, deposited, totals))
 }
 
-/// For each net of a design the processes that are sensitive to it, and for each process its code.
-fn lists(alloc: Global, design: &Design) -> Result<(RowArray<usize>, Codes), AllocError>
-    ensures { IfOk result (λ l. spec.AreMade design.now l.0 l.1) }
+/// For each net of a design the processes that are sensitive to it, for each process its code, and a
+/// frame for all codes.
+fn lists(alloc: Global, design: &Design) -> Result<(RowArray<usize>, Codes, Frame), AllocError>
+    ensures { IfOk result (λ l. spec.AreMade design.now l.0 l.1 l.2) }
 {
     let sensitive = sensitive(alloc, design)?;
     let codes = Codes::of(alloc, design.processes())?;
-    Ok((sensitive, codes))
+    let frame = codes.frame(alloc)?;
+    Ok((sensitive, codes, frame))
 }
 
 /// What is made of a design: the flat lists of its nets, the codes of its processes, its first state
 /// with its record, that each process is to be executed, and that no net had an event.
 fn prepared(alloc: Global, design: &Design) -> Result<Made, AllocError>
     ensures start { IfOk result (λ m. (m.time ≡ 0) × (m.delta ≡ 0)) }
-    ensures lists { IfOk result (λ m. spec.IsMade design.now m.sensitive m.codes m.state m.log.records m.due m.deposited m.totals.items) }
+    ensures lists { IfOk result (λ m. spec.IsMade design.now m.sensitive m.codes m.frame m.state m.log.records m.due m.deposited m.totals.items) }
 {
     let nets = design.nets().len();
     let (due, deposited, totals) = marks(alloc, design.processes().len(), nets)?;
-    let (sensitive, codes) = lists(alloc, design)?;
+    let (sensitive, codes, frame) = lists(alloc, design)?;
     let (state, log) = started(alloc, design)?;
     Ok(Made {
         time: 0,
         delta: 0,
         sensitive,
         codes,
+        frame,
         state,
         log,
         due,
@@ -171,9 +176,9 @@ fn execute(alloc: Global, design: &Design, made: &mut Made, number: usize) -> Re
     ensures others { OnOk result ((p : ℕ) → spec.IsMissing (simulation_of design.now made.new) p → spec.IsMissing (simulation_of design.now made.old) p) }
 {
     let process = &design.processes()[number];
-    let codes = &mut made.codes;
+    let frame = &mut made.frame;
     made.state
-        .execute(alloc, number, process, made.time, codes)?;
+        .execute(alloc, number, process, made.time, &made.codes, frame)?;
     made.deposited.insert(number);
     Ok(())
 }

@@ -8,7 +8,7 @@ ghost use Rattle.sim_standard.specs.State.{driver_values};
 ghost use Rattle.sim_standard.specs.Statements.{executed};
 
 use sim_exec::Nets;
-use sim_exec_code::Codes;
+use sim_exec_code::{Codes, Frame};
 use sim_flat_design::{Body, Held};
 use sim_store_sets::{RowArray, bounds};
 use sim_wave::Driver;
@@ -19,7 +19,8 @@ fn execute_between<N: Nets>(
     alloc: Global,
     nets: &N,
     now: u64,
-    codes: &mut Codes,
+    codes: &Codes,
+    frame: &mut Frame,
     number: usize,
     body: &Body,
     drivers: &mut [Driver],
@@ -28,11 +29,12 @@ fn execute_between<N: Nets>(
     held: (usize, usize),
 ) -> Result<(), AllocError>
     requires now { now ≤ largest_time }
-    requires code { code.IsCodeOf body.now (code.code_at codes.old number) }
+    requires code { code.IsCodeOf body.now (code.code_at codes.now.codes number) }
+    requires frame { code.slots_of (code.code_at codes.now.codes number) ≤ frame.old }
     requires owned { (owned.0 ≤ owned.1) × (owned.1 ≤ length drivers.old) }
     requires held { (held.0 ≤ held.1) × (held.1 ≤ length variables.old) }
     requires ready { IsReady body.now now (record { drivers = slice_range drivers.old owned.0 owned.1; variables = slice_range variables.old held.0 held.1 }) }
-    ensures same { codes.new ≡ codes.old }
+    ensures frame { frame.new ≡ frame.old }
     ensures drivers { drivers.new ≡ take owned.0 drivers.old ++ slice_range drivers.new owned.0 owned.1 ++ drop owned.1 drivers.old }
     ensures variables { variables.new ≡ take held.0 variables.old ++ slice_range variables.new held.0 held.1 ++ drop held.1 variables.old }
     ensures ok { OnOk result (record { drivers = slice_range drivers.new owned.0 owned.1; variables = slice_range variables.new held.0 held.1 }
@@ -47,6 +49,7 @@ fn execute_between<N: Nets>(
         now,
         number,
         body,
+        frame,
         &mut drivers[owned.0..owned.1],
         &mut variables[held.0..held.1],
     )
@@ -57,18 +60,20 @@ pub fn execute_at<N: Nets>(
     alloc: Global,
     nets: &N,
     now: u64,
-    codes: &mut Codes,
+    codes: &Codes,
+    frame: &mut Frame,
     number: usize,
     body: &Body,
     drivers: &mut RowArray<Driver>,
     variables: &mut RowArray<Held>,
 ) -> Result<(), AllocError>
     requires now { now ≤ largest_time }
-    requires code { code.IsCodeOf body.now (code.code_at codes.old number) }
+    requires code { code.IsCodeOf body.now (code.code_at codes.now.codes number) }
+    requires frame { code.slots_of (code.code_at codes.now.codes number) ≤ frame.old }
     requires drivers { number < length drivers.old }
     requires variables { number < length variables.old }
     requires ready { IsReady body.now now (record { drivers = slice_index_or drivers.old number []; variables = slice_index_or variables.old number [] }) }
-    ensures same { codes.new ≡ codes.old }
+    ensures frame { frame.new ≡ frame.old }
     ensures drivers { drivers.new ≡ slice_set drivers.old number (slice_index_or drivers.new number []) }
     ensures variables { variables.new ≡ slice_set variables.old number (slice_index_or variables.new number []) }
     ensures ok { OnOk result (record { drivers = slice_index_or drivers.new number []; variables = slice_index_or variables.new number [] }
@@ -84,6 +89,7 @@ pub fn execute_at<N: Nets>(
         nets,
         now,
         codes,
+        frame,
         number,
         body,
         drivers.flat.as_mut_slice(),

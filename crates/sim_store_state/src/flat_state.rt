@@ -1,6 +1,6 @@
 //! What is held of the state of a design.
 
-ghost use Rattle.std.specs.Prelude.{ℕ, ◌≡◌, ◌↔◌, IsTrue, ◌<◌, ◌≤◌, ◌^◌, ◌++◌, ◌∷◌, [], List, Some, length, map, slice_set, MatchOption};
+ghost use Rattle.std.specs.Prelude.{ℕ, ◌≡◌, ◌↔◌, IsTrue, ◌<◌, ◌≤◌, ◌^◌, ◌++◌, ◌∷◌, [], List, Some, length, map, slice_index_or, slice_set, MatchOption};
 ghost use Rattle.std.specs.Prelude.{IfOk, OnOk, OnErr};
 ghost use Rattle.std.specs.Bool.{Decides};
 ghost use Rattle.sim_logic.specs.Time.{largest_time};
@@ -27,7 +27,7 @@ use crate::nets::{Seen, are_views, resolve_touched, settle, views_at};
 use crate::resumption::find_resumed;
 use crate::start::{connections, first_contents, nothing_pending};
 use sim_exec::NetView;
-use sim_exec_code::Codes;
+use sim_exec_code::{Codes, Frame};
 use sim_flat_design::{Design, Held, Process, Source};
 use sim_logic::Logic;
 use sim_store_sets::{NumberSet, RowArray, TimeQueue};
@@ -239,13 +239,16 @@ impl FlatState {
         number: usize,
         process: &Process,
         time: u64,
-        codes: &mut Codes,
+        codes: &Codes,
+        frame: &mut Frame,
     ) -> Result<(), AllocError>
         requires at { number < length self.old.owned }
         requires time { time ≤ largest_time }
-        requires code { code.IsCodeOf process.now.body (code.code_at codes.old number) }
+        requires code { code.IsCodeOf process.now.body (code.code_at codes.now.codes number) }
+        requires nets { slice_index_or codes.now.nets number [] ≡ process.now.nets }
+        requires frame { code.slots_of (code.code_at codes.now.codes number) ≤ frame.old }
         requires ready { IsReady process.now.body time (owned_at self.old.owned number) }
-        ensures same { codes.new ≡ codes.old }
+        ensures frame { frame.new ≡ frame.old }
         ensures alone { self.new ≡ record self.old { owned = slice_set self.old.owned number (owned_at self.new.owned number) } }
         ensures ok { OnOk result (self.new ≡ record self.old {
           owned = slice_set self.old.owned number
@@ -254,7 +257,7 @@ impl FlatState {
         ensures ready { IsReady process.now.body time (owned_at self.new.owned number) }
     {
         let seen = Seen {
-            object_nets: process.nets(),
+            object_nets: codes.nets(number),
             values: self.values.as_slice(),
             last_values: self.last_values.as_slice(),
         };
@@ -263,6 +266,7 @@ impl FlatState {
             &seen,
             time,
             codes,
+            frame,
             number,
             process.body(),
             &mut self.drivers,

@@ -24,7 +24,8 @@ with_own h n own = record { sources = h.sources; nets = h.nets; owned = set h.ow
 pub execute_at-done-requires : goal.execute_at-done-requires
 execute_at-done-requires c = record {
   now = c.requires.time;
-  code = subst (λ (b : Body). IsCodeOf b (code_at c.args.codes.now c.args.number)) (sym c.body.ensures) c.requires.code;
+  code = subst (λ (b : Body). IsCodeOf b (code_at c.args.codes.now.codes c.args.number)) (sym c.body.ensures) c.requires.code;
+  frame = c.requires.frame;
   drivers = omega (arith, c.requires.at, owned-count c.self.view_is c.self.invariant.lists);
   variables = omega (arith, c.requires.at, owned-count c.self.view_is c.self.invariant.lists, c.self.invariant.lists.owned);
   ready = subst (λ (b : Body). IsReady b c.args.time (as_owned (get_or c.self.inside.drivers c.args.number [])
@@ -69,7 +70,7 @@ returns c =
     let look = sees c.args.self.now.nets s.values.items s.last_values.items c.as_slice.result.now c.as_slice-2.result.now c.args.process.now.nets
     c.nets.result.now
     net
-    c.as_slice.ensures.value c.as_slice-2.ensures.value c.nets.ensures.value in
+    c.as_slice.ensures.value c.as_slice-2.ensures.value (c.nets.ensures ∙ c.requires.nets) in
     let left = as_owned (get_or s.drivers n []) (get_or s.variables n []) in
     let process = c.args.process.now in
     let done = executed (seen c.args.self.now.nets process.nets) c.args.time process.body.statements (get_or c.args.self.now.owned n nothing_owned) in
@@ -85,7 +86,7 @@ returns c =
     (subst (λ (f : ℕ → NetView). OnOk e.result (as_owned (get_or e.new.drivers n []) (get_or e.new.variables n [])
     ≡ executed f c.args.time c.body.result.now.statements left)) look e.ensures.ok))) in
     record {
-      same = e.ensures.same;
+      frame = e.ensures.frame;
       alone = alone;
       ok = on_ok_weaker e.result (λ (is_done : now ≡ done). alone ∙ ap (with_own h n) is_done) ok;
       ready = subst (IsReady process.body c.args.time) (sym is)
