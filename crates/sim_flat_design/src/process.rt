@@ -146,13 +146,6 @@ impl Process {
         self.parts.object_nets.as_slice()
     }
 
-    /// The same nets, as the processes of an instance share them.
-    pub fn object_nets(&self) -> &ObjectNets
-        ensures { result.now ≡ self.now.nets }
-    {
-        &self.parts.object_nets
-    }
-
     /// The number of its first driver; the others follow it.
     pub fn first_driver(&self) -> usize
         ensures { result ≡ self.now.first_driver }

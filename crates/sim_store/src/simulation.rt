@@ -13,7 +13,7 @@ ghost use Rattle.sim_standard.specs.State.{driver_values, net_at, owned_at};
 ghost use Rattle.sim_logic.specs.Time.{largest_time};
 ghost use Rattle.sim_standard.specs.Agreement.{total_of, value_by};
 ghost use Rattle.sim_standard.specs.Histories.{IsNamed, event_count, records_to};
-ghost use Rattle.sim_store.specs.Made.{IsOf, simulation_of};
+ghost use Rattle.sim_store.specs.Made.{AreFirst, IsOf, simulation_of};
 ghost use Rattle.sim_store.specs.Simulation as spec;
 ghost use Rattle.sim_standard.specs.Cycle.{resumed, standard};
 ghost use Rattle.sim_store.specs.WaveStore as store;
@@ -73,16 +73,22 @@ fn put_results(state: &mut FlatState, number: usize, results: Option<Results>)
     }
 }
 
+/// What is made of a design once: for each net the processes that are sensitive to it, for each
+/// process its code, and a frame on which codes are executed.
+#[derive(Drop)]
+struct Lists {
+    sensitive: RowArray<usize>,
+    codes: Codes,
+    frame: Frame,
+}
+
 /// What is made of a design, and carried on from cycle to cycle: the time and the delta number of
 /// the last cycle, and the lists.
 #[derive(Drop)]
 struct Made {
     time: u64,
     delta: u64,
-    sensitive: RowArray<usize>,
-    codes: Codes,
-    /// On which they are executed.
-    frame: Frame,
+    lists: Lists,
     state: FlatState,
     log: Log,
     due: Due,
@@ -129,33 +135,34 @@ fn marks(
     Ok((due, deposited, totals))
 }
 
-/// For each net of a design the processes that are sensitive to it, for each process its code, and a
-/// frame for all codes.
-fn lists(alloc: Global, design: &Design) -> Result<(RowArray<usize>, Codes, Frame), AllocError>
-    ensures { IfOk result (λ l. spec.AreMade design.now l.0 l.1 l.2) }
+/// What is made of a design once.
+fn lists(alloc: Global, design: &Design) -> Result<Lists, AllocError>
+    ensures { IfOk result (λ l. spec.AreMade design.now l.sensitive l.codes l.frame) }
 {
     let sensitive = sensitive(alloc, design)?;
     let codes = Codes::of(alloc, design.processes())?;
     let frame = codes.frame(alloc)?;
-    Ok((sensitive, codes, frame))
+    Ok(Lists {
+        sensitive,
+        codes,
+        frame,
+    })
 }
 
 /// What is made of a design: the flat lists of its nets, the codes of its processes, its first state
 /// with its record, that each process is to be executed, and that no net had an event.
 fn prepared(alloc: Global, design: &Design) -> Result<Made, AllocError>
     ensures start { IfOk result (λ m. (m.time ≡ 0) × (m.delta ≡ 0)) }
-    ensures lists { IfOk result (λ m. spec.IsMade design.now m.sensitive m.codes m.frame m.state m.log.records m.due m.deposited m.totals.items) }
+    ensures lists { IfOk result (λ m. AreFirst design.now m) }
 {
     let nets = design.nets().len();
     let (due, deposited, totals) = marks(alloc, design.processes().len(), nets)?;
-    let (sensitive, codes, frame) = lists(alloc, design)?;
+    let lists = lists(alloc, design)?;
     let (state, log) = started(alloc, design)?;
     Ok(Made {
         time: 0,
         delta: 0,
-        sensitive,
-        codes,
-        frame,
+        lists,
         state,
         log,
         due,
@@ -176,9 +183,10 @@ fn execute(alloc: Global, design: &Design, made: &mut Made, number: usize) -> Re
     ensures others { OnOk result ((p : ℕ) → spec.IsMissing (simulation_of design.now made.new) p → spec.IsMissing (simulation_of design.now made.old) p) }
 {
     let process = &design.processes()[number];
-    let frame = &mut made.frame;
+    let lists = &mut made.lists;
+    let frame = &mut lists.frame;
     made.state
-        .execute(alloc, number, process, made.time, &made.codes, frame)?;
+        .execute(alloc, number, process, made.time, &lists.codes, frame)?;
     made.deposited.insert(number);
     Ok(())
 }
@@ -357,7 +365,9 @@ impl Simulation {
             .state
             .record(&mut self.made.log, time, self.made.delta);
         count_last(self.made.totals.as_mut_slice(), &self.made.log);
-        self.made.due.find(&self.made.state, &self.made.sensitive);
+        self.made
+            .due
+            .find(&self.made.state, &self.made.lists.sensitive);
         self.made.deposited.clear();
         Ok(())
     }

@@ -15,9 +15,10 @@ use sim_wave::Driver;
 use std::alloc::{AllocError, Global};
 
 /// Executes a body, where what its process owns stands between these bounds.
-fn execute_between<N: Nets>(
+fn execute_between<N: Nets, P: Nets>(
     alloc: Global,
     nets: &N,
+    places: &P,
     now: u64,
     codes: &Codes,
     frame: &mut Frame,
@@ -30,6 +31,7 @@ fn execute_between<N: Nets>(
 ) -> Result<(), AllocError>
     requires now { now ≤ largest_time }
     requires code { code.IsCodeOf body.now (code.code_at codes.now.codes number) }
+    requires placed { code.ArePlaced (N.look nets.now) (P.look places.now) (code.objects_of (code.code_at codes.now.codes number)) }
     requires frame { code.slots_of (code.code_at codes.now.codes number) ≤ frame.old }
     requires owned { (owned.0 ≤ owned.1) × (owned.1 ≤ length drivers.old) }
     requires held { (held.0 ≤ held.1) × (held.1 ≤ length variables.old) }
@@ -46,6 +48,7 @@ fn execute_between<N: Nets>(
     codes.execute(
         alloc,
         nets,
+        places,
         now,
         number,
         body,
@@ -56,9 +59,10 @@ fn execute_between<N: Nets>(
 }
 
 /// Executes the body of the process with a number.
-pub fn execute_at<N: Nets>(
+pub fn execute_at<N: Nets, P: Nets>(
     alloc: Global,
     nets: &N,
+    places: &P,
     now: u64,
     codes: &Codes,
     frame: &mut Frame,
@@ -69,6 +73,7 @@ pub fn execute_at<N: Nets>(
 ) -> Result<(), AllocError>
     requires now { now ≤ largest_time }
     requires code { code.IsCodeOf body.now (code.code_at codes.now.codes number) }
+    requires placed { code.ArePlaced (N.look nets.now) (P.look places.now) (code.objects_of (code.code_at codes.now.codes number)) }
     requires frame { code.slots_of (code.code_at codes.now.codes number) ≤ frame.old }
     requires drivers { number < length drivers.old }
     requires variables { number < length variables.old }
@@ -87,6 +92,7 @@ pub fn execute_at<N: Nets>(
     execute_between(
         alloc,
         nets,
+        places,
         now,
         codes,
         frame,

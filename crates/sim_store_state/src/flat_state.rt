@@ -23,7 +23,7 @@ ghost use Rattle.sim_store_state.specs.Sensitive.{AreSensitive};
 use crate::drivers::{are_same, bring_up_to_date, copied, mark_stale, take_due, tell_row};
 use crate::execution::execute_at;
 use crate::log::Log;
-use crate::nets::{Seen, are_views, resolve_touched, settle, views_at};
+use crate::nets::{Seen, SeenBy, are_views, resolve_touched, settle, views_at};
 use crate::resumption::find_resumed;
 use crate::start::{connections, first_contents, nothing_pending};
 use sim_exec::NetView;
@@ -245,7 +245,7 @@ impl FlatState {
         requires at { number < length self.old.owned }
         requires time { time ≤ largest_time }
         requires code { code.IsCodeOf process.now.body (code.code_at codes.now.codes number) }
-        requires nets { slice_index_or codes.now.nets number [] ≡ process.now.nets }
+        requires nets { slice_index_or codes.now.nets number [] ≡ code.gathered_nets process.now.nets (code.code_at codes.now.codes number) }
         requires frame { code.slots_of (code.code_at codes.now.codes number) ≤ frame.old }
         requires ready { IsReady process.now.body time (owned_at self.old.owned number) }
         ensures frame { frame.new ≡ frame.old }
@@ -256,14 +256,22 @@ impl FlatState {
         }) }
         ensures ready { IsReady process.now.body time (owned_at self.new.owned number) }
     {
-        let seen = Seen {
+        let values = self.values.as_slice();
+        let last_values = self.last_values.as_slice();
+        let seen = SeenBy {
+            process,
+            values,
+            last_values,
+        };
+        let gathered = Seen {
             object_nets: codes.nets(number),
-            values: self.values.as_slice(),
-            last_values: self.last_values.as_slice(),
+            values,
+            last_values,
         };
         let done = execute_at(
             alloc,
             &seen,
+            &gathered,
             time,
             codes,
             frame,

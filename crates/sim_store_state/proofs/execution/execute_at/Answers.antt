@@ -24,6 +24,7 @@ execute_between-requires g c =
     record {
       now = c.requires.now;
       code = c.requires.code;
+      placed = c.requires.placed;
       frame = c.requires.frame;
       owned = (q.order, q.within);
       held = (r.order, r.within);

@@ -1,4 +1,4 @@
-use Rattle.std.proofs.Common.{ℕ, List, [], ◌≡◌, ap, sym, ◌∙◌, subst, arith, get_or, length, set}
+use Rattle.std.proofs.Common.{ℕ, List, [], ◌≡◌, refl, ap, sym, ◌∙◌, subst, arith, get_or, length, set}
 use Rattle.std.proofs.lemmas.List.{length-set}
 use Rattle.std.specs.Prelude.{OnOk}
 use Rattle.std.proofs.lemmas.Result.{on_ok_weaker}
@@ -9,7 +9,7 @@ use Rattle.sim_exec_code.specs.Codes.{IsCodeOf, code_at}
 use Rattle.sim_standard.specs.State.{Owned, nothing_owned}
 use Rattle.sim_standard.specs.Statements.{executed}
 use Rattle.sim_store_state.specs.FlatState.{FlatState, views_of, owned_lists}
-use Rattle.sim_store_state.proofs.Contents.{as_owned, owned-by, owned-count, owned-now, held-set, seen, sees}
+use Rattle.sim_store_state.proofs.Contents.{as_owned, gathered_placed, owned-by, owned-count, owned-now, held-set, seen, sees}
 use Rattle.sim_standard.specs.Drivers.{Waveform}
 use Rattle.sim_store_sets.specs.RowArray.{joined}
 use Rattle.sim_store_state.specs.Changes.{AreTimes}
@@ -25,6 +25,8 @@ pub execute_at-done-requires : goal.execute_at-done-requires
 execute_at-done-requires c = record {
   now = c.requires.time;
   code = subst (λ (b : Body). IsCodeOf b (code_at c.args.codes.now.codes c.args.number)) (sym c.body.ensures) c.requires.code;
+  placed = gathered_placed c.args.process.now.nets c.as_slice-values.result.now c.as_slice-last_values.result.now
+      c.nets.result.now (code_at c.args.codes.now.codes c.args.number) (c.nets.ensures ∙ c.requires.nets);
   frame = c.requires.frame;
   drivers = omega (arith, c.requires.at, owned-count c.self.view_is c.self.invariant.lists);
   variables = omega (arith, c.requires.at, owned-count c.self.view_is c.self.invariant.lists, c.self.invariant.lists.owned);
@@ -67,10 +69,10 @@ returns c =
     let is = owned-now c.self.invariant.lists n _ _ e.new.drivers e.new.variables e.ensures.drivers e.ensures.variables in
     let now = get_or (owned_lists e.new.drivers e.new.variables) n nothing_owned in
     let net : views_of s.values.items s.last_values.items ≡ c.args.self.now.nets = ap (λ (h : FlatState). h.nets) c.self.view_is in
-    let look = sees c.args.self.now.nets s.values.items s.last_values.items c.as_slice.result.now c.as_slice-2.result.now c.args.process.now.nets
-    c.nets.result.now
+    let nets = c.args.process.now.nets in
+    let look = sees c.args.self.now.nets s.values.items s.last_values.items c.as_slice-values.result.now c.as_slice-last_values.result.now nets nets
     net
-    c.as_slice.ensures.value c.as_slice-2.ensures.value (c.nets.ensures ∙ c.requires.nets) in
+    c.as_slice-values.ensures.value c.as_slice-last_values.ensures.value refl in
     let left = as_owned (get_or s.drivers n []) (get_or s.variables n []) in
     let process = c.args.process.now in
     let done = executed (seen c.args.self.now.nets process.nets) c.args.time process.body.statements (get_or c.args.self.now.owned n nothing_owned) in
