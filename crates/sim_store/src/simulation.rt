@@ -136,7 +136,7 @@ fn marks(
 }
 
 /// What is made of a design once.
-fn lists(alloc: Global, design: &Design) -> Result<Lists, AllocError>
+fn made_once(alloc: Global, design: &Design) -> Result<Lists, AllocError>
     ensures { IfOk result (λ l. spec.AreMade design.now l.sensitive l.codes l.frame) }
 {
     let sensitive = sensitive(alloc, design)?;
@@ -157,7 +157,7 @@ fn prepared(alloc: Global, design: &Design) -> Result<Made, AllocError>
 {
     let nets = design.nets().len();
     let (due, deposited, totals) = marks(alloc, design.processes().len(), nets)?;
-    let lists = lists(alloc, design)?;
+    let lists = made_once(alloc, design)?;
     let (state, log) = started(alloc, design)?;
     Ok(Made {
         time: 0,
