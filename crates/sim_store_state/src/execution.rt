@@ -1,6 +1,7 @@
 //! The execution of a process in place, on its part of flat lists.
 
-ghost use Rattle.std.specs.Prelude.{◌≡◌, ◌<◌, ◌≤◌, ◌++◌, [], length, take, drop, slice_range, slice_index_or, slice_set, OnOk};
+ghost use Rattle.std.specs.Prelude.{◌≡◌, ◌<◌, ◌≤◌, ◌++◌, [], length, take, drop, slice_range, slice_index_or, slice_set, false, Ok, IfOk, OnOk};
+ghost use Rattle.sim_store_state.specs.Executions as spec;
 ghost use Rattle.sim_logic.specs.Time.{largest_time};
 ghost use Rattle.sim_exec.specs.Jobs.{IsReady};
 ghost use Rattle.sim_exec_code.specs.Codes as code;
@@ -14,7 +15,8 @@ use sim_store_sets::{RowArray, bounds};
 use sim_wave::Driver;
 use std::alloc::{AllocError, Global};
 
-/// Executes a body, where what its process owns stands between these bounds.
+/// Executes a body, where what its process owns stands between these bounds. Says whether anything
+/// may have been done.
 fn execute_between<N: Nets, P: Nets>(
     alloc: Global,
     nets: &N,
@@ -28,7 +30,7 @@ fn execute_between<N: Nets, P: Nets>(
     owned: (usize, usize),
     variables: &mut [Held],
     held: (usize, usize),
-) -> Result<(), AllocError>
+) -> Result<bool, AllocError>
     requires now { now ≤ largest_time }
     requires code { code.IsCodeOf body.now (code.code_at codes.now.codes number) }
     requires placed { code.ArePlaced (N.look nets.now) (P.look places.now) (code.objects_of (code.code_at codes.now.codes number)) }
@@ -44,6 +46,7 @@ fn execute_between<N: Nets, P: Nets>(
         (record { drivers = slice_range drivers.old owned.0 owned.1; variables = slice_range variables.old held.0 held.1 })) }
     ensures ready { IsReady body.now now (record { drivers = slice_range drivers.new owned.0 owned.1; variables = slice_range variables.new held.0 held.1 }) }
     ensures values { driver_values (slice_range drivers.new owned.0 owned.1) ≡ driver_values (slice_range drivers.old owned.0 owned.1) }
+    ensures idle { IfOk result (λ done. done ≡ false → slice_range drivers.new owned.0 owned.1 ≡ slice_range drivers.old owned.0 owned.1) }
 {
     codes.execute(
         alloc,
@@ -58,7 +61,7 @@ fn execute_between<N: Nets, P: Nets>(
     )
 }
 
-/// Executes the body of the process with a number.
+/// Executes the body of the process with a number. Says whether anything may have been done.
 pub fn execute_at<N: Nets, P: Nets>(
     alloc: Global,
     nets: &N,
@@ -70,7 +73,7 @@ pub fn execute_at<N: Nets, P: Nets>(
     body: &Body,
     drivers: &mut RowArray<Driver>,
     variables: &mut RowArray<Held>,
-) -> Result<(), AllocError>
+) -> Result<bool, AllocError>
     requires now { now ≤ largest_time }
     requires code { code.IsCodeOf body.now (code.code_at codes.now.codes number) }
     requires placed { code.ArePlaced (N.look nets.now) (P.look places.now) (code.objects_of (code.code_at codes.now.codes number)) }
@@ -86,6 +89,7 @@ pub fn execute_at<N: Nets, P: Nets>(
         (record { drivers = slice_index_or drivers.old number []; variables = slice_index_or variables.old number [] })) }
     ensures ready { IsReady body.now now (record { drivers = slice_index_or drivers.new number []; variables = slice_index_or variables.new number [] }) }
     ensures values { driver_values (slice_index_or drivers.new number []) ≡ driver_values (slice_index_or drivers.old number []) }
+    ensures idle { IfOk result (λ done. done ≡ false → slice_index_or drivers.new number [] ≡ slice_index_or drivers.old number []) }
 {
     let owned = bounds(drivers.starts.as_slice(), number);
     let held = bounds(variables.starts.as_slice(), number);
@@ -103,4 +107,24 @@ pub fn execute_at<N: Nets, P: Nets>(
         variables.flat.as_mut_slice(),
         held,
     )
+}
+
+/// Whether anything may have been done: an execution that failed may have done a part of it.
+pub fn may_have_changed(done: &Result<bool, AllocError>) -> bool
+    ensures { result ≡ false → done.now ≡ Ok false }
+{
+    match done {
+        Ok(done) => *done,
+        Err(_) => true,
+    }
+}
+
+/// Whether an execution failed.
+pub fn as_done(done: Result<bool, AllocError>) -> Result<(), AllocError>
+    ensures { result ≡ spec.outcome_of done }
+{
+    match done {
+        Ok(_) => Ok(()),
+        Err(error) => Err(error),
+    }
 }

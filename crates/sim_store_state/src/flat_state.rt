@@ -20,8 +20,8 @@ ghost use Rattle.sim_store_state.specs.FlatState.{flat_state_of};
 ghost use Rattle.sim_standard.specs.Records.{changes_from, values_of};
 ghost use Rattle.sim_store_state.specs.Sensitive.{AreSensitive};
 
-use crate::drivers::{are_same, bring_up_to_date, copied, mark_stale, take_due, tell_row};
-use crate::execution::execute_at;
+use crate::drivers::{are_same, bring_up_to_date, copied, mark_stale, take_due, tell_changed};
+use crate::execution::{as_done, execute_at, may_have_changed};
 use crate::log::Log;
 use crate::nets::{Seen, SeenBy, are_views, resolve_touched, settle, views_at};
 use crate::resumption::find_resumed;
@@ -280,8 +280,15 @@ impl FlatState {
             &mut self.drivers,
             &mut self.variables,
         );
-        tell_row(&mut self.queue, &mut self.stale, &self.drivers, number);
-        done
+        let changed = may_have_changed(&done);
+        tell_changed(
+            &mut self.queue,
+            &mut self.stale,
+            &self.drivers,
+            number,
+            changed,
+        );
+        as_done(done)
     }
 
     /// Finds the processes that the next step executes, where the last cycle is done: those that

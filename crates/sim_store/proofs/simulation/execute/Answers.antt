@@ -52,7 +52,8 @@ returns-clause-of c =
     (omega (arith, c.requires.at, ap length c.processes.ensures.value))
     ∙ ap (λ (ps : List Process). process_at ps c.args.number) c.processes.ensures.value) in
     record {
-      made = subst (AreMade c.args.design.now c.args.made.now.lists.sensitive c.args.made.now.lists.codes) (sym c.in_ok-execute.ensures.frame) c.requires.of.made;
+      made = subst (AreMade c.args.design.now c.args.made.now.lists.sensitive c.args.made.now.lists.codes) (sym c.in_ok-execute.ensures.frame)
+          c.requires.of.made;
       state = subst (λ (marks : List Bool). IsStateOf (with_marks (simulation_of c.args.design.now c.args.made.now) marks) c.args.made.now.time
           c.args.made.now.delta c.execute.new.self c.args.made.now.log.records c.args.made.now.due) (sym c.insert.ensures)
           (executed-keeps i c.args.number c.requires.at c.requires.fresh c.index-processes-number.result c.execute.new.self is
