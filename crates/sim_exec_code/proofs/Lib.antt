@@ -10,3 +10,4 @@ pub mod HeldVariables
 pub mod Executions
 pub mod Assembled
 pub mod SharedCodes
+pub mod InARow

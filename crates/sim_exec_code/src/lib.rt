@@ -17,6 +17,7 @@ mod operators;
 mod packed;
 mod packing;
 mod program;
+mod programs;
 mod running;
 mod sharing;
 mod statements;

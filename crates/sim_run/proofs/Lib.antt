@@ -1,4 +1,5 @@
 pub mod Answering
+pub mod Finishing
 pub mod NestedValues
 pub mod Programs
 pub mod Simulations

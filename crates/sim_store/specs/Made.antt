@@ -3,7 +3,7 @@
 use Rattle.std.specs.Prelude.{◌-◌, length}
 use Rattle.sim_flat_design.specs.Designs.{Design}
 use Rattle.sim_store.specs.declared.simulation.Made.{Made}
-use Rattle.sim_store.specs.Simulation.{Simulation, IsSimulation}
+use Rattle.sim_store.specs.Simulation.{Simulation, IsSimulation, IsMade}
 
 -- as many cycles as records after the first
 abbrev pub simulation_of : Design → Made → Simulation
@@ -12,4 +12,10 @@ simulation_of design m = record { design = design; cycles = length m.log.records
 -- It is what the simulation of this design holds.
 abbrev pub IsOf : Design → Made → Type 0
 IsOf design m =
-    IsSimulation (simulation_of design m) m.sensitive m.codes m.time m.delta m.state m.log.records m.due m.waiting.postponed m.waiting.waiting m.totals.items
+    IsSimulation (simulation_of design m) m.lists.sensitive m.lists.codes m.lists.frame m.time m.delta m.state m.log.records m.due m.waiting.postponed
+    m.waiting.waiting m.totals.items
+
+-- It is what the simulation of this design holds at first.
+abbrev pub AreFirst : Design → Made → Type 0
+AreFirst design m =
+    IsMade design m.lists.sensitive m.lists.codes m.lists.frame m.state m.log.records m.due m.deposited m.waiting.postponed m.waiting.waiting m.totals.items

@@ -9,7 +9,7 @@ use Rattle.sim_standard.specs.State.{State, Owned, owned_at}
 use Rattle.sim_standard.specs.Processes.{part, outcome, process_at}
 use Rattle.sim_logic.specs.Time.{largest_time}
 use Rattle.sim_exec.specs.Jobs.{IsReady, Job, scene}
-use Rattle.sim_exec_code.specs.Codes.{Program, AreCodesOf}
+use Rattle.sim_exec_code.specs.Codes.{Coded, AreCodesOf, FitsAll}
 use Rattle.sim_standard.specs.declared.record.Record.{Record}
 use Rattle.sim_store_state.specs.FlatState.{FlatState, flat_state_of, sources_of}
 use Rattle.sim_standard.specs.Records.{first_record}
@@ -155,14 +155,17 @@ pub record IsResult (h : Simulation) (p : ℕ) (own : Owned) : Type 0 where
   pub resumed : is_due h p ≡ true
   pub result : own ≡ outcome (process_at h.design.processes p) (part (process_at h.design.processes p) p (reached h))
 
--- The lists that are made once are those of the design: for each net the processes that are sensitive to it, for each process its code and whether it
--- is postponed.
-pub record AreMade (design : Design) (sensitive : List (List ℕ)) (codes : List (Option Program)) (postponed : List Bool) : Type 0 where
+-- The lists that are made once are those of the design: for each net the processes that are sensitive to it, and for each process its code.
+pub record AreMade (design : Design) (sensitive : List (List ℕ)) (codes : Coded) (frame : ℕ) : Type 0 where
   pub sensitive_sized : length sensitive ≡ length design.nets
   pub sensitive_are : AreSensitive design.processes sensitive
   pub codes_are : AreCodesOf design.processes codes
-  pub postponed_sized : length postponed ≡ length design.processes
-  pub postponed_are : (p : ℕ) → p < length design.processes → those_in postponed p ≡ is_postponed design p
+  pub frame_fits : FitsAll codes.codes frame
+
+-- These are the postponed processes of the design.
+pub record ArePostponed (design : Design) (postponed : List Bool) : Type 0 where
+  pub sized : length postponed ≡ length design.processes
+  pub are : (p : ℕ) → p < length design.processes → those_in postponed p ≡ is_postponed design p
 
 -- The totals are one for each net: how many changes it has in the records after the first.
 pub record AreTotals (nets : ℕ) (records : List Record) (totals : List ℕ) : Type 0 where
@@ -178,9 +181,10 @@ pub record AreParted (design : Design) (due waiting : List Bool) : Type 0 where
 
 -- What is made of a design at first: those lists, its first state with its record, that each process is due or waits and none has been executed, and that
 -- no net had an event.
-pub record IsMade (design : Design) (sensitive : List (List ℕ)) (codes : List (Option Program)) (held : FlatState) (records : List Record)
+pub record IsMade (design : Design) (sensitive : List (List ℕ)) (codes : Coded) (frame : ℕ) (held : FlatState) (records : List Record)
     (due deposited : List Bool) (postponed waiting : List Bool) (totals : List ℕ) : Type 0 where
-  pub lists : AreMade design sensitive codes postponed
+  pub lists : AreMade design sensitive codes frame
+  pub marked : ArePostponed design postponed
   pub held_is : held ≡ flat_state_of design (first_state design)
   pub records_is : records ≡ first_record (first_state design) ∷ []
   pub parted : AreParted design due waiting
@@ -188,9 +192,10 @@ pub record IsMade (design : Design) (sensitive : List (List ℕ)) (codes : List 
   pub totals_is : totals ≡ replicate (length design.nets) 0
 
 -- What a simulation holds: the lists that were made once, the state, records and marks, and the totals of its nets.
-pub record IsSimulation (h : Simulation) (sensitive : List (List ℕ)) (codes : List (Option Program)) (time delta : ℕ) (held : FlatState)
+pub record IsSimulation (h : Simulation) (sensitive : List (List ℕ)) (codes : Coded) (frame : ℕ) (time delta : ℕ) (held : FlatState)
     (records : List Record) (due postponed waiting : List Bool) (totals : List ℕ) : Type 0 where
-  pub made : AreMade h.design sensitive codes postponed
+  pub made : AreMade h.design sensitive codes frame
+  pub marked : ArePostponed h.design postponed
   pub state : IsStateOf h time delta held records due waiting
   pub counts : AreTotals (length h.design.nets) records totals
 

@@ -13,11 +13,9 @@ ghost use Rattle.sim_standard.specs.State.{driver_values, net_at, owned_at};
 ghost use Rattle.sim_logic.specs.Time.{largest_time};
 ghost use Rattle.sim_standard.specs.Agreement.{total_of, value_by};
 ghost use Rattle.sim_standard.specs.Histories.{IsNamed, event_count, records_to};
-ghost use Rattle.sim_store.specs.Made.{IsOf, simulation_of};
+ghost use Rattle.sim_store.specs.Made.{AreFirst, IsOf, simulation_of};
 ghost use Rattle.sim_store.specs.Simulation as spec;
-ghost use Rattle.sim_standard.specs.Cycle.{CycleAt, is_postponed, standard};
-ghost use Rattle.sim_store_state.specs.Sensitive.{AreSensitive};
-ghost use Rattle.sim_exec_code.specs.Codes.{AreCodesOf};
+ghost use Rattle.sim_standard.specs.Cycle.{CycleAt, standard};
 ghost use Rattle.sim_store.specs.declared.phase.Phase.TheVariants as phase;
 ghost use Rattle.sim_store.specs.WaveStore as store;
 
@@ -28,7 +26,7 @@ use crate::phase::{Phase, Upcoming};
 use crate::totals::{count_last, none};
 use crate::waiting::Waiting;
 use sim_exec::{Done, Job, Results};
-use sim_exec_code::Codes;
+use sim_exec_code::{Codes, Frame};
 use sim_flat_design::{Design, Process};
 use sim_logic::Logic;
 use sim_store_sets::{NumberSet, RowArray};
@@ -103,14 +101,22 @@ fn leave(waiting: &mut Waiting, phase: Phase)
     }
 }
 
+/// What is made of a design once: for each net the processes that are sensitive to it, for each
+/// process its code, and a frame on which codes are executed.
+#[derive(Drop)]
+struct Lists {
+    sensitive: RowArray<usize>,
+    codes: Codes,
+    frame: Frame,
+}
+
 /// What is made of a design, and carried on from cycle to cycle: the time and the delta number of
 /// the last cycle, and the lists.
 #[derive(Drop)]
 struct Made {
     time: u64,
     delta: u64,
-    sensitive: RowArray<usize>,
-    codes: Codes,
+    lists: Lists,
     state: FlatState,
     log: Log,
     /// Which processes are executed now.
@@ -156,8 +162,7 @@ fn marks(alloc: Global, processes: usize, nets: usize) -> Result<(NumberSet, Vec
 /// Which processes of a design are to be executed first, and which postponed ones wait.
 fn parted(alloc: Global, design: &Design) -> Result<(Due, Waiting), AllocError>
     ensures parted { IfOk result (λ m. spec.AreParted design.now m.0 m.1.waiting) }
-    ensures postponed_sized { IfOk result (λ m. length m.1.postponed ≡ length design.now.processes) }
-    ensures postponed { IfOk result (λ m. (p : ℕ) → p < length design.now.processes → spec.those_in m.1.postponed p ≡ is_postponed design.now p) }
+    ensures postponed { IfOk result (λ m. spec.ArePostponed design.now m.1.postponed) }
 {
     let processes = design.processes();
     let mut waiting = Waiting::of(alloc, processes)?;
@@ -165,33 +170,34 @@ fn parted(alloc: Global, design: &Design) -> Result<(Due, Waiting), AllocError>
     Ok((due, waiting))
 }
 
-/// For each net of a design the processes that are sensitive to it, and for each process its code.
-fn lists(alloc: Global, design: &Design) -> Result<(RowArray<usize>, Codes), AllocError>
-    ensures sensitive_sized { IfOk result (λ l. length l.0 ≡ length design.now.nets) }
-    ensures sensitive { IfOk result (λ l. AreSensitive design.now.processes l.0) }
-    ensures codes { IfOk result (λ l. AreCodesOf design.now.processes l.1) }
+/// What is made of a design once.
+fn made_once(alloc: Global, design: &Design) -> Result<Lists, AllocError>
+    ensures { IfOk result (λ l. spec.AreMade design.now l.sensitive l.codes l.frame) }
 {
     let sensitive = sensitive(alloc, design)?;
     let codes = Codes::of(alloc, design.processes())?;
-    Ok((sensitive, codes))
+    let frame = codes.frame(alloc)?;
+    Ok(Lists {
+        sensitive,
+        codes,
+        frame,
+    })
 }
 
 /// What is made of a design: the flat lists of its nets, the codes of its processes, its first state
 /// with its record, which processes are to be executed, and that no net had an event.
 fn prepared(alloc: Global, design: &Design) -> Result<Made, AllocError>
     ensures start { IfOk result (λ m. (m.time ≡ 0) × (m.delta ≡ 0) × (m.phase ≡ phase.AtOnce)) }
-    ensures lists { IfOk result (λ m. spec.IsMade design.now m.sensitive m.codes m.state m.log.records m.due m.deposited m.waiting.postponed m.waiting.waiting
-        m.totals.items) }
+    ensures lists { IfOk result (λ m. AreFirst design.now m) }
 {
     let (deposited, totals) = marks(alloc, design.processes().len(), design.nets().len())?;
     let (due, waiting) = parted(alloc, design)?;
-    let (sensitive, codes) = lists(alloc, design)?;
+    let lists = made_once(alloc, design)?;
     let (state, log) = started(alloc, design)?;
     Ok(Made {
         time: 0,
         delta: 0,
-        sensitive,
-        codes,
+        lists,
         state,
         log,
         phase: Phase::AtOnce,
@@ -214,9 +220,10 @@ fn execute(alloc: Global, design: &Design, made: &mut Made, number: usize) -> Re
     ensures others { OnOk result ((p : ℕ) → spec.IsMissing (simulation_of design.now made.new) p → spec.IsMissing (simulation_of design.now made.old) p) }
 {
     let process = &design.processes()[number];
-    let codes = &mut made.codes;
+    let lists = &mut made.lists;
+    let frame = &mut lists.frame;
     made.state
-        .execute(alloc, number, process, made.time, codes)?;
+        .execute(alloc, number, process, made.time, &lists.codes, frame)?;
     made.deposited.insert(number);
     Ok(())
 }
@@ -425,7 +432,7 @@ impl Simulation {
         self.made.phase = Phase::AtOnce;
         self.made.due.find(
             &self.made.state,
-            &self.made.sensitive,
+            &self.made.lists.sensitive,
             &mut self.made.waiting,
         );
         self.made.deposited.clear();

@@ -1,10 +1,11 @@
 -- Flat lists hold what processes own, and nets.
-use Rattle.std.proofs.Common.{ℕ, zero, suc, ◌≡◌, ◌++◌, List, [], ◌∷◌, length, get_or, set, map, refl, ap, sym, ◌∙◌, arith}
-use Rattle.std.proofs.lemmas.List.{length-map, length-set}
+use Rattle.std.proofs.Common.{ℕ, zero, suc, ◌≡◌, ◌++◌, List, [], ◌∷◌, Option, length, get_or, set, map, refl, ap, sym, ◌∙◌, arith}
+use Rattle.std.proofs.lemmas.List.{length-map, length-set, get_or-map}
 use Rattle.sim_logic.specs.declared.logic.Logic.{Logic}
 use Rattle.sim_flat_design.specs.declared.held.Held.{Held}
 use Rattle.sim_flat_design.specs.declared.design.Source.{Source}
 use Rattle.sim_flat_design.specs.Designs.{Design, Net}
+use Rattle.sim_exec_code.specs.Codes.{Program, ArePlaced, objects_of, gathered_nets}
 use Rattle.sim_standard.specs.Drivers.{Waveform, taken}
 use Rattle.sim_store_sets.specs.RowArray.{joined}
 use Rattle.sim_standard.specs.declared.net_view.NetView.{NetView}
@@ -110,6 +111,13 @@ pub sees : (nets : List NetView) (values last_values values' last_values' : List
 sees nets values last_values values' last_values' object_nets object_nets' e ev el eh =
     ap (λ w. seen (views_of w last_values') object_nets') ev ∙ (ap (λ w. seen (views_of values w) object_nets') el
     ∙ (ap (seen (views_of values last_values)) eh ∙ ap (λ w. seen w object_nets) e))
+
+-- the nets that are gathered for a code, by place, are those of its ports and signals
+pub gathered_placed : (nets : List ℕ) (values last_values : List Logic) (row : List ℕ) (code : Option Program) → row ≡ gathered_nets nets code
+    → ArePlaced (seen (views_of values last_values) nets) (seen (views_of values last_values) row) (objects_of code)
+gathered_placed nets values last_values row code e = λ k lt.
+    ap (net_at (views_of values last_values)) (ap (λ (ns : List ℕ). get_or ns k 0) e
+    ∙ get_or-map (λ (o : ℕ). get_or nets o 0) (objects_of code) k 0 0 lt)
 
 -- ---- a cycle
 

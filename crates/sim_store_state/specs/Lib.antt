@@ -1,3 +1,4 @@
+pub mod Executions
 pub mod FlatState
 pub mod Sensitive
 pub mod Changes

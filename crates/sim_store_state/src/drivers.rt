@@ -88,12 +88,7 @@ fn tell_range(
 /// Gives the queue the first pending times of the drivers of the process with a number, which may be
 /// other ones than it has; those of the other drivers stay as right as they were. A driver that has
 /// the time that the queue has for it costs a comparison.
-pub fn tell_row(
-    queue: &mut TimeQueue,
-    stale: &mut NumberSet,
-    drivers: &RowArray<Driver>,
-    number: usize,
-)
+fn tell_row(queue: &mut TimeQueue, stale: &mut NumberSet, drivers: &RowArray<Driver>, number: usize)
     requires at { number < length drivers.now }
     requires queue { length queue.old ≡ length (joined drivers.now) }
     requires stale { length stale.old ≡ length (joined drivers.now) }
@@ -102,6 +97,27 @@ pub fn tell_row(
 {
     let (start, end) = bounds(drivers.starts.as_slice(), number);
     tell_range(queue, stale, drivers.flat.as_slice(), start, end);
+}
+
+/// The same, unless nothing was done.
+pub fn tell_changed(
+    queue: &mut TimeQueue,
+    stale: &mut NumberSet,
+    drivers: &RowArray<Driver>,
+    number: usize,
+    changed: bool,
+)
+    requires at { number < length drivers.now }
+    requires queue { length queue.old ≡ length (joined drivers.now) }
+    requires stale { length stale.old ≡ length (joined drivers.now) }
+    ensures { (row : List Waveform) → length row ≡ length (slice_index_or drivers.now number [])
+        → (changed ≡ false → row ≡ slice_index_or drivers.now number [])
+        → AreTimes queue.old stale.old (joined (slice_set drivers.now number row)) → AreTimes queue.new stale.new (joined drivers.now) }
+{
+    if !changed {
+        return;
+    }
+    tell_row(queue, stale, drivers, number);
 }
 
 /// A driver takes its first transaction, if its time has come; says whether it has another value

@@ -1,6 +1,7 @@
 //! The execution of a process in place, on its part of flat lists.
 
-ghost use Rattle.std.specs.Prelude.{◌≡◌, ◌<◌, ◌≤◌, ◌++◌, [], length, take, drop, slice_range, slice_index_or, slice_set, OnOk};
+ghost use Rattle.std.specs.Prelude.{◌≡◌, ◌<◌, ◌≤◌, ◌++◌, [], length, take, drop, slice_range, slice_index_or, slice_set, false, Ok, IfOk, OnOk};
+ghost use Rattle.sim_store_state.specs.Executions as spec;
 ghost use Rattle.sim_logic.specs.Time.{largest_time};
 ghost use Rattle.sim_exec.specs.Jobs.{IsReady};
 ghost use Rattle.sim_exec_code.specs.Codes as code;
@@ -8,31 +9,36 @@ ghost use Rattle.sim_standard.specs.State.{driver_values};
 ghost use Rattle.sim_standard.specs.Statements.{executed};
 
 use sim_exec::Nets;
-use sim_exec_code::Codes;
+use sim_exec_code::{Codes, Frame};
 use sim_flat_design::{Body, Held};
 use sim_store_sets::{RowArray, bounds};
 use sim_wave::Driver;
 use std::alloc::{AllocError, Global};
 
-/// Executes a body, where what its process owns stands between these bounds.
-fn execute_between<N: Nets>(
+/// Executes a body, where what its process owns stands between these bounds. Says whether anything
+/// may have been done.
+fn execute_between<N: Nets, P: Nets>(
     alloc: Global,
     nets: &N,
+    places: &P,
     now: u64,
-    codes: &mut Codes,
+    codes: &Codes,
+    frame: &mut Frame,
     number: usize,
     body: &Body,
     drivers: &mut [Driver],
     owned: (usize, usize),
     variables: &mut [Held],
     held: (usize, usize),
-) -> Result<(), AllocError>
+) -> Result<bool, AllocError>
     requires now { now ≤ largest_time }
-    requires code { code.IsCodeOf body.now (code.code_at codes.old number) }
+    requires code { code.IsCodeOf body.now (code.code_at codes.now.codes number) }
+    requires placed { code.ArePlaced (N.look nets.now) (P.look places.now) (code.objects_of (code.code_at codes.now.codes number)) }
+    requires frame { code.slots_of (code.code_at codes.now.codes number) ≤ frame.old }
     requires owned { (owned.0 ≤ owned.1) × (owned.1 ≤ length drivers.old) }
     requires held { (held.0 ≤ held.1) × (held.1 ≤ length variables.old) }
     requires ready { IsReady body.now now (record { drivers = slice_range drivers.old owned.0 owned.1; variables = slice_range variables.old held.0 held.1 }) }
-    ensures same { codes.new ≡ codes.old }
+    ensures frame { frame.new ≡ frame.old }
     ensures drivers { drivers.new ≡ take owned.0 drivers.old ++ slice_range drivers.new owned.0 owned.1 ++ drop owned.1 drivers.old }
     ensures variables { variables.new ≡ take held.0 variables.old ++ slice_range variables.new held.0 held.1 ++ drop held.1 variables.old }
     ensures ok { OnOk result (record { drivers = slice_range drivers.new owned.0 owned.1; variables = slice_range variables.new held.0 held.1 }
@@ -40,35 +46,42 @@ fn execute_between<N: Nets>(
         (record { drivers = slice_range drivers.old owned.0 owned.1; variables = slice_range variables.old held.0 held.1 })) }
     ensures ready { IsReady body.now now (record { drivers = slice_range drivers.new owned.0 owned.1; variables = slice_range variables.new held.0 held.1 }) }
     ensures values { driver_values (slice_range drivers.new owned.0 owned.1) ≡ driver_values (slice_range drivers.old owned.0 owned.1) }
+    ensures idle { IfOk result (λ done. done ≡ false → slice_range drivers.new owned.0 owned.1 ≡ slice_range drivers.old owned.0 owned.1) }
 {
     codes.execute(
         alloc,
         nets,
+        places,
         now,
         number,
         body,
+        frame,
         &mut drivers[owned.0..owned.1],
         &mut variables[held.0..held.1],
     )
 }
 
-/// Executes the body of the process with a number.
-pub fn execute_at<N: Nets>(
+/// Executes the body of the process with a number. Says whether anything may have been done.
+pub fn execute_at<N: Nets, P: Nets>(
     alloc: Global,
     nets: &N,
+    places: &P,
     now: u64,
-    codes: &mut Codes,
+    codes: &Codes,
+    frame: &mut Frame,
     number: usize,
     body: &Body,
     drivers: &mut RowArray<Driver>,
     variables: &mut RowArray<Held>,
-) -> Result<(), AllocError>
+) -> Result<bool, AllocError>
     requires now { now ≤ largest_time }
-    requires code { code.IsCodeOf body.now (code.code_at codes.old number) }
+    requires code { code.IsCodeOf body.now (code.code_at codes.now.codes number) }
+    requires placed { code.ArePlaced (N.look nets.now) (P.look places.now) (code.objects_of (code.code_at codes.now.codes number)) }
+    requires frame { code.slots_of (code.code_at codes.now.codes number) ≤ frame.old }
     requires drivers { number < length drivers.old }
     requires variables { number < length variables.old }
     requires ready { IsReady body.now now (record { drivers = slice_index_or drivers.old number []; variables = slice_index_or variables.old number [] }) }
-    ensures same { codes.new ≡ codes.old }
+    ensures frame { frame.new ≡ frame.old }
     ensures drivers { drivers.new ≡ slice_set drivers.old number (slice_index_or drivers.new number []) }
     ensures variables { variables.new ≡ slice_set variables.old number (slice_index_or variables.new number []) }
     ensures ok { OnOk result (record { drivers = slice_index_or drivers.new number []; variables = slice_index_or variables.new number [] }
@@ -76,14 +89,17 @@ pub fn execute_at<N: Nets>(
         (record { drivers = slice_index_or drivers.old number []; variables = slice_index_or variables.old number [] })) }
     ensures ready { IsReady body.now now (record { drivers = slice_index_or drivers.new number []; variables = slice_index_or variables.new number [] }) }
     ensures values { driver_values (slice_index_or drivers.new number []) ≡ driver_values (slice_index_or drivers.old number []) }
+    ensures idle { IfOk result (λ done. done ≡ false → slice_index_or drivers.new number [] ≡ slice_index_or drivers.old number []) }
 {
     let owned = bounds(drivers.starts.as_slice(), number);
     let held = bounds(variables.starts.as_slice(), number);
     execute_between(
         alloc,
         nets,
+        places,
         now,
         codes,
+        frame,
         number,
         body,
         drivers.flat.as_mut_slice(),
@@ -91,4 +107,24 @@ pub fn execute_at<N: Nets>(
         variables.flat.as_mut_slice(),
         held,
     )
+}
+
+/// Whether anything may have been done: an execution that failed may have done a part of it.
+pub fn may_have_changed(done: &Result<bool, AllocError>) -> bool
+    ensures { result ≡ false → done.now ≡ Ok false }
+{
+    match done {
+        Ok(done) => *done,
+        Err(_) => true,
+    }
+}
+
+/// Whether an execution failed.
+pub fn as_done(done: Result<bool, AllocError>) -> Result<(), AllocError>
+    ensures { result ≡ spec.outcome_of done }
+{
+    match done {
+        Ok(_) => Ok(()),
+        Err(error) => Err(error),
+    }
 }

@@ -1,6 +1,6 @@
 //! What is held of the state of a design.
 
-ghost use Rattle.std.specs.Prelude.{ℕ, ◌≡◌, ◌↔◌, IsTrue, ◌<◌, ◌≤◌, ◌^◌, ◌++◌, ◌∷◌, [], List, Some, length, map, slice_set, MatchOption};
+ghost use Rattle.std.specs.Prelude.{ℕ, ◌≡◌, ◌↔◌, IsTrue, ◌<◌, ◌≤◌, ◌^◌, ◌++◌, ◌∷◌, [], List, Some, length, map, slice_index_or, slice_set, MatchOption};
 ghost use Rattle.std.specs.Prelude.{IfOk, OnOk, OnErr};
 ghost use Rattle.std.specs.Bool.{Decides};
 ghost use Rattle.sim_logic.specs.Time.{largest_time};
@@ -20,14 +20,14 @@ ghost use Rattle.sim_store_state.specs.FlatState.{flat_state_of};
 ghost use Rattle.sim_standard.specs.Records.{changes_from, values_of};
 ghost use Rattle.sim_store_state.specs.Sensitive.{AreSensitive};
 
-use crate::drivers::{are_same, bring_up_to_date, copied, mark_stale, take_due, tell_row};
-use crate::execution::execute_at;
+use crate::drivers::{are_same, bring_up_to_date, copied, mark_stale, take_due, tell_changed};
+use crate::execution::{as_done, execute_at, may_have_changed};
 use crate::log::Log;
-use crate::nets::{Seen, are_views, resolve_touched, settle, views_at};
+use crate::nets::{Seen, SeenBy, are_views, resolve_touched, settle, views_at};
 use crate::resumption::find_resumed;
 use crate::start::{connections, first_contents, nothing_pending};
 use sim_exec::NetView;
-use sim_exec_code::Codes;
+use sim_exec_code::{Codes, Frame};
 use sim_flat_design::{Design, Held, Process, Source};
 use sim_logic::Logic;
 use sim_store_sets::{NumberSet, RowArray, TimeQueue};
@@ -239,13 +239,16 @@ impl FlatState {
         number: usize,
         process: &Process,
         time: u64,
-        codes: &mut Codes,
+        codes: &Codes,
+        frame: &mut Frame,
     ) -> Result<(), AllocError>
         requires at { number < length self.old.owned }
         requires time { time ≤ largest_time }
-        requires code { code.IsCodeOf process.now.body (code.code_at codes.old number) }
+        requires code { code.IsCodeOf process.now.body (code.code_at codes.now.codes number) }
+        requires nets { slice_index_or codes.now.nets number [] ≡ code.gathered_nets process.now.nets (code.code_at codes.now.codes number) }
+        requires frame { code.slots_of (code.code_at codes.now.codes number) ≤ frame.old }
         requires ready { IsReady process.now.body time (owned_at self.old.owned number) }
-        ensures same { codes.new ≡ codes.old }
+        ensures frame { frame.new ≡ frame.old }
         ensures alone { self.new ≡ record self.old { owned = slice_set self.old.owned number (owned_at self.new.owned number) } }
         ensures ok { OnOk result (self.new ≡ record self.old {
           owned = slice_set self.old.owned number
@@ -253,23 +256,39 @@ impl FlatState {
         }) }
         ensures ready { IsReady process.now.body time (owned_at self.new.owned number) }
     {
-        let seen = Seen {
-            object_nets: process.nets(),
-            values: self.values.as_slice(),
-            last_values: self.last_values.as_slice(),
+        let values = self.values.as_slice();
+        let last_values = self.last_values.as_slice();
+        let seen = SeenBy {
+            process,
+            values,
+            last_values,
+        };
+        let gathered = Seen {
+            object_nets: codes.nets(number),
+            values,
+            last_values,
         };
         let done = execute_at(
             alloc,
             &seen,
+            &gathered,
             time,
             codes,
+            frame,
             number,
             process.body(),
             &mut self.drivers,
             &mut self.variables,
         );
-        tell_row(&mut self.queue, &mut self.stale, &self.drivers, number);
-        done
+        let changed = may_have_changed(&done);
+        tell_changed(
+            &mut self.queue,
+            &mut self.stale,
+            &self.drivers,
+            number,
+            changed,
+        );
+        as_done(done)
     }
 
     /// Finds the processes that the next step executes, where the last cycle is done: those that

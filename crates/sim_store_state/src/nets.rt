@@ -11,7 +11,7 @@ ghost use Rattle.sim_standard.specs.Nets as spec;
 ghost use Rattle.sim_store_state.specs.FlatState.{views_of};
 
 use sim_exec::{NetView, Nets};
-use sim_flat_design::Source;
+use sim_flat_design::{Process, Source};
 use sim_logic::{Logic, resolve_two};
 use sim_store_sets::{NumberSet, RowArray};
 use sim_wave::Driver;
@@ -132,10 +132,18 @@ pub fn views_at(
     Ok(views)
 }
 
-/// How a process sees all nets, where these are the nets of its ports and signals.
+/// How the nets with these numbers are seen, by place.
 #[derive(Clone, Copy)]
 pub struct Seen<'a> {
     pub object_nets: &'a [usize],
+    pub values: &'a [Logic],
+    pub last_values: &'a [Logic],
+}
+
+/// How a process sees the nets of its ports and signals.
+#[derive(Clone, Copy)]
+pub struct SeenBy<'a> {
+    pub process: &'a Process,
     pub values: &'a [Logic],
     pub last_values: &'a [Logic],
 }
@@ -158,6 +166,18 @@ impl<'a> Nets for Seen<'a> {
             self.values,
             self.last_values,
             object_net(self.object_nets, object),
+        )
+    }
+}
+
+impl<'a> Nets for SeenBy<'a> {
+    ghost look = { λ s object. net_at (views_of s.values.now s.last_values.now) (slice_index_or s.process.now.nets object 0) };
+
+    fn view(&self, object: usize) -> NetView {
+        view_at(
+            self.values,
+            self.last_values,
+            object_net(self.process.nets(), object),
         )
     }
 }

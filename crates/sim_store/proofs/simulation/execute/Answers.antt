@@ -2,7 +2,7 @@ use Rattle.std.proofs.Common.{◌≡◌, Bool, List, length, ap, sym, ◌∙◌,
 use Rattle.std.proofs.lemmas.List.{get_or_default}
 use Rattle.sim_flat_design.specs.Processes.{Process}
 use Rattle.sim_exec.specs.Jobs.{IsReady}
-use Rattle.sim_exec_code.specs.Codes.{IsCodeOf, code_at}
+use Rattle.sim_exec_code.specs.Codes.{IsCodeOf, code_at, gathered_nets}
 use Rattle.sim_standard.specs.State.{owned_at}
 use Rattle.sim_standard.specs.Processes.{no_process, process_at}
 use Rattle.sim_store.specs.Made.{simulation_of}
@@ -19,7 +19,21 @@ execute-requires-clause-code c =
     c.index-processes-number.is ∙ (get_or_default c.processes.result.now c.args.number _ no_process
     (omega (arith, c.requires.at, ap length c.processes.ensures.value))
     ∙ ap (λ (ps : List Process). process_at ps c.args.number) c.processes.ensures.value) in
-    subst (λ (q : Process). IsCodeOf q.body (code_at c.args.made.now.codes c.args.number)) (sym is) (c.requires.of.made.codes_are c.args.number)
+    subst (λ (q : Process). IsCodeOf q.body (code_at c.args.made.now.lists.codes.codes c.args.number)) (sym is)
+    (c.requires.of.made.codes_are.codes_are c.args.number)
+
+pub execute-requires-clause-nets : goal.execute-requires-clause-nets
+execute-requires-clause-nets c =
+    let ps = c.args.design.now.processes in
+    let is : c.index-processes-number.result ≡ process_at ps c.args.number =
+    c.index-processes-number.is ∙ (get_or_default c.processes.result.now c.args.number _ no_process
+    (omega (arith, c.requires.at, ap length c.processes.ensures.value))
+    ∙ ap (λ (qs : List Process). process_at qs c.args.number) c.processes.ensures.value) in
+    c.requires.of.made.codes_are.nets_are c.args.number c.requires.at
+    ∙ ap (λ (q : Process). gathered_nets q.nets (code_at c.args.made.now.lists.codes.codes c.args.number)) (sym is)
+
+pub execute-requires-clause-frame : goal.execute-requires-clause-frame
+execute-requires-clause-frame c = c.requires.of.made.frame_fits c.args.number
 
 pub execute-requires-clause-ready : goal.execute-requires-clause-ready
 execute-requires-clause-ready c =
@@ -38,8 +52,9 @@ returns-clause-of c =
     (omega (arith, c.requires.at, ap length c.processes.ensures.value))
     ∙ ap (λ (ps : List Process). process_at ps c.args.number) c.processes.ensures.value) in
     record {
-      made = subst (λ codes. AreMade c.args.design.now c.args.made.now.sensitive codes c.args.made.now.waiting.postponed)
-          (sym c.in_ok-execute.ensures.same) c.requires.of.made;
+      made = subst (AreMade c.args.design.now c.args.made.now.lists.sensitive c.args.made.now.lists.codes) (sym c.in_ok-execute.ensures.frame)
+          c.requires.of.made;
+      marked = c.requires.of.marked;
       state = subst (λ (marks : List Bool). IsStateOf (with_marks (simulation_of c.args.design.now c.args.made.now) marks) c.args.made.now.time
           c.args.made.now.delta c.execute.new.self c.args.made.now.log.records c.args.made.now.due c.args.made.now.waiting.waiting)
           (sym c.insert.ensures)

@@ -1,5 +1,6 @@
-use Rattle.std.proofs.Common.{[], ◌≡◌, ap, sym, ◌∙◌, subst, length, arith, get_or}
+use Rattle.std.proofs.Common.{[], ◌≡◌, false, ap, sym, ◌∙◌, subst, length, arith, get_or}
 use Rattle.std.specs.Prelude.{slice_range, OnOk}
+use Rattle.std.proofs.lemmas.Result.{IfOk-weaker}
 use Rattle.sim_exec.specs.Jobs.{IsReady}
 use Rattle.sim_standard.specs.State.{Owned, driver_values}
 use Rattle.sim_standard.specs.Statements.{executed}
@@ -24,6 +25,8 @@ execute_between-requires g c =
     record {
       now = c.requires.now;
       code = c.requires.code;
+      placed = c.requires.placed;
+      frame = c.requires.frame;
       owned = (q.order, q.within);
       held = (r.order, r.within);
       ready = rw (q.holds, r.holds) c.requires.ready;
@@ -98,3 +101,20 @@ returns-clause-values g c =
     c.as_slice.ensures.value c.as_mut_slice.ensures.value
     c.bounds-owned.ensures.start c.bounds-owned.ensures.end c.execute_between.ensures.drivers c.execute_between.auto.drivers c.drivers.inside.flat.ok.0 in
     ap driver_values (put_there c.args.drivers.now c.args.number _ i c.requires.drivers) ∙ (c.execute_between.ensures.values ∙ ap driver_values q.holds)
+
+pub returns-clause-idle : goal.returns-clause-idle
+returns-clause-idle g c =
+    let q = places_read c.drivers.invariant c.drivers.view_is c.args.number _ _ _ _ c.requires.drivers c.as_slice.ensures.value c.as_mut_slice.ensures.value
+    c.bounds-owned.ensures.start c.bounds-owned.ensures.end in
+    let i = lent_back c.drivers.invariant c.drivers.view_is c.args.number _ _ c.drivers.inside.flat.len c.execute_between.new.drivers _ _ c.requires.drivers
+    c.as_slice.ensures.value c.as_mut_slice.ensures.value
+    c.bounds-owned.ensures.start c.bounds-owned.ensures.end c.execute_between.ensures.drivers c.execute_between.auto.drivers c.drivers.inside.flat.ok.0 in
+    let drivers = c.args.drivers.now in
+    let n = c.args.number in
+    let between = c.execute_between.new.drivers in
+    let start = c.bounds-owned.result.0 in
+    let end = c.bounds-owned.result.1 in
+    let there = put_there drivers n _ i c.requires.drivers in
+    IfOk-weaker c.execute_between.result (λ done. done ≡ false → slice_range between start end ≡ _)
+    (λ done. done ≡ false → _ ≡ get_or drivers n [])
+    (λ done same idle. there ∙ (same idle ∙ q.holds)) c.execute_between.ensures.idle

@@ -15,6 +15,7 @@ invariant_of-result c =
     (search rules) owned all (omega (arith, ap length m.records_is)) m.held_is m.records_is m.parted m.deposited_is in
     record {
       made = m.lists;
+      marked = m.marked;
       state = rw (c.in-Ok.ensures.start.0, c.in-Ok.ensures.start.1, c.in-Ok.ensures.start.2) begun;
       counts = totals-begin (length c.args.design.nets) _ c.in-Ok.made.log.records c.in-Ok.made.totals.items m.records_is m.totals_is;
     }

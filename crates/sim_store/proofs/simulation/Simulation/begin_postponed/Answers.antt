@@ -14,6 +14,7 @@ invariant_of-self c =
     let next = subst (λ (g : Simulation). ArePostponedNext g.design g.cycles (updated_last g)) (sym c.self.view_is) c.requires.next in
     record {
       made = c.self.invariant.made;
+      marked = c.self.invariant.marked;
       state = postponed-keeps i all first next c.take.new.self c.clear.new.self
           (c.take.ensures.sized ∙ (i.due_sized ∙ sym i.waiting_sized)) c.take.ensures.same
           (c.clear.ensures ∙ none-marked-now s.made.deposited);

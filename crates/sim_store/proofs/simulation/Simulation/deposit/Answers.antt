@@ -60,6 +60,7 @@ invariant_of-self c =
     let marks : c.insert.new.self ≡ set h.deposited job.number true = c.insert.ensures ∙ ap (λ (k : ℕ). set h.deposited k true) n in
     record {
       made = c.self.invariant.made;
+      marked = c.self.invariant.marked;
       state = subst (λ (w : List Bool). IsStateOf (record { design = h.design; cycles = h.cycles; phase = h.phase; deposited = w }) s.made.time s.made.delta held'
           s.made.log.records s.made.due s.made.waiting.waiting) (sym marks)
           (deposited-keeps i job.number (result_of job) held' (own-result i job own miss.due) (own-ready i job own c.into_parts-job.ensures.ready) now);

@@ -8,7 +8,7 @@ use Rattle.sim_standard.specs.Records.{changes_from}
 use Rattle.sim_standard.specs.Cycle.{CycleAt, has_event_in, state_of}
 use Rattle.sim_standard.specs.Processes.{process_at}
 use Rattle.sim_standard.specs.Agreement.{is_of}
-use Rattle.sim_store.specs.Simulation.{AreMade, AreTotals, Simulation, IsExecuted, after, next_after, those_in}
+use Rattle.sim_store.specs.Simulation.{ArePostponed, AreTotals, Simulation, IsExecuted, after, next_after, those_in}
 use Rattle.sim_store.specs.contracts.simulation.Simulation.{the_view}
 use Rattle.sim_store.proofs.Counting.{changes-few, last-record, totals-few, totals-go-on}
 use Rattle.sim_store.proofs.Going.{advanced-count, advanced-keeps, advanced-time, cycle-count, next-time-is, none-marked-now, slow}
@@ -48,7 +48,7 @@ find-requires-clause-nets c =
 
 pub find-requires-clause-processes : goal.find-requires-clause-processes
 find-requires-clause-processes c =
-    omega (arith, ap length c.leave.ensures.postponed, c.self.invariant.made.postponed_sized, c.self.invariant.state.due_sized)
+    omega (arith, ap length c.leave.ensures.postponed, c.self.invariant.marked.sized, c.self.invariant.state.due_sized)
 
 pub count_last-requires-clause-room : goal.count_last-requires-clause-room
 count_last-requires-clause-room c n =
@@ -86,11 +86,12 @@ invariant_of-self-2 c =
     let last = last-record s.made.log.records c.record.new.log.records one records in
     let written = written_back c.count_last.new.totals s.made.totals.items s.made.totals.len (c.count_last.ensures.sized ∙ c.as_mut_slice.ensures.len) in
     record {
-      made = subst (AreMade s.design s.made.sensitive s.made.codes) (sym same) c.self.invariant.made;
+      made = c.self.invariant.made;
+      marked = subst (ArePostponed s.design) (sym same) c.self.invariant.marked;
       state = advanced-keeps i done c.args.time next c.requires.early c.next_delta-self-inside.result (length c.record.new.log.records - 1)
           c.update.new.self c.record.new.log.records s.made.waiting.postponed c.find.new.self c.find.new.waiting.waiting _ c.next_delta-self-inside.ensures
           c.in_ok-update.ensures.ok records c.find.ensures.sized (c.find.ensures.waiting_sized ∙ c.leave.ensures.sized)
-          c.self.invariant.made.postponed_are
+          c.self.invariant.marked.are
           (λ p lt. c.find.ensures.found h.design.processes p c.self.invariant.made.sensitive_are lt
           ∙ ap (λ (ps : List Bool). has_event_in c.update.new.self.nets (process_at h.design.processes p).sensitivity && not (those_in ps p))
           c.leave.ensures.postponed)

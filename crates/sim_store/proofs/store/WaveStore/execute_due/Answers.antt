@@ -14,4 +14,5 @@ invariant_of-result c =
 
 pub returns-then-is_some-clause-complete : goal.returns-then-is_some-clause-complete
 returns-then-is_some-clause-complete c =
-    subst (λ (w : WaveStore). IsComplete w.simulation) c.self.view_is (ended-complete (the_view c.self.inside) c.self.invariant (search (rules, tests)))
+    subst (λ (w : WaveStore). IsComplete w.simulation) c.self.view_is
+    (ended-complete (the_view c.self.inside) c.self.invariant (sym c.if-is_some.ensures))

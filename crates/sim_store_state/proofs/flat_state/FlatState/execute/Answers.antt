@@ -1,6 +1,6 @@
-use Rattle.std.proofs.Common.{ℕ, List, [], ◌≡◌, ap, sym, ◌∙◌, subst, arith, get_or, length, set}
+use Rattle.std.proofs.Common.{ℕ, Bool, false, List, [], ◌≡◌, refl, ap, sym, ◌∙◌, subst, arith, get_or, length, set}
 use Rattle.std.proofs.lemmas.List.{length-set}
-use Rattle.std.specs.Prelude.{OnOk}
+use Rattle.std.specs.Prelude.{Result, Ok, Err, IfOk, OnOk}
 use Rattle.std.proofs.lemmas.Result.{on_ok_weaker}
 use Rattle.sim_flat_design.specs.Bodies.{Body}
 use Rattle.sim_standard.specs.declared.net_view.NetView.{NetView}
@@ -8,8 +8,9 @@ use Rattle.sim_exec.specs.Jobs.{IsReady}
 use Rattle.sim_exec_code.specs.Codes.{IsCodeOf, code_at}
 use Rattle.sim_standard.specs.State.{Owned, nothing_owned}
 use Rattle.sim_standard.specs.Statements.{executed}
+use Rattle.sim_store_state.specs.Executions.{outcome_of}
 use Rattle.sim_store_state.specs.FlatState.{FlatState, views_of, owned_lists}
-use Rattle.sim_store_state.proofs.Contents.{as_owned, owned-by, owned-count, owned-now, held-set, seen, sees}
+use Rattle.sim_store_state.proofs.Contents.{as_owned, gathered_placed, owned-by, owned-count, owned-now, held-set, seen, sees}
 use Rattle.sim_standard.specs.Drivers.{Waveform}
 use Rattle.sim_store_sets.specs.RowArray.{joined}
 use Rattle.sim_store_state.specs.Changes.{AreTimes}
@@ -21,10 +22,22 @@ use Rattle.sim_store_state.proofs.flat_state.FlatState.execute.Goals as goal
 abbrev with_own : FlatState → ℕ → Owned → FlatState
 with_own h n own = record { sources = h.sources; nets = h.nets; owned = set h.owned n own }
 
+-- nothing was done where this is said
+if_unchanged : {E : Type 0} {ds es : List Waveform} (r : Result Bool E) → r ≡ Ok false → IfOk r (λ (done : Bool). done ≡ false → ds ≡ es) → ds ≡ es
+if_unchanged {ds = ds} {es = es} r e h = subst (λ (s : Result Bool _). IfOk s (λ (done : Bool). done ≡ false → ds ≡ es)) e h refl
+
+-- what holds of an execution that did not fail
+on_outcome : {E : Type 0} (P : Type 0) (r : Result Bool E) (s : Result Unit E) → s ≡ outcome_of r → OnOk r P → OnOk s P
+on_outcome P (Ok done) s e h = subst (λ (t : Result Unit _). OnOk t P) (sym e) h
+on_outcome P (Err x) s e h = subst (λ (t : Result Unit _). OnOk t P) (sym e) h
+
 pub execute_at-done-requires : goal.execute_at-done-requires
 execute_at-done-requires c = record {
   now = c.requires.time;
-  code = subst (λ (b : Body). IsCodeOf b (code_at c.args.codes.now c.args.number)) (sym c.body.ensures) c.requires.code;
+  code = subst (λ (b : Body). IsCodeOf b (code_at c.args.codes.now.codes c.args.number)) (sym c.body.ensures) c.requires.code;
+  placed = gathered_placed c.args.process.now.nets c.as_slice-values.result.now c.as_slice-last_values.result.now
+      c.nets.result.now (code_at c.args.codes.now.codes c.args.number) (c.nets.ensures ∙ c.requires.nets);
+  frame = c.requires.frame;
   drivers = omega (arith, c.requires.at, owned-count c.self.view_is c.self.invariant.lists);
   variables = omega (arith, c.requires.at, owned-count c.self.view_is c.self.invariant.lists, c.self.invariant.lists.owned);
   ready = subst (λ (b : Body). IsReady b c.args.time (as_owned (get_or c.self.inside.drivers c.args.number [])
@@ -32,8 +45,8 @@ execute_at-done-requires c = record {
       (subst (IsReady c.args.process.now.body c.args.time) (owned-by c.self.view_is c.self.invariant.lists c.args.number) c.requires.ready);
 }
 
-pub tell_row-requires : goal.tell_row-requires
-tell_row-requires c =
+pub tell_changed-requires : goal.tell_changed-requires
+tell_changed-requires c =
     let n = c.args.number in
     let e = c.execute_at-done in
     let old = c.self.inside.drivers in
@@ -51,9 +64,10 @@ invariant_of-self c =
     let e = c.execute_at-done in
     let old = c.self.inside.drivers in
     let row = get_or e.new.drivers n [] in
-    own-keeps c.self.invariant n row (get_or e.new.variables n []) e.new.drivers e.new.variables c.tell_row.new.queue c.tell_row.new.stale
+    own-keeps c.self.invariant n row (get_or e.new.variables n []) e.new.drivers e.new.variables c.tell_changed.new.queue c.tell_changed.new.stale
     e.ensures.drivers e.ensures.variables e.ensures.values
-    (c.tell_row.ensures (get_or old n []) (sym (values-count row (get_or old n []) e.ensures.values))
+    (c.tell_changed.ensures (get_or old n []) (sym (values-count row (get_or old n []) e.ensures.values))
+    (λ unchanged. sym (if_unchanged e.result (c.may_have_changed-changed.ensures unchanged) e.ensures.idle))
     (subst (λ (dss : List (List Waveform)). AreTimes c.self.inside.queue c.self.inside.stale (joined dss)) (sym (put-back old e.new.drivers n row
     e.ensures.drivers)) c.self.invariant.timed))
 
@@ -66,10 +80,10 @@ returns c =
     let is = owned-now c.self.invariant.lists n _ _ e.new.drivers e.new.variables e.ensures.drivers e.ensures.variables in
     let now = get_or (owned_lists e.new.drivers e.new.variables) n nothing_owned in
     let net : views_of s.values.items s.last_values.items ≡ c.args.self.now.nets = ap (λ (h : FlatState). h.nets) c.self.view_is in
-    let look = sees c.args.self.now.nets s.values.items s.last_values.items c.as_slice.result.now c.as_slice-2.result.now c.args.process.now.nets
-    c.nets.result.now
+    let nets = c.args.process.now.nets in
+    let look = sees c.args.self.now.nets s.values.items s.last_values.items c.as_slice-values.result.now c.as_slice-last_values.result.now nets nets
     net
-    c.as_slice.ensures.value c.as_slice-2.ensures.value c.nets.ensures.value in
+    c.as_slice-values.ensures.value c.as_slice-last_values.ensures.value refl in
     let left = as_owned (get_or s.drivers n []) (get_or s.variables n []) in
     let process = c.args.process.now in
     let done = executed (seen c.args.self.now.nets process.nets) c.args.time process.body.statements (get_or c.args.self.now.owned n nothing_owned) in
@@ -85,9 +99,10 @@ returns c =
     (subst (λ (f : ℕ → NetView). OnOk e.result (as_owned (get_or e.new.drivers n []) (get_or e.new.variables n [])
     ≡ executed f c.args.time c.body.result.now.statements left)) look e.ensures.ok))) in
     record {
-      same = e.ensures.same;
+      frame = e.ensures.frame;
       alone = alone;
-      ok = on_ok_weaker e.result (λ (is_done : now ≡ done). alone ∙ ap (with_own h n) is_done) ok;
+      ok = on_outcome _ e.result c.as_done.result c.as_done.ensures
+          (on_ok_weaker e.result (λ (is_done : now ≡ done). alone ∙ ap (with_own h n) is_done) ok);
       ready = subst (IsReady process.body c.args.time) (sym is)
           (subst (λ (b : Body). IsReady b c.args.time (as_owned (get_or e.new.drivers n []) (get_or e.new.variables n []))) c.body.ensures e.ensures.ready);
     }
