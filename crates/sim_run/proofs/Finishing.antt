@@ -1,17 +1,18 @@
 -- Runs that have ended, and listings of which a part was written.
-use Rattle.std.proofs.Common.{◌≡◌, ℕ, List, Option, Result, Ok, Err, refl, sym, subst}
-use Rattle.std.specs.Prelude.{IfOk}
+use Rattle.std.proofs.Common.{◌≡◌, ◌∙◌, ℕ, List, Option, Result, Ok, Err, inl, inr, refl, ap, sym, subst}
+use Rattle.std.specs.Prelude.{◌⊎◌, IfErr, IfOk}
 use Rattle.sim_flat_design.specs.Designs.{Design}
 use Rattle.sim_standard.specs.Behaviour.{behaviour_of}
 use Rattle.sim_standard.specs.Cycle.{next_in}
-use Rattle.sim_standard.specs.Outcome.{FinishedAfter, HasOutcome}
+use Rattle.sim_standard.specs.Outcome.{FinishedAfter, HasOutcome, LimitReached, Outcome, PostponedDeltaAfter}
 use Rattle.sim_store.specs.WaveStore.{WaveStore, HasEnd}
 use Rattle.sim_store.specs.declared.store.Step.TheVariants as step
 use Rattle.sim_run_options.specs.declared.options.Options.{Options}
 use Rattle.sim_run_listing.specs.Listing.{listing}
 use Rattle.sim_run_listing.specs.Writing.{AppendsPart}
 use Rattle.sim_run.specs.declared.error.RunError.{RunError}
-use Rattle.sim_run.specs.Run.{Finishes, IsRunOf, ListsPart, history_of}
+use Rattle.sim_run.specs.declared.error.RunError.TheVariants as refusal
+use Rattle.sim_run.specs.Run.{Finishes, IsRefusalAlone, IsRunOf, ListsPart, history_of}
 use Rattle.sim_run.specs.Simulation.{HasDesign}
 
 -- a store that is finished has the history of the run
@@ -30,6 +31,32 @@ finishes design options run (Ok s) of (same, end) =
       records = refl;
     }))
 finishes design options run (Err e) of h = tt
+
+-- a store that was cut short has the refusal of the run
+module _ (design : Design) (options : Options) (run : WaveStore) (of : IsRunOf design options run) where
+  abbrev IsEnd : RunError → Type 0
+  IsEnd e = ((e ≡ refusal.CycleLimit run.limit) × HasEnd run step.LimitReached) ⊎ ((e ≡ refusal.PostponedDelta) × HasEnd run step.PostponedDelta)
+
+  -- an outcome of the store is one of the run
+  outcome_of : (o : Outcome) → HasOutcome (next_in run.simulation.design) run.stop run.limit o
+      → HasOutcome (next_in design) options.stop options.limit o
+  outcome_of o end =
+      subst (λ (d : Design). HasOutcome (next_in d) options.stop options.limit o) of.of
+      (subst (λ (limit : ℕ). HasOutcome (next_in run.simulation.design) options.stop limit o) of.limit
+      (subst (λ (stop : ℕ). HasOutcome (next_in run.simulation.design) stop run.limit o) of.stop end))
+
+  pub cut_short : (e : RunError) → IsEnd e → IsRefusalAlone (behaviour_of design) options e
+  cut_short e (inl p) = inr (inl (p.0 ∙ ap (λ (n : ℕ). refusal.CycleLimit n) of.limit, outcome_of LimitReached p.1))
+  cut_short e (inr p) = inr (inr (p.0, run.simulation.cycles, outcome_of (PostponedDeltaAfter run.simulation.cycles) p.1))
+
+  pub refuses : (r : Result WaveStore RunError) → IfErr r IsEnd → IfErr r (IsRefusalAlone (behaviour_of design) options)
+  refuses (Ok s) h = tt
+  refuses (Err e) h = cut_short e h
+
+  pub refuses_among : (r : Result WaveStore RunError) → IfErr r IsEnd
+      → IfErr r (λ e. (e ≡ refusal.Stranger) ⊎ IsRefusalAlone (behaviour_of design) options e)
+  refuses_among (Ok s) h = tt
+  refuses_among (Err e) h = inr (cut_short e h)
 
 -- the part that was written is of the listing of the run
 pub part_listed : (text : List ℕ) (options : Options) (run : WaveStore) (old new : Option (List ℕ))

@@ -3,3 +3,4 @@ pub mod Finishing
 pub mod NestedValues
 pub mod Programs
 pub mod Simulations
+pub mod Steps

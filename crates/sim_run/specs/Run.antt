@@ -96,9 +96,9 @@ phases_left phase.AtOnce = 2
 phases_left phase.Postponed = 1
 
 -- how many steps there may still be: two phases for each cycle up to the limit
+abbrev pub steps_from : ℕ → ℕ → Phase → Option Step → ℕ
+steps_from limit cycles f None = 2 * (limit - cycles) + phases_left f
+steps_from limit cycles f (Some s) = 0
+
 abbrev pub steps_left : WaveStore → ℕ
-steps_left run = left run.ended
-  where
-    left : Option Step → ℕ
-    left None = 2 * (run.limit - run.simulation.cycles) + phases_left run.simulation.phase
-    left (Some s) = 0
+steps_left run = steps_from run.limit run.simulation.cycles run.simulation.phase run.ended
