@@ -1,0 +1,78 @@
+//! What is told of a refusal.
+
+use crate::places::place_at;
+use sim_run::RunError;
+use std::io::{self, Write};
+
+/// What a refusal means.
+#[derive(Clone, Copy)]
+pub struct Explanation {
+    /// How many bytes stand before the place of the fault, if it has one.
+    at: Option<usize>,
+    /// What such a fault means at its place, and what to do.
+    text: &'static str,
+    /// What more is known of this one.
+    hint: Option<&'static str>,
+}
+
+/// An explanation of a fault at a place.
+pub fn at(place: usize, text: &'static str) -> Explanation {
+    Explanation {
+        at: Some(place),
+        text,
+        hint: None,
+    }
+}
+
+/// An explanation of a refusal that has no place.
+pub fn nowhere(text: &'static str) -> Explanation {
+    Explanation {
+        at: None,
+        text,
+        hint: None,
+    }
+}
+
+impl Explanation {
+    /// The same explanation and a hint.
+    pub fn with(self, hint: Option<&'static str>) -> Explanation {
+        Explanation {
+            at: self.at,
+            text: self.text,
+            hint,
+        }
+    }
+
+    /// Writes the refusal as the program tells it, and where it has a place, its line and column
+    /// and the line itself.
+    fn write_head<W: Write>(
+        &self,
+        out: &mut W,
+        source: &[u8],
+        refusal: RunError,
+    ) -> io::Result<()> {
+        let Some(at) = self.at else {
+            return writeln!(out, "{refusal}");
+        };
+        let place = place_at(source, at);
+        let (line, column) = (place.line, place.column);
+        writeln!(out, "{line}:{column}: {refusal}")?;
+        place.write_marked(out)
+    }
+
+    /// Writes the explanation of a refusal of this text.
+    pub fn write<W: Write>(
+        &self,
+        out: &mut W,
+        source: &[u8],
+        refusal: RunError,
+    ) -> io::Result<()> {
+        self.write_head(out, source, refusal)?;
+        let text = self.text;
+        writeln!(out, "{text}")?;
+        match self.hint {
+            Some(hint) => writeln!(out, "{hint}"),
+            None => Ok(()),
+        }
+    }
+}

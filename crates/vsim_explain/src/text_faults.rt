@@ -1,0 +1,48 @@
+//! What the faults of a text mean.
+
+use crate::explanation::{Explanation, at, nowhere};
+use crate::hints;
+use sim_run::TextError;
+
+const MEMORY: &str = "\
+    There is not enough memory to read the text.";
+
+const TOO_LONG: &str = "\
+    A text has at most 1,048,576 bytes. Leave out the units that the top does not need.";
+
+const BAD_BYTE: &str = "\
+    No word, number, value or sign of the subset begins here. Take this character out, or\n\
+    make what it belongs to a comment.";
+
+const OPEN_COMMENT: &str = "\
+    A comment that begins with /* ends at the next */, and there is none. Write it where the\n\
+    comment is to end.";
+
+const BAD_LITERAL: &str = "\
+    An apostrophe begins one of the nine values, in upper case: 'U' 'X' '0' '1' 'Z' 'W' 'L'\n\
+    'H' '-'. None of them stands here.";
+
+const TIME_RANGE: &str = "\
+    The largest time is 4,611,686,018,427,387,903 fs, some 76 minutes. Write a shorter one.";
+
+const TOO_DEEP: &str = "\
+    64 parentheses of this expression, or 64 if statements of this process, are open here\n\
+    already. Give an inner part a signal or variable of its own.";
+
+const SYNTAX: &str = "\
+    No design of the subset goes on with this. Look also at what stands just before it: a ;\n\
+    or ) or end may be missing there, or a word be too many.";
+
+/// What a fault of the text means.
+pub fn explain(source: &[u8], fault: TextError) -> Explanation {
+    match fault {
+        TextError::Memory => nowhere(MEMORY),
+        TextError::TooLong => nowhere(TOO_LONG),
+        TextError::BadByte { at: place } => at(place, BAD_BYTE).with(hints::of_byte(source, place)),
+        TextError::OpenComment { at: place } => at(place, OPEN_COMMENT),
+        TextError::BadLiteral { at: place } => at(place, BAD_LITERAL),
+        TextError::TimeRange { at: place } => at(place, TIME_RANGE),
+        TextError::TooDeep { at: place } => at(place, TOO_DEEP),
+        TextError::Syntax { at: place } => at(place, SYNTAX).with(hints::of_syntax(source, place)),
+    }
+}
