@@ -1,5 +1,6 @@
 //! The nets that change most.
 
+use anyhow::Result;
 use sim_run::{Design, Record};
 use std::alloc::{AllocError, Global};
 use std::io::{self, Write};
@@ -17,11 +18,7 @@ fn count(counts: &mut Vec<u64>, record: &Record) {
 }
 
 /// How often each of so many nets changes in these records.
-pub fn count_changes(
-    alloc: Global,
-    nets: usize,
-    records: &[Record],
-) -> Result<Vec<u64>, AllocError> {
+fn count_changes(alloc: Global, nets: usize, records: &[Record]) -> Result<Vec<u64>, AllocError> {
     let mut counts = vec![in alloc; 0; nets]?;
     for record in records {
         count(&mut counts, record);
@@ -54,12 +51,8 @@ fn write_net<W: Write>(out: &mut W, design: &Design, net: usize, changes: u64) -
 }
 
 /// Writes the nets that change most, the first of them first, and forgets how often they do.
-pub fn write_busiest<W: Write>(
-    out: &mut W,
-    design: &Design,
-    counts: &mut Vec<u64>,
-) -> io::Result<()> {
-    for _ in 0..MOST_NETS {
+fn write_busiest<W: Write>(out: &mut W, design: &Design, counts: &mut Vec<u64>) -> io::Result<()> {
+    for _turn in 0..MOST_NETS {
         let Some(net) = busiest(counts.as_slice()) else {
             break;
         };
@@ -69,5 +62,21 @@ pub fn write_busiest<W: Write>(
             *it = 0;
         }
     }
+    Ok(())
+}
+
+/// Writes which nets change most in these records, but for the first.
+pub fn write_changes<W: Write>(
+    alloc: Global,
+    out: &mut W,
+    design: &Design,
+    records: &[Record],
+) -> Result<()> {
+    let later = match records {
+        [_, later @ ..] => later,
+        [] => records,
+    };
+    let mut counts = count_changes(alloc, design.nets().len(), later)?;
+    write_busiest(out, design, &mut counts)?;
     Ok(())
 }

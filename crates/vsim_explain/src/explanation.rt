@@ -1,7 +1,8 @@
 //! What is told of a refusal.
 
 use crate::places::place_at;
-use sim_run::RunError;
+use crate::tokens::first_token;
+use sim_run::{RunError, TextError};
 use std::io::{self, Write};
 
 /// What a refusal means.
@@ -33,6 +34,17 @@ pub fn nowhere(text: &'static str) -> Explanation {
     }
 }
 
+/// Writes the token with which a text cannot go on.
+fn write_found<W: Write>(out: &mut W, source: &[u8], at: usize) -> io::Result<()> {
+    let (_, after) = source.split_at(at.min(source.len()));
+    if after.is_empty() {
+        return out.write_all(b"The text ends here, before the design does.\n");
+    }
+    out.write_all(b"The text cannot go on here with ")?;
+    out.write_all(first_token(after))?;
+    out.write_all(b"\n")
+}
+
 impl Explanation {
     /// The same explanation and a hint.
     pub fn with(self, hint: Option<&'static str>) -> Explanation {
@@ -61,13 +73,16 @@ impl Explanation {
     }
 
     /// Writes the explanation of a refusal of this text.
-    pub fn write<W: Write>(
-        &self,
-        out: &mut W,
-        source: &[u8],
-        refusal: RunError,
-    ) -> io::Result<()> {
+    pub fn write<W: Write>(&self, out: &mut W, source: &[u8], refusal: RunError) -> io::Result<()> {
         self.write_head(out, source, refusal)?;
+        if let RunError::Text(TextError::Syntax { at }) = refusal {
+            write_found(out, source, at)?;
+        }
+        self.write_text(out)
+    }
+
+    /// Writes what such a fault means, and the hint.
+    fn write_text<W: Write>(&self, out: &mut W) -> io::Result<()> {
         let text = self.text;
         writeln!(out, "{text}")?;
         match self.hint {

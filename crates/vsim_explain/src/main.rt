@@ -4,19 +4,26 @@
 #![tactic(auto)]
 
 mod changes;
+mod cut_short;
+mod cycles;
 mod design_faults;
 mod explanation;
 mod hints;
+mod left_out;
 mod places;
 mod ranges;
+mod request;
 mod runs;
+mod slips;
 mod text_faults;
+mod tokens;
 
 use crate::explanation::{Explanation, nowhere};
 use crate::ranges::write_ranges;
+use crate::request::{Request, read_request};
 use crate::runs::tell_run;
 use anyhow::{Context, Result, bail};
-use sim_run::{CliFault, FlatError, Options, RunError, TextError, elaborate, read_options};
+use sim_run::{CliFault, FlatError, RunError, TextError, elaborate};
 use std::env;
 use std::io::{self, BufWriter, Read, Write, writer};
 use std::process::ExitCode;
@@ -26,6 +33,23 @@ use std::thread::Threads;
 
 /// One byte more than a text may have: enough to see that it is too long.
 const MOST_BYTES: u64 = 1_048_577;
+
+/// What is said of words that are no text, as clap says it.
+const NO_TEXT: &str = "error: invalid UTF-8 was detected in one or more arguments
+
+For more information, try '--help'.
+";
+
+/// What the help says of this program.
+const HELP: &[u8] = b"
+vsim_explain takes the same words and the same text, and says in plain words what vsim answers.
+With --listing it writes first what there is of the listing, also of a run that is cut short.
+";
+
+/// What is said of words that are refused.
+const REFUSED: &str = "
+The text comes by standard input: vsim_explain --top NAME < design.vhd
+";
 
 /// What a refusal of a text means.
 fn explain(source: &[u8], refusal: RunError) -> Explanation {
@@ -56,42 +80,49 @@ fn read_source<R: AllocGlobal + Input>(rt: &R) -> io::Result<Vec<u8>> {
 fn answer_text<R: Threads + Wait + Sync + AllocGlobal, W: Write>(
     rt: &R,
     source: &[u8],
-    options: &Options,
+    request: &Request,
     out: &mut W,
 ) -> Result<u8> {
-    let design = match elaborate(rt.alloc(), source, options) {
+    let design = match elaborate(rt.alloc(), source, &request.options) {
         Ok(design) => design,
         Err(refusal) => {
             explain(source, refusal).write(out, source, refusal)?;
             return Ok(status_of(refusal));
         }
     };
-    tell_run(rt, rt.alloc(), &design, options, out)
+    tell_run(rt, rt.alloc(), &design, request, out)
 }
 
-/// Says what comes of the text on standard input with these options.
-fn answer_options<R: Threads + Wait + Sync + AllocGlobal + Input, W: Write>(
+/// Says what comes of the text on standard input.
+fn answer_request<R: Threads + Wait + Sync + AllocGlobal + Input, W: Write>(
     rt: &R,
-    options: &Options,
+    request: &Request,
     out: &mut W,
 ) -> Result<u8> {
-    if !options.are_in_range() {
-        write_ranges(out, options)?;
+    if !request.options.are_in_range() {
+        write_ranges(out, &request.options)?;
         return Ok(2);
     }
     let source = read_source(rt)?;
-    answer_text(rt, source.as_slice(), options, out)
+    answer_text(rt, source.as_slice(), request, out)
 }
 
-/// Answers words that are no options.
-fn answer_words<R: Eprint, W: Write>(rt: &R, fault: &CliFault, out: &mut W) -> Result<u8> {
+/// Writes the help.
+fn write_help<W: Write>(out: &mut W, text: &str) -> io::Result<()> {
+    out.write_all(text.as_bytes())?;
+    out.write_all(HELP)
+}
+
+/// Answers words that ask for nothing.
+fn answer_fault<R: Eprint, W: Write>(rt: &R, fault: &CliFault, out: &mut W) -> Result<u8> {
     match fault {
         CliFault::Help(text) => {
-            out.write_all(text.as_bytes())?;
+            write_help(out, text.as_str())?;
             Ok(0)
         }
         CliFault::Refused(text) => {
             rt.eprint(text.as_str())?;
+            rt.eprint(REFUSED)?;
             Ok(2)
         }
         CliFault::Memory => bail!("out of memory"),
@@ -105,15 +136,34 @@ fn words<R: AllocGlobal + Env>(rt: &R) -> io::Result<Vec<String>> {
 }
 
 /// Answers the words, and gives the exit status.
-fn answer<R: Threads + Wait + Sync + AllocGlobal + Input + Print + Eprint + Env>(rt: &R) -> Result<u8> {
-    let words = words(rt)?;
+fn answer_words<R: Threads + Wait + Sync + AllocGlobal + Input + Print + Eprint>(
+    rt: &R,
+    words: Vec<String>,
+) -> Result<u8> {
     let mut out = BufWriter::new(rt.alloc(), writer(rt))?;
-    let status = match read_options(rt.alloc(), words) {
-        Ok(options) => answer_options(rt, &options, &mut out),
-        Err(fault) => answer_words(rt, &fault, &mut out),
+    let status = match read_request(rt.alloc(), words) {
+        Ok(request) => answer_request(rt, &request, &mut out),
+        Err(fault) => answer_fault(rt, &fault, &mut out),
     };
     out.flush().context("writing")?;
     status
+}
+
+/// Says that the words are no text.
+fn answer_no_text<R: Eprint>(rt: &R) -> Result<u8> {
+    rt.eprint(NO_TEXT)?;
+    Ok(2)
+}
+
+/// Answers what the program was called with, and gives the exit status.
+fn answer<R: Threads + Wait + Sync + AllocGlobal + Input + Print + Eprint + Env>(
+    rt: &R,
+) -> Result<u8> {
+    match words(rt) {
+        Ok(words) => answer_words(rt, words),
+        Err(fault) if fault.kind() == io::ErrorKind::InvalidData => answer_no_text(rt),
+        Err(fault) => Err(fault.into()),
+    }
 }
 
 fn main(rt: HostRuntime) -> Result<ExitCode> {

@@ -1,5 +1,6 @@
 //! Places in a text, as editors count them.
 
+use crate::tokens::{first_line, last_line};
 use std::io::{self, Write};
 
 /// The most bytes of a line that are shown on either side of a place.
@@ -29,22 +30,6 @@ fn line_ends(text: &[u8]) -> usize {
 /// How many characters this text has.
 fn characters(text: &[u8]) -> usize {
     text.iter().filter(|byte| !is_continuation(**byte)).count()
-}
-
-/// What stands after the last end of a line.
-fn last_line(text: &[u8]) -> &[u8] {
-    match text.rsplit(|byte| *byte == b'\n').next() {
-        Some(line) => line,
-        None => text,
-    }
-}
-
-/// What stands before the first end of a line.
-fn first_line(text: &[u8]) -> &[u8] {
-    match text.split(|byte| *byte == b'\n').next() {
-        Some(line) => line,
-        None => text,
-    }
 }
 
 /// What is shown of the part of a line that ends at a place.
