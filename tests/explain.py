@@ -185,49 +185,56 @@ def loop_lines(first, last):
     return "".join(f"0 {n} s {n % 2}\n" for n in range(first, last + 1))
 
 
+def cut_short(limit, came, events, meaning, counts, lines):
+    """Returns what is said of a run that is cut short: the nets that change most and how often, and the last lines."""
+    far = f"CycleLimit {limit}\nThe run came to {came}, with {events} events.\n"
+    return far + meaning + BUSIEST + "".join(f"{count:>10} {name}\n" for count, name in counts) + (f"{LAST}{lines}" if lines else "")
+
+
+WIDE_LINES = (
+    "".join(f"0 0 {it} 0\n" for it in "abcde")
+    + "0 0 and 2 more\n1000000 0 a 1\n"
+    + "".join(f"1000000 1 {it} 1\n" for it in "bcdef")
+    + "1000000 1 and 1 more\n2000000 0 a 0\n"
+)
+AT_200_NS = "200000000 fs and there to delta cycle 0"
 # words, a text, the status, and all that is said
 RUNS = [
     (
         "--top t --limit 300",
         LOOP,
         3,
-        f"CycleLimit 300\nThe run came to 0 fs and there to delta cycle 300, with 300 events.\n{STANDS}{BUSIEST}       100 s\n{LAST}{loop_lines(295, 300)}",
+        cut_short(300, "0 fs and there to delta cycle 300", 300, STANDS, [(100, "s")], loop_lines(295, 300)),
     ),
     (
         "--top t --limit 20 --listing",
         LOOP,
         3,
-        f"{loop_lines(0, 20)}CycleLimit 20\nThe run came to 0 fs and there to delta cycle 20, with 20 events.\n{STANDS}{BUSIEST}        20 s\n",
+        loop_lines(0, 20) + cut_short(20, "0 fs and there to delta cycle 20", 20, STANDS, [(20, "s")], ""),
     ),
     (
         "--top t --limit 2",
         LOOP,
         3,
-        f"CycleLimit 2\nThe run came to 0 fs and there to delta cycle 2, with 2 events.\n{EARLY}{BUSIEST}         2 s\n{LAST}{loop_lines(0, 2)}",
+        cut_short(2, "0 fs and there to delta cycle 2", 2, EARLY, [(2, "s")], loop_lines(0, 2)),
     ),
     (
         "--top t --limit 40",
         CLOCK,
         3,
-        f"CycleLimit 40\nThe run came to 200000000 fs and there to delta cycle 0, with 40 events.\n{NO_STOP}{BUSIEST}        40 clk\n{LAST}{clock_lines(35, 40)}",
+        cut_short(40, AT_200_NS, 40, NO_STOP, [(40, "clk")], clock_lines(35, 40)),
     ),
     (
         "--top t --limit 40 --stop 500000000",
         CLOCK,
         3,
-        f"CycleLimit 40\nThe run came to 200000000 fs and there to delta cycle 0, with 40 events.\n{STOP_NOT_REACHED}{BUSIEST}        40 clk\n{LAST}{clock_lines(35, 40)}",
+        cut_short(40, AT_200_NS, 40, STOP_NOT_REACHED, [(40, "clk")], clock_lines(35, 40)),
     ),
     (
         "--top t --limit 4",
         WIDE,
         3,
-        f"CycleLimit 4\nThe run came to 2000000 fs and there to delta cycle 0, with 8 events.\n{NO_STOP}{BUSIEST}         2 a\n"
-        + "".join(f"         1 {it}\n" for it in "bcdefg")
-        + LAST
-        + "".join(f"0 0 {it} 0\n" for it in "abcde")
-        + "0 0 and 2 more\n1000000 0 a 1\n"
-        + "".join(f"1000000 1 {it} 1\n" for it in "bcdef")
-        + "1000000 1 and 1 more\n2000000 0 a 0\n",
+        cut_short(4, "2000000 fs and there to delta cycle 0", 8, NO_STOP, [(2, "a"), *((1, it) for it in "bcdefg")], WIDE_LINES),
     ),
     (
         "--top t --stop 2000000",
@@ -237,7 +244,12 @@ RUNS = [
         + "The nets that change most, and how often:\n"
         + "".join(f"         2 {it}\n" for it in "abcdefg"),
     ),
-    ("--top t --limit 0 --workers 17", CLOCK, 2, "Options\n--limit is 0, and has to be 1 to 1000000, in cycles.\n--workers is 17, and has to be 1 to 16, in threads.\n"),
+    (
+        "--top t --limit 0 --workers 17",
+        CLOCK,
+        2,
+        "Options\n--limit is 0, and has to be 1 to 1000000, in cycles.\n--workers is 17, and has to be 1 to 16, in threads.\n",
+    ),
     (
         "--top t --stop 4611686018427387904",
         CLOCK,
@@ -248,7 +260,8 @@ RUNS = [
         "--top u",
         CLOCK,
         1,
-        "NoTop\nNo entity of the text has the name that was given by --top. Compare the two; the case of\nletters makes no difference.\nSee Calling the program in docs/LANGUAGE.md.\n",
+        "NoTop\nNo entity of the text has the name that was given by --top. Compare the two; the case of\n"
+        "letters makes no difference.\nSee Calling the program in docs/LANGUAGE.md.\n",
     ),
     ("design.vhd", CLOCK, 2, ""),
 ]
@@ -332,6 +345,16 @@ def fault_of_example(program, words, text, wanted):
     return None
 
 
+def told_in_pages():
+    """Yields the place of each run of vsim_explain in the pages, its words, its design and what it says there."""
+    for path in sorted(glob.glob(f"{TOP}/docs/*.md")):
+        with open(path, encoding="utf-8") as file:
+            text = file.read()
+        for block in re.finditer(r"^```text\n\$ vsim_explain ([^\n]*) < \S+\n(.*?)^```$", text, re.M | re.S):
+            design = re.findall(r"^```vhdl\n(.*?)^```$", text[: block.start()], re.M | re.S)[-1]
+            yield f"{os.path.relpath(path, TOP)}: {block[1]}", block[1], design, block[2]
+
+
 def with_line(number, line):
     """Returns DESIGN with another line."""
     lines = DESIGN.splitlines(keepends=True)
@@ -374,6 +397,9 @@ def faults(program):
         yield name, fault_of_example(program, words, text, wanted)
     for row in MISTAKES:
         yield f"line {row[0]} as '{row[1]}'", fault_of_mistake(program, *row)
+    for name, words, text, wanted in told_in_pages():
+        status = answer(program, words.split(), text.encode())[2]
+        yield name, fault_of_run(program, words, text, status, wanted)
     for row in RUNS:
         yield f"the run {row[0]} of '{row[1].strip()}'", fault_of_run(program, *row)
 

@@ -104,6 +104,17 @@ fn write_all_cycles<W: Write>(alloc: Global, out: &mut W, store: &WaveStore) -> 
     Ok(())
 }
 
+/// Writes how far a run came, and which nets change most.
+fn write_state<W: Write>(
+    alloc: Global,
+    out: &mut W,
+    options: &Options,
+    store: &WaveStore,
+) -> Result<()> {
+    write_look(out, options, store)?;
+    write_last_changes(alloc, out, store)
+}
+
 /// Writes how far a run came, and what its nets did last: in all cycles, where the listing is
 /// wanted.
 pub fn write_cut_short<W: Write>(
@@ -114,10 +125,8 @@ pub fn write_cut_short<W: Write>(
 ) -> Result<()> {
     if request.listing {
         write_all_cycles(alloc, out, store)?;
-        write_look(out, &request.options, store)?;
-        return write_last_changes(alloc, out, store);
+        return write_state(alloc, out, &request.options, store);
     }
-    write_look(out, &request.options, store)?;
-    write_last_changes(alloc, out, store)?;
+    write_state(alloc, out, &request.options, store)?;
     write_last_cycles(alloc, out, store)
 }

@@ -61,6 +61,18 @@ fn write_wanted<W: Write>(out: &mut W, finished: &Finished, wanted: bool) -> Res
     Ok(())
 }
 
+/// Writes the listing of a run, where it is wanted, and what the run had.
+fn write_run<W: Write>(
+    alloc: Global,
+    out: &mut W,
+    design: &Design,
+    request: &Request,
+    finished: &Finished,
+) -> Result<()> {
+    write_wanted(out, finished, request.listing)?;
+    write_finished(alloc, out, design, finished)
+}
+
 /// The store of a design at the beginning of its run.
 fn begun(alloc: Global, design: &Design, options: &Options) -> Result<Mutex<WaveStore>> {
     match WaveStore::new(alloc, design.try_copy()?, options.stop, options.limit) {
@@ -80,8 +92,7 @@ pub fn tell_run<R: Threads + Wait + Sync, W: Write>(
     let store = begun(alloc, design, &request.options)?;
     match run_in(rt, alloc, &store, design, &request.options, &Open) {
         Ok(finished) => {
-            write_wanted(out, &finished, request.listing)?;
-            write_finished(alloc, out, design, &finished)?;
+            write_run(alloc, out, design, request, &finished)?;
             Ok(0)
         }
         Err(RunError::CycleLimit { .. }) => {
