@@ -1,7 +1,7 @@
 //! The nets that change most.
 
 use anyhow::Result;
-use sim_run::{Design, Record};
+use sim_run::{Design, Record, WaveStore};
 use std::alloc::{AllocError, Global};
 use std::io::{self, Write};
 
@@ -22,6 +22,15 @@ fn count_changes(alloc: Global, nets: usize, records: &[Record]) -> Result<Vec<u
     let mut counts = vec![in alloc; 0; nets]?;
     for record in records {
         count(&mut counts, record);
+    }
+    Ok(counts)
+}
+
+/// How often each net of a run changed after the initialization.
+fn totals_of(alloc: Global, store: &WaveStore) -> Result<Vec<u64>, AllocError> {
+    let mut counts = Vec::new(alloc);
+    for net in 0..store.design().nets().len() {
+        counts.push(store.total(net).unwrap_or(0))?;
     }
     Ok(counts)
 }
@@ -78,5 +87,12 @@ pub fn write_changes<W: Write>(
     };
     let mut counts = count_changes(alloc, design.nets().len(), later)?;
     write_busiest(out, design, &mut counts)?;
+    Ok(())
+}
+
+/// Writes which nets change most in a run.
+pub fn write_totals<W: Write>(alloc: Global, out: &mut W, store: &WaveStore) -> Result<()> {
+    let mut counts = totals_of(alloc, store)?;
+    write_busiest(out, store.design(), &mut counts)?;
     Ok(())
 }

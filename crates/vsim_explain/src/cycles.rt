@@ -61,16 +61,3 @@ pub fn write_cycles<W: Write>(
     }
     Ok(())
 }
-
-/// The cycle that comes after most others at its time, the first of several.
-pub fn deepest(records: &[Record]) -> Option<&Record> {
-    let mut found = None;
-    let mut most = 0;
-    for record in records {
-        if record.delta > most {
-            most = record.delta;
-            found = Some(record);
-        }
-    }
-    found
-}

@@ -24,12 +24,11 @@ use crate::request::{Request, read_request};
 use crate::runs::tell_run;
 use anyhow::{Context, Result, bail};
 use sim_run::{CliFault, FlatError, RunError, TextError, elaborate};
+use std::alloc::Global;
 use std::env;
 use std::io::{self, BufWriter, Read, Write, writer};
 use std::process::ExitCode;
 use std::rt::Env;
-use std::sync::Wait;
-use std::thread::Threads;
 
 /// One byte more than a text may have: enough to see that it is too long.
 const MOST_BYTES: u64 = 1_048_577;
@@ -77,24 +76,23 @@ fn read_source<R: AllocGlobal + Input>(rt: &R) -> io::Result<Vec<u8>> {
 }
 
 /// Says what comes of a text, and answers the exit status.
-fn answer_text<R: Threads + Wait + Sync + AllocGlobal, W: Write>(
-    rt: &R,
+fn answer_text<W: Write>(
+    alloc: Global,
     source: &[u8],
     request: &Request,
     out: &mut W,
 ) -> Result<u8> {
-    let design = match elaborate(rt.alloc(), source, &request.options) {
-        Ok(design) => design,
+    match elaborate(alloc, source, &request.options) {
+        Ok(design) => tell_run(alloc, design, request, out),
         Err(refusal) => {
             explain(source, refusal).write(out, source, refusal)?;
-            return Ok(status_of(refusal));
+            Ok(status_of(refusal))
         }
-    };
-    tell_run(rt, rt.alloc(), &design, request, out)
+    }
 }
 
 /// Says what comes of the text on standard input.
-fn answer_request<R: Threads + Wait + Sync + AllocGlobal + Input, W: Write>(
+fn answer_request<R: AllocGlobal + Input, W: Write>(
     rt: &R,
     request: &Request,
     out: &mut W,
@@ -104,7 +102,7 @@ fn answer_request<R: Threads + Wait + Sync + AllocGlobal + Input, W: Write>(
         return Ok(2);
     }
     let source = read_source(rt)?;
-    answer_text(rt, source.as_slice(), request, out)
+    answer_text(rt.alloc(), source.as_slice(), request, out)
 }
 
 /// Writes the help.
@@ -136,10 +134,7 @@ fn words<R: AllocGlobal + Env>(rt: &R) -> io::Result<Vec<String>> {
 }
 
 /// Answers the words, and gives the exit status.
-fn answer_words<R: Threads + Wait + Sync + AllocGlobal + Input + Print + Eprint>(
-    rt: &R,
-    words: Vec<String>,
-) -> Result<u8> {
+fn answer_words<R: AllocGlobal + Input + Print + Eprint>(rt: &R, words: Vec<String>) -> Result<u8> {
     let mut out = BufWriter::new(rt.alloc(), writer(rt))?;
     let status = match read_request(rt.alloc(), words) {
         Ok(request) => answer_request(rt, &request, &mut out),
@@ -156,9 +151,7 @@ fn answer_no_text<R: Eprint>(rt: &R) -> Result<u8> {
 }
 
 /// Answers what the program was called with, and gives the exit status.
-fn answer<R: Threads + Wait + Sync + AllocGlobal + Input + Print + Eprint + Env>(
-    rt: &R,
-) -> Result<u8> {
+fn answer<R: AllocGlobal + Input + Print + Eprint + Env>(rt: &R) -> Result<u8> {
     match words(rt) {
         Ok(words) => answer_words(rt, words),
         Err(fault) if fault.kind() == io::ErrorKind::InvalidData => answer_no_text(rt),

@@ -1,104 +1,139 @@
 //! What is told of a run.
 
-use crate::changes::write_changes;
+use crate::changes::write_totals;
 use crate::cut_short::write_cut_short;
-use crate::cycles::deepest;
 use crate::request::Request;
 use anyhow::{Result, bail};
-use sim_run::{
-    Design, Finished, Open, Options, Record, RunError, WaveStore, run_in, write_listing,
-};
+use sim_run::{Design, Finished, Options, WaveStore, write_listing};
+use sim_store::{Look, Step};
 use std::alloc::Global;
 use std::io::{self, Write};
-use std::sync::{Mutex, Wait};
-use std::thread::Threads;
 
-/// Writes how many delta cycles come after one another at most, and when.
-fn write_deepest<W: Write>(out: &mut W, records: &[Record]) -> io::Result<()> {
-    match deepest(records) {
-        Some(record) => {
-            let (time, delta) = (record.time, record.delta);
-            writeln!(
-                out,
-                "The longest run of delta cycles is {delta}, at {time} fs."
-            )
+/// The longest run of delta cycles, and when it was.
+#[derive(Clone, Copy)]
+struct Deepest {
+    delta: u64,
+    time: u64,
+}
+
+impl Deepest {
+    /// Notes how far a run has come.
+    fn note(&mut self, look: Look) {
+        if look.delta > self.delta {
+            self.delta = look.delta;
+            self.time = look.time;
         }
-        None => out.write_all(b"No time has a delta cycle.\n"),
+    }
+
+    /// Writes how long it was, and when.
+    fn write<W: Write>(&self, out: &mut W) -> io::Result<()> {
+        let (delta, time) = (self.delta, self.time);
+        if delta == 0 {
+            return out.write_all(b"No time has a delta cycle.\n");
+        }
+        writeln!(
+            out,
+            "The longest run of delta cycles is {delta}, at {time} fs."
+        )
     }
 }
 
-/// Writes how many cycles and events a run had, and its longest run of delta cycles.
-fn write_totals<W: Write>(out: &mut W, finished: &Finished) -> io::Result<()> {
-    let (cycles, events) = (finished.cycles(), finished.events());
+/// Writes the listing of a run.
+fn write_lines<W: Write>(alloc: Global, out: &mut W, store: &WaveStore) -> Result<()> {
+    let finished = Finished::of(alloc, store)?;
+    write_listing(&finished, out)?;
+    Ok(())
+}
+
+/// Writes how many cycles and events a run had.
+fn write_counts<W: Write>(out: &mut W, look: Look) -> io::Result<()> {
+    let (cycles, events) = (look.records.saturating_sub(1), look.events);
     writeln!(
         out,
         "The run is finished after {cycles} cycles with {events} events."
-    )?;
-    write_deepest(out, finished.records())
+    )
 }
 
-/// Writes what a run had, and which nets changed most.
-fn write_finished<W: Write>(
-    alloc: Global,
-    out: &mut W,
-    design: &Design,
-    finished: &Finished,
-) -> Result<()> {
-    write_totals(out, finished)?;
-    if finished.events() == 0 {
+/// Writes which nets changed most.
+fn write_nets<W: Write>(alloc: Global, out: &mut W, store: &WaveStore) -> Result<()> {
+    if store.look().events == 0 {
         out.write_all(b"No net changes.\n")?;
         return Ok(());
     }
     out.write_all(b"The nets that change most, and how often:\n")?;
-    write_changes(alloc, out, design, finished.records())
+    write_totals(alloc, out, store)
 }
 
-/// Writes the listing of a run, where it is wanted.
-fn write_wanted<W: Write>(out: &mut W, finished: &Finished, wanted: bool) -> Result<()> {
-    if wanted && write_listing(finished, out).is_err() {
-        bail!("writing");
-    }
-    Ok(())
-}
-
-/// Writes the listing of a run, where it is wanted, and what the run had.
-fn write_run<W: Write>(
+/// Writes what a finished run had.
+fn write_finished<W: Write>(
     alloc: Global,
     out: &mut W,
-    design: &Design,
-    request: &Request,
-    finished: &Finished,
+    deepest: &Deepest,
+    store: &WaveStore,
 ) -> Result<()> {
-    write_wanted(out, finished, request.listing)?;
-    write_finished(alloc, out, design, finished)
+    write_counts(out, store.look())?;
+    deepest.write(out)?;
+    write_nets(alloc, out, store)
 }
 
 /// The store of a design at the beginning of its run.
-fn begun(alloc: Global, design: &Design, options: &Options) -> Result<Mutex<WaveStore>> {
-    match WaveStore::new(alloc, design.try_copy()?, options.stop, options.limit) {
-        Ok(store) => Ok(Mutex::new(store)),
+fn begun(alloc: Global, design: Design, options: &Options) -> Result<WaveStore> {
+    match WaveStore::new(alloc, design, options.stop, options.limit) {
+        Ok(store) => Ok(store),
         Err(_) => bail!("out of memory"),
     }
 }
 
-/// Runs a design, writes what came of that, and answers the exit status.
-pub fn tell_run<R: Threads + Wait + Sync, W: Write>(
-    rt: &R,
+/// Carries out one cycle: executes what is due, and goes on.
+fn go_on(alloc: Global, store: WaveStore) -> Result<WaveStore> {
+    let mut store = store.execute_due(alloc)?;
+    match store.advance(alloc) {
+        Ok(_step) => Ok(store),
+        Err(_) => bail!("out of memory"),
+    }
+}
+
+/// Carries a run on to its end, and notes its longest run of delta cycles.
+fn carried_on(alloc: Global, store: WaveStore, deepest: &mut Deepest) -> Result<WaveStore> {
+    let mut store = store;
+    for _turn in 0..u64::MAX {
+        if store.ended().is_some() {
+            break;
+        }
+        store = go_on(alloc, store)?;
+        deepest.note(store.look());
+    }
+    Ok(store)
+}
+
+/// Writes what came of a run that has ended, and answers the exit status.
+fn tell_end<W: Write>(
     alloc: Global,
-    design: &Design,
+    store: &WaveStore,
+    deepest: &Deepest,
     request: &Request,
     out: &mut W,
 ) -> Result<u8> {
-    let store = begun(alloc, design, &request.options)?;
-    match run_in(rt, alloc, &store, design, &request.options, &Open) {
-        Ok(finished) => {
-            write_run(alloc, out, design, request, &finished)?;
-            Ok(0)
-        }
-        Err(RunError::CycleLimit { .. }) => {
-            write_cut_short(alloc, out, request, &store.lock(rt))?;
-            Ok(3)
-        }
-        Err(_) => bail!("out of memory"),
+    if store.ended() != Some(Step::Finished) {
+        write_cut_short(alloc, out, request, store)?;
+        return Ok(3);
     }
+    if request.listing {
+        write_lines(alloc, out, store)?;
+    }
+    write_finished(alloc, out, deepest, store)?;
+    Ok(0)
+}
+
+/// Runs a design, writes what came of that, and answers the exit status.
+pub fn tell_run<W: Write>(
+    alloc: Global,
+    design: Design,
+    request: &Request,
+    out: &mut W,
+) -> Result<u8> {
+    let mut deepest = Deepest { delta: 0, time: 0 };
+    let store = begun(alloc, design, &request.options)?;
+    let store = carried_on(alloc, store, &mut deepest)?;
+    tell_end(alloc, &store, &deepest, request, out)
 }
