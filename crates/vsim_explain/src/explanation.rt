@@ -1,7 +1,7 @@
 //! What is told of a refusal.
 
 use crate::places::place_at;
-use crate::tokens::first_token;
+use crate::tokens::token_at;
 use sim_run::{RunError, TextError};
 use std::io::{self, Write};
 
@@ -35,13 +35,12 @@ pub fn nowhere(text: &'static str) -> Explanation {
 }
 
 /// Writes the token with which a text cannot go on.
-fn write_found<W: Write>(out: &mut W, source: &[u8], at: usize) -> io::Result<()> {
-    let (_, after) = source.split_at(at.min(source.len()));
-    if after.is_empty() {
+fn write_found<W: Write>(out: &mut W, found: &[u8]) -> io::Result<()> {
+    if found.is_empty() {
         return out.write_all(b"The text ends here, before the design does.\n");
     }
     out.write_all(b"The text cannot go on here with ")?;
-    out.write_all(first_token(after))?;
+    out.write_all(found)?;
     out.write_all(b"\n")
 }
 
@@ -76,7 +75,7 @@ impl Explanation {
     pub fn write<W: Write>(&self, out: &mut W, source: &[u8], refusal: RunError) -> io::Result<()> {
         self.write_head(out, source, refusal)?;
         if let RunError::Text(TextError::Syntax { at }) = refusal {
-            write_found(out, source, at)?;
+            write_found(out, token_at(source, at))?;
         }
         self.write_text(out)
     }

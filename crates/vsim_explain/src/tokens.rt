@@ -114,6 +114,12 @@ fn sign_length(text: &[u8]) -> usize {
     if text.first() == Some(&b'\'') { 3 } else { 1 }
 }
 
+/// The token before which this many bytes stand; empty at the end.
+pub fn token_at(source: &[u8], at: usize) -> &[u8] {
+    let (_, after) = source.split_at(at.min(source.len()));
+    first_token(after)
+}
+
 /// The token that a text begins with; empty where there is none.
 pub fn first_token(text: &[u8]) -> &[u8] {
     let word = first_word(text);
