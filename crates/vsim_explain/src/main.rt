@@ -6,19 +6,10 @@
 mod changes;
 mod cut_short;
 mod cycles;
-mod design_faults;
-mod explanation;
-mod hints;
-mod left_out;
-mod places;
 mod ranges;
 mod request;
 mod runs;
-mod slips;
-mod text_faults;
-mod tokens;
 
-use crate::explanation::{Explanation, nowhere};
 use crate::ranges::write_ranges;
 use crate::request::{Request, read_request};
 use crate::runs::tell_run;
@@ -29,6 +20,7 @@ use std::env;
 use std::io::{self, BufWriter, Read, Write, writer};
 use std::process::ExitCode;
 use std::rt::Env;
+use vsim_explain_refusals::{explain_design, explain_text, nowhere};
 
 /// One byte more than a text may have: enough to see that it is too long.
 const MOST_BYTES: u64 = 1_048_577;
@@ -50,12 +42,12 @@ const REFUSED: &str = "
 The text comes by standard input: vsim_explain --top NAME < design.vhd
 ";
 
-/// What a refusal of a text means.
-fn explain(source: &[u8], refusal: RunError) -> Explanation {
+/// Writes what a refusal of a text means.
+fn write_refusal<W: Write>(out: &mut W, source: &[u8], refusal: RunError) -> io::Result<()> {
     match refusal {
-        RunError::Text(fault) => text_faults::explain(source, fault),
-        RunError::Flat(fault) => design_faults::explain(source, fault),
-        _ => nowhere("There is not enough memory."),
+        RunError::Text(fault) => explain_text(source, fault).write(out, source, &refusal),
+        RunError::Flat(fault) => explain_design(source, fault).write(out, source, &refusal),
+        _ => nowhere("There is not enough memory.").write(out, source, &refusal),
     }
 }
 
@@ -85,7 +77,7 @@ fn answer_text<W: Write>(
     match elaborate(alloc, source, &request.options) {
         Ok(design) => tell_run(alloc, design, request, out),
         Err(refusal) => {
-            explain(source, refusal).write(out, source, refusal)?;
+            write_refusal(out, source, refusal)?;
             Ok(status_of(refusal))
         }
     }

@@ -1,8 +1,8 @@
 //! What the faults of a text mean.
 
-use crate::explanation::{Explanation, at, nowhere};
+use crate::explanation::{Explanation, at, at_token, nowhere};
 use crate::hints;
-use sim_run::TextError;
+use sim_text::TextError;
 
 const MEMORY: &str = "\
     There is not enough memory to read the text.";
@@ -44,16 +44,16 @@ const UNFINISHED: &str = "\
 /// What a `Syntax` means at this place.
 fn explain_syntax(source: &[u8], place: usize) -> Explanation {
     if place >= source.len() {
-        return at(place, UNFINISHED);
+        return at_token(place, UNFINISHED);
     }
     match hints::of_syntax(source, place) {
-        Some(text) => at(place, text),
-        None => at(place, SYNTAX),
+        Some(text) => at_token(place, text),
+        None => at_token(place, SYNTAX),
     }
 }
 
 /// What a fault of the text means.
-pub fn explain(source: &[u8], fault: TextError) -> Explanation {
+pub fn explain_text(source: &[u8], fault: TextError) -> Explanation {
     match fault {
         TextError::Memory => nowhere(MEMORY),
         TextError::TooLong => nowhere(TOO_LONG),

@@ -2,7 +2,7 @@
 
 use crate::explanation::{Explanation, at, nowhere};
 use crate::hints;
-use sim_run::FlatError;
+use sim_flat::FlatError;
 
 const MEMORY: &str = "\
     There is not enough memory to elaborate the design.";
@@ -111,7 +111,7 @@ const TOO_MANY: &str = "\
     See Limits in docs/REFERENCE.md.";
 
 /// What a fault of the design means.
-pub fn explain(source: &[u8], fault: FlatError) -> Explanation {
+pub fn explain_design(source: &[u8], fault: FlatError) -> Explanation {
     match fault {
         FlatError::Memory => nowhere(MEMORY),
         FlatError::NoTop => nowhere(NO_TOP),

@@ -2,7 +2,7 @@
 
 use crate::places::place_at;
 use crate::tokens::token_at;
-use sim_run::{RunError, TextError};
+use std::fmt::Display;
 use std::io::{self, Write};
 
 /// What a refusal means.
@@ -10,6 +10,8 @@ use std::io::{self, Write};
 pub struct Explanation {
     /// How many bytes stand before the place of the fault, if it has one.
     at: Option<usize>,
+    /// Whether the token at that place is told.
+    is_at_token: bool,
     /// What such a fault means at its place, and what to do.
     text: &'static str,
     /// What more is known of this one.
@@ -17,9 +19,20 @@ pub struct Explanation {
 }
 
 /// An explanation of a fault at a place.
-pub fn at(place: usize, text: &'static str) -> Explanation {
+pub(crate) fn at(place: usize, text: &'static str) -> Explanation {
     Explanation {
         at: Some(place),
+        is_at_token: false,
+        text,
+        hint: None,
+    }
+}
+
+/// An explanation of a token with which a text cannot go on.
+pub(crate) fn at_token(place: usize, text: &'static str) -> Explanation {
+    Explanation {
+        at: Some(place),
+        is_at_token: true,
         text,
         hint: None,
     }
@@ -29,6 +42,7 @@ pub fn at(place: usize, text: &'static str) -> Explanation {
 pub fn nowhere(text: &'static str) -> Explanation {
     Explanation {
         at: None,
+        is_at_token: false,
         text,
         hint: None,
     }
@@ -46,38 +60,44 @@ fn write_found<W: Write>(out: &mut W, found: &[u8]) -> io::Result<()> {
 
 impl Explanation {
     /// The same explanation and a hint.
-    pub fn with(self, hint: Option<&'static str>) -> Explanation {
+    pub(crate) fn with(self, hint: Option<&'static str>) -> Explanation {
         Explanation {
             at: self.at,
+            is_at_token: self.is_at_token,
             text: self.text,
             hint,
         }
     }
 
-    /// Writes the refusal as the program tells it, and where it has a place, its line and column
-    /// and the line itself.
-    fn write_head<W: Write>(
+    /// Writes a refusal as the program tells it, with its line and column, and the line itself.
+    fn write_place<W: Write, F: Display>(
         &self,
         out: &mut W,
         source: &[u8],
-        refusal: RunError,
+        at: usize,
+        refusal: &F,
     ) -> io::Result<()> {
-        let Some(at) = self.at else {
-            return writeln!(out, "{refusal}");
-        };
         let place = place_at(source, at);
         let (line, column) = (place.line, place.column);
         writeln!(out, "{line}:{column}: {refusal}")?;
-        place.write_marked(out)
+        place.write_marked(out)?;
+        if !self.is_at_token {
+            return Ok(());
+        }
+        write_found(out, token_at(source, at))
     }
 
-    /// Writes the explanation of a refusal of this text.
-    pub fn write<W: Write>(&self, out: &mut W, source: &[u8], refusal: RunError) -> io::Result<()> {
-        self.write_head(out, source, refusal)?;
-        if let RunError::Text(TextError::Syntax { at }) = refusal {
-            write_found(out, token_at(source, at))?;
+    /// Writes a refusal as the program tells it, and where it has a place, what stands there.
+    fn write_head<W: Write, F: Display>(
+        &self,
+        out: &mut W,
+        source: &[u8],
+        refusal: &F,
+    ) -> io::Result<()> {
+        match self.at {
+            Some(at) => self.write_place(out, source, at, refusal),
+            None => writeln!(out, "{refusal}"),
         }
-        self.write_text(out)
     }
 
     /// Writes what such a fault means, and the hint.
@@ -88,5 +108,16 @@ impl Explanation {
             Some(hint) => writeln!(out, "{hint}"),
             None => Ok(()),
         }
+    }
+
+    /// Writes the explanation of a refusal of this text.
+    pub fn write<W: Write, F: Display>(
+        &self,
+        out: &mut W,
+        source: &[u8],
+        refusal: &F,
+    ) -> io::Result<()> {
+        self.write_head(out, source, refusal)?;
+        self.write_text(out)
     }
 }
