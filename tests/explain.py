@@ -381,7 +381,7 @@ def fault_of_run(program, words, text, status, wanted):
 
 def sections():
     """Yields the place of each name of a section in the texts of the program, and the fault with it, if there is one."""
-    for path in sorted(glob.glob(f"{TOP}/crates/vsim_explain/src/*.rt")):
+    for path in sorted(glob.glob(f"{TOP}/crates/vsim_explain*/src/*.rt")):
         with open(path, encoding="utf-8") as file:
             text = re.sub(r"\\n\\\n *", " ", file.read())
         for found in re.finditer(r"See (?:([A-Z][\w, ]*?) in )?(docs/[A-Z_]+\.md)", text):
