@@ -20,7 +20,7 @@ use std::env;
 use std::io::{self, BufWriter, Read, Write, writer};
 use std::process::ExitCode;
 use std::rt::Env;
-use vsim_explain_refusals::{explain_design, explain_text, nowhere};
+use vsim_explain_refusals::{explain_design, explain_text};
 
 /// One byte more than a text may have: enough to see that it is too long.
 const MOST_BYTES: u64 = 1_048_577;
@@ -42,12 +42,22 @@ const REFUSED: &str = "
 The text comes by standard input: vsim_explain --top NAME < design.vhd
 ";
 
+/// Writes what a fault of a text means.
+fn write_text_fault<W: Write>(out: &mut W, source: &[u8], fault: TextError) -> io::Result<()> {
+    explain_text(source, fault).write(out, source, &fault)
+}
+
+/// Writes what a fault of a design means.
+fn write_design_fault<W: Write>(out: &mut W, source: &[u8], fault: FlatError) -> io::Result<()> {
+    explain_design(source, fault).write(out, source, &fault)
+}
+
 /// Writes what a refusal of a text means.
 fn write_refusal<W: Write>(out: &mut W, source: &[u8], refusal: RunError) -> io::Result<()> {
     match refusal {
-        RunError::Text(fault) => explain_text(source, fault).write(out, source, &refusal),
-        RunError::Flat(fault) => explain_design(source, fault).write(out, source, &refusal),
-        _ => nowhere("There is not enough memory.").write(out, source, &refusal),
+        RunError::Text(fault) => write_text_fault(out, source, fault),
+        RunError::Flat(fault) => write_design_fault(out, source, fault),
+        _ => out.write_all(b"Memory\nThere is not enough memory.\n"),
     }
 }
 
