@@ -1,0 +1,132 @@
+//! What is told of a run that needs more cycles than the limit.
+
+use crate::changes::write_changes;
+use crate::cycles::write_cycles;
+use crate::request::Request;
+use anyhow::{Result, bail};
+use sim_logic::LATEST;
+use sim_run::{Options, Record, RunError, WaveStore};
+use std::alloc::Global;
+use std::io::{self, Write};
+
+/// In how many of the last cycles changes are counted.
+const COUNTED: usize = 100;
+
+/// How many of the last cycles are shown.
+const SHOWN: usize = 6;
+
+/// How many changes are shown of each of them.
+const MOST_SHOWN: usize = 5;
+
+/// So few cycles at one time are nothing unusual.
+const FEW: u64 = 10;
+
+/// So many cycles at one time hardly come to an end.
+const MANY: u64 = 100;
+
+/// What a time means that stands still.
+const CIRCLE: &[u8] = b"\
+    The time stands still: signals drive one another in a circle without delay. Break the\n\
+    circle, or give one of its assignments a delay. See Time and cycles in docs/LANGUAGE.md.\n";
+
+/// What a limit means that is so small that nothing can be told.
+const EARLY: &[u8] = b"\
+    So few cycles do not tell whether the time goes on. Give a larger number by --limit.\n\
+    See Time and cycles in docs/LANGUAGE.md.\n";
+
+/// What a run without stop time means.
+const NO_STOP: &[u8] = b"\
+    The time goes on, and no --stop is given: a clock that runs on needs one, as in\n\
+    --stop 1000000 for 1 ns. Else give a larger number by --limit.\n\
+    See Calling the program in docs/LANGUAGE.md.\n";
+
+/// What a run means that has not come to its stop time.
+const STOP_NOT_REACHED: &[u8] = b"\
+    The time goes on, and has not come to that of --stop. Give an earlier --stop, or a larger\n\
+    number by --limit, which is 10000 where it is not given and at most 1000000.\n\
+    See Calling the program in docs/LANGUAGE.md.\n";
+
+/// What it means that a run came no further.
+fn meaning(options: &Options, cycles: u64, delta: u64) -> &'static [u8] {
+    let most_are_here = delta >= cycles.saturating_sub(delta);
+    if delta >= MANY || (delta >= FEW && most_are_here) {
+        CIRCLE
+    } else if most_are_here {
+        EARLY
+    } else if options.stop == LATEST {
+        NO_STOP
+    } else {
+        STOP_NOT_REACHED
+    }
+}
+
+/// Writes how far a run came.
+fn write_look<W: Write>(out: &mut W, options: &Options, store: &WaveStore) -> io::Result<()> {
+    let (look, limit) = (store.look(), options.limit);
+    let (time, delta, events) = (look.time, look.delta, look.events);
+    let refusal = RunError::CycleLimit { limit };
+    writeln!(
+        out,
+        "{refusal}\nThe run came to {time} fs and there to delta cycle {delta}, with {events} events."
+    )?;
+    let cycles = look.records.saturating_sub(1) as u64;
+    out.write_all(meaning(options, cycles, delta))
+}
+
+/// The last records of a store, so many at the most.
+fn last_records(alloc: Global, store: &WaveStore, most: usize) -> Result<Vec<Record>> {
+    let first = store.look().records.saturating_sub(most);
+    match store.records_since(alloc, first) {
+        Ok(records) => Ok(records),
+        Err(_) => bail!("out of memory"),
+    }
+}
+
+/// Writes which nets change most in the last cycles.
+fn write_last_changes<W: Write>(alloc: Global, out: &mut W, store: &WaveStore) -> Result<()> {
+    out.write_all(b"The nets that change most in the last 100 cycles, and how often:\n")?;
+    let records = last_records(alloc, store, COUNTED + 1)?;
+    write_changes(alloc, out, store.design(), records.as_slice())
+}
+
+/// Writes the last cycles.
+fn write_last_cycles<W: Write>(alloc: Global, out: &mut W, store: &WaveStore) -> Result<()> {
+    out.write_all(b"The last cycles, as a listing has them:\n")?;
+    let records = last_records(alloc, store, SHOWN)?;
+    write_cycles(out, store.design(), records.as_slice(), MOST_SHOWN)?;
+    Ok(())
+}
+
+/// Writes all cycles.
+fn write_all_cycles<W: Write>(alloc: Global, out: &mut W, store: &WaveStore) -> Result<()> {
+    let records = last_records(alloc, store, usize::MAX)?;
+    write_cycles(out, store.design(), records.as_slice(), usize::MAX)?;
+    Ok(())
+}
+
+/// Writes how far a run came, and which nets change most.
+fn write_state<W: Write>(
+    alloc: Global,
+    out: &mut W,
+    options: &Options,
+    store: &WaveStore,
+) -> Result<()> {
+    write_look(out, options, store)?;
+    write_last_changes(alloc, out, store)
+}
+
+/// Writes how far a run came, and what its nets did last: in all cycles, where the listing is
+/// wanted.
+pub fn write_cut_short<W: Write>(
+    alloc: Global,
+    out: &mut W,
+    request: &Request,
+    store: &WaveStore,
+) -> Result<()> {
+    if request.listing {
+        write_all_cycles(alloc, out, store)?;
+        return write_state(alloc, out, &request.options, store);
+    }
+    write_state(alloc, out, &request.options, store)?;
+    write_last_cycles(alloc, out, store)
+}

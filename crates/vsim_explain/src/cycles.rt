@@ -1,0 +1,63 @@
+//! Cycles, as a listing has them.
+
+use sim_logic::Logic;
+use sim_run::{Design, Record};
+use std::io::{self, Write};
+
+/// Writes the line of a change.
+fn write_change<W: Write>(
+    out: &mut W,
+    design: &Design,
+    record: &Record,
+    net: usize,
+    value: Logic,
+) -> io::Result<()> {
+    let Some(it) = design.nets().get(net) else {
+        return Ok(());
+    };
+    let (time, delta, name) = (record.time, record.delta, it.name());
+    write!(out, "{time} {delta} {name} ")?;
+    out.write_all(&[value.to_byte(), b'\n'])
+}
+
+/// Writes the lines of the first changes of a cycle, so many at the most.
+fn write_first<W: Write>(
+    out: &mut W,
+    design: &Design,
+    record: &Record,
+    most: usize,
+) -> io::Result<()> {
+    for (net, value) in record.changes.as_slice().iter().take(most) {
+        write_change(out, design, record, *net, *value)?;
+    }
+    Ok(())
+}
+
+/// Writes the lines of a cycle, so many at the most, and how many more there are.
+fn write_cycle<W: Write>(
+    out: &mut W,
+    design: &Design,
+    record: &Record,
+    most: usize,
+) -> io::Result<()> {
+    write_first(out, design, record, most)?;
+    let more = record.changes.as_slice().len().saturating_sub(most);
+    if more == 0 {
+        return Ok(());
+    }
+    let (time, delta) = (record.time, record.delta);
+    writeln!(out, "{time} {delta} and {more} more")
+}
+
+/// Writes cycles as a listing has them, of each so many lines at the most.
+pub fn write_cycles<W: Write>(
+    out: &mut W,
+    design: &Design,
+    records: &[Record],
+    most: usize,
+) -> io::Result<()> {
+    for record in records {
+        write_cycle(out, design, record, most)?;
+    }
+    Ok(())
+}

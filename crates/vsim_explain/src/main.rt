@@ -1,0 +1,172 @@
+//! Says what `vsim` answers: `vsim_explain --top NAME < design.vhd`, with the words and the text of
+//! `vsim`. Of a refusal it tells the line and column, shows the line, and says in plain words what
+//! such a fault means there and what to do; of a run, how far it came and which nets change most.
+#![tactic(auto)]
+
+mod changes;
+mod cut_short;
+mod cycles;
+mod ranges;
+mod request;
+mod runs;
+
+use crate::ranges::write_ranges;
+use crate::request::{Request, read_request};
+use crate::runs::tell_run;
+use anyhow::{Context, Result, bail};
+use sim_run::{CliFault, FlatError, RunError, TextError, elaborate};
+use std::alloc::Global;
+use std::env;
+use std::io::{self, BufWriter, Read, Write, writer};
+use std::process::ExitCode;
+use std::rt::Env;
+use vsim_explain_refusals::{explain_design, explain_text};
+
+/// One byte more than a text may have: enough to see that it is too long.
+const MOST_BYTES: u64 = 1_048_577;
+
+/// What is said of words that are no text, as clap says it.
+const NO_TEXT: &str = "error: invalid UTF-8 was detected in one or more arguments
+
+For more information, try '--help'.
+";
+
+/// What the help says of this program.
+const HELP: &[u8] = b"
+vsim_explain takes the same words and the same text, and says in plain words what vsim answers.
+With --listing it writes first what there is of the listing, also of a run that is cut short.
+";
+
+/// What is said of words that are refused.
+const REFUSED: &str = "
+The text comes by standard input: vsim_explain --top NAME < design.vhd
+";
+
+/// Writes what a fault of a text means.
+fn write_text_fault<W: Write>(out: &mut W, source: &[u8], fault: TextError) -> io::Result<()> {
+    explain_text(source, fault).write(out, source, &fault)
+}
+
+/// Writes what a fault of a design means.
+fn write_design_fault<W: Write>(out: &mut W, source: &[u8], fault: FlatError) -> io::Result<()> {
+    explain_design(source, fault).write(out, source, &fault)
+}
+
+/// Writes what a refusal of a text means.
+fn write_refusal<W: Write>(out: &mut W, source: &[u8], refusal: RunError) -> io::Result<()> {
+    match refusal {
+        RunError::Text(fault) => write_text_fault(out, source, fault),
+        RunError::Flat(fault) => write_design_fault(out, source, fault),
+        _ => out.write_all(b"Memory\nThere is not enough memory.\n"),
+    }
+}
+
+/// The exit status of `vsim` for a refusal of a text.
+fn status_of(refusal: RunError) -> u8 {
+    match refusal {
+        RunError::Text(TextError::Memory) | RunError::Flat(FlatError::Memory) => 4,
+        RunError::Text(_) | RunError::Flat(_) => 1,
+        _ => 4,
+    }
+}
+
+/// Reads the text.
+fn read_source<R: AllocGlobal + Input>(rt: &R) -> io::Result<Vec<u8>> {
+    let mut source = Vec::new(rt.alloc());
+    rt.reader().take(MOST_BYTES).read_to_end(&mut source)?;
+    Ok(source)
+}
+
+/// Says what comes of a text, and answers the exit status.
+fn answer_text<W: Write>(
+    alloc: Global,
+    source: &[u8],
+    request: &Request,
+    out: &mut W,
+) -> Result<u8> {
+    match elaborate(alloc, source, &request.options) {
+        Ok(design) => tell_run(alloc, design, request, out),
+        Err(refusal) => {
+            write_refusal(out, source, refusal)?;
+            Ok(status_of(refusal))
+        }
+    }
+}
+
+/// Says what comes of the text on standard input.
+fn answer_request<R: AllocGlobal + Input, W: Write>(
+    rt: &R,
+    request: &Request,
+    out: &mut W,
+) -> Result<u8> {
+    if !request.options.are_in_range() {
+        write_ranges(out, &request.options)?;
+        return Ok(2);
+    }
+    let source = read_source(rt)?;
+    answer_text(rt.alloc(), source.as_slice(), request, out)
+}
+
+/// Writes the help.
+fn write_help<W: Write>(out: &mut W, text: &str) -> io::Result<()> {
+    out.write_all(text.as_bytes())?;
+    out.write_all(HELP)
+}
+
+/// Answers words that ask for nothing.
+fn answer_fault<R: Eprint, W: Write>(rt: &R, fault: &CliFault, out: &mut W) -> Result<u8> {
+    match fault {
+        CliFault::Help(text) => {
+            write_help(out, text.as_str())?;
+            Ok(0)
+        }
+        CliFault::Refused(text) => {
+            rt.eprint(text.as_str())?;
+            rt.eprint(REFUSED)?;
+            Ok(2)
+        }
+        CliFault::Memory => bail!("out of memory"),
+    }
+}
+
+/// The words after the program's name.
+fn words<R: AllocGlobal + Env>(rt: &R) -> io::Result<Vec<String>> {
+    let words = env::args(rt)?.skip(1).collect(rt.alloc())?;
+    Ok(words)
+}
+
+/// Answers the words, and gives the exit status.
+fn answer_words<R: AllocGlobal + Input + Print + Eprint>(rt: &R, words: Vec<String>) -> Result<u8> {
+    let mut out = BufWriter::new(rt.alloc(), writer(rt))?;
+    let status = match read_request(rt.alloc(), words) {
+        Ok(request) => answer_request(rt, &request, &mut out),
+        Err(fault) => answer_fault(rt, &fault, &mut out),
+    };
+    out.flush().context("writing")?;
+    status
+}
+
+/// Says that the words are no text.
+fn answer_no_text<R: Eprint>(rt: &R) -> Result<u8> {
+    rt.eprint(NO_TEXT)?;
+    Ok(2)
+}
+
+/// Answers what the program was called with, and gives the exit status.
+fn answer<R: AllocGlobal + Input + Print + Eprint + Env>(rt: &R) -> Result<u8> {
+    match words(rt) {
+        Ok(words) => answer_words(rt, words),
+        Err(fault) if fault.kind() == io::ErrorKind::InvalidData => answer_no_text(rt),
+        Err(fault) => Err(fault.into()),
+    }
+}
+
+fn main(rt: HostRuntime) -> Result<ExitCode> {
+    match answer(&rt) {
+        Ok(status) => Ok(ExitCode::from(status)),
+        Err(fault) => {
+            eprintln!(rt; "vsim_explain: {fault:#}")?;
+            Ok(ExitCode::from(4))
+        }
+    }
+}

@@ -1,0 +1,47 @@
+//! Options that are out of their ranges.
+
+use sim_logic::LATEST;
+use sim_run::{Options, RunError};
+use std::io::{self, Write};
+
+/// Writes a line for a stop time that is too late.
+fn write_stop<W: Write>(out: &mut W, stop: u64) -> io::Result<()> {
+    if stop <= LATEST {
+        return Ok(());
+    }
+    writeln!(
+        out,
+        "--stop is {stop}, and at most {LATEST}, in femtoseconds."
+    )
+}
+
+/// Writes a line for a limit that is out of its range.
+fn write_limit<W: Write>(out: &mut W, limit: u32) -> io::Result<()> {
+    if (1..=1_000_000).contains(&limit) {
+        return Ok(());
+    }
+    writeln!(
+        out,
+        "--limit is {limit}, and has to be 1 to 1000000, in cycles."
+    )
+}
+
+/// Writes a line for a number of workers that is out of its range.
+fn write_workers<W: Write>(out: &mut W, workers: usize) -> io::Result<()> {
+    if (1..=16).contains(&workers) {
+        return Ok(());
+    }
+    writeln!(
+        out,
+        "--workers is {workers}, and has to be 1 to 16, in threads."
+    )
+}
+
+/// Writes the refusal, and a line for each option that is out of its range.
+pub fn write_ranges<W: Write>(out: &mut W, options: &Options) -> io::Result<()> {
+    let refusal = RunError::Options;
+    writeln!(out, "{refusal}")?;
+    write_stop(out, options.stop)?;
+    write_limit(out, options.limit)?;
+    write_workers(out, options.workers)
+}

@@ -1,0 +1,139 @@
+//! What is told of a run.
+
+use crate::changes::write_totals;
+use crate::cut_short::write_cut_short;
+use crate::request::Request;
+use anyhow::{Result, bail};
+use sim_run::{Design, Finished, Options, WaveStore, write_listing};
+use sim_store::{Look, Step};
+use std::alloc::Global;
+use std::io::{self, Write};
+
+/// The longest run of delta cycles, and when it was.
+#[derive(Clone, Copy)]
+struct Deepest {
+    delta: u64,
+    time: u64,
+}
+
+impl Deepest {
+    /// Notes how far a run has come.
+    fn note(&mut self, look: Look) {
+        if look.delta > self.delta {
+            self.delta = look.delta;
+            self.time = look.time;
+        }
+    }
+
+    /// Writes how long it was, and when.
+    fn write<W: Write>(&self, out: &mut W) -> io::Result<()> {
+        let (delta, time) = (self.delta, self.time);
+        if delta == 0 {
+            return out.write_all(b"No time has a delta cycle.\n");
+        }
+        writeln!(
+            out,
+            "The longest run of delta cycles is {delta}, at {time} fs."
+        )
+    }
+}
+
+/// Writes the listing of a run.
+fn write_lines<W: Write>(alloc: Global, out: &mut W, store: &WaveStore) -> Result<()> {
+    let finished = Finished::of(alloc, store)?;
+    write_listing(&finished, out)?;
+    Ok(())
+}
+
+/// Writes how many cycles and events a run had.
+fn write_counts<W: Write>(out: &mut W, look: Look) -> io::Result<()> {
+    let (cycles, events) = (look.records.saturating_sub(1), look.events);
+    writeln!(
+        out,
+        "The run is finished after {cycles} cycles with {events} events."
+    )
+}
+
+/// Writes which nets changed most.
+fn write_nets<W: Write>(alloc: Global, out: &mut W, store: &WaveStore) -> Result<()> {
+    if store.look().events == 0 {
+        out.write_all(b"No net changes.\n")?;
+        return Ok(());
+    }
+    out.write_all(b"The nets that change most, and how often:\n")?;
+    write_totals(alloc, out, store)
+}
+
+/// Writes what a finished run had.
+fn write_finished<W: Write>(
+    alloc: Global,
+    out: &mut W,
+    deepest: &Deepest,
+    store: &WaveStore,
+) -> Result<()> {
+    write_counts(out, store.look())?;
+    deepest.write(out)?;
+    write_nets(alloc, out, store)
+}
+
+/// The store of a design at the beginning of its run.
+fn begun(alloc: Global, design: Design, options: &Options) -> Result<WaveStore> {
+    match WaveStore::new(alloc, design, options.stop, options.limit) {
+        Ok(store) => Ok(store),
+        Err(_) => bail!("out of memory"),
+    }
+}
+
+/// Carries out one cycle: executes what is due, and goes on.
+fn go_on(alloc: Global, store: WaveStore) -> Result<WaveStore> {
+    let mut store = store.execute_due(alloc)?;
+    match store.advance(alloc) {
+        Ok(_step) => Ok(store),
+        Err(_) => bail!("out of memory"),
+    }
+}
+
+/// Carries a run on to its end, and notes its longest run of delta cycles.
+fn carried_on(alloc: Global, store: WaveStore, deepest: &mut Deepest) -> Result<WaveStore> {
+    let mut store = store;
+    for _turn in 0..u64::MAX {
+        if store.ended().is_some() {
+            break;
+        }
+        store = go_on(alloc, store)?;
+        deepest.note(store.look());
+    }
+    Ok(store)
+}
+
+/// Writes what came of a run that has ended, and answers the exit status.
+fn tell_end<W: Write>(
+    alloc: Global,
+    store: &WaveStore,
+    deepest: &Deepest,
+    request: &Request,
+    out: &mut W,
+) -> Result<u8> {
+    if store.ended() != Some(Step::Finished) {
+        write_cut_short(alloc, out, request, store)?;
+        return Ok(3);
+    }
+    if request.listing {
+        write_lines(alloc, out, store)?;
+    }
+    write_finished(alloc, out, deepest, store)?;
+    Ok(0)
+}
+
+/// Runs a design, writes what came of that, and answers the exit status.
+pub fn tell_run<W: Write>(
+    alloc: Global,
+    design: Design,
+    request: &Request,
+    out: &mut W,
+) -> Result<u8> {
+    let mut deepest = Deepest { delta: 0, time: 0 };
+    let store = begun(alloc, design, &request.options)?;
+    let store = carried_on(alloc, store, &mut deepest)?;
+    tell_end(alloc, &store, &deepest, request, out)
+}

@@ -1,0 +1,123 @@
+//! What is told of a refusal.
+
+use crate::places::place_at;
+use crate::tokens::token_at;
+use std::fmt::Display;
+use std::io::{self, Write};
+
+/// What a refusal means.
+#[derive(Clone, Copy)]
+pub struct Explanation {
+    /// How many bytes stand before the place of the fault, if it has one.
+    at: Option<usize>,
+    /// Whether the token at that place is told.
+    is_at_token: bool,
+    /// What such a fault means at its place, and what to do.
+    text: &'static str,
+    /// What more is known of this one.
+    hint: Option<&'static str>,
+}
+
+/// An explanation of a fault at a place.
+pub(crate) fn at(place: usize, text: &'static str) -> Explanation {
+    Explanation {
+        at: Some(place),
+        is_at_token: false,
+        text,
+        hint: None,
+    }
+}
+
+/// An explanation of a token with which a text cannot go on.
+pub(crate) fn at_token(place: usize, text: &'static str) -> Explanation {
+    Explanation {
+        at: Some(place),
+        is_at_token: true,
+        text,
+        hint: None,
+    }
+}
+
+/// An explanation of a refusal that has no place.
+pub fn nowhere(text: &'static str) -> Explanation {
+    Explanation {
+        at: None,
+        is_at_token: false,
+        text,
+        hint: None,
+    }
+}
+
+/// Writes the token with which a text cannot go on.
+fn write_found<W: Write>(out: &mut W, found: &[u8]) -> io::Result<()> {
+    if found.is_empty() {
+        return out.write_all(b"The text ends here, before the design does.\n");
+    }
+    out.write_all(b"The text cannot go on here with ")?;
+    out.write_all(found)?;
+    out.write_all(b"\n")
+}
+
+impl Explanation {
+    /// The same explanation and a hint.
+    pub(crate) fn with(self, hint: Option<&'static str>) -> Explanation {
+        Explanation {
+            at: self.at,
+            is_at_token: self.is_at_token,
+            text: self.text,
+            hint,
+        }
+    }
+
+    /// Writes a refusal as the program tells it, with its line and column, and the line itself.
+    fn write_place<W: Write, F: Display>(
+        &self,
+        out: &mut W,
+        source: &[u8],
+        at: usize,
+        refusal: &F,
+    ) -> io::Result<()> {
+        let place = place_at(source, at);
+        let (line, column) = (place.line, place.column);
+        writeln!(out, "{line}:{column}: {refusal}")?;
+        place.write_marked(out)?;
+        if !self.is_at_token {
+            return Ok(());
+        }
+        write_found(out, token_at(source, at))
+    }
+
+    /// Writes a refusal as the program tells it, and where it has a place, what stands there.
+    fn write_head<W: Write, F: Display>(
+        &self,
+        out: &mut W,
+        source: &[u8],
+        refusal: &F,
+    ) -> io::Result<()> {
+        match self.at {
+            Some(at) => self.write_place(out, source, at, refusal),
+            None => writeln!(out, "{refusal}"),
+        }
+    }
+
+    /// Writes what such a fault means, and the hint.
+    fn write_text<W: Write>(&self, out: &mut W) -> io::Result<()> {
+        let text = self.text;
+        writeln!(out, "{text}")?;
+        match self.hint {
+            Some(hint) => writeln!(out, "{hint}"),
+            None => Ok(()),
+        }
+    }
+
+    /// Writes the explanation of a refusal of this text.
+    pub fn write<W: Write, F: Display>(
+        &self,
+        out: &mut W,
+        source: &[u8],
+        refusal: &F,
+    ) -> io::Result<()> {
+        self.write_head(out, source, refusal)?;
+        self.write_text(out)
+    }
+}

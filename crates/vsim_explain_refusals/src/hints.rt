@@ -1,0 +1,138 @@
+//! What more is known of a fault, by the words and signs at its place.
+
+use crate::left_out::{
+    self, ARITHMETIC, BASED, CALL, EXTENDED, JOINING, NAMES, ORDER, STRING, TICK,
+};
+use crate::slips::{
+    self, ARROW, ASSIGNMENT, BEGIN, CLOSING_NAME, COMMA, COMPARISON, KINDS, LAST_PORT, LINE_BEFORE,
+    NOT_ASCII, NUMBER, OPEN, SIGNAL, SIGNAL_ASSIGNMENT, UNDERSCORE, UNEQUAL, UNIT_OF_TIME,
+};
+use crate::tokens::{
+    find, first_token, first_word, is_at_line_start, is_one_of, last_word, without_comments,
+    word_before_last,
+};
+
+/// Whether a text ends so that its last line may be complete.
+fn is_complete(before: &[u8]) -> bool {
+    match before.last() {
+        None | Some(b';' | b'(' | b',') => true,
+        Some(_) => is_one_of(&OPEN, last_word(before)),
+    }
+}
+
+/// What a word tells that begins with a digit, and stands before the place of a `Syntax`.
+fn of_number(before: &[u8]) -> Option<&'static str> {
+    match last_word(before).first() {
+        Some(b'0'..=b'9') => Some(UNIT_OF_TIME),
+        _ => None,
+    }
+}
+
+/// Whether a text ends by a tick, which is an apostrophe that ends no value.
+fn ends_by_tick(text: &[u8]) -> bool {
+    match text {
+        [.., b'\'', _, b'\''] => false,
+        [.., last] => *last == b'\'',
+        [] => false,
+    }
+}
+
+/// What the sign at the place of a `Syntax` tells, and the byte before it.
+fn of_signs(before: &[u8], after: &[u8]) -> Option<&'static str> {
+    match (before.last(), first_token(after)) {
+        (Some(b';'), b")") => Some(LAST_PORT),
+        (Some(b'('), [b'0'..=b'9', ..]) => Some(CALL),
+        (_, b"<=") => Some(SIGNAL_ASSIGNMENT),
+        (_, b"=>") => Some(ARROW),
+        (_, b"=") => Some(COMPARISON),
+        (_, b":=") => Some(ASSIGNMENT),
+        (_, b",") => Some(COMMA),
+        (_, b"(") => Some(CALL),
+        (_, [b'0'..=b'9', ..]) => Some(NUMBER),
+        _ => None,
+    }
+}
+
+/// What stands at the end of the line before.
+fn of_line(before: &[u8], is_first: bool) -> Option<&'static str> {
+    if is_first && !is_complete(before) {
+        Some(LINE_BEFORE)
+    } else {
+        None
+    }
+}
+
+/// What a declaration tells where a process is to begin.
+fn of_head(before: &[u8], after: &[u8]) -> Option<&'static str> {
+    if before.ends_with(b")") && is_one_of(&["signal"], first_word(after)) {
+        Some(SIGNAL)
+    } else {
+        None
+    }
+}
+
+/// What is left out by the words around the place of a `Syntax`.
+fn of_left_out(before: &[u8], after: &[u8]) -> Option<&'static str> {
+    find(&left_out::AT, first_word(after)).or(find(&left_out::AFTER, last_word(before)))
+}
+
+/// What a slip tells by the words and signs around the place of a `Syntax`.
+fn of_slips(before: &[u8], after: &[u8]) -> Option<&'static str> {
+    if let Some(text) = find(&slips::AFTER, last_word(before)) {
+        return Some(text);
+    }
+    if let Some(text) = find(&slips::AT, first_word(after)) {
+        return Some(text);
+    }
+    if ends_by_tick(before) {
+        return Some(TICK);
+    }
+    of_number(before).or(of_signs(before, after))
+}
+
+/// What is known of a `Syntax` between what stands before it and after it.
+fn of_place(before: &[u8], after: &[u8], is_first: bool) -> Option<&'static str> {
+    if is_one_of(&["end"], word_before_last(before)) {
+        return of_line(before, is_first).or(Some(CLOSING_NAME));
+    }
+    of_left_out(before, after)
+        .or(of_head(before, after))
+        .or(of_line(before, is_first))
+        .or(of_slips(before, after))
+        .or(if is_first { Some(BEGIN) } else { None })
+}
+
+/// What is known where a `Syntax` is told.
+pub fn of_syntax(source: &[u8], at: usize) -> Option<&'static str> {
+    let (before, after) = source.split_at(at.min(source.len()));
+    if after.is_empty() {
+        return None;
+    }
+    of_place(without_comments(before), after, is_at_line_start(before))
+}
+
+/// What is known where a `BadByte` is told.
+pub fn of_byte(source: &[u8], at: usize) -> Option<&'static str> {
+    match source.get(at).copied()? {
+        b'"' => Some(STRING),
+        b'\\' => Some(EXTENDED),
+        b'<' | b'>' | b'?' => Some(ORDER),
+        b'+' | b'-' | b'*' | b'/' => Some(ARITHMETIC),
+        b'&' => Some(JOINING),
+        b'#' => Some(BASED),
+        b'!' => Some(UNEQUAL),
+        b'_' => Some(UNDERSCORE),
+        128.. => Some(NOT_ASCII),
+        _ => None,
+    }
+}
+
+/// What is known where an `Unknown` is told.
+pub fn of_name(source: &[u8], at: usize) -> Option<&'static str> {
+    find(&NAMES, first_word(source.get(at..)?))
+}
+
+/// What is known where a `WrongKind` is told.
+pub fn of_kind(source: &[u8], at: usize) -> Option<&'static str> {
+    find(&KINDS, first_word(source.get(at..)?))
+}

@@ -1,0 +1,15 @@
+//! What the refusals of a text mean, in plain words.
+#![tactic(auto)]
+
+mod design_faults;
+mod explanation;
+mod hints;
+mod left_out;
+mod places;
+mod slips;
+mod text_faults;
+mod tokens;
+
+pub use design_faults::explain_design;
+pub use explanation::{Explanation, nowhere};
+pub use text_faults::explain_text;

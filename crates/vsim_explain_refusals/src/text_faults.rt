@@ -1,0 +1,67 @@
+//! What the faults of a text mean.
+
+use crate::explanation::{Explanation, at, at_token, nowhere};
+use crate::hints;
+use sim_text::TextError;
+
+const MEMORY: &str = "\
+    There is not enough memory to read the text.";
+
+const TOO_LONG: &str = "\
+    A text has at most 1,048,576 bytes. Leave out the units that the top does not need.\n\
+    See Limits in docs/REFERENCE.md.";
+
+const BAD_BYTE: &str = "\
+    No word, number, value or sign of the subset begins here. Take this character out, or\n\
+    make what it belongs to a comment. See Tokens in docs/REFERENCE.md.";
+
+const OPEN_COMMENT: &str = "\
+    A comment that begins with /* ends at the next */, and there is none. Write it where the\n\
+    comment is to end. See Text in docs/LANGUAGE.md.";
+
+const BAD_LITERAL: &str = "\
+    An apostrophe begins one of the nine values, in upper case: 'U' 'X' '0' '1' 'Z' 'W' 'L'\n\
+    'H' '-'. None of them stands here. Right behind a name it is a tick, as in s'event.\n\
+    See Signals and their values in docs/LANGUAGE.md.";
+
+const TIME_RANGE: &str = "\
+    The largest time is 4,611,686,018,427,387,903 fs, some 76 minutes. Write a shorter one.\n\
+    See Time and cycles in docs/LANGUAGE.md.";
+
+const TOO_DEEP: &str = "\
+    64 parentheses of this expression, or 64 if statements of this process, are open here\n\
+    already. Give an inner part a signal or variable of its own.\n\
+    See Limits in docs/REFERENCE.md.";
+
+const SYNTAX: &str = "\
+    Look also at what stands just before: a ; or ) or end may be missing there, or a word be\n\
+    too many. See Grammar in docs/REFERENCE.md.";
+
+const UNFINISHED: &str = "\
+    Each if, process, architecture and entity ends by end and ; and one of these is missing.\n\
+    A text without any entity or architecture is no design. See Grammar in docs/REFERENCE.md.";
+
+/// What a `Syntax` means at this place.
+fn explain_syntax(source: &[u8], place: usize) -> Explanation {
+    if place >= source.len() {
+        return at_token(place, UNFINISHED);
+    }
+    match hints::of_syntax(source, place) {
+        Some(text) => at_token(place, text),
+        None => at_token(place, SYNTAX),
+    }
+}
+
+/// What a fault of the text means.
+pub fn explain_text(source: &[u8], fault: TextError) -> Explanation {
+    match fault {
+        TextError::Memory => nowhere(MEMORY),
+        TextError::TooLong => nowhere(TOO_LONG),
+        TextError::BadByte { at: place } => at(place, BAD_BYTE).with(hints::of_byte(source, place)),
+        TextError::OpenComment { at: place } => at(place, OPEN_COMMENT),
+        TextError::BadLiteral { at: place } => at(place, BAD_LITERAL),
+        TextError::TimeRange { at: place } => at(place, TIME_RANGE),
+        TextError::TooDeep { at: place } => at(place, TOO_DEEP),
+        TextError::Syntax { at: place } => explain_syntax(source, place),
+    }
+}

@@ -1,0 +1,421 @@
+#!/usr/bin/env python3
+"""Compares what vsim_explain says of the examples with what they say themselves, and of common mistakes with the manual.
+
+    explain.py VSIM_EXPLAIN
+
+The examples are all that examples/check runs: the designs there, those of docs/*.md, and each row of docs/LEFT_OUT.md. Of each
+that is refused at a place, the program has to tell that refusal, its line and column, the line with a mark below, and at least
+one sentence. Of each run it has to tell the cycles and events, the longest run of delta cycles, and the nets that change most,
+as the listing has them; and with --listing that listing before. The status is that of vsim.
+
+The mistakes are the rows of MISTAKES: DESIGN with one line replaced, the line at which the manual lets it be refused, how, and
+what has to be said of it. RUNS are designs that are cut short, and words that are refused, with all that has to be said. Each
+answer has a second. Where a text says `See SECTION in docs/PAGE`, there has to be such a section.
+
+What differs is told, and the last line is `N passed, M failed`.
+"""
+import collections
+import glob
+import importlib.machinery
+import importlib.util
+import os
+import re
+import subprocess
+import sys
+import time
+
+TOP = os.path.dirname(os.path.dirname(os.path.realpath(__file__)))
+# what is shown of a line on either side of a place
+MOST_SHOWN = 100
+MOST_NETS = 10
+MOST_SECONDS = 1
+
+DESIGN = """\
+entity inverter is
+  port (i : in std_logic; o : out std_logic);
+end;
+
+architecture gate of inverter is
+begin
+  o <= not i after 1 ns;
+end;
+
+entity t is
+end;
+
+architecture a of t is
+  signal clk, p, q : std_logic := '0';
+begin
+  clk <= '1' after 5 ns, '0' after 10 ns;
+  u1 : entity work.inverter port map (i => clk, o => p);
+  process (clk)
+    variable v : std_logic;
+  begin
+    if rising_edge(clk) then
+      v := p;
+      q <= v;
+    end if;
+  end process;
+end;
+"""
+
+# what stands in the place of which line of DESIGN; at which line that is refused, and how; what is said of it
+MISTAKES = [
+    # something is missing
+    (16, "clk <= '1' after 5 ns, '0' after 10 ns", 17, "Syntax", "cannot go on here with u1"),
+    (16, "clk <= '1' after 5 ns, '0' after 10 ns", 17, "Syntax", "at the end of what stands before: a ;"),
+    (14, "signal clk, p, q : std_logic := '0'", 15, "Syntax", "at the end of what stands before: a ;"),
+    (14, "signal clk, p, q : std_logic := '0' -- no semicolon;", 15, "Syntax", "at the end of what stands before: a ;"),
+    (24, "end if", 25, "Syntax", "at the end of what stands before: a ;"),
+    (14, "signal clk, p, q std_logic;", 14, "Syntax", "Between the names and their type stands a colon"),
+    (10, "entity t", 11, "Syntax", "a word as is, then or begin"),
+    (15, "", 16, "Syntax", "Between declarations and statements stands begin"),
+    (21, "if clk = '1'", 22, "Syntax", "a word as is, then or begin"),
+    (24, "", 25, "Syntax", "An if ends by end if"),
+    (25, "", 26, "Syntax", "a process by end process"),
+    (26, "", 27, "Syntax", "ends by end and ; and one of these is missing"),
+    (26, "end", 27, "Syntax", "The text ends here, before the design does."),
+    (21, "if (clk = '1' then", 21, "Syntax", "a ; or ) or end may be missing there"),
+    (23, "q <= v after 5;", 23, "Syntax", "A time is a whole number and a unit"),
+    (23, "q <= v after 2.5 ns;", 23, "Syntax", "A time is a whole number and a unit"),
+    (18, "process", 19, "Syntax", "A process has a sensitivity list"),
+    (17, "u1 : entity inverter port map (clk, p);", 17, "Syntax", "entity work.NAME"),
+    (9, "/* the design under test", 9, "OpenComment", "ends at the next */"),
+    # one thing for another
+    (16, "clk = '1' after 5 ns;", 16, "Syntax", "A signal is assigned by <="),
+    (16, "clk => '1' after 5 ns;", 16, "Syntax", "=> is for port maps"),
+    (16, "clk := '1' after 5 ns;", 16, "Syntax", "A signal is assigned by <="),
+    (23, "q := v;", 23, "WrongKind", "<= assigns signals and ports, and := variables"),
+    (22, "v <= p;", 22, "WrongKind", "<= assigns signals and ports, and := variables"),
+    (21, "if clk == '1' then", 21, "Syntax", "one = does"),
+    (21, "if clk != '1' then", 21, "BadByte", "/= asks whether two values differ"),
+    (17, "u1 : entity work.inverter port map (i <= clk, o => p);", 17, "Syntax", "In a port map it is =>"),
+    (2, "port (i : in std_logic, o : out std_logic);", 2, "Syntax", "Between ports stands ;"),
+    (2, "port (i : in std_logic; o : out std_logic;);", 2, "Syntax", "The last port has no ;"),
+    (24, "else if p = '1' then q <= '0'; end if;", 25, "Syntax", "where elsif was meant"),
+    (24, "elseif p = '1' then q <= '0'; end if;", 24, "Syntax", "The word is elsif."),
+    (25, "end process main;", 25, "Syntax", "A closing name is that of what it closes."),
+    (26, "end architecture b;", 26, "Syntax", "A closing name is that of what it closes."),
+    (23, "q <= v; // the next value", 23, "BadByte", "A comment begins with two hyphens."),
+    (19, "signal v : std_logic;", 19, "Syntax", "a process declares variables alone"),
+    (14, "variable clk, p, q : std_logic;", 14, "Syntax", "Variables are declared in a process"),
+    (23, "q <= p and v or clk;", 23, "Syntax", "only with parentheses"),
+    (1, "\ufeffentity inverter is", 1, "BadByte", "byte order mark"),
+    # values and types
+    (23, "q <= 1;", 23, "Syntax", "A value has apostrophes"),
+    (23, 'q <= "1";', 23, "BadByte", "Strings are left out"),
+    (23, "q <= '2';", 23, "BadLiteral", "one of the nine values"),
+    (23, "q <= 'x';", 23, "BadLiteral", "in upper case"),
+    (23, "q <= clk = '1';", 23, "TypeClash", "'1' when .. else '0'"),
+    (21, "if clk then", 21, "NotBoolean", "Compare it, as in s = '1'."),
+    (21, "if '1' = '1' then", 21, "Ambiguous", "Name a signal or variable on one side"),
+    (16, "clk <= '1' after 10 ns, '0' after 5 ns;", 16, "NotAscending", "in the order of their times"),
+    (16, "clk <= '1' after 2 hr;", 16, "TimeRange", "Write a shorter one."),
+    # names
+    (23, "q <= vv;", 23, "Unknown", "Compare it with its declaration."),
+    (5, "architecture gate of invertor is", 5, "Unknown", "Compare it with its declaration."),
+    (17, "u1 : inverter port map (clk, p);", 17, "Unknown", "units of this file as entity work.NAME"),
+    (17, "u1 : entity work.inverter port map (i => clk, x => p);", 17, "Unknown", "Nothing that can be named here has this name."),
+    (17, "u1 : entity work.inverter port map (clk, p, q);", 17, "Unknown", "there are more of them than ports"),
+    (17, "u1 : entity work.inverter port map (o => p);", 17, "PortMissing", "neither an actual nor a first value"),
+    (17, "u1 : entity work.inverter port map (i => clk, i => q, o => p);", 17, "PortTwice", "has an actual in the same port map already"),
+    (17, "u1 : entity work.inverter port map (i => clk, o => '1');", 17, "ModeClash", "an out port no in port and no literal"),
+    (17, "u1 : entity work.t;", 17, "Recursive", "so the hierarchy has no end"),
+    (14, "signal clk, p, q, p : std_logic;", 14, "Duplicate", "is declared before"),
+    (14, "signal clk, p, q, true : std_logic;", 14, "Predefined", "Take another name."),
+    (7, "o <= not o after 1 ns;", 7, "ReadOut", "Drive a signal, read that, and assign it to the port."),
+    (7, "i <= o;", 7, "WriteIn", "Make it out or inout, or assign a signal."),
+    # what is left out
+    (23, "wait for 5 ns;", 23, "Syntax", "There is no wait."),
+    (23, "case v is when '0' => q <= v; end case;", 23, "Syntax", "Write if, elsif and else."),
+    (14, "signal clk, p, q : std_logic_vector(7 downto 0);", 14, "Syntax", "Vectors are left out."),
+    (10, "entity t is generic (n : natural := 8);", 10, "Syntax", "Generics are left out."),
+    (14, "signal clk, p, q : integer;", 14, "Unknown", "numbers are left out"),
+    (14, "signal clk, p, q : integer range 0 to 7;", 14, "Syntax", "numbers are left out"),
+    (14, "signal clk, p, q : boolean;", 14, "WrongKind", "boolean is for variables alone"),
+    (14, "constant zero : std_logic := '0';", 14, "Syntax", "Constants are left out."),
+    (23, "q <= v + '1';", 23, "BadByte", "Arithmetic is left out"),
+    (23, "q <= v when clk = '1' else p;", 23, "Syntax", "Write an if statement."),
+    (23, "for k in 0 to 7 loop q <= v; end loop;", 23, "Syntax", "Loops and generate are left out."),
+    (17, "g : for k in 0 to 7 generate end generate;", 17, "Syntax", "Loops and generate are left out."),
+    (23, "assert q = v;", 23, "Syntax", "Assertions and reports are left out."),
+    (23, "q <= p(0);", 23, "Syntax", "signals have no elements"),
+]
+
+LOOP = "entity t is end; architecture a of t is signal s : std_logic := '0'; begin s <= not s; end;"
+CLOCK = "entity t is end; architecture a of t is signal clk : std_logic := '0'; begin clk <= not clk after 5 ns; end;"
+# seven nets that change in turn, and all at once
+WIDE = """\
+entity t is end;
+architecture a of t is
+  signal a, b, c, d, e, f, g : std_logic := '0';
+begin
+  a <= not a after 1 ns; b <= a; c <= a; d <= a; e <= a; f <= a; g <= a;
+end;
+"""
+STANDS = """\
+The time stands still: signals drive one another in a circle without delay. Break the
+circle, or give one of its assignments a delay. See Time and cycles in docs/LANGUAGE.md.
+"""
+EARLY = """\
+So few cycles do not tell whether the time goes on. Give a larger number by --limit.
+See Time and cycles in docs/LANGUAGE.md.
+"""
+NO_STOP = """\
+The time goes on, and no --stop is given: a clock that runs on needs one, as in
+--stop 1000000 for 1 ns. Else give a larger number by --limit.
+See Calling the program in docs/LANGUAGE.md.
+"""
+STOP_NOT_REACHED = """\
+The time goes on, and has not come to that of --stop. Give an earlier --stop, or a larger
+number by --limit, which is 10000 where it is not given and at most 1000000.
+See Calling the program in docs/LANGUAGE.md.
+"""
+BUSIEST = "The nets that change most in the last 100 cycles, and how often:\n"
+LAST = "The last cycles, as a listing has them:\n"
+
+
+def clock_lines(first, last):
+    """Returns the lines of CLOCK from one cycle to another."""
+    return "".join(f"{5000000 * n} 0 clk {n % 2}\n" for n in range(first, last + 1))
+
+
+def loop_lines(first, last):
+    """Returns the lines of LOOP from one cycle to another."""
+    return "".join(f"0 {n} s {n % 2}\n" for n in range(first, last + 1))
+
+
+def cut_short(limit, came, events, meaning, counts, lines):
+    """Returns what is said of a run that is cut short: the nets that change most and how often, and the last lines."""
+    far = f"CycleLimit {limit}\nThe run came to {came}, with {events} events.\n"
+    return far + meaning + BUSIEST + "".join(f"{count:>10} {name}\n" for count, name in counts) + (f"{LAST}{lines}" if lines else "")
+
+
+WIDE_LINES = (
+    "".join(f"0 0 {it} 0\n" for it in "abcde")
+    + "0 0 and 2 more\n1000000 0 a 1\n"
+    + "".join(f"1000000 1 {it} 1\n" for it in "bcdef")
+    + "1000000 1 and 1 more\n2000000 0 a 0\n"
+)
+AT_200_NS = "200000000 fs and there to delta cycle 0"
+# words, a text, the status, and all that is said
+RUNS = [
+    (
+        "--top t --limit 300",
+        LOOP,
+        3,
+        cut_short(300, "0 fs and there to delta cycle 300", 300, STANDS, [(100, "s")], loop_lines(295, 300)),
+    ),
+    (
+        "--top t --limit 20 --listing",
+        LOOP,
+        3,
+        loop_lines(0, 20) + cut_short(20, "0 fs and there to delta cycle 20", 20, STANDS, [(20, "s")], ""),
+    ),
+    (
+        "--top t --limit 2",
+        LOOP,
+        3,
+        cut_short(2, "0 fs and there to delta cycle 2", 2, EARLY, [(2, "s")], loop_lines(0, 2)),
+    ),
+    (
+        "--top t --limit 40",
+        CLOCK,
+        3,
+        cut_short(40, AT_200_NS, 40, NO_STOP, [(40, "clk")], clock_lines(35, 40)),
+    ),
+    (
+        "--top t --limit 40 --stop 500000000",
+        CLOCK,
+        3,
+        cut_short(40, AT_200_NS, 40, STOP_NOT_REACHED, [(40, "clk")], clock_lines(35, 40)),
+    ),
+    (
+        "--top t --limit 4",
+        WIDE,
+        3,
+        cut_short(4, "2000000 fs and there to delta cycle 0", 8, NO_STOP, [(2, "a"), *((1, it) for it in "bcdefg")], WIDE_LINES),
+    ),
+    (
+        "--top t --stop 2000000",
+        WIDE,
+        0,
+        "The run is finished after 5 cycles with 14 events.\nThe longest run of delta cycles is 1, at 0 fs.\n"
+        + "The nets that change most, and how often:\n"
+        + "".join(f"         2 {it}\n" for it in "abcdefg"),
+    ),
+    (
+        "--top t --limit 0 --workers 17",
+        CLOCK,
+        2,
+        "Options\n--limit is 0, and has to be 1 to 1000000, in cycles.\n--workers is 17, and has to be 1 to 16, in threads.\n",
+    ),
+    (
+        "--top t --stop 4611686018427387904",
+        CLOCK,
+        2,
+        "Options\n--stop is 4611686018427387904, and at most 4611686018427387903, in femtoseconds.\n",
+    ),
+    (
+        "--top u",
+        CLOCK,
+        1,
+        "NoTop\nNo entity of the text has the name that was given by --top. Compare the two; the case of\n"
+        "letters makes no difference.\nSee Calling the program in docs/LANGUAGE.md.\n",
+    ),
+    ("design.vhd", CLOCK, 2, ""),
+]
+
+
+def examples():
+    """Yields the name of each example, its words, its text, and the output, the errors and the status of vsim."""
+    sys.dont_write_bytecode = True
+    loader = importlib.machinery.SourceFileLoader("check", f"{TOP}/examples/check")
+    check = importlib.util.module_from_spec(importlib.util.spec_from_loader("check", loader))
+    loader.exec_module(check)
+    pages = [f"{TOP}/docs/{it}" for it in sorted(os.listdir(f"{TOP}/docs")) if it.endswith(".md")]
+    yield from check.designs()
+    for page in pages:
+        yield from check.runs(page)
+    yield from check.left_out(f"{TOP}/docs/LEFT_OUT.md")
+
+
+def head_of_refusal(text, refusal):
+    """Returns the first lines that tell a refusal."""
+    at = re.search(r" at (\d+)$", refusal)
+    if not at:
+        return [refusal]
+    before, after = text[: int(at[1])], text[int(at[1]) :]
+    start = before.split(b"\n")[-1]
+    column = len(start.decode()) + 1
+    start, rest = start[-MOST_SHOWN:], after.split(b"\n")[0][:MOST_SHOWN].rstrip()
+    mark = re.sub(r"[^\t]", " ", start.decode())
+    line = before.count(b"\n") + 1
+    return [f"{line}:{column}: {refusal}", (start + rest).decode(errors="replace"), f"{mark}^"]
+
+
+def lines_of_run(listing):
+    """Returns the lines that tell a finished run."""
+    *changes, done = listing.splitlines()
+    _, cycles, events = done.split()
+    told = [f"The run is finished after {cycles} cycles with {events} events."]
+    if events == "0":
+        return [*told, "No net changes."]
+    counts = collections.OrderedDict()
+    for line in changes:
+        time, delta, name, _ = line.split()
+        counts.setdefault(name, 0)
+        counts[name] += (time, delta) != ("0", "0")
+    most = sorted(counts.items(), key=lambda it: -it[1])[:MOST_NETS]
+    return [*told, "The nets that change most, and how often:", *(f"{n:>10} {name}" for name, n in most if n)]
+
+
+def answer(program, words, text):
+    """Returns the output, the errors and the status of a run, and how long it took."""
+    began = time.monotonic()
+    ran = subprocess.run([program, *words], input=text, stdout=subprocess.PIPE, stderr=subprocess.PIPE, timeout=120)
+    took = time.monotonic() - began
+    return ran.stdout.decode(errors="replace"), ran.stderr.decode(errors="replace"), ran.returncode, took
+
+
+def without_deepest(said, listing):
+    """Returns what is said of a run without its longest run of delta cycles, if that is not less than the listing shows."""
+    most = max(int(line.split()[1]) for line in listing.splitlines()[:-1]) if listing.count("\n") > 1 else 0
+    found = re.fullmatch(r"No time has a delta cycle\.|The longest run of delta cycles is (\d+), at \d+ fs\.", said[1])
+    return said[:1] + said[2:] if found and int(found[1] or 0) >= most else said
+
+
+def fault_of_example(program, words, text, wanted):
+    """Returns what is wrong with what is said of an example, if anything is."""
+    out, err, status = wanted
+    if status in (2, 3) or b"--help" in out or "--help" in words:
+        return None
+    text_said, errors, got, _ = answer(program, words, text)
+    said = text_said.splitlines()
+    if got != status or errors:
+        return f"status {got}: {errors}"
+    if status:
+        head = head_of_refusal(text, err.decode().strip()[len("vsim: ") :])
+    else:
+        head, said = lines_of_run(out.decode()), without_deepest(said, out.decode())
+        if answer(program, [*words, "--listing"], text)[0] != out.decode() + text_said:
+            return "with --listing it is not the listing and then the same"
+    if said[: len(head)] != head or (len(said) > len(head)) != bool(status):
+        return "wanted:\n" + "\n".join(head) + "\ngot:\n" + "\n".join(said)
+    return None
+
+
+def told_in_pages():
+    """Yields the place of each run of vsim_explain in the pages, its words, its design and what it says there."""
+    for path in sorted(glob.glob(f"{TOP}/docs/*.md")):
+        with open(path, encoding="utf-8") as file:
+            text = file.read()
+        for block in re.finditer(r"^```text\n\$ vsim_explain ([^\n]*) < \S+\n(.*?)^```$", text, re.M | re.S):
+            design = re.findall(r"^```vhdl\n(.*?)^```$", text[: block.start()], re.M | re.S)[-1]
+            yield f"{os.path.relpath(path, TOP)}: {block[1]}", block[1], design, block[2]
+
+
+def with_line(number, line):
+    """Returns DESIGN with another line."""
+    lines = DESIGN.splitlines(keepends=True)
+    lines[number - 1] = f"{line}\n"
+    return "".join(lines)
+
+
+def fault_of_mistake(program, number, line, at, refusal, wanted):
+    """Returns what is wrong with what is said of a mistake, if anything is."""
+    said, errors, status, took = answer(program, ["--top", "t"], with_line(number, line).encode())
+    found = re.match(rf"{at}:\d+: {refusal}( |$)", said, re.M)
+    if status != 1 or errors or not found or wanted not in " ".join(said.split()) or took > MOST_SECONDS:
+        return f"wanted line {at}, {refusal}, and '{wanted}'\ngot after {took:.1f} s with status {status}:\n{said}{errors}"
+    return None
+
+
+def fault_of_run(program, words, text, status, wanted):
+    """Returns what is wrong with what is said of a run, if anything is."""
+    said, errors, got, took = answer(program, words.split(), text.encode())
+    if (said, got) != (wanted, status) or bool(errors) != (not wanted) or took > MOST_SECONDS:
+        return f"wanted status {status}:\n{wanted}got after {took:.1f} s with status {got}:\n{said}{errors}"
+    return None
+
+
+def sections():
+    """Yields the place of each name of a section in the texts of the program, and the fault with it, if there is one."""
+    for path in sorted(glob.glob(f"{TOP}/crates/vsim_explain*/src/*.rt")):
+        with open(path, encoding="utf-8") as file:
+            text = re.sub(r"\\n\\\n *", " ", file.read())
+        for found in re.finditer(r"See (?:([A-Z][\w, ]*?) in )?(docs/[A-Z_]+\.md)", text):
+            with open(f"{TOP}/{found[2]}", encoding="utf-8") as file:
+                known = found[1] is None or re.search(rf"^#+ {re.escape(found[1])}$", file.read(), re.M)
+            yield f"{os.path.relpath(path, TOP)}: {found[0]}", None if known else "there is no such section"
+
+
+def faults(program):
+    """Yields the name of each test, and what is wrong, if anything is."""
+    yield from sections()
+    for name, words, text, wanted in examples():
+        yield name, fault_of_example(program, words, text, wanted)
+    for row in MISTAKES:
+        yield f"line {row[0]} as '{row[1]}'", fault_of_mistake(program, *row)
+    for name, words, text, wanted in told_in_pages():
+        status = answer(program, words.split(), text.encode())[2]
+        yield name, fault_of_run(program, words, text, status, wanted)
+    for row in RUNS:
+        yield f"the run {row[0]} of '{row[1].strip()}'", fault_of_run(program, *row)
+
+
+def main(program):
+    passed = failed = 0
+    for name, fault in faults(program):
+        passed, failed = passed + (not fault), failed + bool(fault)
+        if fault:
+            print(f"{name}: {fault}")
+    print(f"{passed} passed, {failed} failed")
+    return 1 if failed or not passed else 0
+
+
+if __name__ == "__main__":
+    if len(sys.argv) != 2:
+        print(__doc__.rstrip())
+        sys.exit(2)
+    sys.exit(main(os.path.abspath(sys.argv[1])))
