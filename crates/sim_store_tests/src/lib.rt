@@ -3,13 +3,11 @@
 #![tactic(auto)]
 
 #[cfg(test)]
-mod cycles;
+mod line;
 #[cfg(test)]
 mod plain;
 #[cfg(test)]
-mod records;
-#[cfg(test)]
-mod refusals;
+mod rows;
 #[cfg(test)]
 mod scripts;
 #[cfg(test)]

@@ -1,178 +1,165 @@
-//! What the cycles of a store leave.
+//! What stores answer, and what they refuse.
 
-use crate::records::{ends_with, is_record};
-use crate::scripts::Answer::{Done, Went};
-use crate::scripts::Call::{Advance, Deposit, Run};
-use crate::scripts::answers_so;
-use crate::texts::{CHOICE, EXCHANGE, ONCE, TWO_DRIVERS, after, store};
-use sim_logic::{LATEST, Logic};
-use sim_run::Finished;
-use sim_store::{Look, Record, Step, StoreError, WaveStore};
+use crate::line::Line;
+use crate::scripts::Call::{
+    Advance, Bounds, Deposit, Due, Ended, History, Look, Records, Run, Total, Value,
+};
+use crate::scripts::{Script, follow};
+use crate::texts::{CHOICE, EMPTY, EXCHANGE, ONCE, TOGGLE, TWO_DRIVERS};
+use sim_logic::LATEST;
 use std::alloc::Global;
 use std::test::Fail;
 
-/// The exchange of two flip-flops, whose results are handed in from the last to the first: whether
-/// the store answers so.
-fn exchanged(alloc: Global) -> Option<WaveStore> {
-    let mut store = after(alloc, EXCHANGE, 10, 1)?;
-    let mut kept = Vec::new(alloc);
-    let calls = [Run(2), Run(1), Deposit(0), Deposit(1), Advance];
-    let expected = [Done, Done, Done, Done, Went(Step::Next)];
-    if answers_so(alloc, &mut store, &mut kept, &calls, &expected) {
-        Some(store)
-    } else {
-        None
-    }
-}
-
-/// Whether that leaves each with the value that the other had, in one record.
-fn is_exchanged(alloc: Global) -> Option<bool> {
-    let store = exchanged(alloc)?;
-    let record = ends_with(
-        alloc,
-        &store,
-        2,
-        5_000_000,
+/// Each with a store and results of its own: processes that are missing, and results that come
+/// twice or late; a process that is not due; a run that has ended; as many cycles as the limit, and
+/// one more; the latest stop time, and one later; who is sensitive to what changed, and processes
+/// that read each other take the values before; a run that has ended is read, and its history is
+/// copied; record 0 has every net; a store tells its bounds.
+static SCRIPTS: [Script<'_>; 11] = [
+    (
+        TWO_DRIVERS,
+        LATEST,
+        10,
+        0,
+        &[
+            Advance,
+            Run(0),
+            Run(0),
+            Run(1),
+            Run(1),
+            Deposit(0),
+            Advance,
+            Deposit(1),
+            Deposit(2),
+            Advance,
+            Deposit(3),
+        ],
+        "Missing 0;done;done;done;done;done;Missing 1;Twice;done;Next;Stale;",
+    ),
+    (TOGGLE, LATEST, 10, 2, &[Run(0), Run(2)], "NotDue;NotDue;"),
+    (
+        EMPTY,
+        LATEST,
+        10,
+        0,
+        &[Advance, Advance, Run(0)],
+        "Finished;Ended;Ended;",
+    ),
+    (
+        ONCE,
+        LATEST,
         1,
-        &[(1, Logic::One), (2, Logic::Zero)],
-    );
-    let values = store.value(1) == Some(Logic::One) && store.value(3).is_none();
-    let totals = store.total(0) == Some(1) && store.total(1) == Some(1) && store.total(3).is_none();
-    Some(record && values && totals)
-}
+        0,
+        &[Run(0), Deposit(0), Advance, Advance],
+        "done;done;Next;Finished;",
+    ),
+    (
+        ONCE,
+        LATEST,
+        0,
+        0,
+        &[Run(0), Deposit(0), Advance, Advance],
+        "done;done;LimitReached;Ended;",
+    ),
+    (ONCE, LATEST, 10, 0, &[], ""),
+    (ONCE, LATEST + 1, 10, 0, &[], "StopTooLate"),
+    (
+        EXCHANGE,
+        LATEST,
+        10,
+        1,
+        &[
+            Due,
+            Run(2),
+            Run(1),
+            Deposit(0),
+            Deposit(1),
+            Advance,
+            Records(2),
+            Value(1),
+            Value(3),
+            Total(0),
+            Total(1),
+            Total(3),
+        ],
+        "1 2 ;done;done;done;done;Next;5000000+1 1=1 2=0,;1;none;1;1;none;",
+    ),
+    (
+        CHOICE,
+        LATEST,
+        10,
+        4,
+        &[Ended, Due, Look, Records(4), Records(9), Bounds, History],
+        "Finished;;4 10000000+0,2;;Behind 4;4611686018427387903 10 2;\
+a q 0+0 0=0 1=0,1000000+0 0=1,8000000+0 1=1,10000000+0,3 2;",
+    ),
+    (
+        TWO_DRIVERS,
+        LATEST,
+        10,
+        1,
+        &[Records(0)],
+        "0+0 0=U,0+1 0=X,;",
+    ),
+    (
+        ONCE,
+        LATEST,
+        7,
+        0,
+        &[Bounds, Ended],
+        "4611686018427387903 7 1;none;",
+    ),
+];
 
-#[test]
-fn processes_that_read_each_other_take_the_values_before(rt: HostRuntime) -> Result<(), Fail> {
-    assert_eq!(rt; is_exchanged(rt.alloc()), Some(true));
-    Ok(())
-}
+/// One result for two stores: to the second it is foreign, and is still missing there.
+static FOREIGN: [Script<'_>; 2] = [
+    (TWO_DRIVERS, LATEST, 10, 0, &[Run(0)], "done;"),
+    (
+        ONCE,
+        LATEST,
+        10,
+        0,
+        &[Deposit(0), Advance],
+        "Foreign;Missing 0;",
+    ),
+];
 
-/// Who is due after the first cycle of the exchange.
-fn is_due(alloc: Global) -> Option<bool> {
-    let store = after(alloc, EXCHANGE, 10, 1)?;
-    Some(store.due() == [1, 2].as_slice())
-}
-
-#[test]
-fn who_is_sensitive_to_what_changed_is_due(rt: HostRuntime) -> Result<(), Fail> {
-    assert_eq!(rt; is_due(rt.alloc()), Some(true));
-    Ok(())
-}
-
-/// Whether a store has ended after four records, two events and ten nanoseconds, and nothing is
-/// due.
-fn has_ended(store: &WaveStore) -> bool {
-    let look = Look {
-        records: 4,
-        time: 10_000_000,
-        delta: 0,
-        events: 2,
-    };
-    store.ended() == Some(Step::Finished) && store.due().is_empty() && store.look() == look
-}
-
-/// Whether a store has no records from the fourth on, and says so of later ones.
-fn has_four_records(alloc: Global, store: &WaveStore) -> bool {
-    match store.records_since(alloc, 4) {
-        Ok(none) => none.is_empty() && is_behind(alloc, store),
-        Err(_refusal) => false,
+/// What stores answer to the scripts, and what these say.
+fn followed(alloc: Global) -> (Line, Line) {
+    let mut found = Line::new(alloc);
+    let mut wanted = Line::new(alloc);
+    for script in SCRIPTS.iter() {
+        let mut kept = Vec::new(alloc);
+        follow(&mut found, alloc, &mut kept, script);
+        found.put("\n");
+        wanted.put(script.5);
+        wanted.put("\n");
     }
+    (found, wanted)
 }
 
-/// Whether a store refuses records from the ninth on, as there are four.
-fn is_behind(alloc: Global, store: &WaveStore) -> bool {
-    match store.records_since(alloc, 9) {
-        Ok(_records) => false,
-        Err(refusal) => refusal == StoreError::Behind { records: 4 },
+/// What two stores answer, one after the other, with the results of the first at hand.
+fn handed_on(alloc: Global) -> (Line, Line) {
+    let mut found = Line::new(alloc);
+    let mut wanted = Line::new(alloc);
+    let mut kept = Vec::new(alloc);
+    for script in FOREIGN.iter() {
+        follow(&mut found, alloc, &mut kept, script);
+        wanted.put(script.5);
     }
-}
-
-/// Whether a run that has ended is read so.
-fn is_read(alloc: Global) -> Option<bool> {
-    let store = after(alloc, CHOICE, 10, 4)?;
-    let processes = store.design().processes().len();
-    Some(has_ended(&store) && has_four_records(alloc, &store) && processes == 2)
+    (found, wanted)
 }
 
 #[test]
-fn a_run_that_has_ended_is_read(rt: HostRuntime) -> Result<(), Fail> {
-    assert_eq!(rt; is_read(rt.alloc()), Some(true));
+fn stores_answer_their_calls(rt: HostRuntime) -> Result<(), Fail> {
+    let (found, wanted) = followed(rt.alloc());
+    assert_eq!(rt; found.whole()?.as_str(), wanted.whole()?.as_str());
     Ok(())
 }
 
-/// Whether these are the names of two nets.
-fn are_named(names: &[String], first: &str, second: &str) -> bool {
-    match names {
-        [one, other] => one.as_str() == first && other.as_str() == second,
-        _ => false,
-    }
-}
-
-/// A copy of the history of a run that has ended.
-fn copied(alloc: Global) -> Option<Finished> {
-    let store = after(alloc, CHOICE, 10, 4)?;
-    Finished::of(alloc, &store).ok()
-}
-
-/// Whether these are the records of that run.
-fn are_records(records: &[Record]) -> bool {
-    records.len() == 4
-        && is_record(records.get(1), 1_000_000, 0, &[(0, Logic::One)])
-        && is_record(records.get(2), 8_000_000, 0, &[(1, Logic::One)])
-        && is_record(records.get(3), 10_000_000, 0, &[])
-}
-
-/// Whether a copy of a history has that run's names, records, cycles and events.
-fn is_history(copy: &Finished) -> bool {
-    are_named(copy.names(), "a", "q")
-        && are_records(copy.records())
-        && copy.cycles() == 3
-        && copy.events() == 2
-}
-
-/// Whether it is copied so.
-fn is_copied(alloc: Global) -> Option<bool> {
-    let copy = copied(alloc)?;
-    Some(is_history(&copy))
-}
-
 #[test]
-fn a_history_is_copied(rt: HostRuntime) -> Result<(), Fail> {
-    assert_eq!(rt; is_copied(rt.alloc()), Some(true));
-    Ok(())
-}
-
-/// Whether the first record of a store has each net, and the second what changed.
-fn has_two_records(alloc: Global, store: &WaveStore) -> bool {
-    match store.records_since(alloc, 0) {
-        Ok(records) => {
-            let first = is_record(records.first(), 0, 0, &[(0, Logic::U)]);
-            first && records.len() == 2 && is_record(records.last(), 0, 1, &[(0, Logic::X)])
-        }
-        Err(_refusal) => false,
-    }
-}
-
-/// Whether two drivers that contradict each other are recorded so.
-fn has_records(alloc: Global) -> Option<bool> {
-    let store = after(alloc, TWO_DRIVERS, 10, 1)?;
-    Some(has_two_records(alloc, &store))
-}
-
-#[test]
-fn record_0_has_every_net(rt: HostRuntime) -> Result<(), Fail> {
-    assert_eq!(rt; has_records(rt.alloc()), Some(true));
-    Ok(())
-}
-
-/// Whether a store tells its stop time and limit.
-fn tells_its_bounds(alloc: Global) -> Option<bool> {
-    let store = store(alloc, ONCE, 7)?;
-    Some(store.stop() == LATEST && store.limit() == 7 && store.ended().is_none())
-}
-
-#[test]
-fn a_store_tells_its_bounds(rt: HostRuntime) -> Result<(), Fail> {
-    assert_eq!(rt; tells_its_bounds(rt.alloc()), Some(true));
+fn a_result_of_another_store_is_foreign(rt: HostRuntime) -> Result<(), Fail> {
+    let (found, wanted) = handed_on(rt.alloc());
+    assert_eq!(rt; found.whole()?.as_str(), wanted.whole()?.as_str());
     Ok(())
 }
