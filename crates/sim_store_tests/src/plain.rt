@@ -4,7 +4,7 @@
 use crate::line::Line;
 use crate::scripts::Call::Records;
 use crate::scripts::follow;
-use crate::texts::{CHOICE, EXCHANGE, ONCE, PULSES, TOGGLE, TWO_DRIVERS, design};
+use crate::texts::{CHOICE, EXCHANGE, ONCE, PULSES, TOGGLE, TWO_DRIVERS, flat};
 use sim_logic::LATEST;
 use sim_store_reference::{Snapshot, snapshots};
 use std::alloc::Global;
@@ -22,7 +22,7 @@ fn put_snapshots(line: &mut Line, snapshots: &[Snapshot]) {
 
 /// Puts what the plain program makes of a text.
 fn put_plain(line: &mut Line, alloc: Global, text: &str) {
-    if let Some(design) = design(alloc, text) {
+    if let Some(design) = flat(alloc, text) {
         match snapshots(alloc, &design, CYCLES) {
             Some(snapshots) => put_snapshots(line, snapshots.as_slice()),
             None => line.put("no memory"),
@@ -31,19 +31,23 @@ fn put_plain(line: &mut Line, alloc: Global, text: &str) {
     line.put(";\n");
 }
 
+/// The texts.
+static TEXTS: [&str; 6] = [ONCE, TWO_DRIVERS, EXCHANGE, TOGGLE, CHOICE, PULSES];
+
+/// Puts what a store records of a text.
+fn put_recorded(line: &mut Line, alloc: Global, text: &str) {
+    let mut kept = Vec::new(alloc);
+    let script = (text, LATEST, 1_000, CYCLES, [Records(0)].as_slice(), "");
+    follow(line, alloc, &mut kept, &script);
+    line.put("\n");
+}
+
 /// What a store records of each text, and what the plain program leaves.
 fn both(alloc: Global) -> (Line, Line) {
     let mut recorded = Line::new(alloc);
     let mut plain = Line::new(alloc);
-    let mut kept = Vec::new(alloc);
-    for text in [ONCE, TWO_DRIVERS, EXCHANGE, TOGGLE, CHOICE, PULSES] {
-        follow(
-            &mut recorded,
-            alloc,
-            &mut kept,
-            &(text, LATEST, 1_000, CYCLES, &[Records(0)], ""),
-        );
-        recorded.put("\n");
+    for text in TEXTS.iter() {
+        put_recorded(&mut recorded, alloc, text);
         put_plain(&mut plain, alloc, text);
     }
     (recorded, plain)

@@ -1,7 +1,7 @@
 //! What is done with a store, step by step, and what it answers, as a line.
 
 use crate::line::Line;
-use crate::texts::{design, go_on};
+use crate::texts::{flat, go_on};
 use sim_exec::Done;
 use sim_logic::Logic;
 use sim_run::Finished;
@@ -190,7 +190,7 @@ fn put_answers(
 
 /// Follows a script with a store of its own; results that were kept before are at hand.
 pub fn follow(line: &mut Line, alloc: Global, kept: &mut Kept, script: &Script<'_>) {
-    let Some(design) = design(alloc, script.0) else {
+    let Some(design) = flat(alloc, script.0) else {
         return line.put("no design");
     };
     match WaveStore::new(alloc, design, script.1, script.2) {

@@ -46,7 +46,7 @@ c <= not c after 7 ns; d <= reject 2 ns inertial not d after 5 ns when c = '1' e
 u : e port map (c, s); v : e port map (i => d, o => s); end;";
 
 /// The flat design of a text under the top `t`.
-pub fn design(alloc: Global, text: &str) -> Option<Design> {
+pub fn flat(alloc: Global, text: &str) -> Option<Design> {
     let options = Options {
         top: String::from_str(alloc, "t").ok()?,
         stop: LATEST,
