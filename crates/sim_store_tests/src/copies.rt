@@ -44,11 +44,16 @@ fn changed(alloc: Global, old: &str, new: &str) -> Result<String, AllocError> {
     format!(in alloc; "{front}{new}{back}")
 }
 
+/// Whether a text has a design, and it is the same as this one.
+fn is_of(alloc: Global, design: &Design, text: &str) -> Option<bool> {
+    let other = flat(alloc, text)?;
+    Some(design.same(&other))
+}
+
 /// Whether the designs of two texts are there, and the same.
 fn are_same(alloc: Global, text: &str, other: &str) -> Option<bool> {
     let design = flat(alloc, text)?;
-    let other = flat(alloc, other)?;
-    Some(design.same(&other))
+    is_of(alloc, &design, other)
 }
 
 /// Whether two designs have first processes, and these are the same.
@@ -57,11 +62,16 @@ fn begin_alike(design: &Design, other: &Design) -> Option<bool> {
     Some(first.same(other.processes().first()?))
 }
 
+/// Whether a text has a design, and its first process is the same as that of this one.
+fn begins_alike(alloc: Global, design: &Design, text: &str) -> Option<bool> {
+    let other = flat(alloc, text)?;
+    begin_alike(design, &other)
+}
+
 /// Whether the first processes of two texts are there, and the same.
 fn first_processes_are_same(alloc: Global, text: &str, other: &str) -> Option<bool> {
     let design = flat(alloc, text)?;
-    let other = flat(alloc, other)?;
-    begin_alike(&design, &other)
+    begins_alike(alloc, &design, other)
 }
 
 /// The place of the first change that does not compare so with the design of a text: it is the same
@@ -110,14 +120,20 @@ fn processes_are_the_same_whatever_stands_around(rt: HostRuntime) -> Result<(), 
     Ok(())
 }
 
-/// Whether a copy of a design is the same.
-fn design_is_copied(design: &Design) -> Option<bool> {
-    Some(design.try_copy().ok()?.same(design))
+/// Whether a design has a copy, which is the same.
+fn design_is_copied(design: &Design) -> bool {
+    match design.try_copy() {
+        Ok(copy) => copy.same(design),
+        Err(_refused) => false,
+    }
 }
 
-/// Whether a copy of a process is the same as this one.
+/// Whether a process has a copy, and that is the same as this one.
 fn copy_is_same(process: &Process, other: &Process) -> Option<bool> {
-    Some(process.try_copy().ok()?.same(other))
+    match process.try_copy() {
+        Ok(copy) => Some(copy.same(other)),
+        Err(_refused) => None,
+    }
 }
 
 /// Whether the copies of two processes are there, and each is the same as its own and not as the
@@ -136,7 +152,7 @@ fn processes_are_copied(processes: &[Process]) -> bool {
 /// Whether the copies of a text's design and its processes are the same.
 fn are_copied(alloc: Global, text: &str) -> Option<bool> {
     let design = flat(alloc, text)?;
-    Some(design_is_copied(&design)? && processes_are_copied(design.processes()))
+    Some(design_is_copied(&design) && processes_are_copied(design.processes()))
 }
 
 #[test]
