@@ -51,11 +51,16 @@ fn drivers_that_differ_in_what_is_pending_are_not_the_same(rt: HostRuntime) -> R
     Ok(())
 }
 
+/// Whether a waveform is scheduled whole.
+fn is_scheduled(alloc: Global) -> Result<bool, AllocError> {
+    let mut driver = Driver::new(alloc, Zero);
+    driver.edit(0, Delay::Transport, &[(3, One), (5, Zero)])?;
+    Ok(driver.pending() == [(3, One), (5, Zero)].as_slice())
+}
+
 #[test]
 fn a_waveform_is_scheduled(rt: HostRuntime) -> Result<(), Fail> {
-    let mut driver = Driver::new(rt.alloc(), Zero);
-    driver.edit(0, Delay::Transport, &[(3, One), (5, Zero)])?;
-    assert_eq!(rt; driver.pending(), [(3, One), (5, Zero)].as_slice());
+    assert!(rt; is_scheduled(rt.alloc())?);
     Ok(())
 }
 
@@ -104,38 +109,42 @@ fn assigned_each_time(alloc: Global, delay: Delay, same: bool) -> Result<Driver,
     Ok(driver)
 }
 
-#[test]
-fn equal_values_stay(rt: HostRuntime) -> Result<(), Fail> {
-    let driver = assigned_each_time(rt.alloc(), Delay::Inertial { reject: 5 }, true)?;
-    assert_eq!(rt; driver.value(), One);
-    assert_eq!(rt;
-        driver.pending(),
-        [(8, One), (9, One), (10, One), (11, One), (12, One)].as_slice()
-    );
-    assert!(rt; is_like_its_copy(&driver)?);
-    Ok(())
+/// Whether a driver is left so that is assigned each time, and is the same as its copy.
+fn leaves_each_time(
+    alloc: Global,
+    delay: Delay,
+    same: bool,
+    value: Logic,
+    wanted: &[Transaction],
+) -> Result<bool, AllocError>
+    requires { IsWithin delay 5 }
+{
+    let driver = assigned_each_time(alloc, delay, same)?;
+    Ok(driver.value() == value && driver.pending() == wanted && is_like_its_copy(&driver)?)
 }
 
 #[test]
-fn other_values_are_rejected(rt: HostRuntime) -> Result<(), Fail> {
-    let driver = assigned_each_time(rt.alloc(), Delay::Inertial { reject: 5 }, false)?;
-    assert_eq!(rt; driver.value(), Zero);
-    assert_eq!(rt; driver.pending(), [(12, One)].as_slice());
+fn equal_values_stay_and_others_are_rejected(rt: HostRuntime) -> Result<(), Fail> {
+    let alloc = rt.alloc();
+    let inertial = Delay::Inertial { reject: 5 };
+    let equal = [(8, One), (9, One), (10, One), (11, One), (12, One)];
+    assert!(rt; leaves_each_time(alloc, inertial, true, One, &equal)?);
+    assert!(rt; leaves_each_time(alloc, inertial, false, Zero, &[(12, One)])?);
+    let others = [(8, One), (9, Zero), (10, One), (11, Zero), (12, One)];
+    assert!(rt; leaves_each_time(alloc, Delay::Transport, false, Zero, &others)?);
     Ok(())
+}
+
+/// Whether these are left, of a line of many, by an inertial assignment at 8 of a value 4 fs ahead.
+fn leaves_of_many(alloc: Global, wanted: &[Transaction]) -> Result<bool, AllocError> {
+    let mut driver = assigned_each_time(alloc, Delay::Transport, false)?;
+    driver.edit(8, Delay::Inertial { reject: 2 }, &[(4, One)])?;
+    Ok(driver.pending() == wanted)
 }
 
 #[test]
 fn a_line_of_many_is_edited(rt: HostRuntime) -> Result<(), Fail> {
-    let mut driver = assigned_each_time(rt.alloc(), Delay::Transport, false)?;
-    assert_eq!(rt;
-        driver.pending(),
-        [(8, One), (9, Zero), (10, One), (11, Zero), (12, One)].as_slice()
-    );
-    driver.edit(8, Delay::Inertial { reject: 2 }, &[(4, One)])?;
-    assert_eq!(rt;
-        driver.pending(),
-        [(8, One), (9, Zero), (12, One)].as_slice()
-    );
+    assert!(rt; leaves_of_many(rt.alloc(), &[(8, One), (9, Zero), (12, One)])?);
     Ok(())
 }
 
@@ -190,11 +199,15 @@ fn driving_value(drivers: &[Driver]) -> Logic
     }
 }
 
+/// Whether no driver, one and two have the values of their signals.
+fn are_resolved(alloc: Global) -> bool {
+    let drivers = [Driver::new(alloc, Dash), Driver::new(alloc, One)];
+    driving_value(&drivers[..1]) == Dash
+        && driving_value(drivers.as_slice()) == X
+        && driving_value(&[]) == Logic::Z
+}
+
 #[test]
 fn drivers_are_resolved_in_turn(rt: HostRuntime) {
-    let alloc = rt.alloc();
-    let drivers = [Driver::new(alloc, Dash), Driver::new(alloc, One)];
-    assert_eq!(rt; driving_value(&drivers[..1]), Dash);
-    assert_eq!(rt; driving_value(drivers.as_slice()), X);
-    assert_eq!(rt; driving_value(&[]), Logic::Z);
+    assert!(rt; are_resolved(rt.alloc()));
 }

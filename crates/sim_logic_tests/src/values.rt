@@ -5,43 +5,79 @@ fn femtoseconds(count: u64, unit: Unit) -> Option<u64> {
     Time::of(count, unit).map(|time| time.fs())
 }
 
-#[test]
-fn characters_name_values(rt: HostRuntime) {
-    assert_eq!(rt; Logic::from_byte(b'-'), Some(Logic::Dash));
-    assert_eq!(rt; Logic::from_byte(b'z'), None);
-    assert_eq!(rt; Logic::H.to_byte(), b'H');
-    assert_eq!(rt; Logic::default(), Logic::U);
+/// Whether characters name values, and values characters.
+fn are_named() -> bool {
+    matches!(Logic::from_byte(b'-'), Some(Logic::Dash))
+        && Logic::from_byte(b'z').is_none()
+        && Logic::H.to_byte() == b'H'
 }
 
 #[test]
-fn operators_look_through_weak_values(rt: HostRuntime) {
-    assert_eq!(rt; Logic::L.and(Logic::U), Logic::Zero);
-    assert_eq!(rt; Logic::H.or(Logic::U), Logic::One);
-    assert_eq!(rt; Logic::H.xor(Logic::One), Logic::Zero);
-    assert_eq!(rt; Logic::Z.not(), Logic::X);
+fn characters_name_values(rt: HostRuntime) {
+    assert!(rt; are_named());
+}
+
+/// The first value, what the operators make of weak values, and what drivers resolve to; each beside
+/// the value that is wanted.
+fn values() -> [(Logic, Logic); 8] {
+    [
+        (Logic::default(), Logic::U),
+        (Logic::L.and(Logic::U), Logic::Zero),
+        (Logic::H.or(Logic::U), Logic::One),
+        (Logic::H.xor(Logic::One), Logic::Zero),
+        (Logic::Z.not(), Logic::X),
+        (resolve(&[Logic::Dash]), Logic::Dash),
+        (resolve(&[Logic::Dash, Logic::Z]), Logic::X),
+        (resolve(&[Logic::L, Logic::H]), Logic::W),
+    ]
+}
+
+/// The place of the first value that is another one than is wanted.
+fn first_other() -> Option<usize> {
+    for (place, row) in values().iter().enumerate() {
+        if row.0 != row.1 {
+            return Some(place);
+        }
+    }
+    None
+}
+
+#[test]
+fn operators_look_through_weak_values_and_drivers_are_resolved(rt: HostRuntime) {
+    assert_eq!(rt; first_other(), None);
+}
+
+/// Whether edges go from a zero to a one, or from a one to a zero.
+fn are_edges() -> bool {
+    Logic::rises(Logic::L, Logic::H)
+        && !Logic::rises(Logic::X, Logic::One)
+        && Logic::falls(Logic::One, Logic::Zero)
 }
 
 #[test]
 fn edges_go_from_a_zero_to_a_one(rt: HostRuntime) {
-    assert!(rt; Logic::rises(Logic::L, Logic::H));
-    assert!(rt; !Logic::rises(Logic::X, Logic::One));
-    assert!(rt; Logic::falls(Logic::One, Logic::Zero));
+    assert!(rt; are_edges());
 }
 
-#[test]
-fn drivers_are_resolved(rt: HostRuntime) {
-    assert_eq!(rt; resolve(&[Logic::Dash]), Logic::Dash);
-    assert_eq!(rt; resolve(&[Logic::Dash, Logic::Z]), Logic::X);
-    assert_eq!(rt; resolve(&[Logic::L, Logic::H]), Logic::W);
+/// Times of units, in femtoseconds.
+static TIMES: [(u64, Unit, Option<u64>); 4] = [
+    (1, Unit::Hr, Some(3_600_000_000_000_000_000)),
+    (2, Unit::Hr, None),
+    (LATEST, Unit::Fs, Some(4_611_686_018_427_387_903)),
+    (LATEST + 1, Unit::Fs, None),
+];
+
+/// The place of the first row whose time is another one.
+fn first_other_time() -> Option<usize> {
+    for (place, row) in TIMES.iter().enumerate() {
+        if femtoseconds(row.0, row.1) != row.2 {
+            return Some(place);
+        }
+    }
+    None
 }
 
 #[test]
 fn times_end_at_the_latest(rt: HostRuntime) {
-    assert_eq!(rt; femtoseconds(1, Unit::Hr), Some(3_600_000_000_000_000_000));
-    assert_eq!(rt; femtoseconds(2, Unit::Hr), None);
-    assert_eq!(rt;
-        femtoseconds(LATEST, Unit::Fs),
-        Some(4_611_686_018_427_387_903)
-    );
-    assert_eq!(rt; femtoseconds(LATEST + 1, Unit::Fs), None);
+    assert_eq!(rt; first_other_time(), None);
 }

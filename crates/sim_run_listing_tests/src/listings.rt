@@ -108,30 +108,57 @@ fn each_change_has_a_line_as_far_as_there_is_room(rt: HostRuntime) -> Result<(),
     Ok(())
 }
 
+/// Whether all bytes are written.
+fn goes_out_whole(alloc: Global) -> bool {
+    let mut out = Vec::new(alloc);
+    let ended = write_whole(&mut out, b"done");
+    ended.is_ok() && out.as_slice() == b"done".as_slice()
+}
+
 #[test]
 fn bytes_go_out_whole(rt: HostRuntime) {
-    let mut out = Vec::new(rt.alloc());
-    assert_eq!(rt; write_whole(&mut out, b"done"), Ok(()));
-    assert_eq!(rt; out.as_slice(), b"done".as_slice());
+    assert!(rt; goes_out_whole(rt.alloc()));
+}
+
+/// Whether there is one change, of this net to this value.
+fn is_one(changes: &[(usize, Logic)], net: usize, value: Logic) -> bool {
+    match changes {
+        [change] => change.0 == net && change.1 == value,
+        _ => false,
+    }
+}
+
+/// Whether the one record of a slice is read.
+fn is_read(alloc: Global) -> Result<bool, AllocError> {
+    let records = vec![in alloc; record(alloc, 7, Logic::H)?]?;
+    let records = records.as_slice();
+    let cycle = Records::time(&records, 0);
+    let is_timed = cycle.0 == 7 && cycle.1 == 0;
+    Ok(
+        Records::len(&records) == 1
+            && is_timed
+            && is_one(Records::changes(&records, 0), 0, Logic::H),
+    )
 }
 
 #[test]
 fn records_of_a_slice_are_read(rt: HostRuntime) -> Result<(), Fail> {
-    let records = vec![in rt.alloc(); record(rt.alloc(), 7, Logic::H)?]?;
-    let records = records.as_slice();
-    assert_eq!(rt; Records::len(&records), 1);
-    assert_eq!(rt; Records::time(&records, 0), (7, 0));
-    assert_eq!(rt; Records::changes(&records, 0), [(0, Logic::H)].as_slice());
+    assert!(rt; is_read(rt.alloc())?);
     Ok(())
 }
 
 #[test]
 fn a_log_begins_with_no_records(rt: HostRuntime) {
-    assert_eq!(rt; Records::len(&Log::new(rt.alloc())), 0);
+    assert!(rt; Records::len(&Log::new(rt.alloc())) == 0);
+}
+
+/// Whether a change in either form names its net and its value.
+fn are_named() -> bool {
+    matches!((3u32, Logic::H).to_change(), (3, Logic::H))
+        && matches!((4usize, Logic::Z).to_change(), (4, Logic::Z))
 }
 
 #[test]
 fn changes_name_a_net_and_a_value(rt: HostRuntime) {
-    assert_eq!(rt; (3u32, Logic::H).to_change(), (3, Logic::H));
-    assert_eq!(rt; (4usize, Logic::Z).to_change(), (4, Logic::Z));
+    assert!(rt; are_named());
 }

@@ -1,55 +1,61 @@
 //! A store beside a plain program of the standard's cycle, which looks at every driver, net and
 //! process in each cycle.
 
-use crate::records::is_record;
-use crate::texts::{CHOICE, EXCHANGE, ONCE, PULSES, TOGGLE, TWO_DRIVERS, after, design};
-use sim_store::Record;
+use crate::line::Line;
+use crate::scripts::Call::Records;
+use crate::scripts::follow;
+use crate::texts::{CHOICE, EXCHANGE, ONCE, PULSES, TOGGLE, TWO_DRIVERS, flat};
+use sim_logic::LATEST;
 use sim_store_reference::{Snapshot, snapshots};
 use std::alloc::Global;
 use std::test::Fail;
 
-/// What the plain program makes of a text.
-fn plain(alloc: Global, text: &str, cycles: usize) -> Option<Vec<Snapshot>> {
-    let design = design(alloc, text)?;
-    snapshots(alloc, &design, cycles)
+/// How many cycles are looked at.
+const CYCLES: usize = 40;
+
+/// Puts what the plain program leaves in each cycle.
+fn put_snapshots(line: &mut Line, snapshots: &[Snapshot]) {
+    for snapshot in snapshots {
+        line.put_cycle(snapshot.time, snapshot.delta, snapshot.changes.as_slice());
+    }
 }
 
-/// What a store records of a text.
-fn recorded(alloc: Global, text: &str, cycles: usize) -> Option<Vec<Record>> {
-    let store = after(alloc, text, 1_000, cycles)?;
-    store.records_since(alloc, 0).ok()
+/// Puts what the plain program makes of a text.
+fn put_plain(line: &mut Line, alloc: Global, text: &str) {
+    if let Some(design) = flat(alloc, text) {
+        match snapshots(alloc, &design, CYCLES) {
+            Some(snapshots) => put_snapshots(line, snapshots.as_slice()),
+            None => line.put("no memory"),
+        }
+    }
+    line.put(";\n");
 }
 
-/// Whether both say the same of one cycle.
-fn is_same(snapshot: &Snapshot, record: &Record) -> bool {
-    is_record(
-        Some(record),
-        snapshot.time,
-        snapshot.delta,
-        snapshot.changes.as_slice(),
-    )
+/// The texts.
+static TEXTS: [&str; 6] = [ONCE, TWO_DRIVERS, EXCHANGE, TOGGLE, CHOICE, PULSES];
+
+/// Puts what a store records of a text.
+fn put_recorded(line: &mut Line, alloc: Global, text: &str) {
+    let mut kept = Vec::new(alloc);
+    let script = (text, LATEST, 1_000, CYCLES, [Records(0)].as_slice(), "");
+    follow(line, alloc, &mut kept, &script);
+    line.put("\n");
 }
 
-/// Whether both say the same of each cycle.
-fn are_same(snapshots: &[Snapshot], records: &[Record]) -> bool {
-    snapshots.len() == records.len()
-        && snapshots
-            .iter()
-            .zip(records)
-            .all(|(snapshot, record)| is_same(snapshot, record))
-}
-
-/// Whether the store of a text records what the plain program leaves.
-fn agrees(alloc: Global, text: &str, cycles: usize) -> Option<bool> {
-    let snapshots = plain(alloc, text, cycles)?;
-    let records = recorded(alloc, text, cycles)?;
-    Some(are_same(snapshots.as_slice(), records.as_slice()))
+/// What a store records of each text, and what the plain program leaves.
+fn both(alloc: Global) -> (Line, Line) {
+    let mut recorded = Line::new(alloc);
+    let mut plain = Line::new(alloc);
+    for text in TEXTS.iter() {
+        put_recorded(&mut recorded, alloc, text);
+        put_plain(&mut plain, alloc, text);
+    }
+    (recorded, plain)
 }
 
 #[test]
 fn a_store_records_what_the_plain_cycle_leaves(rt: HostRuntime) -> Result<(), Fail> {
-    for text in [ONCE, TWO_DRIVERS, EXCHANGE, TOGGLE, CHOICE, PULSES] {
-        assert_eq!(rt; agrees(rt.alloc(), text, 40), Some(true));
-    }
+    let (recorded, plain) = both(rt.alloc());
+    assert_eq!(rt; recorded.whole()?.as_str(), plain.whole()?.as_str());
     Ok(())
 }

@@ -1,8 +1,11 @@
-//! What is done with a store, step by step, and what it answers.
+//! What is done with a store, step by step, and what it answers, as a line.
 
-use crate::texts::after;
+use crate::line::Line;
+use crate::texts::{flat, go_on};
 use sim_exec::Done;
-use sim_store::{Step, StoreError, WaveStore};
+use sim_logic::Logic;
+use sim_run::Finished;
+use sim_store::{Look, Step, WaveStore};
 use std::alloc::{AllocError, Global};
 
 /// A call of a store.
@@ -14,44 +17,38 @@ pub enum Call {
     Run(usize),
     /// Hands in the result that was kept at a place.
     Deposit(usize),
+    /// Who is due.
+    Due,
+    /// How the run has ended.
+    Ended,
+    /// How far it has come.
+    Look,
+    /// The records from a number on.
+    Records(usize),
+    /// The value of a net.
+    Value(usize),
+    /// How many events a net had.
+    Total(usize),
+    /// The stop time, the limit, and how many processes there are.
+    Bounds,
+    /// The names, the records, the cycles and the events of a copy of the history.
+    History,
 }
 
-/// What it answers.
-#[derive(Clone, Copy)]
-pub enum Answer {
-    /// It went on.
-    Went(Step),
-    /// It handed out a job, or took a result.
-    Done,
-    /// It refused.
-    Refused(StoreError),
-    /// There was no memory to execute the job, or no result at the place.
-    None,
-}
+/// A text, a stop time, a limit and a number of cycles that come first; then the calls, and what
+/// they answer.
+pub type Script<'a> = (&'a str, u64, u32, usize, &'a [Call], &'a str);
+
+/// Results that wait to be handed in.
+pub type Kept = Vec<Option<Done>>;
 
 /// Takes the job of a process, executes it, and keeps the result.
-fn run(
-    alloc: Global,
-    store: &WaveStore,
-    kept: &mut Vec<Option<Done>>,
-    process: usize,
-) -> Result<Answer, AllocError> {
+fn run(line: &mut Line, alloc: Global, store: &WaveStore, kept: &mut Kept, process: usize) {
     match store.job(alloc, process) {
-        Err(refusal) => Ok(Answer::Refused(refusal)),
-        Ok(job) => {
-            kept.push(Done::run(alloc, job).ok())?;
-            Ok(Answer::Done)
-        }
-    }
-}
-
-/// Hands in a result.
-fn deposit(store: &mut WaveStore, done: Option<Done>) -> Answer {
-    match done {
-        None => Answer::None,
-        Some(done) => match store.deposit(done) {
-            Ok(()) => Answer::Done,
-            Err((refusal, _done)) => Answer::Refused(refusal),
+        Err(refusal) => line.put_refusal(refusal),
+        Ok(job) => match kept.push(Done::run(alloc, job).ok()) {
+            Ok(()) => line.put("done"),
+            Err(_refused) => line.put("no memory"),
         },
     }
 }
@@ -64,87 +61,144 @@ fn kept_at(kept: &mut [Option<Done>], place: usize) -> Option<Done> {
     }
 }
 
+/// Hands in a result.
+fn deposit(line: &mut Line, store: &mut WaveStore, done: Option<Done>) {
+    match done {
+        None => line.put("none"),
+        Some(done) => match store.deposit(done) {
+            Ok(()) => line.put("done"),
+            Err((refusal, _done)) => line.put_refusal(refusal),
+        },
+    }
+}
+
 /// Goes on.
-fn advance(alloc: Global, store: &mut WaveStore) -> Answer {
+fn advance(line: &mut Line, alloc: Global, store: &mut WaveStore) {
     match store.advance(alloc) {
-        Ok(step) => Answer::Went(step),
-        Err(refusal) => Answer::Refused(refusal),
+        Ok(step) => line.put_step(step),
+        Err(refusal) => line.put_refusal(refusal),
     }
 }
 
-/// One call.
-fn answer_to(
-    alloc: Global,
-    store: &mut WaveStore,
-    kept: &mut Vec<Option<Done>>,
-    call: Call,
-) -> Result<Answer, AllocError> {
+/// Puts who is due.
+fn put_due(line: &mut Line, due: &[usize]) {
+    for process in due {
+        line.put_number(*process as u64);
+        line.put(" ");
+    }
+}
+
+/// Puts how a run has ended, if it has.
+fn put_ended(line: &mut Line, ended: Option<Step>) {
+    match ended {
+        Some(step) => line.put_step(step),
+        None => line.put("none"),
+    }
+}
+
+/// Puts how far a run has come.
+fn put_look(line: &mut Line, look: Look) {
+    line.put_number(look.records as u64);
+    line.put(" ");
+    line.put_cycle(look.time, look.delta, &[]);
+    line.put_number(look.events);
+}
+
+/// Puts the records from a number on, or the refusal.
+fn put_records(line: &mut Line, alloc: Global, store: &WaveStore, number: usize) {
+    match store.records_since(alloc, number) {
+        Ok(records) => line.put_records(records.as_slice()),
+        Err(refusal) => line.put_refusal(refusal),
+    }
+}
+
+/// Puts a value, if there is one.
+fn put_value(line: &mut Line, value: Option<Logic>) {
+    match value {
+        Some(value) => line.put_value(value),
+        None => line.put("none"),
+    }
+}
+
+/// Puts a number, if there is one.
+fn put_total(line: &mut Line, total: Option<u64>) {
+    match total {
+        Some(total) => line.put_number(total),
+        None => line.put("none"),
+    }
+}
+
+/// Puts the stop time, the limit, and how many processes there are.
+fn put_bounds(line: &mut Line, store: &WaveStore) {
+    line.put_number(store.stop());
+    line.put(" ");
+    line.put_number(store.limit() as u64);
+    line.put(" ");
+    line.put_number(store.design().processes().len() as u64);
+}
+
+/// Puts a copy of a history.
+fn put_finished(line: &mut Line, copy: &Finished) {
+    for name in copy.names() {
+        line.put(name.as_str());
+        line.put(" ");
+    }
+    line.put_records(copy.records());
+    line.put_number(copy.cycles() as u64);
+    line.put(" ");
+    line.put_number(copy.events());
+}
+
+/// Puts a copy of a store's history.
+fn put_history(line: &mut Line, alloc: Global, store: &WaveStore) {
+    match Finished::of(alloc, store) {
+        Ok(copy) => put_finished(line, &copy),
+        Err(_refused) => line.put("no memory"),
+    }
+}
+
+/// Makes one call, and puts what it answers.
+fn put_answer(line: &mut Line, alloc: Global, store: &mut WaveStore, kept: &mut Kept, call: Call) {
     match call {
-        Call::Advance => Ok(advance(alloc, store)),
-        Call::Run(process) => run(alloc, store, kept, process),
-        Call::Deposit(place) => Ok(deposit(store, kept_at(kept.as_mut_slice(), place))),
+        Call::Advance => advance(line, alloc, store),
+        Call::Run(process) => run(line, alloc, store, kept, process),
+        Call::Deposit(place) => deposit(line, store, kept_at(kept.as_mut_slice(), place)),
+        Call::Due => put_due(line, store.due()),
+        Call::Ended => put_ended(line, store.ended()),
+        Call::Look => put_look(line, store.look()),
+        Call::Records(number) => put_records(line, alloc, store, number),
+        Call::Value(net) => put_value(line, store.value(net)),
+        Call::Total(net) => put_total(line, store.total(net)),
+        Call::Bounds => put_bounds(line, store),
+        Call::History => put_history(line, alloc, store),
     }
 }
 
-/// The answers of some calls, one after another; results that were kept before are at hand.
-fn answers(
+/// Makes calls, one after another; results that were kept before are at hand.
+fn put_answers(
+    line: &mut Line,
     alloc: Global,
     store: &mut WaveStore,
-    kept: &mut Vec<Option<Done>>,
+    kept: &mut Kept,
     calls: &[Call],
-) -> Result<Vec<Answer>, AllocError> {
-    let mut answers = Vec::new(alloc);
-    for each in calls {
-        answers.push(answer_to(alloc, store, kept, *each)?)?;
-    }
-    Ok(answers)
-}
-
-/// Whether two answers are the same.
-fn is_same(answer: Answer, other: Answer) -> bool {
-    match (answer, other) {
-        (Answer::Went(step), Answer::Went(other)) => step == other,
-        (Answer::Refused(refusal), Answer::Refused(other)) => refusal == other,
-        (Answer::Done, Answer::Done) | (Answer::None, Answer::None) => true,
-        _ => false,
+) {
+    for call in calls {
+        put_answer(line, alloc, store, kept, *call);
+        line.put(";");
     }
 }
 
-/// Whether these are the same answers.
-fn are_same(answers: &[Answer], others: &[Answer]) -> bool {
-    answers.len() == others.len()
-        && answers
-            .iter()
-            .zip(others)
-            .all(|(answer, other)| is_same(*answer, *other))
-}
-
-/// Whether a store answers some calls so; results that were kept before are at hand.
-pub fn answers_so(
-    alloc: Global,
-    store: &mut WaveStore,
-    kept: &mut Vec<Option<Done>>,
-    calls: &[Call],
-    expected: &[Answer],
-) -> bool {
-    match answers(alloc, store, kept, calls) {
-        Ok(found) => are_same(found.as_slice(), expected),
-        Err(_refused) => false,
-    }
-}
-
-/// Whether the store of a text, after this many cycles, answers some calls so.
-pub fn text_answers_so(
-    alloc: Global,
-    text: &str,
-    limit: u32,
-    cycles: usize,
-    calls: &[Call],
-    expected: &[Answer],
-) -> bool {
-    let Some(mut store) = after(alloc, text, limit, cycles) else {
-        return false;
+/// Follows a script with a store of its own; results that were kept before are at hand.
+pub fn follow(line: &mut Line, alloc: Global, kept: &mut Kept, script: &Script<'_>) {
+    let Some(design) = flat(alloc, script.0) else {
+        return line.put("no design");
     };
-    let mut kept = Vec::new(alloc);
-    answers_so(alloc, &mut store, &mut kept, calls, expected)
+    match WaveStore::new(alloc, design, script.1, script.2) {
+        Err((refusal, _design)) => line.put_refusal(refusal),
+        Ok(store) => {
+            let mut store = store;
+            go_on(alloc, &mut store, script.3);
+            put_answers(line, alloc, &mut store, kept, script.4);
+        }
+    }
 }

@@ -1,4 +1,4 @@
-//! Texts, and their stores.
+//! Texts, their designs, and the cycles of their stores.
 
 use sim_exec::Done;
 use sim_flat_design::Design;
@@ -46,7 +46,7 @@ c <= not c after 7 ns; d <= reject 2 ns inertial not d after 5 ns when c = '1' e
 u : e port map (c, s); v : e port map (i => d, o => s); end;";
 
 /// The flat design of a text under the top `t`.
-pub fn design(alloc: Global, text: &str) -> Option<Design> {
+pub fn flat(alloc: Global, text: &str) -> Option<Design> {
     let options = Options {
         top: String::from_str(alloc, "t").ok()?,
         stop: LATEST,
@@ -54,12 +54,6 @@ pub fn design(alloc: Global, text: &str) -> Option<Design> {
         workers: 1,
     };
     elaborate(alloc, text.as_bytes(), &options).ok()
-}
-
-/// The store of a text, with a limit of cycles.
-pub fn store(alloc: Global, text: &str, limit: u32) -> Option<WaveStore> {
-    let design = design(alloc, text)?;
-    WaveStore::new(alloc, design, LATEST, limit).ok()
 }
 
 /// Takes the result of a process, if it is due.
@@ -80,15 +74,8 @@ fn cycle(alloc: Global, store: &mut WaveStore) {
 }
 
 /// Goes on for this many cycles.
-fn go_on(alloc: Global, store: &mut WaveStore, cycles: usize) {
+pub fn go_on(alloc: Global, store: &mut WaveStore, cycles: usize) {
     for _cycle in 0..cycles {
         cycle(alloc, store);
     }
-}
-
-/// The store of a text, after this many cycles.
-pub fn after(alloc: Global, text: &str, limit: u32, cycles: usize) -> Option<WaveStore> {
-    let mut store = store(alloc, text, limit)?;
-    go_on(alloc, &mut store, cycles);
-    Some(store)
 }

@@ -1,7 +1,8 @@
 //! A body with every statement and operator, executed once at 10 ns, where x rose from '0' to '1',
 //! y is '0' and z is 'H'.
 
-use crate::jobs::{changed, design, is_driver, job, steady};
+use crate::jobs::{changed, is_driver, job, steady};
+use crate::texts::flat;
 use sim_exec::{Done, NetView};
 use sim_flat_design::Held;
 use sim_logic::Logic;
@@ -11,8 +12,8 @@ use std::test::Fail;
 
 /// Process 0 has every statement and operator; processes 1 and 2 are conditional assignments,
 /// without and with a last waveform.
-const TEXT: &[u8] =
-    b"entity t is end;architecture a of t is signal x,y,z,q,r,s,u,w,k:std_logic;begin \
+const TEXT: &str =
+    "entity t is end;architecture a of t is signal x,y,z,q,r,s,u,w,k:std_logic;begin \
 process (x, y, z) variable v:std_logic:='0'; variable b:boolean; begin \
   v := not ((x and y) or (x nand y)); \
   q <= transport (x xor y) after 1 ns, (x xnor y) after 2 ns, (x nor y) after 3 ns; \
@@ -57,7 +58,7 @@ fn executed(
     variables: Vec<Held>,
     count: usize,
 ) -> Result<Option<Done>, AllocError> {
-    let Some(design) = design(alloc, TEXT) else {
+    let Some(design) = flat(alloc, TEXT) else {
         return Ok(None);
     };
     let drivers = drivers(alloc, count)?;
@@ -75,28 +76,34 @@ fn all_statements(alloc: Global) -> Result<Option<Done>, AllocError> {
     executed(alloc, 0, views(alloc)?, variables, 4)
 }
 
+/// Whether the variables are left as '1' and false.
+fn are_left(variables: &[Held]) -> bool {
+    match variables {
+        [Held::Bit(bit), Held::Truth(truth)] => *bit == Logic::One && !*truth,
+        _ => false,
+    }
+}
+
+/// Whether the drivers of q, r, s and u have what was assigned.
+fn are_assigned(drivers: &[Driver]) -> bool {
+    let q = [
+        (11_000_000, Logic::One),
+        (12_000_000, Logic::Zero),
+        (13_000_000, Logic::Zero),
+    ];
+    let s = [(11_000_000, Logic::One), (12_000_000, Logic::Zero)];
+    is_driver(drivers.first(), Logic::U, &q)
+        && is_driver(drivers.get(1), Logic::U, &[(14_000_000, Logic::H)])
+        && is_driver(drivers.get(2), Logic::U, &s)
+        && is_driver(drivers.get(3), Logic::U, &[(11_000_000, Logic::Zero)])
+}
+
 #[test]
 fn every_statement_is_carried_out(rt: HostRuntime) -> Result<(), Fail> {
-    let alloc = rt.alloc();
-    let done = all_statements(alloc)?;
-    assert!(rt; done.is_some());
-    if let Some(done) = done {
-        assert_eq!(rt;
-            done.variables(),
-            [Held::Bit(Logic::One), Held::Truth(false)].as_slice()
-        );
-        let drivers = done.drivers();
-        let q = [
-            (11_000_000, Logic::One),
-            (12_000_000, Logic::Zero),
-            (13_000_000, Logic::Zero),
-        ];
-        assert!(rt; is_driver(drivers.first(), Logic::U, &q));
-        assert!(rt; is_driver(drivers.get(1), Logic::U, &[(14_000_000, Logic::H)]));
-        let s = [(11_000_000, Logic::One), (12_000_000, Logic::Zero)];
-        assert!(rt; is_driver(drivers.get(2), Logic::U, &s));
-        assert!(rt; is_driver(drivers.get(3), Logic::U, &[(11_000_000, Logic::Zero)]));
-    }
+    let done = all_statements(rt.alloc())?;
+    assert!(rt;
+        done.is_some_and(|done| are_left(done.variables()) && are_assigned(done.drivers()))
+    );
     Ok(())
 }
 

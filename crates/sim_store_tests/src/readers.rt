@@ -1,8 +1,9 @@
 //! What flat designs have.
 
+use crate::line::Line;
 use crate::texts::flat;
 use crate::written::put_design;
-use std::alloc::{AllocError, Global};
+use std::alloc::Global;
 use std::test::Fail;
 
 /// An instance with a constant and an open port.
@@ -27,43 +28,56 @@ const DEEP: &str =
 v:entity work.m port map(s); end;entity m is port(o:out std_logic:='L');end;architecture a of m is signal x:std_logic;begin \
 w:entity work.l port map(x,o);end;entity l is port(i:in std_logic;o:out std_logic:='0');end;architecture a of l is begin o<=i;end;";
 
-/// The line of the design of a text; an empty one where it has none.
-fn written(alloc: Global, text: &str) -> Result<String, AllocError> {
-    let mut line = String::new(alloc);
+/// Texts, and the lines of their designs.
+static DESIGNS: [(&str, &str); 4] = [
+    (
+        OPEN,
+        "net u.i has '1'; net u.o has 0; driver of 0 to 1 from 'U'; \
+process sensitive 0, reads 0, nets 0 1, objects, drivers and the first 2 1 0, variables, statements to 0 after 0; ",
+    ),
+    (
+        TWICE,
+        "net s has 0 1; driver of 0 to 0 from 'U'; driver of 0 to 0 from 'U'; \
+process sensitive, reads, nets 0 0, objects, drivers and the first 2 2 0, variables, statements to 0 after 0 to 1 after 0; ",
+    ),
+    (
+        CLOCK,
+        "net clk has 0; net q has 1; driver of 0 to 0 from '0'; driver of 1 to 1 from 'U'; \
+process sensitive 0, reads 0, nets 0 1, objects, drivers and the first 2 1 0, variables, statements to 0 after 5000000; \
+process sensitive 0, reads 0, nets 0 1, objects, drivers and the first 2 1 1, variables '0' false, statements if; ",
+    ),
+    (
+        DEEP,
+        "net s has 0 1; net u.x has 'U'; net v.x has 'U'; driver of 0 to 0 from '0'; driver of 1 to 0 from '0'; \
+process sensitive 1, reads 1, nets 1 0, objects, drivers and the first 2 1 0, variables, statements to 0 after 0; \
+process sensitive 2, reads 2, nets 2 0, objects, drivers and the first 2 1 1, variables, statements to 0 after 0; ",
+    ),
+];
+
+/// Puts the design of a text, if it has one.
+fn put_written(line: &mut Line, alloc: Global, text: &str) {
     if let Some(design) = flat(alloc, text) {
-        put_design(&mut line, &design)?;
+        put_design(line, &design);
     }
-    Ok(line)
+    line.put("\n");
+}
+
+/// The lines of the designs, and what the rows say.
+fn written(alloc: Global) -> (Line, Line) {
+    let mut found = Line::new(alloc);
+    let mut wanted = Line::new(alloc);
+    for row in DESIGNS.iter() {
+        put_written(&mut found, alloc, row.0);
+        wanted.put(row.1);
+        wanted.put("\n");
+    }
+    (found, wanted)
 }
 
 #[test]
 fn a_design_has_its_nets_drivers_and_processes(rt: HostRuntime) -> Result<(), Fail> {
-    for (text, wanted) in [
-        (
-            OPEN,
-            "net u.i has '1'; net u.o has 0; driver of 0 to 1 from 'U'; \
-process sensitive 0, reads 0, nets 0 1, objects, drivers and the first 2 1 0, variables, statements to 0 after 0; ",
-        ),
-        (
-            TWICE,
-            "net s has 0 1; driver of 0 to 0 from 'U'; driver of 0 to 0 from 'U'; \
-process sensitive, reads, nets 0 0, objects, drivers and the first 2 2 0, variables, statements to 0 after 0 to 1 after 0; ",
-        ),
-        (
-            CLOCK,
-            "net clk has 0; net q has 1; driver of 0 to 0 from '0'; driver of 1 to 1 from 'U'; \
-process sensitive 0, reads 0, nets 0 1, objects, drivers and the first 2 1 0, variables, statements to 0 after 5000000; \
-process sensitive 0, reads 0, nets 0 1, objects, drivers and the first 2 1 1, variables '0' false, statements if; ",
-        ),
-        (
-            DEEP,
-            "net s has 0 1; net u.x has 'U'; net v.x has 'U'; driver of 0 to 0 from '0'; driver of 1 to 0 from '0'; \
-process sensitive 1, reads 1, nets 1 0, objects, drivers and the first 2 1 0, variables, statements to 0 after 0; \
-process sensitive 2, reads 2, nets 2 0, objects, drivers and the first 2 1 1, variables, statements to 0 after 0; ",
-        ),
-    ] {
-        assert_eq!(rt; written(rt.alloc(), text)?.as_str(), wanted);
-    }
+    let (found, wanted) = written(rt.alloc());
+    assert_eq!(rt; found.whole()?.as_str(), wanted.whole()?.as_str());
     Ok(())
 }
 
@@ -72,16 +86,27 @@ fn number_of(alloc: Global, text: &str, name: &str) -> Option<usize> {
     flat(alloc, text)?.net_named(name)
 }
 
+/// Names, and the numbers of their nets.
+static NAMES: [(&str, Option<usize>); 6] = [
+    ("u.i", Some(0)),
+    ("u.o", Some(1)),
+    ("U.O", None),
+    ("u.", None),
+    ("o", None),
+    ("", None),
+];
+
+/// The place of the first row whose name is found in another way.
+fn first_other(alloc: Global) -> Option<usize> {
+    for (place, row) in NAMES.iter().enumerate() {
+        if number_of(alloc, OPEN, row.0) != row.1 {
+            return Some(place);
+        }
+    }
+    None
+}
+
 #[test]
 fn a_net_is_found_by_its_name_in_lower_case(rt: HostRuntime) {
-    for (name, wanted) in [
-        ("u.i", Some(0)),
-        ("u.o", Some(1)),
-        ("U.O", None),
-        ("u.", None),
-        ("o", None),
-        ("", None),
-    ] {
-        assert_eq!(rt; number_of(rt.alloc(), OPEN, name), wanted, "{name}");
-    }
+    assert_eq!(rt; first_other(rt.alloc()), None);
 }

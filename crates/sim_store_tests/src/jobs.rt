@@ -1,22 +1,9 @@
-//! Designs, jobs and drivers for the tests.
+//! Jobs, their nets, variables and drivers.
 
 use sim_exec::{Job, NetView};
 use sim_flat_design::{Design, Held};
-use sim_logic::{LATEST, Logic};
-use sim_run::{Options, elaborate};
+use sim_logic::Logic;
 use sim_wave::{Driver, Transaction};
-use std::alloc::Global;
-
-/// The flat design of a text under the top `t`.
-pub fn design(alloc: Global, text: &[u8]) -> Option<Design> {
-    let options = Options {
-        top: String::from_str(alloc, "t").ok()?,
-        stop: LATEST,
-        limit: 10_000,
-        workers: 1,
-    };
-    elaborate(alloc, text, &options).ok()
-}
 
 /// The job of a process of a design, if the lists fit it.
 pub fn job(
@@ -63,5 +50,13 @@ pub fn is_driver(driver: Option<&Driver>, value: Logic, pending: &[Transaction])
     match driver {
         None => false,
         Some(driver) => driver.value() == value && driver.pending() == pending,
+    }
+}
+
+/// Whether there is one variable, with this value.
+pub fn holds(variables: &[Held], value: Logic) -> bool {
+    match variables {
+        [Held::Bit(held)] => *held == value,
+        _ => false,
     }
 }
