@@ -46,6 +46,8 @@ impl Line {
     pub fn put_step(&mut self, step: Step) {
         self.put(match step {
             Step::Next => "Next",
+            Step::Postponed => "Postponed",
+            Step::PostponedDelta => "PostponedDelta",
             Step::Finished => "Finished",
             Step::LimitReached => "LimitReached",
         });

@@ -5,17 +5,18 @@ use crate::scripts::Call::{
     Advance, Bounds, Deposit, Due, Ended, History, Look, Records, Run, Total, Value,
 };
 use crate::scripts::{Script, follow};
-use crate::texts::{CHOICE, EMPTY, EXCHANGE, ONCE, TOGGLE, TWO_DRIVERS};
+use crate::texts::{CHOICE, EMPTY, EXCHANGE, ONCE, POSTPONED, TOGGLE, TWO_DRIVERS};
 use sim_logic::LATEST;
 use std::alloc::Global;
 use std::test::Fail;
 
 /// Each with a store and results of its own: processes that are missing, and results that come
-/// twice or late; a process that is not due; a run that has ended; as many cycles as the limit, and
-/// one more; the latest stop time, and one later; who is sensitive to what changed, and processes
-/// that read each other take the values before; a run that has ended is read, and its history is
-/// copied; record 0 has every net; a store tells its bounds.
-static SCRIPTS: [Script<'_>; 11] = [
+/// twice or late; a postponed process, and the delta cycle that it makes; a process that is not
+/// due; a run that has ended; as many cycles as the limit, and one more; the latest stop time, and
+/// one later; who is sensitive to what changed, and processes that read each other take the values
+/// before; a run that has ended is read, and its history is copied; record 0 has every net; a store
+/// tells its bounds.
+static SCRIPTS: [Script<'_>; 13] = [
     (
         TWO_DRIVERS,
         LATEST,
@@ -35,6 +36,34 @@ static SCRIPTS: [Script<'_>; 11] = [
             Deposit(3),
         ],
         "Missing 0;done;done;done;done;done;Missing 1;Twice;done;Next;Stale;",
+    ),
+    (
+        POSTPONED,
+        LATEST,
+        10,
+        0,
+        &[
+            Advance,
+            Run(1),
+            Run(0),
+            Deposit(0),
+            Advance,
+            Look,
+            Due,
+            Run(0),
+            Run(1),
+            Deposit(1),
+            Advance,
+        ],
+        "Missing 0;NotDue;done;done;Postponed;1 0+0,0;1 ;NotDue;done;done;Next;",
+    ),
+    (
+        POSTPONED,
+        LATEST,
+        10,
+        3,
+        &[Due, Advance, Ended, Run(1), Deposit(0), Advance, Ended, Look, Due],
+        ";Postponed;none;done;done;PostponedDelta;PostponedDelta;3 1000000+0,1;;",
     ),
     (TOGGLE, LATEST, 10, 2, &[Run(0), Run(2)], "NotDue;NotDue;"),
     (

@@ -14,6 +14,11 @@ pub const EMPTY: &str = "entity t is end;architecture a of t is begin end;";
 pub const ONCE: &str =
     "entity t is end;architecture a of t is signal s:std_logic:='0';begin s <= '1' after 5 ns; end;";
 
+/// A postponed assignment without a delay.
+pub const POSTPONED: &str =
+    "entity t is end;architecture a of t is signal a,q:std_logic:='0';begin a <= '1' after 1 ns; \
+postponed q <= a; end;";
+
 /// Two drivers that contradict each other.
 pub const TWO_DRIVERS: &str =
     "entity t is end;architecture a of t is signal s:std_logic;begin s <= '0'; s <= '1'; end;";

@@ -1,4 +1,4 @@
-//! What is told of a run that needs more cycles than the limit.
+//! What is told of a run that is cut short.
 
 use crate::changes::write_changes;
 use crate::cycles::write_cycles;
@@ -6,6 +6,7 @@ use crate::request::Request;
 use anyhow::{Result, bail};
 use sim_logic::LATEST;
 use sim_run::{Options, Record, RunError, WaveStore};
+use sim_store::Step;
 use std::alloc::Global;
 use std::io::{self, Write};
 
@@ -46,6 +47,12 @@ const STOP_NOT_REACHED: &[u8] = b"\
     number by --limit, which is 10000 where it is not given and at most 1000000.\n\
     See Calling the program in docs/LANGUAGE.md.\n";
 
+/// What it means that a postponed process makes a delta cycle follow.
+const POSTPONED_DELTA: &[u8] = b"\
+    A postponed process, or a postponed assignment, assigns to a signal without a delay. It is\n\
+    executed once the time has settled, so that no delta cycle may follow: give the assignment\n\
+    a delay. See Postponed processes in docs/LANGUAGE.md.\n";
+
 /// What it means that a run came no further.
 fn meaning(options: &Options, cycles: u64, delta: u64) -> &'static [u8] {
     let most_are_here = delta >= cycles.saturating_sub(delta);
@@ -60,17 +67,30 @@ fn meaning(options: &Options, cycles: u64, delta: u64) -> &'static [u8] {
     }
 }
 
+/// The refusal of a run that is cut short.
+fn refusal_of(store: &WaveStore) -> RunError {
+    match store.ended() {
+        Some(Step::PostponedDelta) => RunError::PostponedDelta,
+        _ => RunError::CycleLimit {
+            limit: store.limit(),
+        },
+    }
+}
+
 /// Writes how far a run came.
 fn write_look<W: Write>(out: &mut W, options: &Options, store: &WaveStore) -> io::Result<()> {
-    let (look, limit) = (store.look(), options.limit);
+    let look = store.look();
     let (time, delta, events) = (look.time, look.delta, look.events);
-    let refusal = RunError::CycleLimit { limit };
+    let refusal = refusal_of(store);
     writeln!(
         out,
         "{refusal}\nThe run came to {time} fs and there to delta cycle {delta}, with {events} events."
     )?;
     let cycles = look.records.saturating_sub(1) as u64;
-    out.write_all(meaning(options, cycles, delta))
+    match refusal {
+        RunError::PostponedDelta => out.write_all(POSTPONED_DELTA),
+        _ => out.write_all(meaning(options, cycles, delta)),
+    }
 }
 
 /// The last records of a store, so many at the most.

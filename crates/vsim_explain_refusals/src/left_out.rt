@@ -46,10 +46,6 @@ pub const CONDITIONAL: &str = "\
     In a process there are no conditional assignments. Write an if statement.\n\
     See Sequential statements in docs/LEFT_OUT.md.";
 
-pub const POSTPONED: &str = "\
-    Postponed processes are left out. Leave the word out where the order in a time does not\n\
-    matter. See Concurrent statements in docs/LEFT_OUT.md.";
-
 pub const WAIT: &str = "\
     There is no wait. Give the process a sensitivity list, and write stimuli as a waveform,\n\
     as in s <= '0', '1' after 5 ns, '0' after 10 ns;\n\
@@ -116,7 +112,7 @@ pub const BASED: &str = "\
     See Values in docs/LEFT_OUT.md.";
 
 /// What begins with a word that stands at the place of a `Syntax`.
-pub static AT: [(&str, &str); 21] = [
+pub static AT: [(&str, &str); 20] = [
     ("generic", GENERIC),
     ("constant", CONSTANT),
     ("type", TYPES),
@@ -135,7 +131,6 @@ pub static AT: [(&str, &str); 21] = [
     ("context", UNIT),
     ("configuration", UNIT),
     ("when", CONDITIONAL),
-    ("postponed", POSTPONED),
     ("sll", SHIFT),
     ("srl", SHIFT),
 ];
