@@ -56,19 +56,19 @@ fn first_views(alloc: Global, design: &Design, drivers: &[Driver]) -> Option<Vec
     views_of(alloc, values.as_slice(), values.as_slice())
 }
 
-/// That no process waits.
-fn none_waiting(alloc: Global, count: usize) -> Option<Vec<bool>> {
+/// The variables of each process at first, and that none waits.
+fn first_owned(alloc: Global, design: &Design) -> Option<(Vec<Vec<Held>>, Vec<bool>)> {
+    let variables = first_variables(alloc, design)?;
     let mut waiting = Vec::new(alloc);
-    waiting.resize(count, false).ok()?;
-    Some(waiting)
+    waiting.resize(design.processes().len(), false).ok()?;
+    Some((variables, waiting))
 }
 
 /// The state at the start (14.7.5.2).
 fn first_state(alloc: Global, design: &Design) -> Option<State> {
     let drivers = first_drivers(alloc, design)?;
-    let variables = first_variables(alloc, design)?;
+    let (variables, waiting) = first_owned(alloc, design)?;
     let views = first_views(alloc, design, drivers.as_slice())?;
-    let waiting = none_waiting(alloc, design.processes().len())?;
     Some(State {
         time: 0,
         delta: 0,

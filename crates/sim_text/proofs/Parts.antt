@@ -15,7 +15,8 @@ use Rattle.sim_text_tree.specs.declared.unit.ContextItem.TheVariants as items
 use Rattle.sim_text_grammar.specs.Readers.{Outcome, Parser, and_then, pure, eat, expect, word, left, many_from}
 use Rattle.sim_text_grammar.specs.Declarations.{names, object, initial, ports, port_list, component, component_end, declarations, repeated, variables}
 use Rattle.sim_text_grammar.specs.Statements.{statements, label_again}
-use Rattle.sim_text_grammar.specs.Concurrents.{associations, chosen, concurrents, entity_named, instance, port_map, postponed_again, process, process_body, sensitivity}
+use Rattle.sim_text_grammar.specs.Concurrents.{associations, chosen, concurrents, entity_named, instance, port_map, postponed_again}
+use Rattle.sim_text_grammar.specs.Concurrents.{process, process_body, sensitivity}
 use Rattle.sim_text_grammar.specs.Units.{entity, architecture, architecture_body, item_by, selected_names, unit, units_of, goes_on}
 use Rattle.sim_text_grammar.proofs.Parts.{within, beyond}
 

@@ -34,7 +34,8 @@ use Rattle.sim_text_grammar.proofs.Lists.{many_all_again, all_begin}
 use Rattle.sim_text_grammar.proofs.WaveformsComplete as waves
 use Rattle.sim_text_grammar.specs.Concurrents.{sensitivity, process_body, process, actual, associated, named_association, free_association, association}
 use Rattle.sim_text_grammar.specs.Concurrents.{associations_from, associations, port_map, instance, chosen, entity_named, concurrent_assigned}
-use Rattle.sim_text_grammar.specs.Concurrents.{concurrent_process, postponed, postponed_again, target_by, labelled, first_by, concurrent, begins_concurrent, concurrents}
+use Rattle.sim_text_grammar.specs.Concurrents.{concurrent_process, postponed, postponed_again, target_by, labelled, first_by}
+use Rattle.sim_text_grammar.specs.Concurrents.{concurrent, begins_concurrent, concurrents}
 use Rattle.sim_text_grammar.proofs.DeclarationsComplete.{names_begin, names_again, variables_again}
 use Rattle.sim_text_grammar.proofs.StatementsComplete.{label_again_again, statements_again}
 use Rattle.sim_text_grammar.proofs.ConcurrentsSound.{of_open}

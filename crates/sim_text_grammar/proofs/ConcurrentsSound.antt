@@ -23,7 +23,8 @@ use Rattle.sim_text_grammar.proofs.Lists.{many_all_gives}
 use Rattle.sim_text_grammar.proofs.WaveformsSound as waves
 use Rattle.sim_text_grammar.specs.Concurrents.{sensitivity, process_body, process, actual, actual_by, associated, named_association, free_association}
 use Rattle.sim_text_grammar.specs.Concurrents.{free_by, association, associations_from, associations, port_map, instance, chosen, entity_named}
-use Rattle.sim_text_grammar.specs.Concurrents.{concurrent_assigned, concurrent_process, postponed, postponed_again, postponed_by, target_by, labelled, labelled_by, first_by}
+use Rattle.sim_text_grammar.specs.Concurrents.{concurrent_assigned, concurrent_process, postponed, postponed_again, postponed_by, target_by}
+use Rattle.sim_text_grammar.specs.Concurrents.{labelled, labelled_by, first_by}
 use Rattle.sim_text_grammar.specs.Concurrents.{concurrent}
 use Rattle.sim_text_grammar.specs.Concurrents.{concurrent_by, begins_concurrent, concurrents}
 use Rattle.sim_text_grammar.proofs.DeclarationsSound.{names_give, variables_give}
@@ -42,7 +43,8 @@ postponed_again_gives true i = map_ (eat_gives {p = 64} {n = 64} k.Postponed i (
 postponed_again_gives false i = done none
 
 process_body_gives : (label : Option Name) (postponed : Bool) (x : Sensitivity) (is : Bool) (vs : List ObjectDeclaration) (i z a b c d e f t : Input)
-    → Fits 64 64 (g.labelled label) i z → Fits 64 64 (if_written postponed (mark k.Postponed)) z a → Fits 64 64 (mark k.Process) a b → Fits 64 64 (mark k.LeftParen) b c → Fits 64 64 (of_sensitivity x) c d
+    → Fits 64 64 (g.labelled label) i z → Fits 64 64 (if_written postponed (mark k.Postponed)) z a → Fits 64 64 (mark k.Process) a b
+    → Fits 64 64 (mark k.LeftParen) b c → Fits 64 64 (of_sensitivity x) c d
     → Fits 64 64 (mark k.RightParen) d e → Fits 64 64 (if_written is (mark k.Is)) e f → Fits 64 64 (all_of (map of_variable vs)) f t
     → Gives (λ y m. Fits 64 64 (of_process y) i m) (process_body label postponed x is vs t)
 unfolding process_body of_process
