@@ -1,5 +1,6 @@
 -- A simulation goes on: each step leaves what it holds that of the simulation after it.
-use Rattle.std.proofs.Common.{ℕ, zero, suc, ◌+◌, ◌<◌, ◌≤◌, ◌≡◌, ◌≢◌, ◌==◌, ◌&&◌, ◌||◌, ◌↔◌, IsTrue, not, eqb, Bool, true, false, if◌then◌else◌, List, [], ◌∷◌, ◌++◌}
+use Rattle.std.proofs.Common.{ℕ, zero, suc, ◌+◌, ◌<◌, ◌≤◌, ◌≡◌, ◌≢◌, ◌==◌, ◌&&◌, ◌||◌, ◌↔◌, IsTrue, not, eqb, Bool, true, false}
+use Rattle.std.proofs.Common.{if◌then◌else◌, List, [], ◌∷◌, ◌++◌}
 use Rattle.std.proofs.Common.{length, get_or, set, map, take, drop, replicate, refl, ap, sym, ◌∙◌, subst, arith, Option, None, Some, MatchOption}
 use Rattle.std.specs.List.{All}
 use Rattle.std.proofs.lemmas.Bool.Decides.{nat_tests}
@@ -67,7 +68,8 @@ one-more marks n k lt = go (eqb n k) refl
         let apart : k ≢ n = grind (arith, nat_tests) in
         sym (get_or-set_other marks n k true false apart)
 
-module _ {h : Simulation} {time delta : ℕ} {held : FlatState} {records : List Record} {due waiting : List Bool} (i : IsStateOf h time delta held records due waiting) where
+module _ {h : Simulation} {time delta : ℕ} {held : FlatState} {records : List Record} {due waiting : List Bool}
+    (i : IsStateOf h time delta held records due waiting) where
   -- each process owns something
   pub updated-all : length (updated_last h).owned ≡ length h.design.processes
   updated-all = subst (λ (o : Option State). all o) i.there (standard_all h.design i.processes h.cycles)
@@ -179,7 +181,8 @@ none-marked-now (b ∷ bs) = ap (λ w. false ∷ w) (none-marked-now bs)
 later-resumed : (d : Design) (k p : ℕ) (s : State) → is_resumed d (suc k) s p ≡ has_event_in s.nets (process_at d.processes p).sensitivity
 later-resumed d k p s = let t : eqb (suc k) 0 ≡ false = grind (arith, nat_tests) in rw t refl
 
-module _ {h : Simulation} {time delta : ℕ} {held : FlatState} {records : List Record} {due waiting : List Bool} (i : IsStateOf h time delta held records due waiting)
+module _ {h : Simulation} {time delta : ℕ} {held : FlatState} {records : List Record} {due waiting : List Bool}
+    (i : IsStateOf h time delta held records due waiting)
     (all : IsComplete h) where
   -- once all that are due have been executed, what is owned is what the phase leaves
   pub phase-complete : held.owned ≡ (phase_end h.phase h.design h.cycles (updated_last h)).owned
@@ -394,7 +397,8 @@ module _ {h : Simulation} {time delta : ℕ} {held : FlatState} {records : List 
 
 -- ---- handing out
 
-module _ {h : Simulation} {time delta : ℕ} {held : FlatState} {records : List Record} {due waiting : List Bool} (i : IsStateOf h time delta held records due waiting) where
+module _ {h : Simulation} {time delta : ℕ} {held : FlatState} {records : List Record} {due waiting : List Bool}
+    (i : IsStateOf h time delta held records due waiting) where
   -- the part of a process that has not been executed
   pub part-is : (p : ℕ) → those_in h.deposited p ≡ false → (views : List NetView) (own : Owned)
       → views ≡ map (net_at held.nets) (process_at h.design.processes p).reads → own ≡ owned_at held.owned p
@@ -435,7 +439,8 @@ ready-sooner body time own is = record {
   pending = All-weaker (λ (d : Waveform). RisesFrom (suc time) d.pending) (λ (d : Waveform). RisesFrom time d.pending) (sooner time) own.drivers is.pending;
 }
 
-module _ {h : Simulation} {time delta : ℕ} {held : FlatState} {records : List Record} {due waiting : List Bool} (i : IsStateOf h time delta held records due waiting)
+module _ {h : Simulation} {time delta : ℕ} {held : FlatState} {records : List Record} {due waiting : List Bool}
+    (i : IsStateOf h time delta held records due waiting)
     (p : ℕ) (lt : p < length h.design.processes) (out : those_in h.deposited p ≡ false) where
   pub ready-here : IsReady (process_at h.design.processes p).body time (owned_at held.owned p)
   ready-here =
@@ -472,7 +477,8 @@ module _ {h : Simulation} {time delta : ℕ} {held : FlatState} {records : List 
 
 -- ---- jobs
 
-module _ {h : Simulation} {time delta : ℕ} {held : FlatState} {records : List Record} {due waiting : List Bool} (i : IsStateOf h time delta held records due waiting) where
+module _ {h : Simulation} {time delta : ℕ} {held : FlatState} {records : List Record} {due waiting : List Bool}
+    (i : IsStateOf h time delta held records due waiting) where
   -- the part of a process that has not been executed makes a job
   pub job-fits : (p : ℕ) → p < length h.design.processes → is_due h p ≡ true → those_in h.deposited p ≡ false → (views : List NetView) (own : Owned)
       → views ≡ map (net_at held.nets) (process_at h.design.processes p).reads → own ≡ owned_at held.owned p
@@ -489,7 +495,8 @@ module _ {h : Simulation} {time delta : ℕ} {held : FlatState} {records : List 
 
 -- ---- results
 
-module _ {h : Simulation} {time delta : ℕ} {held : FlatState} {records : List Record} {due waiting : List Bool} (i : IsStateOf h time delta held records due waiting)
+module _ {h : Simulation} {time delta : ℕ} {held : FlatState} {records : List Record} {due waiting : List Bool}
+    (i : IsStateOf h time delta held records due waiting)
     (job : Job) (o : IsOwn h job) where
   pub own-time : job.time ≡ time
   own-time = ap (λ (s : State). s.time) o.shows ∙ sym i.time_is
@@ -549,7 +556,8 @@ module _ {h : Simulation} {time delta : ℕ} {held : FlatState} {records : List 
       let same : map holds_bit x ≡ map holds_bit y = (own-ready f).variables ∙ sym (i.ready job.number d.number).variables in
       ap (λ (w : Owned). length w.variables) e ∙ (sym (length-map x holds_bit) ∙ (ap length same ∙ length-map y holds_bit))
 
-module _ {h : Simulation} {time delta : ℕ} {held : FlatState} {records : List Record} {due waiting : List Bool} (i : IsStateOf h time delta held records due waiting)
+module _ {h : Simulation} {time delta : ℕ} {held : FlatState} {records : List Record} {due waiting : List Bool}
+    (i : IsStateOf h time delta held records due waiting)
     (job : Job) where
   -- a job of these is the process's own
   pub fits-own : those_in h.deposited job.number ≡ false → job.time ≡ time → job.process ≡ process_at h.design.processes job.number

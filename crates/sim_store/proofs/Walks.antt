@@ -27,7 +27,8 @@ pub record Passed (h : Simulation) (from : ℕ) : Type 0 where
 pub none-passed : (h : Simulation) → Passed h 0
 none-passed h = record { none = λ p lt m. omega (arith, lt) }
 
-module _ {h : Simulation} {time delta : ℕ} {held : FlatState} {records : List Record} {due waiting : List Bool} (i : IsStateOf h time delta held records due waiting) where
+module _ {h : Simulation} {time delta : ℕ} {held : FlatState} {records : List Record} {due waiting : List Bool}
+    (i : IsStateOf h time delta held records due waiting) where
   -- one that is due is one of the design
   pub due-within : (p : ℕ) → those_in due p ≡ true → p < length h.design.processes
   due-within p e = omega (arith, member_within due p e, i.due_sized)

@@ -149,16 +149,6 @@ fn started(alloc: Global, design: &Design) -> Result<(FlatState, Log), AllocErro
     Ok((state, log))
 }
 
-/// That of this number of processes none has been executed, and none of these nets had an event.
-fn marks(alloc: Global, processes: usize, nets: usize) -> Result<(NumberSet, Vec<u64>), AllocError>
-    ensures deposited { IfOk result (λ m. m.0 ≡ replicate processes false) }
-    ensures totals { IfOk result (λ m. m.1.items ≡ replicate nets 0) }
-{
-    let deposited = NumberSet::new(alloc, processes)?;
-    let totals = none(alloc, nets)?;
-    Ok((deposited, totals))
-}
-
 /// Which processes of a design are to be executed first, and which postponed ones wait.
 fn parted(alloc: Global, design: &Design) -> Result<(Due, Waiting), AllocError>
     ensures parted { IfOk result (λ m. spec.AreParted design.now m.0 m.1.waiting) }
@@ -168,6 +158,20 @@ fn parted(alloc: Global, design: &Design) -> Result<(Due, Waiting), AllocError>
     let mut waiting = Waiting::of(alloc, processes)?;
     let due = Due::first(alloc, processes.len(), &mut waiting)?;
     Ok((due, waiting))
+}
+
+/// Of a design: which processes are to be executed first and which wait, that none has been
+/// executed, and that no net had an event.
+fn marks(alloc: Global, design: &Design) -> Result<(Due, Waiting, NumberSet, Vec<u64>), AllocError>
+    ensures parted { IfOk result (λ m. spec.AreParted design.now m.0 m.1.waiting) }
+    ensures postponed { IfOk result (λ m. spec.ArePostponed design.now m.1.postponed) }
+    ensures deposited { IfOk result (λ m. m.2 ≡ replicate (length design.now.processes) false) }
+    ensures totals { IfOk result (λ m. m.3.items ≡ replicate (length design.now.nets) 0) }
+{
+    let (due, waiting) = parted(alloc, design)?;
+    let deposited = NumberSet::new(alloc, design.processes().len())?;
+    let totals = none(alloc, design.nets().len())?;
+    Ok((due, waiting, deposited, totals))
 }
 
 /// What is made of a design once.
@@ -190,8 +194,7 @@ fn prepared(alloc: Global, design: &Design) -> Result<Made, AllocError>
     ensures start { IfOk result (λ m. (m.time ≡ 0) × (m.delta ≡ 0) × (m.phase ≡ phase.AtOnce)) }
     ensures lists { IfOk result (λ m. AreFirst design.now m) }
 {
-    let (deposited, totals) = marks(alloc, design.processes().len(), design.nets().len())?;
-    let (due, waiting) = parted(alloc, design)?;
+    let (due, waiting, deposited, totals) = marks(alloc, design)?;
     let lists = made_once(alloc, design)?;
     let (state, log) = started(alloc, design)?;
     Ok(Made {
@@ -274,9 +277,14 @@ impl Simulation {
     ghost use Rattle.std.specs.Prelude.{IfErr, IfOk, IfSome, OnOk, OnErr, MatchOption, MatchResult};
 
     /// The simulation of a design at its start: the initialization is recorded, and each process is
-    /// due. If allocation fails, the design comes back.
+    /// due, or waits where it is postponed. If allocation fails, the design comes back.
     pub fn begin(alloc: Global, design: Design) -> Result<Simulation, (AllocError, Design)>
-        ensures ok { IfOk result (λ s. s ≡ record { design = design; cycles = 0; phase = phase.AtOnce; deposited = replicate (length design.processes) false }) }
+        ensures ok { IfOk result (λ s. s ≡ record {
+          design = design;
+          cycles = 0;
+          phase = phase.AtOnce;
+          deposited = replicate (length design.processes) false;
+        }) }
         ensures err { IfErr result (λ e. e.1 ≡ design) }
     {
         let _nets = design.nets();

@@ -61,7 +61,8 @@ invariant_of-self c =
     record {
       made = c.self.invariant.made;
       marked = c.self.invariant.marked;
-      state = subst (λ (w : List Bool). IsStateOf (record { design = h.design; cycles = h.cycles; phase = h.phase; deposited = w }) s.made.time s.made.delta held'
+      state = subst (λ (w : List Bool). IsStateOf (record { design = h.design; cycles = h.cycles; phase = h.phase; deposited = w })
+          s.made.time s.made.delta held'
           s.made.log.records s.made.due s.made.waiting.waiting) (sym marks)
           (deposited-keeps i job.number (result_of job) held' (own-result i job own miss.due) (own-ready i job own c.into_parts-job.ensures.ready) now);
       counts = c.self.invariant.counts;
