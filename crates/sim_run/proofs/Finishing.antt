@@ -1,6 +1,7 @@
 -- Runs that have ended, and listings of which a part was written.
 use Rattle.std.proofs.Common.{◌≡◌, ◌∙◌, ℕ, List, Option, Result, Ok, Err, inl, inr, refl, ap, sym, subst}
-use Rattle.std.specs.Prelude.{◌⊎◌, IfErr, IfOk}
+use Rattle.std.specs.Prelude.{◌⊎◌, IfErr, IfOk, OnOk}
+use Rattle.std.specs.Io.KnownBytes.{Appends}
 use Rattle.sim_flat_design.specs.Designs.{Design}
 use Rattle.sim_standard.specs.Behaviour.{behaviour_of}
 use Rattle.sim_standard.specs.Cycle.{next_in}
@@ -12,7 +13,7 @@ use Rattle.sim_run_listing.specs.Listing.{listing}
 use Rattle.sim_run_listing.specs.Writing.{AppendsPart}
 use Rattle.sim_run.specs.declared.error.RunError.{RunError}
 use Rattle.sim_run.specs.declared.error.RunError.TheVariants as refusal
-use Rattle.sim_run.specs.Run.{Finishes, IsRefusalAlone, IsRunOf, ListsPart, history_of}
+use Rattle.sim_run.specs.Run.{Finishes, IsRefusalAlone, IsRunOf, Lists, ListsPart, history_of}
 use Rattle.sim_run.specs.Simulation.{HasDesign}
 
 -- a store that is finished has the history of the run
@@ -47,7 +48,7 @@ module _ (design : Design) (options : Options) (run : WaveStore) (of : IsRunOf d
 
   pub cut_short : (e : RunError) → IsEnd e → IsRefusalAlone (behaviour_of design) options e
   cut_short e (inl p) = inr (inl (p.0 ∙ ap (λ (n : ℕ). refusal.CycleLimit n) of.limit, outcome_of LimitReached p.1))
-  cut_short e (inr p) = inr (inr (p.0, run.simulation.cycles, outcome_of (PostponedDeltaAfter run.simulation.cycles) p.1))
+  cut_short e (inr p) = inr (inr (p.0, (run.simulation.cycles, outcome_of (PostponedDeltaAfter run.simulation.cycles) p.1)))
 
   pub refuses : (r : Result WaveStore RunError) → IfErr r IsEnd → IfErr r (IsRefusalAlone (behaviour_of design) options)
   refuses (Ok s) h = tt
@@ -67,3 +68,15 @@ part_listed text options run old new d written = record {
   is_design = d.is_design;
   holds = record { history = history_of run; finishes = d.holds; written = written };
 }
+
+-- the listing that was written is of the run
+pub listed : (text : List ℕ) (options : Options) (run : WaveStore) (r : Result (Unit {0}) RunError) (old new : Option (List ℕ))
+    → HasDesign text options (λ design. Finishes design options (history_of run))
+    → OnOk r (Appends old new (listing (history_of run).names (history_of run).records))
+    → OnOk r (HasDesign text options (λ design. Lists design options old new))
+listed text options run (Ok done) old new d written = record {
+  design = d.design;
+  is_design = d.is_design;
+  holds = record { history = history_of run; finishes = d.holds; written = written };
+}
+listed text options run (Err e) old new d written = tt

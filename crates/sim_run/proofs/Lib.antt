@@ -3,4 +3,3 @@ pub mod Finishing
 pub mod NestedValues
 pub mod Programs
 pub mod Simulations
-pub mod Steps

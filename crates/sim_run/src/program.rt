@@ -60,9 +60,8 @@ fn status_of_failure(failure: Failure) -> u8
         Failure::Run(RunError::Text(TextError::Memory) | RunError::Flat(FlatError::Memory)) => 4,
         Failure::Run(RunError::Text(_) | RunError::Flat(_)) => 1,
         Failure::Run(RunError::Options) => 2,
-        Failure::Run(
-            RunError::CycleLimit { .. } | RunError::PostponedDelta | RunError::Stranger,
-        ) => 3,
+        Failure::Run(RunError::CycleLimit { .. } | RunError::PostponedDelta | RunError::Stranger) =>
+            3,
         Failure::Read | Failure::Memory | Failure::Run(RunError::Write | RunError::Memory) => 4,
     }
 }

@@ -1,4 +1,4 @@
-use Rattle.sim_run.proofs.Finishing.{part_listed}
+use Rattle.sim_run.proofs.Finishing.{listed, part_listed}
 use Rattle.sim_run.proofs.Simulations.{not_written}
 use Rattle.sim_run.proofs.simulation.simulate.Goals as goal
 
@@ -9,3 +9,8 @@ pub returns-clause-part : goal.returns-clause-part
 returns-clause-part g c = λ failed.
     part_listed c.args.source.now c.args.options.now c.in_ok-run.run' (g.W.Write.contents c.args.out.now) (g.W.Write.contents c.write_run.new.out)
     c.in_ok-run.ensures (c.write_run.ensures.part failed)
+
+pub returns-clause-listed : goal.returns-clause-listed
+returns-clause-listed g c =
+    listed c.args.source.now c.args.options.now c.in_ok-run.run' c.write_run.result (g.W.Write.contents c.args.out.now)
+    (g.W.Write.contents c.write_run.new.out) c.in_ok-run.ensures c.write_run.ensures.ok
