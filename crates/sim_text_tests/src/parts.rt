@@ -195,7 +195,7 @@ fn put_delay_read(line: &mut Line, tokens: &mut Cursor) {
 
 /// Puts the assignment that is read after its target, or the refusal.
 fn put_assigned(line: &mut Line, alloc: Global, tokens: &mut Cursor, target: Name) {
-    match assigned(alloc, tokens, None, target) {
+    match assigned(alloc, tokens, None, false, target) {
         Ok(tree) => put_assignment(line, &tree),
         Err(error) => line.put_refusal(error),
     }
