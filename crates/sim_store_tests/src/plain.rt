@@ -4,7 +4,7 @@
 use crate::line::Line;
 use crate::scripts::Call::Records;
 use crate::scripts::follow;
-use crate::texts::{CHOICE, EXCHANGE, ONCE, PULSES, TOGGLE, TWO_DRIVERS, flat};
+use crate::texts::{CHOICE, EXCHANGE, ONCE, PULSES, SETTLED, TOGGLE, TWO_DRIVERS, flat};
 use sim_logic::LATEST;
 use sim_store_reference::{Snapshot, snapshots};
 use std::alloc::Global;
@@ -32,7 +32,7 @@ fn put_plain(line: &mut Line, alloc: Global, text: &str) {
 }
 
 /// The texts.
-static TEXTS: [&str; 6] = [ONCE, TWO_DRIVERS, EXCHANGE, TOGGLE, CHOICE, PULSES];
+static TEXTS: [&str; 7] = [ONCE, TWO_DRIVERS, EXCHANGE, TOGGLE, CHOICE, PULSES, SETTLED];
 
 /// Puts what a store records of a text.
 fn put_recorded(line: &mut Line, alloc: Global, text: &str) {

@@ -19,6 +19,12 @@ pub const POSTPONED: &str =
     "entity t is end;architecture a of t is signal a,q:std_logic:='0';begin a <= '1' after 1 ns; \
 postponed q <= a; end;";
 
+/// A postponed process that waits over a delta cycle.
+pub const SETTLED: &str =
+    "entity t is end;architecture a of t is signal a,b,q:std_logic:='0';begin a <= '1' after 1 ns; \
+b <= a; postponed process(a,b) variable v:std_logic:='0'; begin v := not v; q <= v after 1 ns; \
+end postponed process; end;";
+
 /// Two drivers that contradict each other.
 pub const TWO_DRIVERS: &str =
     "entity t is end;architecture a of t is signal s:std_logic;begin s <= '0'; s <= '1'; end;";
