@@ -15,10 +15,10 @@ pub enum StoreError {
     /// The job is not of this cycle.
     #[error("Stale")]
     Stale,
-    /// The last cycle did not resume the process.
+    /// This phase of the cycle does not execute the process.
     #[error("NotDue")]
     NotDue,
-    /// The process has been executed since the last cycle.
+    /// The process has been executed in this phase.
     #[error("Twice")]
     Twice,
     /// The process or its part of the state is not the store's own.

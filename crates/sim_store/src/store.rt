@@ -108,7 +108,7 @@ impl WaveStore {
         }
     }
 
-    /// The job of a process that is due and has not been executed since the last cycle. Refusals:
+    /// The job of a process that is due and has not been executed. Refusals:
     /// `Ended`, `NotDue`, `Twice`, `Memory`, in this order.
     pub fn job(&self, alloc: Global, process: usize) -> Result<Job, StoreError>
         ensures ok { IfOk result (λ job. spec.IsOpen self.now × simulations.IsMissing self.now.simulation process
@@ -157,8 +157,8 @@ impl WaveStore {
         Ok(())
     }
 
-    /// Executes all that are due and have not been executed since the last cycle, in place and in
-    /// rising order of their numbers, on this thread. If allocation fails the store is gone: of
+    /// Executes all that are due and have not been executed, in place and in rising order of their
+    /// numbers, on this thread. If allocation fails the store is gone: of
     /// the process that wanted it neither the state before its execution is left nor that after it.
     pub fn execute_due(self, alloc: Global) -> Result<WaveStore, AllocError>
         ensures same { IfOk result (λ s. s ≡ spec.with_deposited self s.simulation.deposited) }
@@ -182,11 +182,12 @@ impl WaveStore {
         })
     }
 
-    /// Goes on to the next cycle (14.7.5.3) once all that are due have been executed. It answers
-    /// `Finished` where nothing is pending up to the stop time, and `LimitReached` where the limit
-    /// would be passed: then the run has ended and its records stay. Refusals: `Ended`, `Missing`
-    /// with the least process that has not been executed, `Memory`, in this order. What grows are
-    /// the store's own lists, which keep their allocator.
+    /// Goes on once all that are due have been executed (14.7.5.3): to the postponed processes of the
+    /// cycle, `Postponed`, or to the next cycle. It answers `PostponedDelta` where one of them makes a
+    /// delta cycle follow, `Finished` where nothing is pending up to the stop time, and `LimitReached`
+    /// where the limit would be passed: then the run has ended and its records stay. Refusals:
+    /// `Ended`, `Missing` with the least process that has not been executed, `Memory`, in this order.
+    /// What grows are the store's own lists, which keep their allocator.
     pub fn advance(&mut self, _alloc: Global) -> Result<Step, StoreError>
         ensures ok { IfOk result (λ s. spec.IsAdvanced self.old self.new s) }
         ensures err { IfErr result (spec.IsAdvanceRefusal self.old) }
