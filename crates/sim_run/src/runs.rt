@@ -257,7 +257,8 @@ pub fn run<R: Threads + Wait + Sync, G: Gate + Sync>(
 /// Its design, stop time and limit are compared with the caller's under the first lock and under
 /// the last. The refusals: `Options` where an option is out of its range, `Stranger` where the
 /// store is not that of this run, `CycleLimit` where the run needs more cycles than the limit,
-/// `Memory`, after which the call may be made again.
+/// `PostponedDelta` where a postponed process makes a delta cycle follow, and `Memory`, after which
+/// the call may be made again.
 pub fn run_in<R: Threads + Wait + Sync, G: Gate + Sync>(
     rt: &R,
     alloc: Global,

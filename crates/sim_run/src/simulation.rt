@@ -53,8 +53,9 @@ fn run_text<R: Threads + Wait + Sync>(
 /// `Text` where the text is at fault, or there was no memory to read it (`sim_text::parse` says
 /// when each fault comes); `Flat` where the design is at fault, or there was no memory to elaborate
 /// it (`sim_flat::flatten` says when each fault comes); `CycleLimit` where the run needs more
-/// cycles than the limit; `Write` where a write fails or takes nothing. With every refusal but
-/// `Write` nothing is written, and with that one a prefix of the listing.
+/// cycles than the limit; `PostponedDelta` where a postponed process makes a delta cycle follow
+/// (14.7.5.3 h); `Write` where a write fails or takes nothing. With every refusal but `Write`
+/// nothing is written, and with that one a prefix of the listing.
 pub fn simulate<R: Threads + Wait + Sync, W: Write>(
     rt: &R,
     alloc: Global,

@@ -82,9 +82,9 @@ impl Model for WaveStore {
 
 impl WaveStore {
     /// The store of a design that was initialized (14.7.5.2): record 0 has every net, and all
-    /// processes are due, the postponed ones after the others. The stop time is in femtoseconds; the run may go on for as many cycles as
-    /// the limit says. The design comes back with `StopTooLate`, where the stop time is above 2^62
-    /// - 1, and with `Memory`.
+    /// processes are due, the postponed ones after the others. The stop time is in femtoseconds; the
+    /// run may go on for as many cycles as the limit says. The design comes back with `StopTooLate`,
+    /// where the stop time is above 2^62 - 1, and with `Memory`.
     pub fn new(
         alloc: Global,
         design: Design,
