@@ -24,7 +24,7 @@ use Rattle.sim_text_grammar.proofs.FaultPlaces.{Blames, Within, blames_then, bla
 use Rattle.sim_text_grammar.proofs.FaultPlaces.{blames_if, blames_wider, expect_blames, eat_blames, many_from_blames, separated_blames}
 use Rattle.sim_text_grammar.proofs.FaultPlaces.{blames_gives_then, number_blames, unit_blames, word_blames, literal_blames, event_blames}
 use Rattle.sim_text_grammar.specs.Expressions.{named, named_by, goes_on, logical_of, primary, primary_by, factor, factor_by, relation, relation_by}
-use Rattle.sim_text_grammar.specs.Expressions.{operand, more_operands, operands, chain_by, expression_in, nested, expression}
+use Rattle.sim_text_grammar.specs.Expressions.{operand, more_operands, operands, chain, chain_by, expression_by, expression_in, nested, expression}
 use Rattle.sim_text_grammar.specs.Waveforms.{time, time_from, delayed, element, waveform, delay, delay_by, condition, alternatives_from, waveforms, assigned}
 
 named_by_blames : (x : Name) (y : Kind) (i : Input) → Blames i (named_by x y i)
@@ -81,9 +81,17 @@ module _ (inner : Parser Expression) (ok : (i : Input) → kind i ≡ k.LeftPare
   chain_by_blames a (Some o) i = blames_then (operands_blames o i) (λ v j. blames_done j)
   chain_by_blames a None i = blames_done i
 
+  chain_blames : (i : Input) → Blames i (chain inner i)
+  unfolding chain
+  chain_blames i = blames_then (relation_blames i) (λ a j. chain_by_blames a (logical_of (kind j)) j)
+
+  expression_by_blames : (x : Kind) (i : Input) → Blames i (expression_by inner x i)
+  expression_by_blames k.Condition i = blames_next i _ (blames_then (primary_blames (next i)) (λ v j. blames_done j))
+  expression_by_blames _ i = chain_blames i
+
   expression_in_blames : (i : Input) → Blames i (expression_in inner i)
   unfolding expression_in
-  expression_in_blames i = blames_then (relation_blames i) (λ a j. chain_by_blames a (logical_of (kind j)) j)
+  expression_in_blames i = expression_by_blames (kind i) i
 
 nested_blames : (d : ℕ) (i : Input) → kind i ≡ k.LeftParen → Blames i (nested d i)
 unfolding nested

@@ -26,7 +26,7 @@ use Rattle.sim_text_tree.proofs.ExpressionLevels.{factor_cases, relation_cases, 
 use Rattle.sim_text_tree.proofs.ExpressionLevels.{primary_cases}
 use Rattle.sim_text_grammar.specs.Expressions as spec
 use Rattle.sim_text_grammar.specs.Expressions.{named, named_by, goes_on, logical_of, primary, factor, factor_by, relation, relation_by, operand}
-use Rattle.sim_text_grammar.specs.Expressions.{operands, chain_by, expression_in, nested, expression}
+use Rattle.sim_text_grammar.specs.Expressions.{operands, chain, chain_by, expression_by, expression_in, nested, expression}
 use Rattle.sim_text_grammar.proofs.ExpressionsSound.{operands_w}
 
 -- how far into what stands before it a token reaches: 3 into a name, 2 into a factor, 1 into a relation
@@ -64,36 +64,46 @@ primary_begins d n x i m f = elim (primary_cases d n x i m f) as (λ _. begins (
   | In_parentheses at y e h ↦ let s = split h in let c = mark_at_read i s.mid k.LeftParen at s.front in rw c.0 refl
 ]
 
+-- what a relation begins with
+abbrev leads : Kind → Bool
+leads k.Literal = true
+leads k.Word = true
+leads k.LeftParen = true
+leads k.Not = true
+leads _ = false
+
+begins_leads : (x : Kind) → begins x ≡ true → leads x ≡ true
+begins_leads k.Literal e = refl
+begins_leads k.Word e = refl
+begins_leads k.LeftParen e = refl
+begins_leads _ e = absurd cc
+
 -- what an expression begins with
 abbrev pub opens : Kind → Bool
-opens k.Literal = true
-opens k.Word = true
-opens k.LeftParen = true
-opens k.Not = true
-opens _ = false
+opens k.Condition = true
+opens x = leads x
 
-begins_opens : (x : Kind) → begins x ≡ true → opens x ≡ true
-begins_opens k.Literal e = refl
-begins_opens k.Word e = refl
-begins_opens k.LeftParen e = refl
-begins_opens _ e = absurd cc
+leads_opens : (x : Kind) → leads x ≡ true → opens x ≡ true
+leads_opens k.Condition e = refl
+leads_opens _ e = e
 
-factor_opens : (d n : ℕ) (x : Expression) (i m : Input) → Fits d n (of_factor x) i m → opens (kind i) ≡ true
-factor_opens d n x i m f = elim (factor_cases d n x i m f) as (λ _. opens (kind i) ≡ true) [
-  | inl h ↦ begins_opens (kind i) (primary_begins d n x i m h)
+factor_opens : (d n : ℕ) (x : Expression) (i m : Input) → Fits d n (of_factor x) i m → leads (kind i) ≡ true
+factor_opens d n x i m f = elim (factor_cases d n x i m f) as (λ _. leads (kind i) ≡ true) [
+  | inl h ↦ begins_leads (kind i) (primary_begins d n x i m h)
   | inr r ↦ let s = split r.fits in rw (mark_at_read i s.mid k.Not r.at s.front).0 refl
 ]
 
-relation_opens : (d n : ℕ) (x : Expression) (i m : Input) → Fits d n (of_relation x) i m → opens (kind i) ≡ true
-relation_opens d n x i m f = elim (relation_cases d n x i m f) as (λ _. opens (kind i) ≡ true) [
+relation_opens : (d n : ℕ) (x : Expression) (i m : Input) → Fits d n (of_relation x) i m → leads (kind i) ≡ true
+relation_opens d n x i m f = elim (relation_cases d n x i m f) as (λ _. leads (kind i) ≡ true) [
   | inl h ↦ factor_opens d n x i m h
   | inr r ↦ let s = split r.fits in factor_opens d n r.left i s.mid s.front
 ]
 
 pub expression_opens : (d n : ℕ) (x : Expression) (i m : Input) → Fits d n (of_expression x) i m → opens (kind i) ≡ true
 expression_opens d n x i m f = elim (expression_cases d n x i m f) as (λ _. opens (kind i) ≡ true) [
-  | inl h ↦ relation_opens d n x i m h
-  | inr r ↦ let s = split r.fits in relation_opens d n r.first i s.mid s.front
+  | inl h ↦ leads_opens (kind i) (relation_opens d n x i m h)
+  | inr (inl r) ↦ let s = split r.fits in rw (mark_at_read i s.mid k.Condition r.at s.front).0 refl
+  | inr (inr r) ↦ let s = split r.fits in leads_opens (kind i) (relation_opens d n r.first i s.mid s.front)
 ]
 
 relation_stops : (inner : Parser Expression) (a : Expression) (m : Input) (x : Kind) → binds x < 2 → relation_by inner a x m ≡ Ok (a, m)
@@ -155,6 +165,13 @@ factor_begins inner i k.Literal e = refl
 factor_begins inner i k.Word e = refl
 factor_begins inner i k.LeftParen e = refl
 factor_begins inner i _ e = absurd cc
+
+chain_begins : (inner : Parser Expression) (i : Input) (x : Kind) → leads x ≡ true → expression_by inner x i ≡ chain inner i
+chain_begins inner i k.Literal e = refl
+chain_begins inner i k.Word e = refl
+chain_begins inner i k.LeftParen e = refl
+chain_begins inner i k.Not e = refl
+chain_begins inner i _ e = absurd cc
 
 module _ (inner : Parser Expression) (d n : ℕ) (again : (at : ℕ) (x : Expression) (i m : Input) → Fits d n (of_primary (exprs.Parenthesized at x)) i m
     → inner i ≡ Ok (exprs.Parenthesized at x, m)) where
@@ -254,8 +271,8 @@ module _ (inner : Parser Expression) (d n : ℕ) (again : (at : ℕ) (x : Expres
   further_again o false (l ∷ ls) second i m h b = absurd (never_fits i m h)
 
   chain_again : (o : Logical) (a : Expression) (ls : List Operand) (i m : Input) → Fits d n (of_relation a ▸ operands_of o ls) i m → binds (kind m) < 1
-      → expression_in inner i ≡ Ok (exprs.Chain o a ls, m)
-  unfolding expression_in operands
+      → chain inner i ≡ Ok (exprs.Chain o a ls, m)
+  unfolding chain operands
   chain_again o a [] i m h b = let s = split h in absurd (never_fits s.mid m s.back)
   chain_again o a (l ∷ ls) i m h b =
       let s = split h in
@@ -271,11 +288,21 @@ module _ (inner : Parser Expression) (d n : ℕ) (again : (at : ℕ) (x : Expres
             t.mid m t.back b,
       ) refl
 
+  relation_alone : (x : Expression) (i m : Input) → Fits d n (of_relation x) i m → binds (kind m) < 1 → chain inner i ≡ Ok (x, m)
+  unfolding chain
+  relation_alone x i m h b = rw (relation_again x i m h (omega arith)) (chain_stops inner x m (kind m) b)
+
   pub expression_in_again : (x : Expression) (i m : Input) → Fits d n (of_expression x) i m → binds (kind m) < 1 → expression_in inner i ≡ Ok (x, m)
   unfolding expression_in
   expression_in_again x i m f b = elim (expression_cases d n x i m f) as (λ _. expression_in inner i ≡ Ok (x, m)) [
-    | inl h ↦ rw (relation_again x i m h (omega arith)) (chain_stops inner x m (kind m) b)
-    | inr r ↦ rw r.is (chain_again r.operator r.first r.rest i m r.fits b)
+    | inl h ↦ chain_begins inner i (kind i) (relation_opens d n x i m h) ∙ relation_alone x i m h b
+    | inr (inl r) ↦
+        let s = split r.fits in
+        let c = mark_at_read i s.mid k.Condition r.at s.front in
+        rw (r.is, c.0, c.1.0, c.1.1, primary_again r.operand s.mid m s.back (omega arith)) refl
+    | inr (inr r) ↦
+        let s = split r.fits in
+        chain_begins inner i (kind i) (relation_opens d n r.first i s.mid s.front) ∙ rw r.is (chain_again r.operator r.first r.rest i m r.fits b)
   ]
 
 pub nested_again : (d n at : ℕ) (x : Expression) (i m : Input) → Fits d n (of_primary (exprs.Parenthesized at x)) i m

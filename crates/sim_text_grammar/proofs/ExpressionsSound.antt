@@ -21,12 +21,12 @@ use Rattle.sim_text_tree.proofs.Writings.{◌&◌, none, opened_fits, mark_at, m
 use Rattle.sim_text_grammar.proofs.Gives.{Gives, then_, map_, done, refused}
 use Rattle.sim_text_grammar.proofs.Tokens.{same_is, word_gives, literal_gives, event_gives, expect_gives}
 use Rattle.sim_text_grammar.proofs.Lists.{many_gives}
-use Rattle.sim_text_tree.proofs.ExpressionRules.{literal_is, named_is, event_is, call_is, parenthesized_is, not_is, compared_is, operand_is, chain_is}
+use Rattle.sim_text_tree.proofs.ExpressionRules.{literal_is, named_is, event_is, call_is, parenthesized_is, not_is, condition_is, compared_is, operand_is, chain_is}
 use Rattle.sim_text_tree.proofs.ExpressionRules.{operands_of}
 use Rattle.sim_text_tree.proofs.ExpressionLevels.{primary_is_factor, factor_is_relation, relation_is_expression}
 use Rattle.sim_text_grammar.specs.Expressions as spec
 use Rattle.sim_text_grammar.specs.Expressions.{named, named_by, goes_on, logical_of, primary, primary_by, factor, factor_by, comparison, relation}
-use Rattle.sim_text_grammar.specs.Expressions.{relation_by, operand, operands, chain_by, expression_in, nested, expression}
+use Rattle.sim_text_grammar.specs.Expressions.{relation_by, operand, operands, chain, chain_by, expression_by, expression_in, nested, expression}
 
 named_gives_by : (p n : ℕ) (x : Name) (i j : Input) → Fits p n (word_at x) i j → (y : Kind) → kind j ≡ y
     → Gives (λ t m. Fits p n (of_primary t) i m) (named_by x y j)
@@ -124,9 +124,18 @@ module _ (inner : Parser Expression) (p n : ℕ) (ok : (i : Input) → kind i �
   chain_gives_by i j a w (Some o) e = then_ (operands_give o j (logical_is (kind j) o e)) (λ ls m h. done (rw chain_is (w & h)))
   chain_gives_by i j a w None e = done (relation_is_expression p n a i j w)
 
+  chain_gives : (i : Input) → Gives (λ t m. Fits p n (of_expression t) i m) (chain inner i)
+  unfolding chain
+  chain_gives i = then_ (relation_gives i) (λ a j w. chain_gives_by i j a w (logical_of (kind j)) refl)
+
+  expression_gives_by : (i : Input) (x : Kind) → kind i ≡ x → Gives (λ t m. Fits p n (of_expression t) i m) (expression_by inner x i)
+  expression_gives_by i k.Condition e =
+      then_ (primary_gives (next i)) (λ t m h. done (rw condition_is (mark_at i k.Condition e (λ z. absurd cc) & h)))
+  expression_gives_by i _ e = chain_gives i
+
   pub expression_in_gives : (i : Input) → Gives (λ t m. Fits p n (of_expression t) i m) (expression_in inner i)
   unfolding expression_in
-  expression_in_gives i = then_ (relation_gives i) (λ a j w. chain_gives_by i j a w (logical_of (kind j)) refl)
+  expression_in_gives i = expression_gives_by i (kind i) refl
 
 -- what stands in parentheses
 pub nested_gives : (p n : ℕ) (i : Input) → kind i ≡ k.LeftParen → Gives (λ t m. Fits p n (of_primary t) i m) (nested p i)

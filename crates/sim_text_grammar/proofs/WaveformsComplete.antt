@@ -197,6 +197,7 @@ opens_no_delay k.Literal e = refl
 opens_no_delay k.Word e = refl
 opens_no_delay k.LeftParen e = refl
 opens_no_delay k.Not e = refl
+opens_no_delay k.Condition e = refl
 opens_no_delay _ e = absurd cc
 
 -- a concurrent assignment after its target

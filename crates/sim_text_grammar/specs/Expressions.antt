@@ -117,12 +117,24 @@ module _ (nested : Parser Expression) where
     pure (e.Chain o first rest)
   chain_by first None = pure first
 
-  -- an expression (9.1)
-  unfoldable pub expression_in : Parser Expression
-  expression_in = do
+  -- relations, and a logical operator between each two
+  unfoldable pub chain : Parser Expression
+  chain = do
     first ← relation
     kind ← peek
     chain_by first (logical_of kind)
+
+  -- an expression, by the kind of its first token
+  abbrev pub expression_by : Kind → Parser Expression
+  expression_by k.Condition = do
+    at ← take_token
+    operand ← primary
+    pure (e.Condition at operand)
+  expression_by _ = chain
+
+  -- an expression (9.1)
+  unfoldable pub expression_in : Parser Expression
+  expression_in = peek >>= expression_by
 
 -- what stands in parentheses, and in at most that many
 unfoldable pub nested : ℕ → Parser Expression

@@ -216,7 +216,7 @@ fn operands(
 
 /// Reads the operators and the operands after the first.
 #[cycle(expression)]
-fn chain(
+fn chained(
     alloc: Global,
     tokens: &mut Cursor,
     depth: usize,
@@ -234,16 +234,33 @@ fn chain(
     })
 }
 
+/// `rel {and rel}` and the like: relations, and a logical operator between each two.
+#[cycle(expression)]
+#[tactic(auto, unfolding(sim_text_grammar::specs::Expressions::chain))]
+fn chain(alloc: Global, tokens: &mut Cursor, depth: usize) -> Result<Expression, ParseError>
+    ensures { Reads (spec.chain (spec.nested depth) (view tokens.old)) result (view tokens.new) }
+{
+    let first = relation(alloc, tokens, depth)?;
+    match logical_of(tokens.peek()) {
+        Some(operator) => chained(alloc, tokens, depth, first, operator),
+        None => Ok(first),
+    }
+}
+
 /// `expr`, in which this many parentheses may still be opened.
 #[cycle(expression)]
 #[tactic(auto, unfolding(sim_text_grammar::specs::Expressions::expression_in))]
 fn expression_in(alloc: Global, tokens: &mut Cursor, depth: usize) -> Result<Expression, ParseError>
     ensures { Reads (spec.expression_in (spec.nested depth) (view tokens.old)) result (view tokens.new) }
 {
-    let first = relation(alloc, tokens, depth)?;
-    match logical_of(tokens.peek()) {
-        Some(operator) => chain(alloc, tokens, depth, first, operator),
-        None => Ok(first),
+    match tokens.peek() {
+        Kind::Condition => {
+            let at = tokens.take();
+            let operand = primary(alloc, tokens, depth)?;
+            let operand = Boxed::new(alloc, operand)?;
+            Ok(Expression::Condition { at, operand })
+        }
+        _ => chain(alloc, tokens, depth),
     }
 }
 

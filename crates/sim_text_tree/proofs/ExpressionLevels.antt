@@ -14,7 +14,7 @@ use Rattle.sim_text_tree.specs.Writing.{MarkAt, LiteralAt, This, just, mark, ◌
 use Rattle.sim_text_tree.specs.Grammar.{relational_kind, Levels, levels_of, of_expression, of_primary, of_relation, of_factor}
 use Rattle.sim_text_tree.proofs.Writings.{never_fits}
 use Rattle.sim_text_tree.proofs.ExpressionRules.{literal_levels, named_levels, event_levels, call_levels, parenthesized_levels, not_levels}
-use Rattle.sim_text_tree.proofs.ExpressionRules.{compared_levels, chain_levels, operands_of, cases_expression}
+use Rattle.sim_text_tree.proofs.ExpressionRules.{compared_levels, chain_levels, condition_levels, operands_of, cases_expression}
 
 -- what holds of the levels that an expression has
 at_levels : (P : Levels → Type 0) {l : Levels} (x : Expression) → levels_of x ≡ l → P l → P (levels_of x)
@@ -35,6 +35,7 @@ primary_is_factor p n = cases_expression (λ x. (i j : Input) → primary_is_fac
     (λ f a i j. at_levels (primary_is_factor_at p n i j) _ (call_levels f a) (λ h. h))
     (λ at x i j. at_levels (primary_is_factor_at p n i j) _ (parenthesized_levels at x) (λ h. h))
     (λ at x i j. at_levels (primary_is_factor_at p n i j) _ (not_levels at x) (λ h. absurd (never_fits i j h)))
+    (λ at x i j. at_levels (primary_is_factor_at p n i j) _ (condition_levels at x) (λ h. absurd (never_fits i j h)))
     (λ x b at y i j. at_levels (primary_is_factor_at p n i j) _ (compared_levels x b at y) (λ h. absurd (never_fits i j h)))
     (λ b x ls i j. at_levels (primary_is_factor_at p n i j) _ (chain_levels b x ls) (λ h. absurd (never_fits i j h)))
 
@@ -51,6 +52,7 @@ factor_is_relation p n = cases_expression (λ x. (i j : Input) → factor_is_rel
     (λ f a i j. at_levels (factor_is_relation_at p n i j) _ (call_levels f a) (λ h. h))
     (λ at x i j. at_levels (factor_is_relation_at p n i j) _ (parenthesized_levels at x) (λ h. h))
     (λ at x i j. at_levels (factor_is_relation_at p n i j) _ (not_levels at x) (λ h. h))
+    (λ at x i j. at_levels (factor_is_relation_at p n i j) _ (condition_levels at x) (λ h. absurd (never_fits i j h)))
     (λ x b at y i j. at_levels (factor_is_relation_at p n i j) _ (compared_levels x b at y) (λ h. absurd (never_fits i j h)))
     (λ b x ls i j. at_levels (factor_is_relation_at p n i j) _ (chain_levels b x ls) (λ h. absurd (never_fits i j h)))
 
@@ -67,6 +69,7 @@ relation_is_expression p n = cases_expression (λ x. (i j : Input) → relation_
     (λ f a i j. at_levels (relation_is_expression_at p n i j) _ (call_levels f a) (λ h. h))
     (λ at x i j. at_levels (relation_is_expression_at p n i j) _ (parenthesized_levels at x) (λ h. h))
     (λ at x i j. at_levels (relation_is_expression_at p n i j) _ (not_levels at x) (λ h. h))
+    (λ at x i j. at_levels (relation_is_expression_at p n i j) _ (condition_levels at x) (λ h. absurd (never_fits i j h)))
     (λ x b at y i j. at_levels (relation_is_expression_at p n i j) _ (compared_levels x b at y) (λ h. h))
     (λ b x ls i j. at_levels (relation_is_expression_at p n i j) _ (chain_levels b x ls) (λ h. absurd (never_fits i j h)))
 
@@ -88,6 +91,13 @@ pub record IsComparison (p n : ℕ) (x : Expression) (i m : Input) : Type 0 wher
   pub is : x ≡ e.Comparison left operator at right
   pub fits : Fits p n (of_factor left ▸ just (MarkAt (relational_kind operator) at) ▸ of_factor right) i m
 
+-- an expression that begins with `??`
+pub record IsCondition (p n : ℕ) (x : Expression) (i m : Input) : Type 0 where
+  pub at : ℕ
+  pub operand : Expression
+  pub is : x ≡ e.Condition at operand
+  pub fits : Fits p n (just (MarkAt k.Condition at) ▸ of_primary operand) i m
+
 -- relations with a logical operator between each two
 pub record IsChain (p n : ℕ) (x : Expression) (i m : Input) : Type 0 where
   pub operator : Logical
@@ -107,6 +117,8 @@ factor_cases p n = cases_expression (λ x. (i j : Input) → Fits p n (levels_of
     (parenthesized_levels at x) (λ h. inl h))
     (λ at x i j. at_levels (λ l. Fits p n l.as_factor i j → Fits p n l.as_primary i j ⊎ IsNot p n (e.Not at x) i j) _ (not_levels at x)
     (λ h. inr (record { at = at; operand = x; is = refl; fits = h })))
+    (λ at x i j. at_levels (λ l. Fits p n l.as_factor i j → Fits p n l.as_primary i j ⊎ IsNot p n (e.Condition at x) i j) _ (condition_levels at x)
+    (λ h. absurd (never_fits i j h)))
     (λ x b at y i j. at_levels (λ l. Fits p n l.as_factor i j → Fits p n l.as_primary i j ⊎ IsNot p n (e.Comparison x b at y) i j) _
     (compared_levels x b at y) (λ h. absurd (never_fits i j h)))
     (λ b x ls i j. at_levels (λ l. Fits p n l.as_factor i j → Fits p n l.as_primary i j ⊎ IsNot p n (e.Chain b x ls) i j) _ (chain_levels b x ls)
@@ -124,27 +136,31 @@ relation_cases p n = cases_expression (λ x. (i j : Input) → Fits p n (levels_
     (λ at x i j. at_levels (λ l. Fits p n l.as_relation i j → Fits p n l.as_factor i j ⊎ IsComparison p n (e.Parenthesized at x) i j) _
     (parenthesized_levels at x) (λ h. inl h))
     (λ at x i j. at_levels (λ l. Fits p n l.as_relation i j → Fits p n l.as_factor i j ⊎ IsComparison p n (e.Not at x) i j) _ (not_levels at x) (λ h. inl h))
+    (λ at x i j. at_levels (λ l. Fits p n l.as_relation i j → Fits p n l.as_factor i j ⊎ IsComparison p n (e.Condition at x) i j) _
+    (condition_levels at x) (λ h. absurd (never_fits i j h)))
     (λ x b at y i j. at_levels (λ l. Fits p n l.as_relation i j → Fits p n l.as_factor i j ⊎ IsComparison p n (e.Comparison x b at y) i j) _
     (compared_levels x b at y) (λ h. inr (record { left = x; operator = b; at = at; right = y; is = refl; fits = h })))
     (λ b x ls i j. at_levels (λ l. Fits p n l.as_relation i j → Fits p n l.as_factor i j ⊎ IsComparison p n (e.Chain b x ls) i j) _
     (chain_levels b x ls) (λ h. absurd (never_fits i j h)))
 
-pub expression_cases : (p n : ℕ) (x : Expression) (i j : Input) → Fits p n (of_expression x) i j → Fits p n (of_relation x) i j ⊎ IsChain p n x i j
+pub expression_cases : (p n : ℕ) (x : Expression) (i j : Input) → Fits p n (of_expression x) i j → Fits p n (of_relation x) i j ⊎ IsCondition p n x i j ⊎ IsChain p n x i j
 unfolding of_expression of_primary of_relation of_factor
-expression_cases p n = cases_expression (λ x. (i j : Input) → Fits p n (levels_of x).as_expression i j → Fits p n (levels_of x).as_relation i j ⊎
+expression_cases p n = cases_expression (λ x. (i j : Input) → Fits p n (levels_of x).as_expression i j → Fits p n (levels_of x).as_relation i j ⊎ IsCondition p n x i j ⊎
     IsChain p n x i j)
-    (λ v at i j. at_levels (λ l. Fits p n l.as_expression i j → Fits p n l.as_relation i j ⊎ IsChain p n (e.Literal v at) i j) _ (literal_levels v at)
+    (λ v at i j. at_levels (λ l. Fits p n l.as_expression i j → Fits p n l.as_relation i j ⊎ IsCondition p n (e.Literal v at) i j ⊎ IsChain p n (e.Literal v at) i j) _ (literal_levels v at)
     (λ h. inl h))
-    (λ x i j. at_levels (λ l. Fits p n l.as_expression i j → Fits p n l.as_relation i j ⊎ IsChain p n (e.Named x) i j) _ (named_levels x) (λ h. inl h))
-    (λ x i j. at_levels (λ l. Fits p n l.as_expression i j → Fits p n l.as_relation i j ⊎ IsChain p n (e.Event x) i j) _ (event_levels x) (λ h. inl h))
-    (λ f a i j. at_levels (λ l. Fits p n l.as_expression i j → Fits p n l.as_relation i j ⊎ IsChain p n (e.Call f a) i j) _ (call_levels f a) (λ h. inl h))
-    (λ at x i j. at_levels (λ l. Fits p n l.as_expression i j → Fits p n l.as_relation i j ⊎ IsChain p n (e.Parenthesized at x) i j) _
+    (λ x i j. at_levels (λ l. Fits p n l.as_expression i j → Fits p n l.as_relation i j ⊎ IsCondition p n (e.Named x) i j ⊎ IsChain p n (e.Named x) i j) _ (named_levels x) (λ h. inl h))
+    (λ x i j. at_levels (λ l. Fits p n l.as_expression i j → Fits p n l.as_relation i j ⊎ IsCondition p n (e.Event x) i j ⊎ IsChain p n (e.Event x) i j) _ (event_levels x) (λ h. inl h))
+    (λ f a i j. at_levels (λ l. Fits p n l.as_expression i j → Fits p n l.as_relation i j ⊎ IsCondition p n (e.Call f a) i j ⊎ IsChain p n (e.Call f a) i j) _ (call_levels f a) (λ h. inl h))
+    (λ at x i j. at_levels (λ l. Fits p n l.as_expression i j → Fits p n l.as_relation i j ⊎ IsCondition p n (e.Parenthesized at x) i j ⊎ IsChain p n (e.Parenthesized at x) i j) _
     (parenthesized_levels at x) (λ h. inl h))
-    (λ at x i j. at_levels (λ l. Fits p n l.as_expression i j → Fits p n l.as_relation i j ⊎ IsChain p n (e.Not at x) i j) _ (not_levels at x) (λ h. inl h))
-    (λ x b at y i j. at_levels (λ l. Fits p n l.as_expression i j → Fits p n l.as_relation i j ⊎ IsChain p n (e.Comparison x b at y) i j) _
+    (λ at x i j. at_levels (λ l. Fits p n l.as_expression i j → Fits p n l.as_relation i j ⊎ IsCondition p n (e.Not at x) i j ⊎ IsChain p n (e.Not at x) i j) _ (not_levels at x) (λ h. inl h))
+    (λ at x i j. at_levels (λ l. Fits p n l.as_expression i j → Fits p n l.as_relation i j ⊎ IsCondition p n (e.Condition at x) i j ⊎
+    IsChain p n (e.Condition at x) i j) _ (condition_levels at x) (λ h. inr (inl (record { at = at; operand = x; is = refl; fits = h }))))
+    (λ x b at y i j. at_levels (λ l. Fits p n l.as_expression i j → Fits p n l.as_relation i j ⊎ IsCondition p n (e.Comparison x b at y) i j ⊎ IsChain p n (e.Comparison x b at y) i j) _
     (compared_levels x b at y) (λ h. inl h))
-    (λ b x ls i j. at_levels (λ l. Fits p n l.as_expression i j → Fits p n l.as_relation i j ⊎ IsChain p n (e.Chain b x ls) i j) _
-    (chain_levels b x ls) (λ h. inr (record { operator = b; first = x; rest = ls; is = refl; fits = h })))
+    (λ b x ls i j. at_levels (λ l. Fits p n l.as_expression i j → Fits p n l.as_relation i j ⊎ IsCondition p n (e.Chain b x ls) i j ⊎ IsChain p n (e.Chain b x ls) i j) _
+    (chain_levels b x ls) (λ h. inr (inr (record { operator = b; first = x; rest = ls; is = refl; fits = h }))))
 
 -- which primary an expression is
 pub data PrimaryCase (p n : ℕ) (x : Expression) (i m : Input) : Type 0 where
@@ -165,6 +181,8 @@ primary_cases p n = cases_expression (λ x. (i j : Input) → Fits p n (levels_o
     (λ at x i j. at_levels (λ l. Fits p n l.as_primary i j → PrimaryCase p n (e.Parenthesized at x) i j) _ (parenthesized_levels at x)
     (λ h. In_parentheses at x refl h))
     (λ at x i j. at_levels (λ l. Fits p n l.as_primary i j → PrimaryCase p n (e.Not at x) i j) _ (not_levels at x) (λ h. absurd (never_fits i j h)))
+    (λ at x i j. at_levels (λ l. Fits p n l.as_primary i j → PrimaryCase p n (e.Condition at x) i j) _ (condition_levels at x)
+    (λ h. absurd (never_fits i j h)))
     (λ x b at y i j. at_levels (λ l. Fits p n l.as_primary i j → PrimaryCase p n (e.Comparison x b at y) i j) _ (compared_levels x b at y)
     (λ h. absurd (never_fits i j h)))
     (λ b x ls i j. at_levels (λ l. Fits p n l.as_primary i j → PrimaryCase p n (e.Chain b x ls) i j) _ (chain_levels b x ls) (λ h. absurd (never_fits i j h)))

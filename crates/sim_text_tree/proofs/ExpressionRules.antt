@@ -44,6 +44,11 @@ pub not_levels : (at : ℕ) (x : Expression) → levels_of (e.Not at x) ≡ a_fa
 unfolding levels_of of_expression of_primary of_relation of_factor
 not_levels at x = ap levels_of (sym (e.rolls-Not at x)) ∙ folds.fold-roll-Expression Levels (Kind → Writing) expression_rule operand_rule (o.Not at x)
 
+pub condition_levels : (at : ℕ) (x : Expression) → levels_of (e.Condition at x) ≡ an_expression (just (MarkAt k.Condition at) ▸ of_primary x)
+unfolding levels_of of_expression of_primary of_relation of_factor
+condition_levels at x = ap levels_of (sym (e.rolls-Condition at x)) ∙ folds.fold-roll-Expression Levels (Kind → Writing) expression_rule operand_rule
+    (o.Condition at x)
+
 pub compared_levels : (x : Expression) (b : Relational) (at : ℕ) (y : Expression) →
     levels_of (e.Comparison x b at y) ≡ a_relation (of_factor x ▸ just (MarkAt (relational_kind b) at) ▸ of_factor y)
 unfolding levels_of of_expression of_primary of_relation of_factor
@@ -112,6 +117,10 @@ pub compared_is : (x : Expression) (b : Relational) (at : ℕ) (y : Expression) 
 unfolding of_relation
 compared_is x b at y = ap (λ (l : Levels). l.as_relation) (compared_levels x b at y)
 
+pub condition_is : (at : ℕ) (x : Expression) → of_expression (e.Condition at x) ≡ just (MarkAt k.Condition at) ▸ of_primary x
+unfolding of_expression
+condition_is at x = ap (λ (l : Levels). l.as_expression) (condition_levels at x)
+
 pub chain_is : (b : Logical) (x : Expression) (ls : List Operand) → of_expression (e.Chain b x ls) ≡ of_relation x ▸ operands_of b ls
 unfolding of_expression
 chain_is b x ls = ap (λ (l : Levels). l.as_expression) (chain_levels b x ls)
@@ -120,10 +129,10 @@ chain_is b x ls = ap (λ (l : Levels). l.as_expression) (chain_levels b x ls)
 
 pub cases_expression : (P : Expression → Type 0) → ((v : Logic) (at : ℕ) → P (e.Literal v at)) → ((n : Name) → P (e.Named n))
     → ((n : Name) → P (e.Event n)) → ((f a : Name) → P (e.Call f a)) → ((at : ℕ) (x : Expression) → P (e.Parenthesized at x))
-    → ((at : ℕ) (x : Expression) → P (e.Not at x))
+    → ((at : ℕ) (x : Expression) → P (e.Not at x)) → ((at : ℕ) (x : Expression) → P (e.Condition at x))
     → ((x : Expression) (b : Relational) (at : ℕ) (y : Expression) → P (e.Comparison x b at y))
     → ((b : Logical) (x : Expression) (ls : List Operand) → P (e.Chain b x ls)) → (x : Expression) → P x
-cases_expression P literal named event call parenthesized negated compared chain x =
+cases_expression P literal named event call parenthesized negated conditional compared chain x =
     subst P (views.roll-out-Expression x) (elim (views.out-Expression x) as (λ y. P (views.roll-Expression y)) [
       | o.Literal a b ↦ subst P (sym (e.rolls-Literal a b)) (literal a b)
       | o.Named a ↦ subst P (sym (e.rolls-Named a)) (named a)
@@ -131,6 +140,7 @@ cases_expression P literal named event call parenthesized negated compared chain
       | o.Call a b ↦ subst P (sym (e.rolls-Call a b)) (call a b)
       | o.Parenthesized a b ↦ subst P (sym (e.rolls-Parenthesized a b)) (parenthesized a b)
       | o.Not a b ↦ subst P (sym (e.rolls-Not a b)) (negated a b)
+      | o.Condition a b ↦ subst P (sym (e.rolls-Condition a b)) (conditional a b)
       | o.Comparison a b at c ↦ subst P (sym (e.rolls-Comparison a b at c)) (compared a b at c)
       | o.Chain a b c ↦ subst P (sym (e.rolls-Chain a b c)) (chain a b c)
     ])

@@ -42,6 +42,10 @@ pub not_start : (at : ℕ) (x : Expression) → start_of (e.Not at x) ≡ at
 unfolding start_of
 not_start at x = ap start_of (sym (e.rolls-Not at x)) ∙ folds.fold-roll-Expression ℕ ℕ expression_start operand_start (o.Not at x)
 
+pub condition_start : (at : ℕ) (x : Expression) → start_of (e.Condition at x) ≡ at
+unfolding start_of
+condition_start at x = ap start_of (sym (e.rolls-Condition at x)) ∙ folds.fold-roll-Expression ℕ ℕ expression_start operand_start (o.Condition at x)
+
 pub comparison_start : (x : Expression) (b : Relational) (at : ℕ) (y : Expression) → start_of (e.Comparison x b at y) ≡ start_of x
 unfolding start_of
 comparison_start x b at y = ap start_of (sym (e.rolls-Comparison x b at y)) ∙ folds.fold-roll-Expression ℕ ℕ expression_start operand_start
@@ -52,7 +56,7 @@ unfolding start_of
 chain_start b x ls = ap start_of (sym (e.rolls-Chain b x ls)) ∙ folds.fold-roll-Expression ℕ ℕ expression_start operand_start (o.Chain b x ls)
 
 -- where each kind of expression starts
-pub ruleset starts = (literal_start, named_start, event_start, call_start, parenthesized_start, not_start, comparison_start, chain_start)
+pub ruleset starts = (literal_start, named_start, event_start, call_start, parenthesized_start, not_start, condition_start, comparison_start, chain_start)
 
 -- ---- an expression starts where its first token does
 
@@ -80,5 +84,6 @@ relation_first p n x i m f = elim (relation_cases p n x i m f) as (λ _. start_o
 pub expression_first : (p n : ℕ) (x : Expression) (i m : Input) → Fits p n (of_expression x) i m → start_of x ≡ place i
 expression_first p n x i m f = elim (expression_cases p n x i m f) as (λ _. start_of x ≡ place i) [
   | inl h ↦ relation_first p n x i m h
-  | inr r ↦ let s = split r.fits in rw (r.is, chain_start) (relation_first p n r.first i s.mid s.front)
+  | inr (inl r) ↦ let s = split r.fits in rw (r.is, condition_start) (sym (mark_at_read i s.mid k.Condition r.at s.front).1.0)
+  | inr (inr r) ↦ let s = split r.fits in rw (r.is, chain_start) (relation_first p n r.first i s.mid s.front)
 ]

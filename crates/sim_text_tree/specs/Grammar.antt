@@ -127,6 +127,7 @@ expression_rule (x.Event n) = a_primary (word_at n ▸ mark k.Tick ▸ just (Thi
 expression_rule (x.Call f a) = a_primary (word_at f ▸ mark k.LeftParen ▸ word_at a ▸ mark k.RightParen)
 expression_rule (x.Parenthesized at inner) = a_primary (just (MarkAt k.LeftParen at) ▸ in_parentheses inner.as_expression ▸ mark k.RightParen)
 expression_rule (x.Not at operand) = a_factor (just (MarkAt k.Not at) ▸ operand.as_primary)
+expression_rule (x.Condition at operand) = an_expression (just (MarkAt k.Condition at) ▸ operand.as_primary)
 expression_rule (x.Comparison left operator at right) = a_relation (left.as_factor ▸ just (MarkAt (relational_kind operator) at) ▸ right.as_factor)
 expression_rule (x.Chain operator first rest) = an_expression (first.as_relation ▸ operands_rule operator rest)
 

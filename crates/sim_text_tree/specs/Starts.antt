@@ -16,6 +16,7 @@ expression_start (x.Event n) = n.at
 expression_start (x.Call f a) = f.at
 expression_start (x.Parenthesized at inner) = at
 expression_start (x.Not at operand) = at
+expression_start (x.Condition at operand) = at
 expression_start (x.Comparison left operator at right) = left
 expression_start (x.Chain operator first rest) = first
 

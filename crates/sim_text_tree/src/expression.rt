@@ -25,8 +25,8 @@ pub enum Logical {
 /// An expression (9.1). A place is that of the first byte of a token.
 ///
 /// Which expressions may be operands of which is the grammar's business (`specs/Grammar.antt`): an
-/// operand of a chain is no chain, one of a comparison is no comparison either, and one of `not` is
-/// a primary.
+/// operand of a chain is no chain, one of a comparison is no comparison either, and one of `not` or
+/// `??` is a primary.
 #[derive(Drop)]
 #[cycle(expression)]
 pub enum Expression {
@@ -51,6 +51,11 @@ pub enum Expression {
     },
     /// The place is that of the `not` (9.2.2).
     Not {
+        at: usize,
+        operand: Boxed<Expression>,
+    },
+    /// The condition operator; the place is that of the `??` (9.2.9).
+    Condition {
         at: usize,
         operand: Boxed<Expression>,
     },
@@ -90,7 +95,8 @@ impl Expression {
         match self {
             Expression::Literal { at, .. }
             | Expression::Parenthesized { at, .. }
-            | Expression::Not { at, .. } => *at,
+            | Expression::Not { at, .. }
+            | Expression::Condition { at, .. } => *at,
             Expression::Named(name) | Expression::Event(name) => name.at(),
             Expression::Call { function, .. } => function.at(),
             Expression::Comparison { left, .. } => left.get().start(),
