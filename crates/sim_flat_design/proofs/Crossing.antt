@@ -76,11 +76,13 @@ boxed_logic_sync = boxed_sync LogicExpression.the_row logic_row_sync
 
 boolean_expression_send : IsSend (BooleanExpression.the_field).row
 boolean_expression_send =
-    boolean_knot.send-BooleanExpression truth_send size_send boxed_send logical.the_field_send items_send boxed_logic_send relational.the_field_send
+    boolean_knot.send-BooleanExpression truth_send size_send boxed_send logical.the_field_send items_send logic_expression_send boxed_logic_send
+    relational.the_field_send
 
 boolean_expression_sync : IsSync (BooleanExpression.the_field).row
 boolean_expression_sync =
-    boolean_knot.sync-BooleanExpression truth_sync size_sync boxed_sync logical.the_field_sync items_sync boxed_logic_sync relational.the_field_sync
+    boolean_knot.sync-BooleanExpression truth_sync size_sync boxed_sync logical.the_field_sync items_sync logic_expression_sync boxed_logic_sync
+    relational.the_field_sync
 
 element_send : IsSend Element.the_row
 element_send = search (logic_expression_send, time.the_send, sendable) depth 10

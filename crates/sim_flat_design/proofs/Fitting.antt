@@ -106,6 +106,12 @@ module _ (objects : ℕ) (variables : List Held) where
       ∙ (boolean_folds.fold-roll-BooleanExpression Bool (boolean_fits_rule objects variables) (bo.Chain op x ys)
       ∙ both _ _ h0 (all_are (boolean_fits objects variables) ys h1))
 
+  pub condition_fits : (x : LogicExpression) → logic_fits objects variables x ≡ true → boolean_fits objects variables (b.Condition x) ≡ true
+  unfolding boolean_fits logic_fits
+  condition_fits x h0 =
+      ap (boolean_fits objects variables) (sym (b.rolls-Condition x))
+      ∙ (boolean_folds.fold-roll-BooleanExpression Bool (boolean_fits_rule objects variables) (bo.Condition x) ∙ h0)
+
   pub logics_compared : (x : LogicExpression) (op : Relational) (y : LogicExpression) → logic_fits objects variables x ≡ true
       → logic_fits objects variables y ≡ true → boolean_fits objects variables (b.LogicComparison x op y) ≡ true
   unfolding boolean_fits logic_fits
@@ -124,7 +130,8 @@ module _ (objects : ℕ) (variables : List Held) where
 pub ruleset logics_fit = (logic_literal, logic_object, logic_variable, logic_not, logic_chain)
 
 -- expressions of boolean
-pub ruleset booleans_fit = (boolean_literal, boolean_variable, boolean_event, boolean_edge, boolean_not, boolean_chain, logics_compared, booleans_compared)
+pub ruleset booleans_fit = (boolean_literal, boolean_variable, boolean_event, boolean_edge, boolean_not, boolean_chain, condition_fits, logics_compared,
+    booleans_compared)
 
 module _ (objects : ℕ) (variables : List Held) where
   pub waveform_fitting : (d : Delay) (w : List Element) → is_rejected d w ≡ true

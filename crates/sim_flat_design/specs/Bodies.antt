@@ -48,6 +48,7 @@ boolean_objects_rule (boolean.Event n) = n ∷ []
 boolean_objects_rule (boolean.Edge rising n) = n ∷ []
 boolean_objects_rule (boolean.Not operand) = operand
 boolean_objects_rule (boolean.Chain operator first rest) = first ++ concat rest
+boolean_objects_rule (boolean.Condition operand) = logic_objects operand
 boolean_objects_rule (boolean.LogicComparison left operator right) = logic_objects left ++ logic_objects right
 boolean_objects_rule (boolean.BooleanComparison left operator right) = left ++ right
 
@@ -129,6 +130,7 @@ module _ (objects : ℕ) (variables : List Held) where
   boolean_fits_rule (boolean.Edge rising n) = nat_lt n objects
   boolean_fits_rule (boolean.Not operand) = operand
   boolean_fits_rule (boolean.Chain operator first rest) = first && all rest
+  boolean_fits_rule (boolean.Condition operand) = logic_fits operand
   boolean_fits_rule (boolean.LogicComparison left operator right) = logic_fits left && logic_fits right
   boolean_fits_rule (boolean.BooleanComparison left operator right) = left && right
 

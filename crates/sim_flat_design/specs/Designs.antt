@@ -25,7 +25,7 @@ pub record Design : Type 0 where
 
 -- how many nets, processes and drivers a design may have, of each
 abbrev pub most : ℕ
-most = 2 ^ 14
+most = 2 ^ 16
 
 -- A source is one of this number of drivers, or a constant.
 abbrev pub IsSource : ℕ → Source → Type 0

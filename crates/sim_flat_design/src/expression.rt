@@ -50,6 +50,8 @@ pub enum BooleanExpression {
         first: Boxed<BooleanExpression>,
         rest: Items<BooleanExpression>,
     },
+    /// `??` of a value of std_ulogic, also where a condition applies it implicitly (9.2.9).
+    Condition(LogicExpression),
     /// `=` or `/=` of values of std_ulogic (9.2.3).
     LogicComparison {
         left: Boxed<LogicExpression>,
@@ -126,6 +128,7 @@ impl BooleanExpression {
                 Self::Chain { operator: own, first: own_first, rest: own_rest }
                     if own == operator && own_first.get().same(first.get()) && same_boolean_expressions(own_rest.as_slice(), rest.as_slice())
             ),
+            Self::Condition(operand) => matches!(self, Self::Condition(own) if own.same(operand)),
             Self::LogicComparison {
                 left,
                 operator,
