@@ -12,19 +12,18 @@ number_of k.Unknown = 2
 number_of k.WrongKind = 3
 number_of k.TypeClash = 4
 number_of k.Ambiguous = 5
-number_of k.NotBoolean = 6
-number_of k.ReadOut = 7
-number_of k.WriteIn = 8
-number_of k.PortMissing = 9
-number_of k.PortTwice = 10
-number_of k.ModeClash = 11
-number_of k.ComponentDiffers = 12
-number_of k.NoArchitecture = 13
-number_of k.Recursive = 14
-number_of k.ManySources = 15
-number_of k.NotAscending = 16
-number_of k.RejectTooLong = 17
-number_of k.TooMany = 18
+number_of k.ReadOut = 6
+number_of k.WriteIn = 7
+number_of k.PortMissing = 8
+number_of k.PortTwice = 9
+number_of k.ModeClash = 10
+number_of k.ComponentDiffers = 11
+number_of k.NoArchitecture = 12
+number_of k.Recursive = 13
+number_of k.ManySources = 14
+number_of k.NotAscending = 15
+number_of k.RejectTooLong = 16
+number_of k.TooMany = 17
 
 -- whether a fault is reported in place of another: by place, then by number
 abbrev pub is_before : Fault → Fault → Bool

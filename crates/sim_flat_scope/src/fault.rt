@@ -16,10 +16,9 @@ pub enum Kind {
     WrongKind,
     /// Two operands, or a value and its target, have different types.
     TypeClash,
-    /// Both operands of `=` or `/=` are of type std_ulogic, and neither holds a name.
+    /// Both operands of `=` or `/=` are of type std_ulogic, or the operand of `??` or a condition is,
+    /// and none holds a name.
     Ambiguous,
-    /// A condition is of type std_ulogic.
-    NotBoolean,
     /// A port of mode out is read.
     ReadOut,
     /// A port of mode in is assigned.
