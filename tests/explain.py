@@ -107,8 +107,9 @@ MISTAKES = [
     (23, "q <= '2';", 23, "BadLiteral", "one of the nine values"),
     (23, "q <= 'x';", 23, "BadLiteral", "in upper case"),
     (23, "q <= clk = '1';", 23, "TypeClash", "'1' when .. else '0'"),
-    (21, "if clk then", 21, "NotBoolean", "Compare it, as in s = '1'."),
-    (21, "if '1' = '1' then", 21, "Ambiguous", "Name a signal or variable on one side"),
+    (21, "if '1' = '1' then", 21, "Ambiguous", "Name a signal or variable in it"),
+    (21, "if '1' then", 21, "Ambiguous", "Name a signal or variable in it"),
+    (21, "if ?? rising_edge(clk) then", 21, "TypeClash", "or ?? is applied to a boolean"),
     (16, "clk <= '1' after 10 ns, '0' after 5 ns;", 16, "NotAscending", "in the order of their times"),
     (16, "clk <= '1' after 2 hr;", 16, "TimeRange", "Write a shorter one."),
     # names

@@ -49,17 +49,28 @@ class Writer:
             return f"(not {self.value(names, depth - 1)})"
         return f"({self.value(names, depth - 1)} {self.chance.choice(OPERATORS)} {self.value(names, depth - 1)})"
 
+    def named(self, names):
+        """An expression of type std_ulogic that holds a name."""
+        name = self.chance.choice(names)
+        return self.chance.choice((name, f"(not {name})", f"({name} {self.chance.choice(OPERATORS)} {self.value(names, 1)})"))
+
     def condition(self, names, signals, depth):
+        """What stands after when, if and elsif."""
+        return self.named(names) if self.chance.random() < 0.2 else self.truth(names, signals, depth)
+
+    def truth(self, names, signals, depth):
         """An expression of type boolean."""
         kind = self.chance.random()
         if depth and kind < 0.25:
-            return f"({self.condition(names, signals, depth - 1)} {self.chance.choice(OPERATORS)} {self.condition(names, signals, depth - 1)})"
+            return f"({self.truth(names, signals, depth - 1)} {self.chance.choice(OPERATORS)} {self.truth(names, signals, depth - 1)})"
         if depth and kind < 0.35:
-            return f"(not {self.condition(names, signals, depth - 1)})"
+            return f"(not {self.truth(names, signals, depth - 1)})"
         if kind < 0.5:
             return f"{self.chance.choice(('rising_edge', 'falling_edge'))}({self.chance.choice(signals)})"
         if kind < 0.6:
             return f"{self.chance.choice(signals)}'event"
+        if kind < 0.7:
+            return f"(?? {self.named(names)})"
         return f"({self.chance.choice(names)} {self.chance.choice(('=', '/='))} {self.value(names, 1)})"
 
     def waveform(self, names):

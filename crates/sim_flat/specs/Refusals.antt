@@ -14,7 +14,6 @@ refusal_at k.Unknown at = refusal.Unknown at
 refusal_at k.WrongKind at = refusal.WrongKind at
 refusal_at k.TypeClash at = refusal.TypeClash at
 refusal_at k.Ambiguous at = refusal.Ambiguous at
-refusal_at k.NotBoolean at = refusal.NotBoolean at
 refusal_at k.ReadOut at = refusal.ReadOut at
 refusal_at k.WriteIn at = refusal.WriteIn at
 refusal_at k.PortMissing at = refusal.PortMissing at

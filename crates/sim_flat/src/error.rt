@@ -33,12 +33,10 @@ pub enum FlatError {
     /// Two operands, or a value and its target, have different types (9.2, 10.5, 10.6).
     #[error("TypeClash at {at}")]
     TypeClash { at: usize },
-    /// Both operands of `=` or `/=` are of type std_ulogic, and neither holds a name (12.5).
+    /// Both operands of `=` or `/=` are of type std_ulogic, or the operand of `??` or a condition is,
+    /// and none holds a name (9.2.9, 12.5).
     #[error("Ambiguous at {at}")]
     Ambiguous { at: usize },
-    /// A condition is of type std_ulogic.
-    #[error("NotBoolean at {at}")]
-    NotBoolean { at: usize },
     /// A port of mode out is read (6.5.2).
     #[error("ReadOut at {at}")]
     ReadOut { at: usize },
@@ -106,7 +104,6 @@ pub fn refusal_of(found: Fault) -> FlatError
         Kind::WrongKind => FlatError::WrongKind { at },
         Kind::TypeClash => FlatError::TypeClash { at },
         Kind::Ambiguous => FlatError::Ambiguous { at },
-        Kind::NotBoolean => FlatError::NotBoolean { at },
         Kind::ReadOut => FlatError::ReadOut { at },
         Kind::WriteIn => FlatError::WriteIn { at },
         Kind::PortMissing => FlatError::PortMissing { at },

@@ -17,7 +17,7 @@ use Rattle.sim_flat_scope.specs.Faults.{earliest}
 use Rattle.sim_flat_scope.specs.Scopes.{Lookup}
 use Rattle.sim_flat_scope.proofs.Faults.{of_both}
 use Rattle.sim_flat_check.specs.Types.{Judged, value_read, signal_read, function_called, boolean_unless, event_test, clash, common, joined, ambiguous}
-use Rattle.sim_flat_check.specs.Types.{compared, comparison, chained, expression_rule, operand_rule, judged, judged_operand}
+use Rattle.sim_flat_check.specs.Types.{compared, comparison, literal, condition, chained, expression_rule, operand_rule, judged, judged_operand}
 use Rattle.sim_flat_check.specs.Carried.{Carried, carried, carried_on, carried_compared, carried_through}
 
 -- ---- what each kind of expression is
@@ -52,6 +52,11 @@ module _ (look : Lookup) where
   unfolding judged
   not_is at y = ap (judged look) (sym (e.rolls-Not at y))
       ∙ folds.fold-roll-Expression Judged (ℕ × Judged) (expression_rule look) (operand_rule look) (x.Not at y)
+
+  pub condition_is : (at : ℕ) (y : Expression) → judged look (e.Condition at y) ≡ condition at (judged look y)
+  unfolding judged
+  condition_is at y = ap (judged look) (sym (e.rolls-Condition at y))
+      ∙ folds.fold-roll-Expression Judged (ℕ × Judged) (expression_rule look) (operand_rule look) (x.Condition at y)
 
   pub comparison_is : (y : Expression) (b : Relational) (at : ℕ) (z : Expression) →
       judged look (e.Comparison y b at z) ≡ comparison (judged look y) at (judged look z)
@@ -136,6 +141,11 @@ module _ (look : Lookup) (known : Option Fault) (y : Expression) where
   pub carried_not : (at : ℕ) (z : Expression) → y ≡ e.Not at z → carried known (judged look y) ≡ carried known (judged look z)
   carried_not at z is = ap (λ (w : Expression). carried known (judged look w)) is ∙ ap (carried known) (not_is look at z)
 
+  pub carried_by_condition : (at : ℕ) (z : Expression) → y ≡ e.Condition at z →
+      carried known (judged look y) ≡ carried_compared (carried_on (carried known literal) (at, judged look z)) at
+  carried_by_condition at z is = ap (λ (v : Expression). carried known (judged look v)) is
+      ∙ (ap (carried known) (condition_is look at z) ∙ carried_comparison known literal at (judged look z))
+
   pub carried_by_comparison : (z : Expression) (b : Relational) (at : ℕ) (w : Expression) → y ≡ e.Comparison z b at w →
       carried known (judged look y) ≡ carried_compared (carried_on (carried known (judged look z)) (at, judged look w)) at
   carried_by_comparison z b at w is = ap (λ (v : Expression). carried known (judged look v)) is
@@ -171,6 +181,18 @@ pub operand_joined : (look : Lookup) (a : Carried) (o : Operand) (t : Option ty.
 operand_joined look a o t n f f' s m h hs hm hf =
     joined_on a (views.out-Operand o).operator_at (judged look (views.out-Operand o).operand) t n f f' s m h hs hm hf
     ∙ ap (carried_on a) (sym (operand_is look o))
+
+-- `??` whose operand was judged
+pub condition_carried : (look : Lookup) (known : Option Fault) (y : Expression) (at : ℕ) (z : Expression) → y ≡ e.Condition at z
+    → (z' : Expression) → z' ≡ z → (left : Carried) → left ≡ carried known literal → (t : Option ty.Type) (n : Bool) (f : Option Fault)
+    → (let c : Carried = record { type = t; named = n; first = f } in c) ≡ carried left.first (judged look z')
+    → (s : Option ty.Type) (m : Bool) (f' : Option Fault) → s ≡ common left.type t → m ≡ left.named || n → f' ≡ earliest f (clash left.type t at)
+    → (r : Carried) → r ≡ carried_compared (record { type = s; named = m; first = f' }) at → r ≡ carried known (judged look y)
+condition_carried look known y at z is z' ez left hl t n f hr s m f' hs hm hf r h =
+    h ∙ (ap (λ (a : Carried). carried_compared a at)
+    (joined_on left at (judged look z) t n f f' s m (hr ∙ ap (λ (v : Expression). carried left.first (judged look v)) ez) hs hm hf)
+    ∙ (ap (λ (a : Carried). carried_compared (carried_on a (at, judged look z)) at) hl
+    ∙ sym (carried_by_condition look known y at z is)))
 
 -- a comparison whose operands were judged one after the other
 pub comparison_carried : (look : Lookup) (known : Option Fault) (y z : Expression) (b : Relational) (at : ℕ) (w : Expression) → y ≡ e.Comparison z b at w

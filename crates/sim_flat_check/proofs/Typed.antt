@@ -1,5 +1,5 @@
 -- An expression without faults has a type, where each name that has a value has one.
-use Rattle.std.proofs.Common.{◌≡◌, ℕ, Bool, true, false, List, [], ◌∷◌, ◌++◌, map, Option, Some, None, is_some, refl, sym, ap, subst}
+use Rattle.std.proofs.Common.{◌≡◌, ℕ, Bool, true, false, List, [], ◌∷◌, ◌++◌, map, Option, Some, None, is_some, ◌⊎◌, inl, inr, refl, sym, ap, subst}
 use Rattle.sim_text_tree.specs.declared.declaration.Mode.TheVariants.{Out}
 use Rattle.sim_text_tree.specs.declared.expression.Expression.{Expression}
 use Rattle.sim_text_tree.specs.declared.expression.Expression.TheVariants as e
@@ -14,12 +14,13 @@ use Rattle.sim_flat_scope.specs.declared.scope.Type.TheVariants.{Logic, Boolean}
 use Rattle.sim_flat_scope.specs.declared.fault.Fault.{Fault}
 use Rattle.sim_flat_scope.specs.Scopes.{Lookup}
 use Rattle.sim_flat_check.specs.Types.{Judged, value_read, signal_read, function_called, event_test, clash, common, joined, ambiguous}
-use Rattle.sim_flat_check.specs.Types.{compared, comparison, chained, judged, judged_operand}
+use Rattle.sim_flat_check.specs.Types.{compared, comparison, literal, chained, judged, judged_operand}
 use Rattle.sim_text_tree.specs.Starts.{start_of}
-use Rattle.sim_flat_check.specs.Waveforms.{not_boolean, condition_faults, value_faults}
+use Rattle.sim_flat_check.specs.Waveforms.{condition_faults, value_faults}
 use Rattle.sim_flat_check.specs.Laws.{has_type, AllTyped}
 use Rattle.sim_flat_check.proofs.SoundWaveforms.{front_empty, back_empty}
-use Rattle.sim_flat_check.proofs.Judgements.{literal_is, named_is, event_is, call_is, parenthesized_is, not_is, comparison_is, chain_is, operand_made}
+use Rattle.sim_flat_check.proofs.Judgements.{literal_is, named_is, event_is, call_is, parenthesized_is, not_is}
+use Rattle.sim_flat_check.proofs.Judgements.{condition_is, comparison_is, chain_is, operand_made}
 
 -- It has a type, unless a fault is inside.
 abbrev pub IsTyped : Judged → Type 0
@@ -97,6 +98,8 @@ module _ (look : Lookup) (all : AllTyped look) where
       (subst IsTyped (sym (call_is look f a)) (test_typed (function_called f.at (look f.text) ++ signal_read a.at (look a.text))))
   of_parts (o.Parenthesized at q) = subst Holds (sym (e.rolls-Parenthesized at q.0)) (subst IsTyped (sym (parenthesized_is look at q.0)) q.1)
   of_parts (o.Not at q) = subst Holds (sym (e.rolls-Not at q.0)) (subst IsTyped (sym (not_is look at q.0)) q.1)
+  of_parts (o.Condition at q) = subst Holds (sym (e.rolls-Condition at q.0))
+      (subst IsTyped (sym (condition_is look at q.0)) (comparison_typed literal at (judged look q.0) (λ f. refl) q.1))
   of_parts (o.Comparison q b at r) = subst Holds (sym (e.rolls-Comparison q.0 b at r.0))
       (subst IsTyped (sym (comparison_is look q.0 b at r.0)) (comparison_typed (judged look q.0) at (judged look r.0) q.1 r.1))
   of_parts (o.Chain b q os) = subst Holds (sym (e.rolls-Chain b q.0 (map (λ p. p.0) os)))
@@ -111,16 +114,23 @@ module _ (look : Lookup) (all : AllTyped look) where
       (λ x y is. subst (λ z. Holds (views.roll-Expression z)) is (of_parts y))
       (λ x y is. subst (λ z. HoldsAfter (views.roll-Operand z)) is (of_part y))
 
-boolean_left : (t : Option ty.Type) (at : ℕ) → is_some t ≡ true → not_boolean t at ≡ [] → t ≡ Some Boolean
-boolean_left None at h f = cc
-boolean_left (Some Logic) at h f = cc
-boolean_left (Some Boolean) at h f = refl
+-- of type boolean, or of std_ulogic with a name
+abbrev IsCondition : Option ty.Type → Bool → Type 0
+IsCondition t named = (t ≡ Some Boolean) ⊎ ((t ≡ Some Logic) × (named ≡ true))
 
-pub condition_boolean : (look : Lookup) → AllTyped look → (x : Expression) → condition_faults look x ≡ [] → (judged look x).type ≡ Some Boolean
+condition_left : (t : Option ty.Type) (named : Bool) (at : ℕ) → is_some t ≡ true → ambiguous t named at ≡ [] → IsCondition t named
+condition_left None named at h f = cc
+condition_left (Some Boolean) named at h f = inl refl
+condition_left (Some Logic) true at h f = inr (refl, refl)
+condition_left (Some Logic) false at h f = cc
+
+pub condition_of_type : (look : Lookup) → AllTyped look → (x : Expression) → condition_faults look x ≡ []
+    → IsCondition (judged look x).type (judged look x).named
 unfolding condition_faults
-condition_boolean look all x f =
-    let last : List Fault = not_boolean (judged look x).type (start_of x) in
-    boolean_left (judged look x).type (start_of x) (typed look all x (front_empty (judged look x).faults last f)) (back_empty (judged look x).faults last f)
+condition_of_type look all x f =
+    let j : Judged = judged look x in
+    let last : List Fault = ambiguous j.type j.named (start_of x) in
+    condition_left j.type j.named (start_of x) (typed look all x (front_empty j.faults last f)) (back_empty j.faults last f)
 
 same_left : (t : ty.Type) (o : Option ty.Type) (at : ℕ) → is_some o ≡ true → clash (Some t) o at ≡ [] → o ≡ Some t
 same_left t None at h f = cc

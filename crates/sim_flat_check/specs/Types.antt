@@ -100,6 +100,14 @@ comparison a at b =
     let both = joined a at b in
     record { type = compared both.type both.named; named = both.named; faults = both.faults ++ ambiguous both.type both.named at }
 
+-- a literal of std_ulogic
+abbrev pub literal : Judged
+literal = record { type = Some Logic; named = false; faults = [] }
+
+-- `??` and its operand: it is declared for std_ulogic, so its operand is one that may be compared with a literal (9.2.9)
+abbrev pub condition : ℕ → Judged → Judged
+condition at operand = comparison literal at operand
+
 -- an operand, and the operators with the operands after them, from the left (9.2.2)
 unfoldable pub chained : Judged → List (ℕ × Judged) → Judged
 chained a [] = a
@@ -110,12 +118,13 @@ chained a (o ∷ os) = chained (joined a o.0 o.1) os
 module _ (look : Lookup) where
   -- an expression from what its parts are
   abbrev pub expression_rule : x.Expression-F Judged (ℕ × Judged) → Judged
-  expression_rule (x.Literal value at) = record { type = Some Logic; named = false; faults = [] }
+  expression_rule (x.Literal value at) = literal
   expression_rule (x.Named n) = value_read n.at (look n.text)
   expression_rule (x.Event n) = event_test (signal_read n.at (look n.text))
   expression_rule (x.Call f a) = event_test (function_called f.at (look f.text) ++ signal_read a.at (look a.text))
   expression_rule (x.Parenthesized at inner) = inner
   expression_rule (x.Not at operand) = operand
+  expression_rule (x.Condition at operand) = condition at operand
   expression_rule (x.Comparison left operator at right) = comparison left at right
   expression_rule (x.Chain operator first rest) = chained first rest
 

@@ -9,12 +9,11 @@ use Rattle.sim_text_tree.specs.declared.waveform.ConditionalWaveforms.{Condition
 use Rattle.sim_text_tree.specs.declared.waveform.DelayMechanism.{DelayMechanism}
 use Rattle.sim_text_tree.specs.declared.waveform.DelayMechanism.TheVariants as delay
 use Rattle.sim_flat_scope.specs.declared.scope.Type as ty
-use Rattle.sim_flat_scope.specs.declared.scope.Type.TheVariants.{Logic}
 use Rattle.sim_flat_scope.specs.declared.fault.Kind.TheVariants as k
 use Rattle.sim_flat_scope.specs.declared.fault.Fault.{Fault}
 use Rattle.sim_flat_scope.specs.Faults.{fault, where_}
 use Rattle.sim_flat_scope.specs.Scopes.{Lookup}
-use Rattle.sim_flat_check.specs.Types.{judged, clash}
+use Rattle.sim_flat_check.specs.Types.{judged, clash, ambiguous}
 
 -- ---- times
 
@@ -60,15 +59,10 @@ delay_faults (delay.Reject t) w = limit_above t w
 
 -- ---- values and conditions
 
--- the fault of a condition of this type (10.8, 10.5.3)
-abbrev pub not_boolean : Option ty.Type → ℕ → List Fault
-not_boolean (Some Logic) at = fault k.NotBoolean at
-not_boolean _ at = []
-
 module _ (look : Lookup) where
-  -- the faults of a condition
+  -- The faults of a condition (10.5.3, 10.8). It is boolean, or `??` is applied to it implicitly: so of std_ulogic it holds a name (9.2.9).
   unfoldable pub condition_faults : Expression → List Fault
-  condition_faults e = (judged look e).faults ++ not_boolean (judged look e).type (start_of e)
+  condition_faults e = (judged look e).faults ++ ambiguous (judged look e).type (judged look e).named (start_of e)
 
   -- the faults of a value that is assigned to a target of this type
   unfoldable pub value_faults : Option ty.Type → Expression → List Fault

@@ -1,9 +1,9 @@
 //! Laws of the faults of statements.
 
-ghost use Rattle.std.specs.Prelude.{◌≡◌, List, [], true, Option, Some, is_some};
+ghost use Rattle.std.specs.Prelude.{◌≡◌, ◌⊎◌, List, [], true, Option, Some, is_some};
 ghost use Rattle.sim_flat_scope.specs.Scopes.{Lookup};
 ghost use Rattle.sim_flat_scope.specs.declared.scope.Type as ty;
-ghost use Rattle.sim_flat_scope.specs.declared.scope.Type.TheVariants.{Boolean};
+ghost use Rattle.sim_flat_scope.specs.declared.scope.Type.TheVariants.{Boolean, Logic};
 ghost use Rattle.sim_text_tree.specs.declared.waveform.DelayMechanism.{DelayMechanism};
 ghost use Rattle.sim_text_tree.specs.declared.waveform.Element.{Element};
 ghost use Rattle.sim_text_tree.specs.declared.expression.Expression.{Expression};
@@ -23,9 +23,11 @@ pub fn an_expression_without_faults_has_a_type()
     ensures { (look : Lookup) (x : Expression) → AllTyped look → (judged look x).faults ≡ [] → is_some (judged look x).type ≡ true }
 {}
 
-/// A condition without faults is of type boolean.
-pub fn a_condition_without_faults_is_boolean()
-    ensures { (look : Lookup) (x : Expression) → AllTyped look → condition_faults look x ≡ [] → (judged look x).type ≡ Some Boolean }
+/// A condition without faults is of type boolean, or `??` is applied to it: it is of type
+/// std_ulogic and holds a name.
+pub fn a_condition_without_faults_is_boolean_or_the_condition_operator_applies()
+    ensures { (look : Lookup) (x : Expression) → AllTyped look → condition_faults look x ≡ [] →
+        ((judged look x).type ≡ Some Boolean) ⊎ (((judged look x).type ≡ Some Logic) × ((judged look x).named ≡ true)) }
 {}
 
 /// A value without faults is of the type of its target.

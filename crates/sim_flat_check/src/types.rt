@@ -1,8 +1,9 @@
 //! Types of expressions, and the faults inside them (IEEE 1076-2008, 9).
 
-ghost use Rattle.std.specs.Prelude.{◌≡◌, ◌||◌, ◌++◌};
+ghost use Rattle.std.specs.Prelude.{◌≡◌, ◌||◌, ◌++◌, Some, false};
 ghost use Rattle.sim_flat_scope.specs.Faults.{earliest};
 ghost use Rattle.sim_flat_scope.specs.Scopes.{means};
+ghost use Rattle.sim_flat_scope.specs.declared.scope.Type.TheVariants.{Logic};
 ghost use Rattle.sim_flat_check.specs.Carried as carried;
 ghost use Rattle.sim_flat_check.specs.Types as spec;
 
@@ -191,6 +192,17 @@ fn compared(both: Judgement, at: usize, first: &mut Option<Fault>) -> Judgement
     }
 }
 
+/// What a literal of std_ulogic is.
+fn literal() -> Judgement
+    ensures type_ { result.type_ ≡ Some Logic }
+    ensures named { result.named ≡ false }
+{
+    Judgement {
+        type_: Some(Type::Logic),
+        named: false,
+    }
+}
+
 /// An operator and the operand after it, after what stands before them.
 #[cycle(types)]
 #[tactic(auto, using(crate::proofs::Judgements::carried_rules))]
@@ -243,10 +255,7 @@ fn judge(
         ≡ carried.carried first.old (spec.judged (means inner.now outer.now) expression.now) }
 {
     match expression {
-        Expression::Literal { .. } => Judgement {
-            type_: Some(Type::Logic),
-            named: false,
-        },
+        Expression::Literal { .. } => literal(),
         Expression::Named(name) => {
             value_read(look_up(inner, outer, name.text()), name.at(), first)
         }
@@ -259,6 +268,12 @@ fn judge(
             judge(inner, outer, inside.get(), first)
         }
         Expression::Not { operand, .. } => judge(inner, outer, operand.get(), first),
+        Expression::Condition { at, operand } => {
+            let left = literal();
+            let right = judge(inner, outer, operand.get(), first);
+            let both = joined(left, *at, right, first);
+            compared(both, *at, first)
+        }
         Expression::Comparison {
             left,
             at,

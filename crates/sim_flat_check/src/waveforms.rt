@@ -85,7 +85,9 @@ pub(crate) fn condition(
 {
     let judgement = expression(inner, outer, condition, first);
     if let Some(Type::Logic) = judgement.type_ {
-        note(first, Kind::NotBoolean, condition.start());
+        if !judgement.named {
+            note(first, Kind::Ambiguous, condition.start());
+        }
     }
 }
 

@@ -40,7 +40,7 @@ enum Part {
     NoLabel,
 }
 
-static PARTS: [(Part, &str, &str, usize); 45] = [
+static PARTS: [(Part, &str, &str, usize); 48] = [
     (
         Part::Expression,
         "A and b and not c and d",
@@ -67,12 +67,20 @@ static PARTS: [(Part, &str, &str, usize); 45] = [
         "not@0 rising_edge@4(clk@16)",
         1,
     ),
+    (
+        Part::Expression,
+        "?? (a and (?? b)) and c",
+        "??@0 (@3 a@4 and@6 (@10 ??@11 b@14))",
+        2,
+    ),
+    (Part::Expression, "?? not a", "Syntax with 2 left", 2),
     (Part::Start, " '0'", "1", 0),
     (Part::Start, "s", "0", 0),
     (Part::Start, "  s'event", "2", 0),
     (Part::Start, " rising_edge(c)", "1", 0),
     (Part::Start, " (a)", "1", 0),
     (Part::Start, "  not a", "2", 0),
+    (Part::Start, "  ?? a", "2", 0),
     (Part::Start, " a = b", "1", 0),
     (Part::Start, "  a = b and c", "2", 0),
     (

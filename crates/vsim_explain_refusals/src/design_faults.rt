@@ -35,18 +35,14 @@ const WRONG_KIND: &str = "\
     See Names and scopes in docs/LANGUAGE.md.";
 
 const TYPE_CLASH: &str = "\
-    A value of std_logic and a boolean meet here. s = '1' makes a boolean of a signal, and\n\
-    '1' when .. else '0' a value of a boolean.\n\
+    A value of std_logic and a boolean meet here, or ?? is applied to a boolean. s = '1' and\n\
+    ?? s make a boolean of a signal, and '1' when .. else '0' a value of a boolean.\n\
     See Expressions in docs/LANGUAGE.md.";
 
 const AMBIGUOUS: &str = "\
-    Both sides of this comparison are made of literals alone, which leaves its type open.\n\
-    Name a signal or variable on one side, or write the result.\n\
+    A comparison, a condition or the operand of ?? is made of literals alone here, which\n\
+    leaves its type open. Name a signal or variable in it, or write the result.\n\
     See Expressions in docs/LANGUAGE.md.";
-
-const NOT_BOOLEAN: &str = "\
-    A condition is a boolean, and this is a value of std_logic. Compare it, as in s = '1'.\n\
-    See Conditional assignments in docs/LANGUAGE.md.";
 
 const READ_OUT: &str = "\
     A port of mode out is written in its architecture and not read. Drive a signal, read\n\
@@ -106,8 +102,8 @@ const REJECT_TOO_LONG: &str = "\
 
 const TOO_MANY: &str = "\
     At an element of a waveform: 16 are the most, so make several assignments of it. At the\n\
-    name of the top: there are more than 16,384 nets, processes, drivers or instances, or\n\
-    more than 32 levels of instances, so leave a part out.\n\
+    name of the top: there are more than 65,536 nets, processes or drivers, more than 16,384\n\
+    instances, or more than 32 levels of them, so leave a part out.\n\
     See Limits in docs/REFERENCE.md.";
 
 /// What a fault of the design means.
@@ -123,7 +119,6 @@ pub fn explain_design(source: &[u8], fault: FlatError) -> Explanation {
         }
         FlatError::TypeClash { at: place } => at(place, TYPE_CLASH),
         FlatError::Ambiguous { at: place } => at(place, AMBIGUOUS),
-        FlatError::NotBoolean { at: place } => at(place, NOT_BOOLEAN),
         FlatError::ReadOut { at: place } => at(place, READ_OUT),
         FlatError::WriteIn { at: place } => at(place, WRITE_IN),
         FlatError::PortMissing { at: place } => at(place, PORT_MISSING),

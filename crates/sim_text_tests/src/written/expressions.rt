@@ -17,6 +17,12 @@ fn put_operator(line: &mut Line, operator: &str, at: usize) {
     line.put(" ");
 }
 
+/// Puts what stands before an operand, with its place, and a blank after it.
+fn put_before(line: &mut Line, token: &str, at: usize) {
+    line.put_at(token, at);
+    line.put(" ");
+}
+
 /// The sign of a relational operator.
 fn relational(operator: Relational) -> &'static str {
     match operator {
@@ -58,14 +64,16 @@ pub fn put_expression(line: &mut Line, expression: &Expression) {
         }
         Expression::Call { function, argument } => put_call(line, function, argument),
         Expression::Parenthesized { at, inner } => {
-            line.put_at("(", *at);
-            line.put(" ");
+            put_before(line, "(", *at);
             put_expression(line, inner.get());
             line.put(")");
         }
         Expression::Not { at, operand } => {
-            line.put_at("not", *at);
-            line.put(" ");
+            put_before(line, "not", *at);
+            put_expression(line, operand.get());
+        }
+        Expression::Condition { at, operand } => {
+            put_before(line, "??", *at);
             put_expression(line, operand.get());
         }
         Expression::Comparison {

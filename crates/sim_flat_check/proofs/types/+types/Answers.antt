@@ -1,7 +1,17 @@
+use Rattle.std.proofs.Common.{rules}
 use Rattle.sim_flat_scope.specs.Scopes.{means}
 use Rattle.sim_flat_check.specs.Carried.{Carried}
-use Rattle.sim_flat_check.proofs.Judgements.{operand_joined, comparison_carried}
+use Rattle.sim_flat_check.proofs.Judgements.{operand_joined, condition_carried, comparison_carried}
 use Rattle.sim_flat_check.proofs.types.+types.Goals as goal
+
+pub judge-returns-in-Condition : goal.judge-returns-in-Condition
+judge-returns-in-Condition t c =
+    let left : Carried = record { type = c.literal-left.result.type_; named = c.literal-left.result.named; first = c.args.first.now } in
+    condition_carried (means c.args.inner.now c.args.outer.now) c.args.first.now c.args.expression.now
+    c.in-Condition.at c.in-Condition.operand c.in-Condition.is
+    c.get-in-Condition.result.now c.get-in-Condition.ensures
+    left (search rules) _ _ _ c.judge-right.ensures
+    _ _ _ c.joined-both.ensures.type_ c.joined-both.ensures.named c.joined-both.ensures.first _ c.compared.ensures
 
 pub judge-returns-in-Comparison : goal.judge-returns-in-Comparison
 judge-returns-in-Comparison t c =

@@ -1,0 +1,203 @@
+#!/usr/bin/env python3
+"""Gives the program what a stranger may give it: texts that are cut off, damaged or huge, and streams that fail.
+
+    hostile.py PROGRAM
+
+- Each proper prefix of a design is refused as a text, but for the one that ends after its entity.
+- A zero byte in place of each byte of a design is refused at its place, or at the token that it breaks.
+- Texts of 1 MiB, each of one thing over and over, and one of a byte more: each is answered as the manual says, within seconds.
+- Standard output is full, closed, or a pipe that nobody reads; standard input is closed, a folder or a terminal; standard error
+  is closed. The status and the line are those of the manual.
+
+What differs is told. A table has time and memory of the huge texts. The last line is `N passed, M failed`.
+"""
+import os
+import pty
+import re
+import subprocess
+import sys
+import tempfile
+import time
+
+MOST = 1 << 20
+LONGEST = 60
+WORDS = ["--top", "t"]
+DESIGN = (
+    b"entity t is end;architecture a of t is signal s_1,q:std_logic:='0';begin s_1<='1' after 5 ns;"
+    b"process(s_1)begin if s_1/='0' then q<=not s_1 after 2 ns;end if;end process;end;"
+)
+LISTING = b"0 0 s_1 0\n0 0 q 0\n5000000 0 s_1 1\ndone 2 1\n"
+ENTITY = 16
+OF_A_TEXT = re.compile(rb"vsim: (BadByte|OpenComment|BadLiteral|Syntax|TooDeep|TimeRange) at \d+\n")
+
+
+class Answer:
+    """How a run ended: its status, what it wrote, and what it took."""
+
+    def __init__(self, status, out, err, seconds=0.0, mebibytes=0):
+        self.status, self.out, self.err, self.seconds, self.mebibytes = status, out, err, seconds, mebibytes
+
+    def __str__(self):
+        return f"status {self.status}, {self.out[:60]!r}, {self.err[:80]!r}"
+
+    def same(self, status, out, err):
+        return (self.status, self.out, self.err) == (status, out, err)
+
+
+def run(program, text, words=WORDS):
+    ran = subprocess.run([program, *words], input=text, capture_output=True, timeout=LONGEST)
+    return Answer(ran.returncode, ran.stdout, ran.stderr)
+
+
+def measured(program, text):
+    """A run with its time and its largest memory."""
+    with tempfile.TemporaryFile() as source, tempfile.TemporaryFile() as out, tempfile.TemporaryFile() as err:
+        source.write(text)
+        source.seek(0)
+        began = time.monotonic()
+        process = subprocess.Popen([program, *WORDS], stdin=source, stdout=out, stderr=err)
+        _, status, used = os.wait4(process.pid, 0)
+        process.returncode = os.waitstatus_to_exitcode(status)
+        seconds = time.monotonic() - began
+        out.seek(0)
+        err.seek(0)
+        return Answer(process.returncode, out.read(), err.read(), seconds, used.ru_maxrss >> 10)
+
+
+class Tally:
+    def __init__(self):
+        self.passed = self.failed = 0
+
+    def note(self, holds, name, answer):
+        if holds:
+            self.passed += 1
+        else:
+            self.failed += 1
+            print(f"hostile: {name}: {answer}")
+
+
+def prefixes(program, tally):
+    for length in range(len(DESIGN)):
+        answer = run(program, DESIGN[:length])
+        if length == ENTITY:
+            holds = answer.same(1, b"", b"vsim: NoArchitecture at 7\n")
+        else:
+            holds = answer.status == 1 and not answer.out and OF_A_TEXT.fullmatch(answer.err)
+        tally.note(holds, f"a prefix of {length} bytes", answer)
+
+
+def zeros(program, tally):
+    """A literal is at fault where it begins; `<` is no token without its `=`, nor an underscore without a letter or digit."""
+    literals = [found.start() for found in re.finditer(rb"'.'", DESIGN)]
+    for place in range(len(DESIGN)):
+        kind, at = "BadByte", place
+        if place - 1 in literals or place - 2 in literals:
+            kind, at = "BadLiteral", next(first for first in literals if place - first in (1, 2))
+        elif DESIGN[place - 1 : place + 1] == b"<=" or DESIGN[place - 1 : place] == b"_":
+            at = place - 1
+        elif DESIGN[place - 1 : place + 1] == b"/=":
+            at = place - 1
+        answer = run(program, DESIGN[:place] + b"\0" + DESIGN[place + 1 :])
+        tally.note(answer.same(1, b"", f"vsim: {kind} at {at}\n".encode()), f"a zero byte at {place}", answer)
+
+
+def filled(begin, again, end=b""):
+    """As often again as a text may hold, and blanks up to its limit."""
+    times = (MOST - len(begin) - len(end)) // len(again)
+    text = begin + again * times
+    return text + b" " * (MOST - len(text) - len(end)) + end
+
+
+BEGIN = b"entity t is end;architecture a of t is signal s:std_logic;begin "
+PROCESS = BEGIN + b"process(s)begin "
+NUMBERED = b"entity t is end;architecture a of t is signal s0" + b"".join(b",s%d" % n for n in range(1, 1 << 16)) + b":std_logic;begin "
+HUGE = [
+    ("blanks", filled(b"", b" "), 1, "Syntax at 1048576"),
+    ("a byte more than a text may have", b" " * (MOST + 1), 1, "TooLong"),
+    ("a comment", filled(b"--", b"-"), 1, "Syntax at 1048576"),
+    ("comments of one line", filled(b"", b"--\n"), 1, "Syntax at 1048576"),
+    ("a comment that is open", filled(b"/*", b"*"), 1, "OpenComment at 0"),
+    ("zero bytes", filled(b"", b"\0"), 1, "BadByte at 0"),
+    ("bytes above 127", filled(b"", b"\xff"), 1, "BadByte at 0"),
+    ("apostrophes", filled(b"", b"'"), 1, "Syntax at 0"),
+    ("one word", filled(b"", b"a"), 1, "Syntax at 0"),
+    ("an entity of one long name", filled(b"entity ", b"a", b" is end;"), 1, "NoTop"),
+    ("opened parentheses", filled(BEGIN + b"s<=", b"("), 1, f"TooDeep at {len(BEGIN) + 3 + 64}"),
+    ("opened ifs", filled(PROCESS, b"if s then "), 1, f"TooDeep at {len(PROCESS) + 10 * 64}"),
+    ("an operator and its operand", filled(BEGIN + b"s<=s", b" and s", b";end;"), 0, None),
+    ("elements of a waveform", filled(BEGIN + b"s<='0'", b",'0'", b";end;"), 1, f"NotAscending at {len(BEGIN) + 7}"),
+    ("branches of an if", filled(PROCESS + b"if s then ", b"elsif s then ", b"end if;end process;end;"), 0, None),
+    ("alternatives", filled(BEGIN + b"s<='0' when s", b" else '1' when s", b";end;"), 0, None),
+    ("null statements", filled(PROCESS, b"null;", b"end process;end;"), 0, None),
+    ("assignments, 65,536", BEGIN + b"s<='0';" * (1 << 16) + b"end;", 0, None),
+    ("assignments, as many as there is room for", filled(BEGIN, b"s<='0';", b"end;"), 1, "TooMany at 7"),
+    ("signals, 65,536", NUMBERED + b"end;", 0, None),
+    ("signals and assignments, 65,536 of each", NUMBERED + b"".join(b"s%d<=s;" % n for n in range(1 << 15)) + b"end;", 1, None),
+    ("entities of one name", filled(b"", b"entity t is end;"), 1, "Duplicate at 23"),
+    ("context clauses", filled(b"", b"use a.b;", b"entity t is end;architecture a of t is begin end;"), 0, None),
+]
+
+
+def huge(program, tally):
+    print("| 1 MiB of | Answer | Seconds | MiB |\n|---|---|--:|--:|")
+    for name, text, status, refusal in HUGE:
+        answer = measured(program, text)
+        said = answer.err.decode().strip() or answer.out.decode().splitlines()[-1]
+        print(f"| {name} | `{said}` | {answer.seconds:.2f} | {answer.mebibytes} |")
+        wanted = refusal is None or answer.err == f"vsim: {refusal}\n".encode()
+        ended = answer.out.endswith(b"\n") if status == 0 else not answer.out
+        tally.note(answer.status == status and wanted and ended and answer.seconds < 20, name, answer)
+
+
+def streams(program, tally):
+    """Streams that fail, each with the status and the line that the manual has for it."""
+    write, read = (4, b"vsim: Write\n"), (4, b"vsim: Read\n")
+    with tempfile.NamedTemporaryFile(suffix=".vhd") as source:
+        source.write(DESIGN)
+        source.flush()
+        name = source.name
+        lines = [
+            ("standard output is full", f"{program} --top t < {name} > /dev/full", write),
+            ("the help to a full standard output", f"{program} --help > /dev/full", write),
+            ("standard output is closed", f"{program} --top t < {name} >&-", write),
+            ("standard input is closed", f"{program} --top t <&-", read),
+            ("standard input is a folder", f"{program} --top t < /", read),
+            ("standard error is full", f"{program} --top u < {name} 2> /dev/full", (1, b"")),
+            ("standard error is closed", f"{program} --top u < {name} 2>&-", (1, b"")),
+            ("a refusal to a closed standard output", f"{program} --top u < {name} >&-", (1, b"vsim: NoTop\n")),
+            ("nobody reads", f"{{ {program} --top t < {name}; echo $? >&2; }} | true", (0, b"vsim: Write\n4\n")),
+        ]
+        for what, line, wanted in lines:
+            # whoever does not read has ended before anything is written
+            ran = subprocess.run(["sh", "-c", line.replace("{ ", "{ sleep 0.2; ", 1) if "| true" in line else line],
+                                 capture_output=True, timeout=LONGEST, stdin=subprocess.DEVNULL)
+            answer = Answer(ran.returncode, ran.stdout, ran.stderr)
+            tally.note((ran.returncode, ran.stderr) == wanted and not ran.stdout, what, answer)
+
+
+def terminal(program, tally):
+    """The text is typed, with an end of file after it."""
+    ours, theirs = pty.openpty()
+    process = subprocess.Popen([program, *WORDS], stdin=theirs, stdout=subprocess.PIPE, stderr=subprocess.PIPE)
+    os.close(theirs)
+    os.write(ours, DESIGN.replace(b";", b";\n") + b"\x04")
+    out, err = process.communicate(timeout=LONGEST)
+    os.close(ours)
+    answer = Answer(process.returncode, out, err)
+    tally.note(answer.same(0, LISTING, b""), "a terminal", answer)
+
+
+def main():
+    if len(sys.argv) != 2:
+        sys.exit(__doc__)
+    program, tally = os.path.abspath(sys.argv[1]), Tally()
+    answer = run(program, DESIGN)
+    tally.note(answer.same(0, LISTING, b""), "the design", answer)
+    for part in (prefixes, zeros, huge, streams, terminal):
+        part(program, tally)
+    print(f"{tally.passed} passed, {tally.failed} failed")
+    return 1 if tally.failed else 0
+
+
+if __name__ == "__main__":
+    sys.exit(main())
