@@ -23,7 +23,7 @@ use Rattle.sim_flat_design.specs.Bodies.{waveform_objects, conditional_objects, 
 use Rattle.sim_standard.specs.Drivers.{Transaction}
 use Rattle.sim_standard.specs.declared.net_view.NetView.{NetView}
 use Rattle.sim_standard.specs.State.{Owned, driver_at}
-use Rattle.sim_standard.specs.Expressions.{logic_operation, boolean_operation, relation, is_as_true, has_edge, logic_value_rule, logic_value}
+use Rattle.sim_standard.specs.Expressions.{logic_operation, boolean_operation, relation, condition, is_as_true, has_edge, logic_value_rule, logic_value}
 use Rattle.sim_standard.specs.Expressions.{boolean_value_rule, boolean_value, element_values, taken_waveform}
 use Rattle.sim_standard.specs.Statements.{own_steps, assigned, waveform_assigned, executed}
 use Rattle.sim_standard.proofs.Alongside.{Keeps, Each, each_left, each_right, all_go}
@@ -114,6 +114,7 @@ module _ (f g : ℕ → NetView) where
         boolean_step (bo.Chain op q.0 rest) (λ e.
         boolean_parts_same (boolean_operation op) qs (each_right Alike (boolean_objects q.0) (concat (map boolean_objects rest)) e)
         (boolean_value f vs q.0) (boolean_value g vs q.0) (q.1 (each_left Alike (boolean_objects q.0) (concat (map boolean_objects rest)) e)))
+    boolean_parts (bo.Condition x) = boolean_step (bo.Condition x) (λ e. ap condition (logic_same x e))
     boolean_parts (bo.LogicComparison x op y) = boolean_step (bo.LogicComparison x op y) (λ e.
         let a = logic_same x (each_left Alike (logic_objects x) (logic_objects y) e) in
         let b = logic_same y (each_right Alike (logic_objects x) (logic_objects y) e) in

@@ -10,7 +10,6 @@ use Rattle.sim_flat_design.specs.Processes.{Process, IsProcess}
 use Rattle.sim_standard.specs.State.{State}
 use Rattle.sim_standard.specs.Processes.{no_process, process_at}
 use Rattle.sim_standard.specs.Orders.{is_among, one_by_one}
-use Rattle.sim_standard.specs.Together.{first_together}
 use Rattle.sim_standard.specs.Cycle.{is_at_once, is_postponed, is_resumed, is_waiting, executed_in_turn, first_in_turn, precedes_delta, those, with_waiting}
 use Rattle.sim_standard.proofs.Parallel.{first_is_together}
 

@@ -1,7 +1,7 @@
 -- The values of expressions (IEEE 1076-2008, 9), where a process sees its ports and signals so and its variables hold this.
 use Rattle.std.specs.Prelude.{ℕ, List, [], ◌∷◌, Bool, true, false, ◌&&◌, ◌||◌, not, fold, map, if◌then◌else◌, Option, Some, slice_get}
 use Rattle.sim_logic.specs.declared.logic.Logic.{Logic}
-use Rattle.sim_logic.specs.declared.logic.Logic.TheVariants.{U}
+use Rattle.sim_logic.specs.declared.logic.Logic.TheVariants.{U, One, H}
 use Rattle.sim_logic.specs.Logic.{is_same}
 use Rattle.sim_logic.specs.Tables.{and_table, or_table, xor_table, not_table}
 use Rattle.sim_logic.specs.Edge.{rises, falls}
@@ -52,6 +52,12 @@ abbrev pub relation : Relational → Bool → Bool
 relation relational.Equal same = same
 relation relational.Unequal same = not same
 
+-- what the condition operator `??` gives of a value of std_ulogic: true of '1' and 'H', false of the other seven (9.2.9; IEEE 1164, function "??")
+abbrev pub condition : Logic → Bool
+condition One = true
+condition H = true
+condition _ = false
+
 -- ---- names
 
 -- what a variable of type std_ulogic holds
@@ -90,6 +96,7 @@ module _ (look : ℕ → NetView) (variables : List Held) where
   boolean_value_rule (boolean.Edge rising n) = has_edge rising (look n)
   boolean_value_rule (boolean.Not operand) = not operand
   boolean_value_rule (boolean.Chain operator first rest) = fold (boolean_operation operator) first rest
+  boolean_value_rule (boolean.Condition operand) = condition (logic_value operand)
   boolean_value_rule (boolean.LogicComparison left operator right) = relation operator (is_same (logic_value left) (logic_value right))
   boolean_value_rule (boolean.BooleanComparison left operator right) = relation operator (is_as_true left right)
 
