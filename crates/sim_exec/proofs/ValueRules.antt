@@ -15,7 +15,7 @@ use Rattle.sim_flat_design.specs.declared.expression.BooleanExpression.TheVarian
 use Rattle.sim_flat_design.specs.declared.expression.BooleanExpression.TheOpen as bo
 use Rattle.sim_flat_design.specs.declared.expression.BooleanExpression.TheFolds as boolean_folds
 use Rattle.sim_standard.specs.declared.net_view.NetView.{NetView}
-use Rattle.sim_standard.specs.Expressions.{logic_operation, boolean_operation, relation, is_as_true, bit_of, truth_of, has_edge}
+use Rattle.sim_standard.specs.Expressions.{logic_operation, boolean_operation, relation, condition, is_as_true, bit_of, truth_of, has_edge}
 use Rattle.sim_standard.specs.Expressions.{logic_value_rule, logic_value, boolean_value_rule, boolean_value}
 
 module _ (look : ℕ → NetView) (variables : List Held) where
@@ -87,6 +87,12 @@ module _ (look : ℕ → NetView) (variables : List Held) where
       ap (boolean_value look variables) (sym (b.rolls-Chain op x ys))
       ∙ boolean_folds.fold-roll-BooleanExpression Bool (boolean_value_rule look variables) (bo.Chain op x ys)
 
+  pub condition_taken : (x : LogicExpression) → boolean_value look variables (b.Condition x) ≡ condition (logic_value look variables x)
+  unfolding boolean_value
+  condition_taken x =
+      ap (boolean_value look variables) (sym (b.rolls-Condition x))
+      ∙ boolean_folds.fold-roll-BooleanExpression Bool (boolean_value_rule look variables) (bo.Condition x)
+
   pub logics_compared : (x : LogicExpression) (op : Relational) (y : LogicExpression) → boolean_value look variables (b.LogicComparison x op y)
       ≡ relation op (is_same (logic_value look variables x) (logic_value look variables y))
   unfolding boolean_value
@@ -105,4 +111,14 @@ module _ (look : ℕ → NetView) (variables : List Held) where
 pub ruleset logics_are = (logic_literal, logic_object, logic_variable, logic_not, logic_chain)
 
 -- those of type boolean
-pub ruleset booleans_are = (boolean_literal, boolean_variable, boolean_event, boolean_edge, boolean_not, boolean_chain, logics_compared, booleans_compared)
+pub ruleset booleans_are = (
+  boolean_literal,
+  boolean_variable,
+  boolean_event,
+  boolean_edge,
+  boolean_not,
+  boolean_chain,
+  condition_taken,
+  logics_compared,
+  booleans_compared,
+)

@@ -34,6 +34,13 @@ fn relation(operator: Relational, same: bool) -> bool
     }
 }
 
+/// What the condition operator `??` gives of a value of std_ulogic (9.2.9).
+fn condition(value: Logic) -> bool
+    ensures { result ≡ spec.condition value }
+{
+    matches!(value, Logic::One | Logic::H)
+}
+
 /// What the variable of type std_ulogic at a place holds.
 fn bit(variables: &[Held], place: usize) -> Logic
     ensures { result ≡ spec.bit_of (slice_get variables.now place) }
@@ -126,6 +133,7 @@ pub fn boolean_value<N: Nets>(nets: &N, variables: &[Held], expression: &Boolean
             let value = boolean_value(nets, variables, first.get());
             boolean_chain(nets, variables, *operator, value, rest.as_slice())
         }
+        BooleanExpression::Condition(operand) => condition(logic_value(nets, variables, operand)),
         BooleanExpression::LogicComparison {
             left,
             operator,
