@@ -16,7 +16,7 @@ use Rattle.sim_flat_design.specs.declared.statement.Branch as design
 use Rattle.sim_flat_design.specs.declared.statement.Branch.{roll-Branch}
 use Rattle.sim_flat_design.specs.declared.statement.Statement as design_statement
 use Rattle.sim_flat_design.specs.declared.statement.Statement.TheVariants as d
-use Rattle.sim_flat_bodies.specs.Expressions.{boolean_of}
+use Rattle.sim_flat_bodies.specs.Expressions.{condition_of}
 use Rattle.sim_flat_bodies.specs.Statements as spec
 use Rattle.sim_flat_bodies.specs.Statements.{branches_targets, sequence_targets, gathered, with_new}
 use Rattle.sim_flat_bodies.specs.Statements.{statement_targets, branch_targets, sequential_targets, target_of}
@@ -157,7 +157,7 @@ module _ (look : Lookup) (targets : List ℕ) where
       o.Null
 
   pub branch_is : (b : Branch) → branch_of look targets b ≡ roll-Branch (record {
-    condition = boolean_of look (views.out-Branch b).condition;
+    condition = condition_of look (views.out-Branch b).condition;
     statements = map (sequential_of look targets) (views.out-Branch b).statements;
   })
   unfolding statement_of branch_of sequential_of

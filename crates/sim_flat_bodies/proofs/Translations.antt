@@ -54,6 +54,11 @@ module _ (look : Lookup) where
   not_is at x = ap (translated look) (sym (e.rolls-Not at x))
       ∙ folds.fold-roll-Expression Translated Translated (expression_rule look) operand_rule (o.Not at x)
 
+  pub condition_is : (at : ℕ) (x : Expression) → translated look (e.Condition at x) ≡ a_boolean (boolean.Condition (translated look x).logic)
+  unfolding translated
+  condition_is at x = ap (translated look) (sym (e.rolls-Condition at x))
+      ∙ folds.fold-roll-Expression Translated Translated (expression_rule look) operand_rule (o.Condition at x)
+
   pub comparison_is : (x : Expression) (b : Relational) (at : ℕ) (y : Expression) → translated look (e.Comparison x b at y)
       ≡ a_boolean (compared (translated look x) b (translated look y))
   unfolding translated
@@ -113,6 +118,10 @@ module _ (look : Lookup) where
   unfolding is_boolean logic_of boolean_of
   not_is_boolean at x = ap (λ (t : Translated). t.is_boolean) (not_is at x)
 
+  pub condition_is_boolean : (at : ℕ) (x : Expression) → is_boolean look (e.Condition at x) ≡ true
+  unfolding is_boolean logic_of boolean_of
+  condition_is_boolean at x = ap (λ (t : Translated). t.is_boolean) (condition_is at x)
+
   pub comparison_is_boolean : (x : Expression) (b : Relational) (at : ℕ) (y : Expression) → is_boolean look (e.Comparison x b at y) ≡ true
   unfolding is_boolean logic_of boolean_of
   comparison_is_boolean x b at y = ap (λ (t : Translated). t.is_boolean) (comparison_is x b at y)
@@ -141,6 +150,10 @@ module _ (look : Lookup) where
   unfolding is_boolean logic_of boolean_of
   not_logic_of at x = ap (λ (t : Translated). t.logic) (not_is at x)
 
+  pub condition_logic_of : (at : ℕ) (x : Expression) → logic_of look (e.Condition at x) ≡ logic.Literal value.U
+  unfolding is_boolean logic_of boolean_of
+  condition_logic_of at x = ap (λ (t : Translated). t.logic) (condition_is at x)
+
   pub comparison_logic_of : (x : Expression) (b : Relational) (at : ℕ) (y : Expression) → logic_of look (e.Comparison x b at y) ≡ logic.Literal value.U
   unfolding is_boolean logic_of boolean_of
   comparison_logic_of x b at y = ap (λ (t : Translated). t.logic) (comparison_is x b at y)
@@ -168,6 +181,10 @@ module _ (look : Lookup) where
   pub not_boolean_of : (at : ℕ) (x : Expression) → boolean_of look (e.Not at x) ≡ boolean.Not (boolean_of look x)
   unfolding is_boolean logic_of boolean_of
   not_boolean_of at x = ap (λ (t : Translated). t.boolean) (not_is at x)
+
+  pub condition_boolean_of : (at : ℕ) (x : Expression) → boolean_of look (e.Condition at x) ≡ boolean.Condition (logic_of look x)
+  unfolding is_boolean logic_of boolean_of
+  condition_boolean_of at x = ap (λ (t : Translated). t.boolean) (condition_is at x)
 
   pub chain_is_boolean : (b : Logical) (x : Expression) (os : List Operand) → is_boolean look (e.Chain b x os) ≡ is_boolean look x
   unfolding is_boolean
@@ -203,6 +220,7 @@ pub ruleset types = (
   call_is_boolean,
   parenthesized_is_boolean,
   not_is_boolean,
+  condition_is_boolean,
   comparison_is_boolean,
   chain_is_boolean,
 )
@@ -215,6 +233,7 @@ pub ruleset logics_are = (
   call_logic_of,
   parenthesized_logic_of,
   not_logic_of,
+  condition_logic_of,
   comparison_logic_of,
   chain_logic_of,
 )
@@ -227,6 +246,7 @@ pub ruleset booleans_are = (
   call_boolean_of,
   parenthesized_boolean_of,
   not_boolean_of,
+  condition_boolean_of,
   booleans_compared,
   logics_compared,
   chain_boolean_of,

@@ -80,6 +80,7 @@ module _ (look : Lookup) where
   expression_rule (x.Parenthesized at inner) = inner
   expression_rule (x.Not at operand) =
       record { is_boolean = operand.is_boolean; logic = logic.Not operand.logic; boolean = boolean.Not operand.boolean }
+  expression_rule (x.Condition at operand) = a_boolean (boolean.Condition operand.logic)
   expression_rule (x.Comparison a operator at b) = a_boolean (compared a operator b)
   expression_rule (x.Chain operator first rest) = record {
     is_boolean = first.is_boolean;
@@ -104,6 +105,10 @@ module _ (look : Lookup) where
   -- an expression of boolean
   unfoldable pub boolean_of : Expression → BooleanExpression
   boolean_of e = (translated e).boolean
+
+  -- a condition: an expression of boolean, or one of std_ulogic, to which `??` is applied implicitly (9.2.9)
+  unfoldable pub condition_of : Expression → BooleanExpression
+  condition_of e = if is_boolean e then boolean_of e else boolean.Condition (logic_of e)
 
   -- an operand of a chain of std_ulogic
   unfoldable pub operand_logic : Operand → LogicExpression

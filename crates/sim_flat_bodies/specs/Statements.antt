@@ -25,7 +25,7 @@ use Rattle.sim_flat_design.specs.declared.statement.ConditionalWaveform.{Conditi
 use Rattle.sim_flat_design.specs.declared.statement.Branch.{Branch, roll-Branch}
 use Rattle.sim_flat_design.specs.declared.statement.Statement.{Statement}
 use Rattle.sim_flat_design.specs.declared.statement.Statement.TheVariants as d
-use Rattle.sim_flat_bodies.specs.Expressions.{logic_of, boolean_of}
+use Rattle.sim_flat_bodies.specs.Expressions.{logic_of, boolean_of, condition_of}
 use Rattle.sim_flat_bodies.specs.Timed.{after_of, concurrent_timed, waveform_timed}
 
 -- ---- the names that are assigned
@@ -118,7 +118,7 @@ module _ (look : Lookup) where
 
   -- a waveform and its condition (10.5.3)
   unfoldable pub conditional_of : tree_conditional.ConditionalWaveform → ConditionalWaveform
-  conditional_of c = record { waveform = waveform_of c.waveform; condition = boolean_of look c.condition }
+  conditional_of c = record { waveform = waveform_of c.waveform; condition = condition_of look c.condition }
 
   -- the waveform without a condition
   unfoldable pub last_of : Option (List tree_element.Element) → Option (List Element)
@@ -162,7 +162,7 @@ module _ (look : Lookup) (targets : List ℕ) where
   statement_rule s.Null = d.Null
 
   abbrev pub branch_rule : s.Branch-F Statement Branch Statement → Branch
-  branch_rule b = roll-Branch (record { condition = boolean_of look b.condition; statements = b.statements })
+  branch_rule b = roll-Branch (record { condition = condition_of look b.condition; statements = b.statements })
 
   abbrev pub sequential_rule : s.Sequential-F Statement Branch Statement → Statement
   sequential_rule x = x.statement

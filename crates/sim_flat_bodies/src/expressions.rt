@@ -112,7 +112,10 @@ pub fn is_boolean(names: &Names<'_, '_>, expression: &Expression) -> bool
     match expression {
         Expression::Literal { .. } => false,
         Expression::Named(name) => named_is_boolean(names.look_up(name.text())),
-        Expression::Event(_) | Expression::Call { .. } | Expression::Comparison { .. } => true,
+        Expression::Event(_)
+        | Expression::Call { .. }
+        | Expression::Condition { .. }
+        | Expression::Comparison { .. } => true,
         Expression::Parenthesized { inner, .. } => is_boolean(names, inner.get()),
         Expression::Not { operand, .. } => is_boolean(names, operand.get()),
         Expression::Chain { first, .. } => is_boolean(names, first.get()),
@@ -134,9 +137,10 @@ pub fn logic(
     match expression {
         Expression::Literal { value, .. } => Ok(LogicExpression::Literal(*value)),
         Expression::Named(name) => Ok(named_logic(names.look_up(name.text()))),
-        Expression::Event(_) | Expression::Call { .. } | Expression::Comparison { .. } => {
-            Ok(LogicExpression::Literal(Logic::U))
-        }
+        Expression::Event(_)
+        | Expression::Call { .. }
+        | Expression::Condition { .. }
+        | Expression::Comparison { .. } => Ok(LogicExpression::Literal(Logic::U)),
         Expression::Parenthesized { inner, .. } => logic(alloc, names, inner.get()),
         Expression::Not { operand, .. } => {
             let operand = boxed_logic(alloc, names, operand)?;
@@ -216,6 +220,21 @@ fn logic_comparison(
     })
 }
 
+/// `??` of an operand of type std_ulogic (9.2.9).
+#[tactic(auto, using(sim_flat_design::proofs::Fitting::booleans_fit))]
+fn condition_operator(
+    alloc: Global,
+    names: &Names<'_, '_>,
+    operand: &Expression,
+) -> Result<BooleanExpression, AllocError>
+    requires within { AreWithin (means names.now.process.now names.now.architecture.now) names.now.objects names.now.variables.now }
+    ensures value { IfOk result (λ r. r ≡ boolean.Condition (spec.logic_of (means names.now.process.now names.now.architecture.now) operand.now)) }
+    ensures fits { IfOk result (λ r. boolean_fits names.now.objects names.now.variables.now r ≡ true) }
+{
+    let operand = logic(alloc, names, operand)?;
+    Ok(BooleanExpression::Condition(operand))
+}
+
 /// An expression of type boolean. A comparison goes by the type of its left operand.
 #[cycle(boolean)]
 #[tactic(auto, using(crate::proofs::Translations::booleans_are, sim_flat_design::proofs::Fitting::booleans_fit))]
@@ -241,6 +260,7 @@ pub fn boolean(
             let operand = boxed_boolean(alloc, names, operand)?;
             Ok(BooleanExpression::Not(operand))
         }
+        Expression::Condition { operand, .. } => condition_operator(alloc, names, operand.get()),
         Expression::Comparison {
             left,
             operator,
@@ -331,4 +351,22 @@ fn boolean_chain(
         first,
         rest,
     })
+}
+
+/// A condition: an expression of type boolean, or one of type std_ulogic, to which `??` is applied
+/// implicitly (9.2.9).
+#[tactic(auto, unfolding(crate::specs::Expressions::condition_of))]
+pub fn condition(
+    alloc: Global,
+    names: &Names<'_, '_>,
+    expression: &Expression,
+) -> Result<BooleanExpression, AllocError>
+    requires within { AreWithin (means names.now.process.now names.now.architecture.now) names.now.objects names.now.variables.now }
+    ensures value { IfOk result (λ r. r ≡ spec.condition_of (means names.now.process.now names.now.architecture.now) expression.now) }
+    ensures fits { IfOk result (λ r. boolean_fits names.now.objects names.now.variables.now r ≡ true) }
+{
+    if !is_boolean(names, expression) {
+        return condition_operator(alloc, names, expression);
+    }
+    boolean(alloc, names, expression)
 }

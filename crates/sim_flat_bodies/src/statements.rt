@@ -7,7 +7,7 @@ ghost use Rattle.sim_flat_design.specs.Bodies.{branch_fits, statement_fits};
 ghost use Rattle.sim_flat_bodies.specs.Statements as spec;
 ghost use Rattle.sim_flat_bodies.specs.Within.{AreWithin};
 
-use crate::expressions::{boolean, logic};
+use crate::expressions::{boolean, condition, logic};
 use crate::names::Names;
 use crate::targets::Targets;
 use crate::timed::{concurrent_timed, waveform_timed};
@@ -209,7 +209,7 @@ fn branch(
     ensures fits { IfOk result (λ r. branch_fits names.now.objects (length targets.now) names.now.variables.now r ≡ true) }
 {
     let statements = sequence(alloc, names, targets, each.statements.as_slice())?;
-    let condition = boolean(alloc, names, &each.condition)?;
+    let condition = condition(alloc, names, &each.condition)?;
     Ok(Branch {
         condition,
         statements,

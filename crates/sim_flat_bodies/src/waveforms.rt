@@ -8,7 +8,7 @@ ghost use Rattle.sim_flat_bodies.specs.Statements as spec;
 ghost use Rattle.sim_flat_bodies.specs.Timed.{conditional_timed, last_timed, waveform_timed};
 ghost use Rattle.sim_flat_bodies.specs.Within.{AreWithin};
 
-use crate::expressions::{boolean, logic};
+use crate::expressions::{condition, logic};
 use crate::names::Names;
 use crate::targets::Targets;
 use crate::timed::after;
@@ -96,7 +96,7 @@ fn conditional(
     ensures value { IfOk result (λ r. r ≡ spec.conditional_of (means names.now.process.now names.now.architecture.now) each.now) }
     ensures fits { IfOk result (λ r. conditional_fits names.now.objects names.now.variables.now (spec.delay_of mechanism.now) r ≡ true) }
 {
-    let condition = boolean(alloc, names, &each.condition)?;
+    let condition = condition(alloc, names, &each.condition)?;
     let waveform = waveform(alloc, names, mechanism, &each.waveform)?;
     Ok(ConditionalWaveform {
         waveform,
