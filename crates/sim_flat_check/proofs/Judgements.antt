@@ -182,6 +182,11 @@ operand_joined look a o t n f f' s m h hs hm hf =
     joined_on a (views.out-Operand o).operator_at (judged look (views.out-Operand o).operand) t n f f' s m h hs hm hf
     ∙ ap (carried_on a) (sym (operand_is look o))
 
+pub literal_carried : (known : Option Fault) (t : Option ty.Type) (n : Bool) → t ≡ Some Logic → n ≡ false
+    → (let c : Carried = record { type = t; named = n; first = known } in c) ≡ carried known literal
+unfolding carried earliest
+literal_carried known t n e d = cc
+
 -- `??` whose operand was judged
 pub condition_carried : (look : Lookup) (known : Option Fault) (y : Expression) (at : ℕ) (z : Expression) → y ≡ e.Condition at z
     → (z' : Expression) → z' ≡ z → (left : Carried) → left ≡ carried known literal → (t : Option ty.Type) (n : Bool) (f : Option Fault)

@@ -270,8 +270,8 @@ fn judge(
         Expression::Not { operand, .. } => judge(inner, outer, operand.get(), first),
         Expression::Condition { at, operand } => {
             let left = literal();
-            let right = judge(inner, outer, operand.get(), first);
-            let both = joined(left, *at, right, first);
+            let operand = judge(inner, outer, operand.get(), first);
+            let both = joined(left, *at, operand, first);
             compared(both, *at, first)
         }
         Expression::Comparison {

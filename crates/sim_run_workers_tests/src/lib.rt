@@ -14,3 +14,5 @@ mod refusals;
 mod sharing;
 #[cfg(test)]
 mod texts;
+#[cfg(test)]
+mod watching;

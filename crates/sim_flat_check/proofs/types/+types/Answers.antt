@@ -1,7 +1,6 @@
-use Rattle.std.proofs.Common.{rules}
 use Rattle.sim_flat_scope.specs.Scopes.{means}
 use Rattle.sim_flat_check.specs.Carried.{Carried}
-use Rattle.sim_flat_check.proofs.Judgements.{operand_joined, condition_carried, comparison_carried}
+use Rattle.sim_flat_check.proofs.Judgements.{operand_joined, literal_carried, condition_carried, comparison_carried}
 use Rattle.sim_flat_check.proofs.types.+types.Goals as goal
 
 pub judge-returns-in-Condition : goal.judge-returns-in-Condition
@@ -10,7 +9,7 @@ judge-returns-in-Condition t c =
     condition_carried (means c.args.inner.now c.args.outer.now) c.args.first.now c.args.expression.now
     c.in-Condition.at c.in-Condition.operand c.in-Condition.is
     c.get-in-Condition.result.now c.get-in-Condition.ensures
-    left (search rules) _ _ _ c.judge-right.ensures
+    left (literal_carried c.args.first.now _ _ c.literal-left.ensures.type_ c.literal-left.ensures.named) _ _ _ c.judge-operand.ensures
     _ _ _ c.joined-both.ensures.type_ c.joined-both.ensures.named c.joined-both.ensures.first _ c.compared.ensures
 
 pub judge-returns-in-Comparison : goal.judge-returns-in-Comparison
@@ -20,7 +19,8 @@ judge-returns-in-Comparison t c =
     c.in-Comparison.left c.in-Comparison.operator c.in-Comparison.at c.in-Comparison.right c.in-Comparison.is
     c.get-in-Comparison.result.now c.get-in-Comparison-2.result.now c.get-in-Comparison.ensures c.get-in-Comparison-2.ensures
     left c.judge-left.ensures _ _ _ c.judge-right.ensures
-    _ _ _ c.joined-both.ensures.type_ c.joined-both.ensures.named c.joined-both.ensures.first _ c.compared.ensures
+    _ _ _ c.joined-both-in-Comparison.ensures.type_ c.joined-both-in-Comparison.ensures.named
+    c.joined-both-in-Comparison.ensures.first _ c.compared-in-Comparison.ensures
 
 pub operand-returns : goal.operand-returns
 operand-returns t c =
