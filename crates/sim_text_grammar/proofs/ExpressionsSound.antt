@@ -21,8 +21,8 @@ use Rattle.sim_text_tree.proofs.Writings.{◌&◌, none, opened_fits, mark_at, m
 use Rattle.sim_text_grammar.proofs.Gives.{Gives, then_, map_, done, refused}
 use Rattle.sim_text_grammar.proofs.Tokens.{same_is, word_gives, literal_gives, event_gives, expect_gives}
 use Rattle.sim_text_grammar.proofs.Lists.{many_gives}
-use Rattle.sim_text_tree.proofs.ExpressionRules.{literal_is, named_is, event_is, call_is, parenthesized_is, not_is, condition_is, compared_is, operand_is, chain_is}
-use Rattle.sim_text_tree.proofs.ExpressionRules.{operands_of}
+use Rattle.sim_text_tree.proofs.ExpressionRules.{literal_is, named_is, event_is, call_is, parenthesized_is, not_is, condition_is, compared_is}
+use Rattle.sim_text_tree.proofs.ExpressionRules.{operand_is, chain_is, operands_of}
 use Rattle.sim_text_tree.proofs.ExpressionLevels.{primary_is_factor, factor_is_relation, relation_is_expression}
 use Rattle.sim_text_grammar.specs.Expressions as spec
 use Rattle.sim_text_grammar.specs.Expressions.{named, named_by, goes_on, logical_of, primary, primary_by, factor, factor_by, comparison, relation}

@@ -106,61 +106,60 @@ pub record IsChain (p n : ℕ) (x : Expression) (i m : Input) : Type 0 where
   pub is : x ≡ e.Chain operator first rest
   pub fits : Fits p n (of_relation first ▸ operands_of operator rest) i m
 
+-- it is a primary, or begins with `not`
+abbrev factor_case : ℕ → ℕ → Input → Input → Expression → Levels → Type 0
+factor_case p n i j x l = Fits p n l.as_factor i j → Fits p n l.as_primary i j ⊎ IsNot p n x i j
+
 pub factor_cases : (p n : ℕ) (x : Expression) (i j : Input) → Fits p n (of_factor x) i j → Fits p n (of_primary x) i j ⊎ IsNot p n x i j
 unfolding of_expression of_primary of_relation of_factor
-factor_cases p n = cases_expression (λ x. (i j : Input) → Fits p n (levels_of x).as_factor i j → Fits p n (levels_of x).as_primary i j ⊎ IsNot p n x i j)
-    (λ v at i j. at_levels (λ l. Fits p n l.as_factor i j → Fits p n l.as_primary i j ⊎ IsNot p n (e.Literal v at) i j) _ (literal_levels v at) (λ h. inl h))
-    (λ x i j. at_levels (λ l. Fits p n l.as_factor i j → Fits p n l.as_primary i j ⊎ IsNot p n (e.Named x) i j) _ (named_levels x) (λ h. inl h))
-    (λ x i j. at_levels (λ l. Fits p n l.as_factor i j → Fits p n l.as_primary i j ⊎ IsNot p n (e.Event x) i j) _ (event_levels x) (λ h. inl h))
-    (λ f a i j. at_levels (λ l. Fits p n l.as_factor i j → Fits p n l.as_primary i j ⊎ IsNot p n (e.Call f a) i j) _ (call_levels f a) (λ h. inl h))
-    (λ at x i j. at_levels (λ l. Fits p n l.as_factor i j → Fits p n l.as_primary i j ⊎ IsNot p n (e.Parenthesized at x) i j) _
-    (parenthesized_levels at x) (λ h. inl h))
-    (λ at x i j. at_levels (λ l. Fits p n l.as_factor i j → Fits p n l.as_primary i j ⊎ IsNot p n (e.Not at x) i j) _ (not_levels at x)
-    (λ h. inr (record { at = at; operand = x; is = refl; fits = h })))
-    (λ at x i j. at_levels (λ l. Fits p n l.as_factor i j → Fits p n l.as_primary i j ⊎ IsNot p n (e.Condition at x) i j) _ (condition_levels at x)
-    (λ h. absurd (never_fits i j h)))
-    (λ x b at y i j. at_levels (λ l. Fits p n l.as_factor i j → Fits p n l.as_primary i j ⊎ IsNot p n (e.Comparison x b at y) i j) _
-    (compared_levels x b at y) (λ h. absurd (never_fits i j h)))
-    (λ b x ls i j. at_levels (λ l. Fits p n l.as_factor i j → Fits p n l.as_primary i j ⊎ IsNot p n (e.Chain b x ls) i j) _ (chain_levels b x ls)
-    (λ h. absurd (never_fits i j h)))
+factor_cases p n = cases_expression (λ x. (i j : Input) → factor_case p n i j x (levels_of x))
+    (λ v at i j. at_levels (factor_case p n i j (e.Literal v at)) _ (literal_levels v at) (λ h. inl h))
+    (λ x i j. at_levels (factor_case p n i j (e.Named x)) _ (named_levels x) (λ h. inl h))
+    (λ x i j. at_levels (factor_case p n i j (e.Event x)) _ (event_levels x) (λ h. inl h))
+    (λ f a i j. at_levels (factor_case p n i j (e.Call f a)) _ (call_levels f a) (λ h. inl h))
+    (λ at x i j. at_levels (factor_case p n i j (e.Parenthesized at x)) _ (parenthesized_levels at x) (λ h. inl h))
+    (λ at x i j. at_levels (factor_case p n i j (e.Not at x)) _ (not_levels at x) (λ h. inr (record { at = at; operand = x; is = refl; fits = h })))
+    (λ at x i j. at_levels (factor_case p n i j (e.Condition at x)) _ (condition_levels at x) (λ h. absurd (never_fits i j h)))
+    (λ x b at y i j. at_levels (factor_case p n i j (e.Comparison x b at y)) _ (compared_levels x b at y) (λ h. absurd (never_fits i j h)))
+    (λ b x ls i j. at_levels (factor_case p n i j (e.Chain b x ls)) _ (chain_levels b x ls) (λ h. absurd (never_fits i j h)))
+
+-- it is a factor, or compares two
+abbrev relation_case : ℕ → ℕ → Input → Input → Expression → Levels → Type 0
+relation_case p n i j x l = Fits p n l.as_relation i j → Fits p n l.as_factor i j ⊎ IsComparison p n x i j
 
 pub relation_cases : (p n : ℕ) (x : Expression) (i j : Input) → Fits p n (of_relation x) i j → Fits p n (of_factor x) i j ⊎ IsComparison p n x i j
 unfolding of_expression of_primary of_relation of_factor
-relation_cases p n = cases_expression (λ x. (i j : Input) → Fits p n (levels_of x).as_relation i j → Fits p n (levels_of x).as_factor i j ⊎
-    IsComparison p n x i j)
-    (λ v at i j. at_levels (λ l. Fits p n l.as_relation i j → Fits p n l.as_factor i j ⊎ IsComparison p n (e.Literal v at) i j) _
-    (literal_levels v at) (λ h. inl h))
-    (λ x i j. at_levels (λ l. Fits p n l.as_relation i j → Fits p n l.as_factor i j ⊎ IsComparison p n (e.Named x) i j) _ (named_levels x) (λ h. inl h))
-    (λ x i j. at_levels (λ l. Fits p n l.as_relation i j → Fits p n l.as_factor i j ⊎ IsComparison p n (e.Event x) i j) _ (event_levels x) (λ h. inl h))
-    (λ f a i j. at_levels (λ l. Fits p n l.as_relation i j → Fits p n l.as_factor i j ⊎ IsComparison p n (e.Call f a) i j) _ (call_levels f a) (λ h. inl h))
-    (λ at x i j. at_levels (λ l. Fits p n l.as_relation i j → Fits p n l.as_factor i j ⊎ IsComparison p n (e.Parenthesized at x) i j) _
-    (parenthesized_levels at x) (λ h. inl h))
-    (λ at x i j. at_levels (λ l. Fits p n l.as_relation i j → Fits p n l.as_factor i j ⊎ IsComparison p n (e.Not at x) i j) _ (not_levels at x) (λ h. inl h))
-    (λ at x i j. at_levels (λ l. Fits p n l.as_relation i j → Fits p n l.as_factor i j ⊎ IsComparison p n (e.Condition at x) i j) _
-    (condition_levels at x) (λ h. absurd (never_fits i j h)))
-    (λ x b at y i j. at_levels (λ l. Fits p n l.as_relation i j → Fits p n l.as_factor i j ⊎ IsComparison p n (e.Comparison x b at y) i j) _
-    (compared_levels x b at y) (λ h. inr (record { left = x; operator = b; at = at; right = y; is = refl; fits = h })))
-    (λ b x ls i j. at_levels (λ l. Fits p n l.as_relation i j → Fits p n l.as_factor i j ⊎ IsComparison p n (e.Chain b x ls) i j) _
-    (chain_levels b x ls) (λ h. absurd (never_fits i j h)))
+relation_cases p n = cases_expression (λ x. (i j : Input) → relation_case p n i j x (levels_of x))
+    (λ v at i j. at_levels (relation_case p n i j (e.Literal v at)) _ (literal_levels v at) (λ h. inl h))
+    (λ x i j. at_levels (relation_case p n i j (e.Named x)) _ (named_levels x) (λ h. inl h))
+    (λ x i j. at_levels (relation_case p n i j (e.Event x)) _ (event_levels x) (λ h. inl h))
+    (λ f a i j. at_levels (relation_case p n i j (e.Call f a)) _ (call_levels f a) (λ h. inl h))
+    (λ at x i j. at_levels (relation_case p n i j (e.Parenthesized at x)) _ (parenthesized_levels at x) (λ h. inl h))
+    (λ at x i j. at_levels (relation_case p n i j (e.Not at x)) _ (not_levels at x) (λ h. inl h))
+    (λ at x i j. at_levels (relation_case p n i j (e.Condition at x)) _ (condition_levels at x) (λ h. absurd (never_fits i j h)))
+    (λ x b at y i j. at_levels (relation_case p n i j (e.Comparison x b at y)) _ (compared_levels x b at y)
+    (λ h. inr (record { left = x; operator = b; at = at; right = y; is = refl; fits = h })))
+    (λ b x ls i j. at_levels (relation_case p n i j (e.Chain b x ls)) _ (chain_levels b x ls) (λ h. absurd (never_fits i j h)))
 
-pub expression_cases : (p n : ℕ) (x : Expression) (i j : Input) → Fits p n (of_expression x) i j → Fits p n (of_relation x) i j ⊎ IsCondition p n x i j ⊎ IsChain p n x i j
+-- it is a relation, or begins with `??`, or is a chain
+abbrev expression_case : ℕ → ℕ → Input → Input → Expression → Levels → Type 0
+expression_case p n i j x l = Fits p n l.as_expression i j → Fits p n l.as_relation i j ⊎ IsCondition p n x i j ⊎ IsChain p n x i j
+
+pub expression_cases : (p n : ℕ) (x : Expression) (i j : Input) → Fits p n (of_expression x) i j
+    → Fits p n (of_relation x) i j ⊎ IsCondition p n x i j ⊎ IsChain p n x i j
 unfolding of_expression of_primary of_relation of_factor
-expression_cases p n = cases_expression (λ x. (i j : Input) → Fits p n (levels_of x).as_expression i j → Fits p n (levels_of x).as_relation i j ⊎ IsCondition p n x i j ⊎
-    IsChain p n x i j)
-    (λ v at i j. at_levels (λ l. Fits p n l.as_expression i j → Fits p n l.as_relation i j ⊎ IsCondition p n (e.Literal v at) i j ⊎ IsChain p n (e.Literal v at) i j) _ (literal_levels v at)
-    (λ h. inl h))
-    (λ x i j. at_levels (λ l. Fits p n l.as_expression i j → Fits p n l.as_relation i j ⊎ IsCondition p n (e.Named x) i j ⊎ IsChain p n (e.Named x) i j) _ (named_levels x) (λ h. inl h))
-    (λ x i j. at_levels (λ l. Fits p n l.as_expression i j → Fits p n l.as_relation i j ⊎ IsCondition p n (e.Event x) i j ⊎ IsChain p n (e.Event x) i j) _ (event_levels x) (λ h. inl h))
-    (λ f a i j. at_levels (λ l. Fits p n l.as_expression i j → Fits p n l.as_relation i j ⊎ IsCondition p n (e.Call f a) i j ⊎ IsChain p n (e.Call f a) i j) _ (call_levels f a) (λ h. inl h))
-    (λ at x i j. at_levels (λ l. Fits p n l.as_expression i j → Fits p n l.as_relation i j ⊎ IsCondition p n (e.Parenthesized at x) i j ⊎ IsChain p n (e.Parenthesized at x) i j) _
-    (parenthesized_levels at x) (λ h. inl h))
-    (λ at x i j. at_levels (λ l. Fits p n l.as_expression i j → Fits p n l.as_relation i j ⊎ IsCondition p n (e.Not at x) i j ⊎ IsChain p n (e.Not at x) i j) _ (not_levels at x) (λ h. inl h))
-    (λ at x i j. at_levels (λ l. Fits p n l.as_expression i j → Fits p n l.as_relation i j ⊎ IsCondition p n (e.Condition at x) i j ⊎
-    IsChain p n (e.Condition at x) i j) _ (condition_levels at x) (λ h. inr (inl (record { at = at; operand = x; is = refl; fits = h }))))
-    (λ x b at y i j. at_levels (λ l. Fits p n l.as_expression i j → Fits p n l.as_relation i j ⊎ IsCondition p n (e.Comparison x b at y) i j ⊎ IsChain p n (e.Comparison x b at y) i j) _
-    (compared_levels x b at y) (λ h. inl h))
-    (λ b x ls i j. at_levels (λ l. Fits p n l.as_expression i j → Fits p n l.as_relation i j ⊎ IsCondition p n (e.Chain b x ls) i j ⊎ IsChain p n (e.Chain b x ls) i j) _
-    (chain_levels b x ls) (λ h. inr (inr (record { operator = b; first = x; rest = ls; is = refl; fits = h }))))
+expression_cases p n = cases_expression (λ x. (i j : Input) → expression_case p n i j x (levels_of x))
+    (λ v at i j. at_levels (expression_case p n i j (e.Literal v at)) _ (literal_levels v at) (λ h. inl h))
+    (λ x i j. at_levels (expression_case p n i j (e.Named x)) _ (named_levels x) (λ h. inl h))
+    (λ x i j. at_levels (expression_case p n i j (e.Event x)) _ (event_levels x) (λ h. inl h))
+    (λ f a i j. at_levels (expression_case p n i j (e.Call f a)) _ (call_levels f a) (λ h. inl h))
+    (λ at x i j. at_levels (expression_case p n i j (e.Parenthesized at x)) _ (parenthesized_levels at x) (λ h. inl h))
+    (λ at x i j. at_levels (expression_case p n i j (e.Not at x)) _ (not_levels at x) (λ h. inl h))
+    (λ at x i j. at_levels (expression_case p n i j (e.Condition at x)) _ (condition_levels at x)
+    (λ h. inr (inl (record { at = at; operand = x; is = refl; fits = h }))))
+    (λ x b at y i j. at_levels (expression_case p n i j (e.Comparison x b at y)) _ (compared_levels x b at y) (λ h. inl h))
+    (λ b x ls i j. at_levels (expression_case p n i j (e.Chain b x ls)) _ (chain_levels b x ls)
+    (λ h. inr (inr (record { operator = b; first = x; rest = ls; is = refl; fits = h }))))
 
 -- which primary an expression is
 pub data PrimaryCase (p n : ℕ) (x : Expression) (i m : Input) : Type 0 where
