@@ -96,6 +96,11 @@ unfolding boolean_objects
 boolean_chain_reads op x ys = ap boolean_objects (sym (b.rolls-Chain op x ys))
     ∙ boolean_folds.fold-roll-BooleanExpression (List ℕ) boolean_objects_rule (bo.Chain op x ys)
 
+pub condition_reads : (x : LogicExpression) → boolean_objects (b.Condition x) ≡ logic_objects x
+unfolding boolean_objects
+condition_reads x = ap boolean_objects (sym (b.rolls-Condition x))
+    ∙ boolean_folds.fold-roll-BooleanExpression (List ℕ) boolean_objects_rule (bo.Condition x)
+
 pub logics_compared_read : (x : LogicExpression) (op : Relational) (y : LogicExpression)
     → boolean_objects (b.LogicComparison x op y) ≡ logic_objects x ++ logic_objects y
 unfolding boolean_objects
@@ -151,6 +156,7 @@ pub ruleset booleans_read = (
   edge_reads,
   boolean_not_reads,
   boolean_chain_reads,
+  condition_reads,
   logics_compared_read,
   booleans_compared_read,
 )

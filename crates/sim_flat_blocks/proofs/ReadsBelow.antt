@@ -140,6 +140,7 @@ module _ (count : ℕ) (vs : List Held) where
       (q.1 (of_both (boolean_fits count vs q.0) (all (map (boolean_fits count vs) rest)) e))
       (parts_below count (boolean_fits count vs) boolean_objects qs
       (second_of_both (boolean_fits count vs q.0) (all (map (boolean_fits count vs) rest)) e)))
+  boolean_parts (bo.Condition x) = boolean_step (bo.Condition x) (logic_below x)
   boolean_parts (bo.LogicComparison x op y) = boolean_step (bo.LogicComparison x op y) (λ e.
       below_both count (logic_objects x) (logic_objects y) (logic_below x (of_both (logic_fits count vs x) (logic_fits count vs y) e))
       (logic_below y (second_of_both (logic_fits count vs x) (logic_fits count vs y) e)))

@@ -84,6 +84,7 @@ fn add_boolean(expression: &BooleanExpression, found: &mut Vec<usize>) -> Result
             add_boolean(first.get(), found)?;
             add_booleans(rest.as_slice(), found)
         }
+        BooleanExpression::Condition(operand) => add_logic(operand, found),
         BooleanExpression::LogicComparison { left, right, .. } => {
             add_two_logics(left.get(), right.get(), found)
         }
