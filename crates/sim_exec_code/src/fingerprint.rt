@@ -64,6 +64,7 @@ fn mix_boolean(expression: &BooleanExpression, number: u64) -> u64 {
             let first = mix_boolean(first.get(), mixed_both(number, 6, *operator as u64));
             mix_boolean_operands(rest.as_slice(), first)
         }
+        BooleanExpression::Condition(operand) => mix_logic(operand, mixed(number, 9)),
         BooleanExpression::LogicComparison {
             left,
             operator,
