@@ -8,10 +8,10 @@ use Rattle.sim_flat_blocks.specs.Blocks.{no_block, IsWithinLimits}
 use Rattle.sim_flat_expansion.specs.Counts.{number, capped}
 use Rattle.sim_flat_expansion.specs.Depth.{has_chain}
 use Rattle.sim_flat_expansion.specs.Flat.{flat}
-use Rattle.sim_flat_expansion.specs.Limits.{Fits, all}
+use Rattle.sim_flat_expansion.specs.Limits.{Fits, all, most_instances}
 
-pub is_within : (n x : ℕ) (b : Bool) → x ≡ capped n → Decides b (x ≤ 16384) → Decides b (n ≤ most)
-is_within n x b e d = ((λ t. let k = d.0 t in omega arith), λ le. d.1 (omega arith))
+pub is_within : (n x limit : ℕ) (b : Bool) → x ≡ capped n → limit ≤ most → Decides b (x ≤ limit) → Decides b (n ≤ limit)
+is_within n x limit b e l d = ((λ t. let k = d.0 t in omega arith), λ le. d.1 (omega arith))
 
 both : (a b : Bool) → a && b ≡ true → (a ≡ true) × (b ≡ true)
 both true b e = (refl, e)
@@ -42,7 +42,7 @@ is_shallow : (deep b : Bool) → deep ≡ b → Decides (not deep) (b ≡ false)
 is_shallow deep b e = ((λ t. sym e ∙ is_false deep t), λ f. ap not (e ∙ f))
 
 pub fits_is : (blocks : List Block) (top : ℕ) (deep i d : Bool) → deep ≡ has_chain blocks 33 (slice_index_or blocks top no_block)
-    → Decides i (number Instances blocks top ≤ most) → Decides d (IsWithinLimits (flat blocks top)) → Decides (all (not deep) i d) (Fits blocks top)
+    → Decides i (number Instances blocks top ≤ most_instances) → Decides d (IsWithinLimits (flat blocks top)) → Decides (all (not deep) i d) (Fits blocks top)
 fits_is blocks top deep i d e hi hd =
     let h = all_holds (not deep) i d (is_shallow deep (has_chain blocks 33 (slice_index_or blocks top no_block)) e) hi hd in
     ((λ t. let x = h.0 t in record { design = x.2; instances = x.1; depth = x.0 }), λ f. h.1 (f.depth, f.instances, f.design))

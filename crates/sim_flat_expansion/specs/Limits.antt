@@ -1,6 +1,5 @@
 -- The limits of a hierarchy.
-use Rattle.std.specs.Prelude.{ℕ, ◌≡◌, ◌≤◌, ◌&&◌, List, Bool, false, slice_index_or}
-use Rattle.sim_flat_design.specs.Designs.{most}
+use Rattle.std.specs.Prelude.{ℕ, ◌≡◌, ◌≤◌, ◌^◌, ◌&&◌, List, Bool, false, slice_index_or}
 use Rattle.sim_flat_blocks.specs.declared.parts.Block.{Block}
 use Rattle.sim_flat_expansion.specs.declared.counts.Kind.TheVariants.{Instances}
 use Rattle.sim_flat_blocks.specs.Blocks.{IsWithinLimits, no_block}
@@ -8,10 +7,15 @@ use Rattle.sim_flat_expansion.specs.Counts.{number}
 use Rattle.sim_flat_expansion.specs.Depth.{has_chain}
 use Rattle.sim_flat_expansion.specs.Flat.{flat}
 
--- The flat design has no more nets, processes and drivers than it may, there are no more instances, and none stands deeper than 32.
+-- how many instances a hierarchy may have
+abbrev pub most_instances : ℕ
+most_instances = 2 ^ 14
+
+-- The flat design has no more nets, processes and drivers than it may, the hierarchy has no more instances than it may, and none
+-- stands deeper than 32.
 pub record Fits (blocks : List Block) (top : ℕ) : Type 0 where
   pub design : IsWithinLimits (flat blocks top)
-  pub instances : number Instances blocks top ≤ most
+  pub instances : number Instances blocks top ≤ most_instances
   pub depth : has_chain blocks 33 (slice_index_or blocks top no_block) ≡ false
 
 abbrev pub all : Bool → Bool → Bool → Bool

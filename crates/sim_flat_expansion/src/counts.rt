@@ -21,7 +21,7 @@ pub enum Kind {
 }
 
 /// One more than a design may have.
-const ABOVE: usize = 16_385;
+const ABOVE: usize = 65_537;
 
 /// How many levels of instances there are below the top.
 const LEVELS: usize = 32;

@@ -13,18 +13,28 @@ use crate::depth::is_too_deep;
 use sim_flat_blocks::parts::Block;
 use std::alloc::{AllocError, Global};
 
-/// How many of a kind there may be.
-const MOST: usize = 16_384;
+/// How many nets, processes and drivers there may be, of each.
+const MOST: usize = 65_536;
 
-/// Whether there are no more of a kind than there may be.
+/// How many instances there may be.
+const MOST_INSTANCES: usize = 16_384;
+
+/// Whether there are no more of a kind than this limit.
 #[tactic(auto, using(crate::proofs::Within::is_within))]
-fn is_within(alloc: Global, blocks: &[Block], top: usize, kind: Kind) -> Result<bool, AllocError>
+fn is_within(
+    alloc: Global,
+    blocks: &[Block],
+    top: usize,
+    kind: Kind,
+    limit: usize,
+) -> Result<bool, AllocError>
     requires known { All (IsBlock blocks.now) blocks.now }
     requires top { top < length blocks.now }
-    ensures { IfOk result (λ b. Decides b (number kind blocks.now top ≤ most)) }
+    requires limit { limit ≤ most }
+    ensures { IfOk result (λ b. Decides b (number kind blocks.now top ≤ limit)) }
 {
     let number = count(alloc, blocks, top, kind)?;
-    let found = number <= MOST;
+    let found = number <= limit;
     Ok(found)
 }
 
@@ -34,9 +44,9 @@ fn design_fits(alloc: Global, blocks: &[Block], top: usize) -> Result<bool, Allo
     requires top { top < length blocks.now }
     ensures { IfOk result (λ b. Decides b (IsWithinLimits (flat blocks.now top))) }
 {
-    let nets = is_within(alloc, blocks, top, Kind::Nets)?;
-    let processes = is_within(alloc, blocks, top, Kind::Processes)?;
-    let drivers = is_within(alloc, blocks, top, Kind::Drivers)?;
+    let nets = is_within(alloc, blocks, top, Kind::Nets, MOST)?;
+    let processes = is_within(alloc, blocks, top, Kind::Processes, MOST)?;
+    let drivers = is_within(alloc, blocks, top, Kind::Drivers, MOST)?;
     Ok(all(nets, processes, drivers))
 }
 
@@ -47,7 +57,7 @@ pub fn fits(alloc: Global, blocks: &[Block], top: usize) -> Result<bool, AllocEr
     ensures { IfOk result (λ b. Decides b (spec.Fits blocks.now top)) }
 {
     let deep = is_too_deep(alloc, blocks, top)?;
-    let instances = is_within(alloc, blocks, top, Kind::Instances)?;
+    let instances = is_within(alloc, blocks, top, Kind::Instances, MOST_INSTANCES)?;
     let design = design_fits(alloc, blocks, top)?;
     Ok(all(!deep, instances, design))
 }
