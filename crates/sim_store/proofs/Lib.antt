@@ -4,6 +4,7 @@ pub mod Phases
 pub mod Going
 pub mod Listing
 pub mod Readiness
+pub mod Boxes
 pub mod Stores
 pub mod Walks
 pub mod Crossing

@@ -211,6 +211,16 @@ fn prepared(alloc: Global, design: &Design) -> Result<Made, AllocError>
     })
 }
 
+/// The same in a box, so that it stays where it is when the simulation is handed on.
+fn boxed(alloc: Global, design: &Design) -> Result<Box<Made>, AllocError>
+    ensures start { IfOk result (λ m. (m.value.time ≡ 0) × (m.value.delta ≡ 0) × (m.value.phase ≡ phase.AtOnce)) }
+    ensures lists { IfOk result (λ m. AreFirst design.now m.value) }
+{
+    let made = prepared(alloc, design)?;
+    let made = Box::new(alloc, made)?;
+    Ok(made)
+}
+
 /// Executes a process in place that is due and has not been executed since the last cycle.
 fn execute(alloc: Global, design: &Design, made: &mut Made, number: usize) -> Result<(), AllocError>
     requires of { IsOf design.now made.old }
@@ -232,7 +242,8 @@ fn execute(alloc: Global, design: &Design, made: &mut Made, number: usize) -> Re
 }
 
 /// Executes all that are due and have not been executed since the last cycle, in place and in
-/// rising order.
+/// rising order. It stands alone so that the loop keeps what it needs at hand.
+#[inline(never)]
 fn execute_all(alloc: Global, design: &Design, made: &mut Made) -> Result<(), AllocError>
     requires { IsOf design.now made.old }
     ensures of { OnOk result (IsOf design.now made.new) }
@@ -252,7 +263,8 @@ fn execute_all(alloc: Global, design: &Design, made: &mut Made) -> Result<(), Al
 #[derive(Drop)]
 pub struct Simulation {
     design: Design,
-    made: Made,
+    /// In a box, so that little is moved where a simulation is handed on.
+    made: Box<Made>,
 }
 
 impl Model for Simulation {
@@ -267,9 +279,9 @@ impl Model for Simulation {
 
     ghost coded = { Prim.hlevel (codes, logic.the_row.coded, boolean.the_row.coded, statement.the_row.coded) };
 
-    ghost view = { λ s. simulation_of s.design s.made };
+    ghost view = { λ s. simulation_of s.design s.made.value };
 
-    ghost invariant = { λ s. IsOf s.design s.made };
+    ghost invariant = { λ s. IsOf s.design s.made.value };
 }
 
 impl Simulation {
@@ -290,7 +302,7 @@ impl Simulation {
         let _nets = design.nets();
         let _drivers = design.drivers();
         are_processes(design.processes());
-        match prepared(alloc, &design) {
+        match boxed(alloc, &design) {
             Err(error) => Err((error, design)),
             Ok(made) => Ok(Simulation { design, made }),
         }
@@ -302,12 +314,13 @@ impl Simulation {
         ensures { IfOk result (λ job. spec.IsJobOf self.now number job) }
     {
         let process = &self.design.processes()[number];
-        let part = self.made.state.part(alloc, number, process.reads())?;
+        let made = &*self.made;
+        let part = made.state.part(alloc, number, process.reads())?;
         let process = process.try_copy()?;
         Ok(Job::new(
-            self.made.log.len() - 1,
+            made.log.len() - 1,
             number,
-            self.made.time,
+            made.time,
             process,
             part.views,
             part.variables,
@@ -330,13 +343,11 @@ impl Simulation {
         ensures same { self.new ≡ self.old }
         ensures value { IfOk result (spec.IsUpcoming self.old) }
     {
-        let next = self.made.state.next()?;
-        Ok(upcoming(
-            self.made.phase,
-            self.is_delta(next),
-            !self.made.waiting.is_empty(),
-            next,
-        ))
+        let made = &mut *self.made;
+        let next = made.state.next()?;
+        let is_waited = !made.waiting.is_empty();
+        let phase = made.phase;
+        Ok(upcoming(phase, self.is_delta(next), is_waited, next))
     }
 
     /// Begins the phase of postponed processes: those that wait are due (14.7.5.3 h).
@@ -346,9 +357,10 @@ impl Simulation {
         requires next { spec.ArePostponedNext self.old.design self.old.cycles (spec.updated_last self.old) }
         ensures { self.new ≡ spec.in_postponed_phase self.old }
     {
-        self.made.phase = Phase::Postponed;
-        self.made.due.take(&self.made.waiting);
-        self.made.deposited.clear();
+        let made = &mut *self.made;
+        made.phase = Phase::Postponed;
+        made.due.take(&made.waiting);
+        made.deposited.clear();
     }
 
     /// How many cycles there were.
@@ -387,13 +399,14 @@ impl Simulation {
         ensures { IsTrue result ↔ spec.IsOwn self.now job.now }
     {
         let process = &self.design.processes()[job.number()];
-        if job.time() != self.made.time {
+        let made = &*self.made;
+        if job.time() != made.time {
             return false;
         }
         if !process.same(job.process()) {
             return false;
         }
-        self.made.state.is_part(
+        made.state.is_part(
             job.number(),
             process.reads(),
             job.views(),
@@ -412,8 +425,9 @@ impl Simulation {
     {
         let (job, results) = done.into_parts();
         let number = job.number();
-        put_results(&mut self.made.state, number, results);
-        self.made.deposited.insert(number);
+        let made = &mut *self.made;
+        put_results(&mut made.state, number, results);
+        made.deposited.insert(number);
     }
 
     /// Carries out the cycle at the time of the next, once all of the last one have been executed
@@ -428,22 +442,18 @@ impl Simulation {
         ensures err { OnErr result (self.new ≡ self.old) }
     {
         let nets = self.design.nets().len();
-        self.made.log.reserve(nets)?;
-        self.made.state.update(time)?;
-        self.made.delta = next_delta(time, self.made.time, self.made.delta);
-        self.made.time = time;
-        self.made
-            .state
-            .record(&mut self.made.log, time, self.made.delta);
-        count_last(self.made.totals.as_mut_slice(), &self.made.log);
-        leave(&mut self.made.waiting, self.made.phase);
-        self.made.phase = Phase::AtOnce;
-        self.made.due.find(
-            &self.made.state,
-            &self.made.lists.sensitive,
-            &mut self.made.waiting,
-        );
-        self.made.deposited.clear();
+        let made = &mut *self.made;
+        made.log.reserve(nets)?;
+        made.state.update(time)?;
+        made.delta = next_delta(time, made.time, made.delta);
+        made.time = time;
+        made.state.record(&mut made.log, time, made.delta);
+        count_last(made.totals.as_mut_slice(), &made.log);
+        leave(&mut made.waiting, made.phase);
+        made.phase = Phase::AtOnce;
+        made.due
+            .find(&made.state, &made.lists.sensitive, &mut made.waiting);
+        made.deposited.clear();
         Ok(())
     }
 
@@ -471,7 +481,8 @@ impl Simulation {
     pub fn missing(&self) -> Option<usize>
         ensures { MatchOption result (spec.IsComplete self.now) (spec.IsLeastMissing self.now) }
     {
-        self.made.due.next_beside(&self.made.deposited, 0)
+        let made = &*self.made;
+        made.due.next_beside(&made.deposited, 0)
     }
 
     /// Executes all that are due and have not been executed since the last cycle, in place and in
@@ -502,7 +513,8 @@ impl Simulation {
         ensures there { standard self.now.design self.now.cycles ≡ Some (spec.updated_last self.now) }
         ensures rising { spec.AreRising self.now }
     {
-        (self.made.time, self.made.delta)
+        let made = &*self.made;
+        (made.time, made.delta)
     }
 
     /// The value of the net with a number; `None` if out of range. It is also that of its last

@@ -1,12 +1,14 @@
 use Rattle.std.proofs.Common.{sym, subst}
 use Rattle.sim_store.specs.Simulation.{Simulation, IsComplete, IsUpcoming}
-use Rattle.sim_store.specs.contracts.simulation.Simulation.{the_view}
 use Rattle.sim_store.proofs.Going.{coming}
+use Rattle.sim_store.proofs.Boxes.{held, shown}
 use Rattle.sim_store.proofs.simulation.Simulation.upcoming.Goals as goal
 
 pub returns-clause-value : goal.returns-clause-value
 returns-clause-value c =
-    let all = subst IsComplete (sym c.self.view_is) c.requires in
-    subst (λ (h : Simulation). IsUpcoming h c.upcoming.result) c.self.view_is (rw c.upcoming.ensures
-    (coming c.self.invariant.state all c.in_ok-next.next c.is_delta.result c.is_empty.result c.in_ok-next.ensures.value c.is_delta.ensures
-    c.is_empty.ensures))
+    let kept = held c.self.inside.design c.deref_mut-made.ensures.value c.self.invariant in
+    let view = shown c.self.inside.design c.deref_mut-made.ensures.value c.self.view_is in
+    let all = subst IsComplete (sym view) c.requires in
+    subst (λ (h : Simulation). IsUpcoming h c.upcoming.result) view (rw c.upcoming.ensures
+    (coming kept.state all c.in_ok-next.next c.is_delta.result c.is_empty-is_waited.result c.in_ok-next.ensures.value c.is_delta.ensures
+    c.is_empty-is_waited.ensures))
