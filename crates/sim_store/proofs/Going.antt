@@ -23,7 +23,7 @@ use Rattle.sim_logic.specs.Time.{largest_time}
 use Rattle.sim_exec.specs.Jobs.{IsJob, IsReady, Job, holds_bit, result_of, scene}
 use Rattle.sim_standard.specs.declared.record.Record.{Record}
 use Rattle.sim_standard.specs.Cycle.{own_taken, is_at_once, is_postponed, is_resumed, is_waiting, updated, next_delta, has_event_in}
-use Rattle.sim_standard.specs.Cycle.{CycleAt, Following, PostponedDelta, following_of, has_postponed_delta}
+use Rattle.sim_standard.specs.Cycle.{CycleAt, PostponedDelta, following_of, has_postponed_delta}
 use Rattle.sim_standard.specs.Orders.{is_among}
 use Rattle.sim_standard.specs.Initialization.{first_owned, idle, first_state}
 use Rattle.sim_flat_design.specs.declared.design.Source.{Source}

@@ -1,5 +1,5 @@
 -- Members of sets, by number.
-use Rattle.std.proofs.Common.{ℕ, zero, suc, ◌≡◌, Bool, false, List, replicate, refl}
+use Rattle.std.proofs.Common.{ℕ, zero, suc, ◌≡◌, false, replicate, refl}
 use Rattle.sim_store_sets.specs.Numbers.{is_in}
 
 pub none-replicated : (n p : ℕ) → is_in (replicate n false) p ≡ false

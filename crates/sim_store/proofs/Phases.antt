@@ -1,21 +1,19 @@
 -- The two phases of a cycle: what the one that is the last leaves is what the cycle leaves, and what comes after a phase.
-use Rattle.std.proofs.Common.{ℕ, zero, suc, ◌+◌, ◌<◌, ◌≤◌, ◌≡◌, ◌≢◌, ◌==◌, ◌&&◌, ◌||◌, not, Bool, true, false, if◌then◌else◌, List, [], ◌∷◌, length}
-use Rattle.std.proofs.Common.{Option, None, Some, IsTrue, ◌↔◌, refl, ap, sym, ◌∙◌, subst, arith}
+use Rattle.std.proofs.Common.{ℕ, ◌<◌, ◌≡◌, ◌≢◌, ◌==◌, ◌&&◌, ◌||◌, not, Bool, true, false, if◌then◌else◌, List, [], ◌∷◌, length}
+use Rattle.std.proofs.Common.{Option, None, Some, refl, ap, sym, ◌∙◌, subst, arith}
 use Rattle.std.specs.List.{All}
 use Rattle.sim_flat_design.specs.Designs.{Design}
 use Rattle.sim_flat_design.specs.Processes.{IsProcess}
 use Rattle.sim_standard.specs.State.{State, Owned}
 use Rattle.sim_standard.specs.Orders.{is_among}
 use Rattle.sim_standard.specs.Processes.{part, outcome, process_at}
-use Rattle.sim_standard.specs.Together.{merged, together, first_together, executed_together}
-use Rattle.sim_standard.specs.Cycle.{is_at_once, is_postponed, is_resumed, is_waiting, is_time_of, first_in_turn, executed_in_turn, precedes_delta, those}
-use Rattle.sim_standard.specs.Cycle.{waiting_now, with_waiting, next_cycle_time, has_postponed_delta, following, following_of, PostponedDelta}
+use Rattle.sim_standard.specs.Together.{together, first_together, executed_together}
+use Rattle.sim_standard.specs.Cycle.{is_at_once, is_postponed, is_resumed, is_waiting, is_time_of, first_in_turn, executed_in_turn, precedes_delta}
+use Rattle.sim_standard.specs.Cycle.{waiting_now, with_waiting, next_cycle_time, has_postponed_delta, following, following_of}
 use Rattle.sim_standard.proofs.Together.{length-merged, merged-none}
 use Rattle.sim_standard.proofs.Parallel.{executed_time, first_is_together, in_turn_is_together, merged-below, those-in}
 use Rattle.sim_store.specs.declared.phase.Phase.{Phase}
 use Rattle.sim_store.specs.declared.phase.Phase.TheVariants as phase
-use Rattle.sim_store.specs.declared.phase.Upcoming.{Upcoming}
-use Rattle.sim_store.specs.declared.phase.Upcoming.TheVariants as upcoming
 use Rattle.sim_store.specs.Simulation.{Simulation, ArePostponedNext, IsLastPhase, IsPhase, IsUpcoming, cycle_of, is_before, is_left, is_of_phase, owned_before}
 use Rattle.sim_store.specs.Simulation.{next_after, upcoming_of, updated_last}
 

@@ -1,4 +1,4 @@
-use Rattle.std.proofs.Common.{rules, ℕ, List, length, ap, sym, subst, arith}
+use Rattle.std.proofs.Common.{rules, List, length, ap, subst, arith}
 use Rattle.std.specs.List.{All}
 use Rattle.sim_flat_design.specs.Designs.{AreOwned}
 use Rattle.sim_flat_design.specs.Processes.{Process, IsProcess}
