@@ -1,4 +1,4 @@
-use Rattle.std.proofs.Common.{◌≡◌, List, [], ap, sym, ◌∙◌, min, replicate}
+use Rattle.std.proofs.Common.{◌≡◌, List, [], ap, sym, ◌∙◌, replicate}
 use Rattle.sim_flat_blocks.specs.declared.links.Link.{Link}
 use Rattle.sim_flat_blocks.specs.declared.links.Link.TheVariants.{Open}
 use Rattle.sim_flat_blocks.specs.Links.{by_place, unlinked}
