@@ -242,8 +242,7 @@ fn execute(alloc: Global, design: &Design, made: &mut Made, number: usize) -> Re
 }
 
 /// Executes all that are due and have not been executed since the last cycle, in place and in
-/// rising order. It stands alone so that the loop keeps what it needs at hand.
-#[inline(never)]
+/// rising order.
 fn execute_all(alloc: Global, design: &Design, made: &mut Made) -> Result<(), AllocError>
     requires { IsOf design.now made.old }
     ensures of { OnOk result (IsOf design.now made.new) }
