@@ -11,7 +11,9 @@ invariant_of-result c =
     let m = c.in-Ok.ensures.lists in
     let owned : AreOwned (length c.args.design.nets) 0 0 c.args.design.processes c.args.design.drivers = search rules in
     let all : All IsProcess c.args.design.processes = subst (λ (ps : List Process). All IsProcess ps) c.processes.ensures.value c.are_processes.ensures in
-    let begun = begins c.args.design _ c.in-Ok.made.value.state c.in-Ok.made.value.log.records c.in-Ok.made.value.due c.in-Ok.made.value.waiting.waiting c.in-Ok.made.value.deposited
+    let begun = begins c.args.design _
+    c.in-Ok.made.value.state c.in-Ok.made.value.log.records c.in-Ok.made.value.due
+    c.in-Ok.made.value.waiting.waiting c.in-Ok.made.value.deposited
     (search rules) owned all (omega (arith, ap length m.records_is)) m.held_is m.records_is m.parted m.deposited_is in
     record {
       made = m.lists;

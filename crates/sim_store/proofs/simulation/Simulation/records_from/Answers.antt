@@ -15,7 +15,8 @@ records_from-requires c =
     let m = c.deref.result.now in
     let kept = held c.self.inside.design c.deref.ensures c.self.invariant in
     let view = shown c.self.inside.design c.deref.ensures c.self.view_is in
-    let few : c.args.number ≤ suc (simulation_of c.self.inside.design m).cycles = subst (λ (g : Simulation). c.args.number ≤ suc g.cycles) (sym view) c.requires in
+    let few : c.args.number ≤ suc (simulation_of c.self.inside.design m).cycles =
+    subst (λ (g : Simulation). c.args.number ≤ suc g.cycles) (sym view) c.requires in
     omega (arith, few, cycle-count kept.state)
 
 pub returns-clause-named : goal.returns-clause-named
