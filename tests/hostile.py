@@ -11,6 +11,7 @@
 
 What differs is told. A table has time and memory of the huge texts. The last line is `N passed, M failed`.
 """
+import itertools
 import os
 import pty
 import re
@@ -110,43 +111,57 @@ def filled(begin, again, end=b""):
 
 BEGIN = b"entity t is end;architecture a of t is signal s:std_logic;begin "
 PROCESS = BEGIN + b"process(s)begin "
-NUMBERED = b"entity t is end;architecture a of t is signal s0" + b"".join(b",s%d" % n for n in range(1, 1 << 16)) + b":std_logic;begin "
-HUGE = [
-    ("blanks", filled(b"", b" "), 1, "Syntax at 1048576"),
-    ("a byte more than a text may have", b" " * (MOST + 1), 1, "TooLong"),
-    ("a comment", filled(b"--", b"-"), 1, "Syntax at 1048576"),
-    ("comments of one line", filled(b"", b"--\n"), 1, "Syntax at 1048576"),
-    ("a comment that is open", filled(b"/*", b"*"), 1, "OpenComment at 0"),
-    ("zero bytes", filled(b"", b"\0"), 1, "BadByte at 0"),
-    ("bytes above 127", filled(b"", b"\xff"), 1, "BadByte at 0"),
-    ("apostrophes", filled(b"", b"'"), 1, "Syntax at 0"),
-    ("one word", filled(b"", b"a"), 1, "Syntax at 0"),
-    ("an entity of one long name", filled(b"entity ", b"a", b" is end;"), 1, "NoTop"),
-    ("opened parentheses", filled(BEGIN + b"s<=", b"("), 1, f"TooDeep at {len(BEGIN) + 3 + 64}"),
-    ("opened ifs", filled(PROCESS, b"if s then "), 1, f"TooDeep at {len(PROCESS) + 10 * 64}"),
-    ("an operator and its operand", filled(BEGIN + b"s<=s", b" and s", b";end;"), 0, None),
-    ("elements of a waveform", filled(BEGIN + b"s<='0'", b",'0'", b";end;"), 1, f"NotAscending at {len(BEGIN) + 7}"),
-    ("branches of an if", filled(PROCESS + b"if s then ", b"elsif s then ", b"end if;end process;end;"), 0, None),
-    ("alternatives", filled(BEGIN + b"s<='0' when s", b" else '1' when s", b";end;"), 0, None),
-    ("null statements", filled(PROCESS, b"null;", b"end process;end;"), 0, None),
-    ("assignments, 65,536", BEGIN + b"s<='0';" * (1 << 16) + b"end;", 0, None),
-    ("assignments, as many as there is room for", filled(BEGIN, b"s<='0';", b"end;"), 1, "TooMany at 7"),
-    ("signals, 65,536", NUMBERED + b"end;", 0, None),
-    ("signals and assignments, 65,536 of each", NUMBERED + b"".join(b"s%d<=s;" % n for n in range(1 << 15)) + b"end;", 1, None),
-    ("entities of one name", filled(b"", b"entity t is end;"), 1, "Duplicate at 23"),
-    ("context clauses", filled(b"", b"use a.b;", b"entity t is end;architecture a of t is begin end;"), 0, None),
-]
+
+
+def names(count):
+    """So many short names: a letter, a digit, and up to two letters or digits."""
+    letters, digits = "abcdefghijklmnopqrstuvwxyz", "0123456789"
+    ends = ["", *letters, *digits, *map("".join, itertools.product(letters + digits, repeat=2))]
+    return ["".join(it) for it in itertools.islice(itertools.product(letters, digits, ends), count)]
+
+
+def with_signals(count, statements):
+    """A design of so many signals, and a statement for each but the first."""
+    of_all = names(count)
+    body = "".join(statements.format(name, of_all[0]) for name in of_all[1:])
+    return f"entity t is end;architecture a of t is signal {','.join(of_all)}:std_logic;begin {of_all[0]}<='1';{body}end;".encode()
+
+
+def texts():
+    """Yields the name of a text, the text, its status, and its refusal or the last line of its listing."""
+    yield "blanks", filled(b"", b" "), 1, "Syntax at 1048576"
+    yield "a byte more than a text may have", b" " * (MOST + 1), 1, "TooLong"
+    yield "a comment", filled(b"--", b"-"), 1, "Syntax at 1048576"
+    yield "comments of one line", filled(b"", b"--\n"), 1, "Syntax at 1048576"
+    yield "a comment that is open", filled(b"/*", b"*"), 1, "OpenComment at 0"
+    yield "zero bytes", filled(b"", b"\0"), 1, "BadByte at 0"
+    yield "bytes above 127", filled(b"", b"\xff"), 1, "BadByte at 0"
+    yield "apostrophes", filled(b"", b"'"), 1, "BadLiteral at 0"
+    yield "one word", filled(b"", b"a"), 1, "Syntax at 0"
+    yield "an entity of one long name", filled(b"entity ", b"a", b" is end;"), 1, "NoTop"
+    yield "opened parentheses", filled(BEGIN + b"s<=", b"("), 1, f"TooDeep at {len(BEGIN) + 3 + 64}"
+    yield "opened ifs", filled(PROCESS, b"if s then "), 1, f"TooDeep at {len(PROCESS) + 10 * 64}"
+    yield "an operator and its operand", filled(BEGIN + b"s<=s", b" and s", b";end;"), 0, "done 1 0"
+    yield "elements of a waveform", filled(BEGIN + b"s<='0'", b",'0'", b";end;"), 1, f"NotAscending at {len(BEGIN) + 7}"
+    yield "branches of an if", filled(PROCESS + b"if s then ", b"elsif s then ", b"end if;end process;end;"), 0, "done 0 0"
+    yield "alternatives", filled(BEGIN + b"s<='0' when s", b" else '1' when s", b";end;"), 0, "done 0 0"
+    yield "null statements", filled(PROCESS, b"null;", b"end process;end;"), 0, "done 0 0"
+    yield "65,536 assignments of one signal", BEGIN + b"s<='0';" * (1 << 16) + b"end;", 0, "done 1 1"
+    yield "assignments, as many as there is room for", filled(BEGIN, b"s<='0';", b"end;"), 1, "TooMany at 7"
+    yield "65,536 signals, each with an assignment", with_signals(1 << 16, "{0}<={1};"), 0, "done 2 65536"
+    yield "65,537 signals, each with an assignment", with_signals((1 << 16) + 1, "{0}<={1};"), 1, "TooMany at 7"
+    yield "entities of one name", filled(b"", b"entity t is end;"), 1, "Duplicate at 23"
+    yield "context clauses", filled(b"", b"use a.b;", b"entity t is end;architecture a of t is begin end;"), 0, "done 0 0"
 
 
 def huge(program, tally):
-    print("| 1 MiB of | Answer | Seconds | MiB |\n|---|---|--:|--:|")
-    for name, text, status, refusal in HUGE:
+    print("| Text | Answer | Seconds | MiB |\n|---|---|--:|--:|")
+    for name, text, status, wanted in texts():
         answer = measured(program, text)
-        said = answer.err.decode().strip() or answer.out.decode().splitlines()[-1]
+        said = (answer.err or answer.out).decode().splitlines()[-1]
         print(f"| {name} | `{said}` | {answer.seconds:.2f} | {answer.mebibytes} |")
-        wanted = refusal is None or answer.err == f"vsim: {refusal}\n".encode()
-        ended = answer.out.endswith(b"\n") if status == 0 else not answer.out
-        tally.note(answer.status == status and wanted and ended and answer.seconds < 20, name, answer)
+        ended = answer.status == status and said == (f"vsim: {wanted}" if status else wanted) and not (status and answer.out)
+        tally.note(ended and answer.seconds < 20, name, answer)
 
 
 def streams(program, tally):
