@@ -130,8 +130,17 @@ module _ (objects : ℕ) (variables : List Held) where
 pub ruleset logics_fit = (logic_literal, logic_object, logic_variable, logic_not, logic_chain)
 
 -- expressions of boolean
-pub ruleset booleans_fit = (boolean_literal, boolean_variable, boolean_event, boolean_edge, boolean_not, boolean_chain, condition_fits, logics_compared,
-    booleans_compared)
+pub ruleset booleans_fit = (
+  boolean_literal,
+  boolean_variable,
+  boolean_event,
+  boolean_edge,
+  boolean_not,
+  boolean_chain,
+  condition_fits,
+  logics_compared,
+  booleans_compared,
+)
 
 module _ (objects : ℕ) (variables : List Held) where
   pub waveform_fitting : (d : Delay) (w : List Element) → is_rejected d w ≡ true
