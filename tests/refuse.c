@@ -24,7 +24,8 @@ __attribute__((constructor)) static void begin(void) {
     refused_at = at ? strtoul(at, NULL, 10) : 0;
 }
 
-static void tell(void) {
+/* Tells it when the program returns from its main function; see below for another end. */
+__attribute__((destructor)) static void tell(void) {
     const char *name = getenv("REFUSE_COUNT");
     unsigned long found = atomic_load(&requests);
     refused_at = 0;
