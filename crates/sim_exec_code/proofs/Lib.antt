@@ -1,6 +1,7 @@
 pub mod ExpressionRules
 pub mod StatementRules
 pub mod ExpressionsRight
+pub mod OneByOne
 pub mod BodiesRight
 pub mod Slots
 pub mod StepsLeft
