@@ -10,5 +10,6 @@ pub mod FromTheEnd
 pub mod HeldVariables
 pub mod Executions
 pub mod Assembled
+pub mod OperationsCounted
 pub mod SharedCodes
 pub mod InARow

@@ -2,3 +2,4 @@ pub mod Operations
 pub mod Bodies
 pub mod Frames
 pub mod Codes
+pub mod Counts
