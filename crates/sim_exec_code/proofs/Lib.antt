@@ -13,3 +13,6 @@ pub mod Assembled
 pub mod OperationsCounted
 pub mod SharedCodes
 pub mod InARow
+pub mod ExpressionsFit
+pub mod BodiesFit
+pub mod StepsFound

@@ -3,3 +3,4 @@ pub mod Bodies
 pub mod Frames
 pub mod Codes
 pub mod Counts
+pub mod Fitting
