@@ -61,7 +61,8 @@ fn execute_between<N: Nets, P: Nets>(
     )
 }
 
-/// Executes the body of the process with a number. Says whether anything may have been done.
+/// Executes the body of the process with a number, where what it owns stands at a place of each of
+/// these lists. Says whether anything may have been done.
 pub fn execute_at<N: Nets, P: Nets>(
     alloc: Global,
     nets: &N,
@@ -70,6 +71,7 @@ pub fn execute_at<N: Nets, P: Nets>(
     codes: &Codes,
     frame: &mut Frame,
     number: usize,
+    place: usize,
     body: &Body,
     drivers: &mut RowArray<Driver>,
     variables: &mut RowArray<Held>,
@@ -78,21 +80,21 @@ pub fn execute_at<N: Nets, P: Nets>(
     requires code { code.IsCodeOf body.now (code.code_at codes.now.codes number) }
     requires placed { code.ArePlaced (N.look nets.now) (P.look places.now) (code.objects_of (code.code_at codes.now.codes number)) }
     requires frame { code.slots_of (code.code_at codes.now.codes number) ≤ frame.old }
-    requires drivers { number < length drivers.old }
-    requires variables { number < length variables.old }
-    requires ready { IsReady body.now now (record { drivers = slice_index_or drivers.old number []; variables = slice_index_or variables.old number [] }) }
+    requires drivers { place < length drivers.old }
+    requires variables { place < length variables.old }
+    requires ready { IsReady body.now now (record { drivers = slice_index_or drivers.old place []; variables = slice_index_or variables.old place [] }) }
     ensures frame { frame.new ≡ frame.old }
-    ensures drivers { drivers.new ≡ slice_set drivers.old number (slice_index_or drivers.new number []) }
-    ensures variables { variables.new ≡ slice_set variables.old number (slice_index_or variables.new number []) }
-    ensures ok { OnOk result (record { drivers = slice_index_or drivers.new number []; variables = slice_index_or variables.new number [] }
+    ensures drivers { drivers.new ≡ slice_set drivers.old place (slice_index_or drivers.new place []) }
+    ensures variables { variables.new ≡ slice_set variables.old place (slice_index_or variables.new place []) }
+    ensures ok { OnOk result (record { drivers = slice_index_or drivers.new place []; variables = slice_index_or variables.new place [] }
         ≡ executed (N.look nets.now) now body.now.statements
-        (record { drivers = slice_index_or drivers.old number []; variables = slice_index_or variables.old number [] })) }
-    ensures ready { IsReady body.now now (record { drivers = slice_index_or drivers.new number []; variables = slice_index_or variables.new number [] }) }
-    ensures values { driver_values (slice_index_or drivers.new number []) ≡ driver_values (slice_index_or drivers.old number []) }
-    ensures idle { IfOk result (λ done. done ≡ false → slice_index_or drivers.new number [] ≡ slice_index_or drivers.old number []) }
+        (record { drivers = slice_index_or drivers.old place []; variables = slice_index_or variables.old place [] })) }
+    ensures ready { IsReady body.now now (record { drivers = slice_index_or drivers.new place []; variables = slice_index_or variables.new place [] }) }
+    ensures values { driver_values (slice_index_or drivers.new place []) ≡ driver_values (slice_index_or drivers.old place []) }
+    ensures idle { IfOk result (λ done. done ≡ false → slice_index_or drivers.new place [] ≡ slice_index_or drivers.old place []) }
 {
-    let owned = bounds(drivers.starts.as_slice(), number);
-    let held = bounds(variables.starts.as_slice(), number);
+    let owned = bounds(drivers.starts.as_slice(), place);
+    let held = bounds(variables.starts.as_slice(), place);
     execute_between(
         alloc,
         nets,

@@ -276,6 +276,7 @@ impl FlatState {
             codes,
             frame,
             number,
+            number,
             process.body(),
             &mut self.drivers,
             &mut self.variables,

@@ -12,6 +12,7 @@ mod resumption;
 mod sets;
 mod start;
 
+pub use execution::execute_at;
 pub use flat_state::{FlatState, Part};
 pub use log::{Log, Mark};
 pub use resumption::sensitive;
