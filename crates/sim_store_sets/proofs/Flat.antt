@@ -142,6 +142,13 @@ places_read {starts = starts} {flat = flat} i e p a b starts₂ flat' h ef el ea
     let j = subst (λ w. IsFlat w starts flat) e i in
     rw el (places j p a b h (ea ∙ ap (λ w. get_or w p 0) ef) (eb ∙ ap (λ w. get_or w (p + 1) 0) ef))
 
+-- where the list p starts, or the last one ends
+pub start-read : {A : Type 0} {xss yss : List (List A)} {starts : List ℕ} {flat : List A} → IsFlat xss starts flat → xss ≡ yss → (p a : ℕ)
+    (starts₂ : List ℕ) → p ≤ length yss → starts₂ ≡ starts → a ≡ get_or starts₂ p 0 → a ≡ length (joined (take p yss))
+start-read {yss = yss} {starts = starts} {flat = flat} i e p a starts₂ h ef ea =
+    let j = subst (λ w. IsFlat w starts flat) e i in
+    ea ∙ (ap (λ w. get_or w p 0) (ef ∙ j.starting) ∙ (start-at 0 yss p 0 h ∙ omega arith))
+
 -- one list more
 pub joined-push : {A : Type 0} (xss : List (List A)) (row : List A) → joined (xss ++ row ∷ []) ≡ joined xss ++ row
 joined-push [] row = append-nil row

@@ -8,3 +8,4 @@ pub mod Taking
 pub mod Least
 pub mod Queues
 pub mod Flat
+pub mod Divided

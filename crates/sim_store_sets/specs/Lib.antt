@@ -3,3 +3,4 @@ pub mod Numbers
 pub mod Times
 pub mod Entries
 pub mod RowArray
+pub mod DividedRows

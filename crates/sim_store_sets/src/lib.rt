@@ -1,12 +1,14 @@
 //! Lists of lists held flat, sets of numbers, and the times at which drivers are due.
 #![tactic(auto)]
 
+mod divided_rows;
 mod entries;
 mod numbers;
 mod row_array;
 mod times;
 mod words;
 
+pub use divided_rows::{DividedRows, item_place, place_of};
 pub use numbers::NumberSet;
 pub use row_array::{RowArray, bounds};
 pub use times::TimeQueue;

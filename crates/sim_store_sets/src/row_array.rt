@@ -1,8 +1,8 @@
 //! Lists of lists, held flat: one list of all items, and where each of the lists starts in it.
 #![tactic(auto)]
 
-ghost use Rattle.std.specs.Prelude.{◌≡◌, ◌<◌, ◌≤◌, ◌+◌, ◌++◌, ◌∷◌, [], List, length, slice_index_or, slice_set, slice_index, slice_range, take, drop, IfOk};
-ghost use Rattle.std.specs.Prelude.{OnOk, OnErr};
+ghost use Rattle.std.specs.Prelude.{◌≡◌, ◌<◌, ◌≤◌, ◌+◌, ◌-◌, ◌++◌, ◌∷◌, [], List, length, map, slice_index_or, slice_set, slice_index, slice_range, take};
+ghost use Rattle.std.specs.Prelude.{drop, IfOk, OnOk, OnErr};
 ghost use Rattle.sim_store_sets.specs.RowArray.{joined};
 
 use std::alloc::{AllocError, Global};
@@ -94,6 +94,30 @@ impl<T> RowArray<T> {
         replace(self.flat.as_mut_slice(), start, row);
     }
 
+    /// Where the list at a place starts among all items, and where it ends.
+    pub fn row_bounds(&self, place: usize) -> (usize, usize)
+        requires { place < length self.now }
+        ensures start { result.0 ≡ length (joined (take place self.now)) }
+        ensures end { result.1 ≡ result.0 + length (slice_index_or self.now place []) }
+    {
+        bounds(self.starts.as_slice(), place)
+    }
+
+    /// Moves the lists from a place on out of it, to a row array of their own. If allocation fails,
+    /// nothing changes.
+    pub fn split_off(&mut self, alloc: Global, place: usize) -> Result<RowArray<T>, AllocError>
+        requires { place ≤ length self.old }
+        ensures front { OnOk result (self.new ≡ take place self.old) }
+        ensures back { IfOk result (λ back. back ≡ drop place self.old) }
+        ensures err { OnErr result (self.new ≡ self.old) }
+    {
+        let start = start_at(self.starts.as_slice(), place);
+        let starts = starts_after(alloc, self.starts.as_slice(), place)?;
+        let flat = self.flat.split_off(start)?;
+        self.starts.truncate(place + 1);
+        Ok(RowArray { starts, flat })
+    }
+
     /// All items, of one list after another.
     pub fn flat(&self) -> &[T]
         ensures { result.now ≡ joined self.now }
@@ -109,6 +133,32 @@ pub fn bounds(starts: &[usize], place: usize) -> (usize, usize)
     ensures end { result.1 ≡ slice_index starts.now (place + 1) }
 {
     (starts[place], starts[place + 1])
+}
+
+/// Where the list at a place starts, or where the last one ends.
+fn start_at(starts: &[usize], place: usize) -> usize
+    requires { place < length starts.now }
+    ensures { result ≡ slice_index starts.now place }
+{
+    starts[place]
+}
+
+/// The places from one on, counted from there.
+fn starts_after(alloc: Global, starts: &[usize], place: usize) -> Result<Vec<usize>, AllocError>
+    requires { place < length starts.now }
+    ensures { IfOk result (λ v. v.items ≡ map (λ s. s - slice_index starts.now place) (drop place starts.now)) }
+{
+    starts_less(alloc, &starts[place..], starts[place])
+}
+
+/// The same places, counted from one of them.
+fn starts_less(alloc: Global, starts: &[usize], from: usize) -> Result<Vec<usize>, AllocError>
+    ensures { IfOk result (λ v. v.items ≡ map (λ s. s - from) starts.now) }
+{
+    starts
+        .iter()
+        .map(|start| start.saturating_sub(from))
+        .collect(alloc)
 }
 
 /// A part of a list.

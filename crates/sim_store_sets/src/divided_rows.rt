@@ -1,0 +1,306 @@
+//! Lists of lists, held flat in several parts, each of which can be given away by itself.
+
+ghost use Rattle.std.specs.Prelude.{ℕ, ◌≡◌, ◌<◌, ◌≤◌, ◌+◌, ◌^◌, [], true, false, List, length, map, take, drop, slice_index_or, slice_set, IfOk, IfSome};
+ghost use Rattle.sim_store_sets.specs.RowArray.{joined};
+ghost use Rattle.sim_store_sets.specs.DividedRows.{IsAt, AreParts};
+
+use crate::row_array::RowArray;
+use std::alloc::{AllocError, Global};
+use std::marker::Model;
+use std::mem;
+
+/// Lists, in row arrays one after another, each but the last with as many lists. To its user they
+/// are the lists of a row array. In one part no access has to look for its part.
+#[derive(Drop)]
+pub struct DividedRows<T> {
+    pub parts: Vec<RowArray<T>>,
+    pub each: usize,
+}
+
+impl<T> Model for DividedRows<T> {
+    ghost use Rattle.std.specs.Prelude.{List};
+    ghost use Rattle.sim_store_sets.specs.RowArray.{joined};
+    ghost use Rattle.sim_store_sets.specs.DividedRows.{AreParts};
+
+    ghost Value = { List (List T) };
+
+    ghost view = { λ r. joined r.parts.items };
+
+    ghost invariant = { λ r. AreParts r.each r.parts.items };
+}
+
+/// The part in which the list with a number stands, and its place there.
+pub fn place_of<T>(parts: &[RowArray<T>], each: usize, number: usize) -> (usize, usize)
+    requires parts { AreParts each parts.now }
+    requires number { number < length (joined parts.now) }
+    ensures { IsAt parts.now number result.0 result.1 }
+{
+    if parts.len() == 1 {
+        return (0, number);
+    }
+    (number / each, number % each)
+}
+
+/// The part in which the item with a number stands, and its place there.
+pub fn item_place<T>(parts: &[RowArray<T>], number: usize) -> (usize, usize)
+    requires { number < length (joined (joined parts.now)) }
+    ensures { IsAt (map joined parts.now) number result.0 result.1 }
+{
+    if parts.len() == 1 {
+        return (0, number);
+    }
+    find_item(parts, number)
+}
+
+/// The same, by the counts of the parts.
+fn find_item<T>(parts: &[RowArray<T>], number: usize) -> (usize, usize)
+    requires { number < length (joined (joined parts.now)) }
+    ensures { IsAt (map joined parts.now) number result.0 result.1 }
+{
+    let mut place = number;
+    for part in 0..parts.len() {
+        let count = parts[part].flat().len();
+        if place < count {
+            return (part, place);
+        }
+        place -= count;
+    }
+    unreachable!()
+}
+
+/// How many items the parts before one have.
+fn items_before<T>(parts: &[RowArray<T>], part: usize) -> usize
+    requires part { part ≤ length parts.now }
+    requires few { length (joined (joined parts.now)) < 2 ^ 64 }
+    ensures { result ≡ length (joined (take part (map joined parts.now))) }
+{
+    let mut count = 0;
+    for before in 0..part {
+        count += parts[before].flat().len();
+    }
+    count
+}
+
+/// The list at a place of a part.
+fn row_at<T>(parts: &[RowArray<T>], part: usize, place: usize) -> &[T]
+    requires part { part < length parts.now }
+    requires place { place < length (slice_index_or parts.now part []) }
+    ensures { result.now ≡ slice_index_or (slice_index_or parts.now part []) place [] }
+{
+    parts[part].row(place)
+}
+
+/// Puts a list in the place of one as long, and hands that one back.
+fn put_at<T>(parts: &mut [RowArray<T>], part: usize, place: usize, row: &mut [T])
+    requires part { part < length parts.old }
+    requires place { place < length (slice_index_or parts.old part []) }
+    requires long { length row.old ≡ length (slice_index_or (slice_index_or parts.old part []) place []) }
+    ensures new { parts.new ≡ slice_set parts.old part (slice_set (slice_index_or parts.old part []) place row.old) }
+    ensures row { row.new ≡ slice_index_or (slice_index_or parts.old part []) place [] }
+{
+    parts[part].put(place, row);
+}
+
+/// The item at a place of a part.
+fn item_at<T>(parts: &[RowArray<T>], part: usize, place: usize) -> &T
+    requires part { part < length parts.now }
+    requires place { place < length (joined (slice_index_or parts.now part [])) }
+    ensures { result.now ≡ slice_index_or (joined (slice_index_or parts.now part [])) place result.now }
+{
+    &parts[part].flat()[place]
+}
+
+/// Where the list at a place of a part starts among all items, and where it ends.
+fn bounds_at<T>(parts: &[RowArray<T>], part: usize, place: usize) -> (usize, usize)
+    requires part { part < length parts.now }
+    requires place { place < length (slice_index_or parts.now part []) }
+    requires few { length (joined (joined parts.now)) < 2 ^ 64 }
+    ensures start { result.0 ≡ length (joined (take part (map joined parts.now))) + length (joined (take place (slice_index_or parts.now part []))) }
+    ensures end { result.1 ≡ result.0 + length (slice_index_or (slice_index_or parts.now part []) place []) }
+{
+    let before = items_before(parts, part);
+    let (start, end) = parts[part].row_bounds(place);
+    (before + start, before + end)
+}
+
+/// How many lists a part gets where so many are divided into about so many parts.
+fn in_each(lists: usize, parts: usize) -> usize
+    ensures { 0 < result }
+{
+    if parts < 2 {
+        return lists.max(1);
+    }
+    lists / parts + 1
+}
+
+/// Moves lists into parts with so many each.
+fn cut<T>(alloc: Global, rows: RowArray<T>, each: usize) -> Result<DividedRows<T>, AllocError>
+where
+    T: Drop,
+    requires { 0 < each }
+    ensures { IfOk result (λ divided. divided ≡ rows) }
+{
+    let _items = rows.flat().len();
+    let mut parts = Vec::new(alloc);
+    let mut rest = rows;
+    while rest.len() > each {
+        let back = rest.split_off(alloc, each)?;
+        parts.push(mem::replace(&mut rest, back))?;
+    }
+    parts.push(rest)?;
+    Ok(DividedRows { parts, each })
+}
+
+/// Moves lists into about so many parts.
+fn cut_in<T>(alloc: Global, rows: RowArray<T>, parts: usize) -> Result<DividedRows<T>, AllocError>
+where
+    T: Drop,
+    ensures { IfOk result (λ divided. divided ≡ rows) }
+{
+    let each = in_each(rows.len(), parts);
+    cut(alloc, rows, each)
+}
+
+/// Whether a part with this number of lists may stand there.
+fn is_part(lists: usize, each: usize, is_last: bool) -> bool
+    ensures full { result ≡ true → is_last ≡ false → lists ≡ each }
+    ensures most { result ≡ true → lists ≤ each }
+{
+    if is_last {
+        return lists <= each;
+    }
+    lists == each
+}
+
+/// Whether each part has so many lists, but for the last, which may have fewer.
+fn have_each<T>(parts: &[RowArray<T>], each: usize) -> bool
+    ensures full { result ≡ true → (p : ℕ) → p + 1 < length parts.now → length (slice_index_or parts.now p []) ≡ each }
+    ensures most { result ≡ true → (p : ℕ) → p < length parts.now → length (slice_index_or parts.now p []) ≤ each }
+{
+    for part in 0..parts.len() {
+        if !is_part(parts[part].len(), each, part + 1 == parts.len()) {
+            return false;
+        }
+    }
+    true
+}
+
+/// Whether all their items can be numbered.
+fn are_few<T>(parts: &[RowArray<T>]) -> bool
+    ensures { result ≡ true → length (joined (joined parts.now)) < 2 ^ 64 }
+{
+    let mut count: usize = 0;
+    for part in parts {
+        match count.checked_add(part.flat().len()) {
+            Some(sum) => count = sum,
+            None => return false,
+        }
+    }
+    true
+}
+
+/// Whether row arrays can be the parts of one list of lists.
+fn are_parts<T>(parts: &[RowArray<T>], each: usize) -> bool
+    ensures { result ≡ true → AreParts each parts.now }
+{
+    if parts.is_empty() || each == 0 {
+        return false;
+    }
+    if !are_few(parts) {
+        return false;
+    }
+    have_each(parts, each)
+}
+
+impl<T> DividedRows<T> {
+    /// Lists in one part.
+    pub fn of(alloc: Global, rows: RowArray<T>) -> Result<DividedRows<T>, AllocError>
+    where
+        T: Drop,
+        ensures { IfOk result (λ divided. divided ≡ rows) }
+    {
+        let each = rows.len().max(1);
+        cut(alloc, rows, each)
+    }
+
+    /// The same lists in about so many parts, if they are in one. It moves each item, and copies
+    /// none.
+    pub fn divide(self, alloc: Global, parts: usize) -> Result<DividedRows<T>, AllocError>
+    where
+        T: Drop,
+        ensures { IfOk result (λ divided. divided ≡ self) }
+    {
+        let DividedRows {
+            parts: mut own,
+            each,
+        } = self;
+        if own.len() != 1 {
+            return Ok(DividedRows { parts: own, each });
+        }
+        match own.pop() {
+            Some(rows) => cut_in(alloc, rows, parts),
+            None => unreachable!(),
+        }
+    }
+
+    /// The parts, and how many lists each of them but the last has.
+    pub fn into_parts(self) -> (Vec<RowArray<T>>, usize)
+        ensures lists { joined result.0.items ≡ self }
+        ensures parts { AreParts result.1 result.0.items }
+    {
+        let DividedRows { parts, each } = self;
+        (parts, each)
+    }
+
+    /// The lists in these parts, each of which but for the last is to have so many; `None` if they
+    /// have not.
+    pub fn of_parts(parts: Vec<RowArray<T>>, each: usize) -> Option<DividedRows<T>>
+    where
+        T: Drop,
+        ensures { IfSome result (λ divided. divided ≡ joined parts.items) }
+    {
+        if !are_parts(parts.as_slice(), each) {
+            return None;
+        }
+        Some(DividedRows { parts, each })
+    }
+
+    /// The list with a number.
+    pub fn row(&self, number: usize) -> &[T]
+        requires { number < length self.now }
+        ensures { result.now ≡ slice_index_or self.now number [] }
+    {
+        let (part, place) = place_of(self.parts.as_slice(), self.each, number);
+        row_at(self.parts.as_slice(), part, place)
+    }
+
+    /// Puts a list in the place of one as long, and hands that one back. It takes no memory.
+    pub fn put(&mut self, number: usize, row: &mut [T])
+        requires at { number < length self.old }
+        requires long { length row.old ≡ length (slice_index_or self.old number []) }
+        ensures new { self.new ≡ slice_set self.old number row.old }
+        ensures row { row.new ≡ slice_index_or self.old number [] }
+    {
+        let (part, place) = place_of(self.parts.as_slice(), self.each, number);
+        put_at(self.parts.as_mut_slice(), part, place, row);
+    }
+
+    /// Where the list with a number starts among the items of all lists, and where it ends.
+    pub fn row_bounds(&self, number: usize) -> (usize, usize)
+        requires { number < length self.now }
+        ensures start { result.0 ≡ length (joined (take number self.now)) }
+        ensures end { result.1 ≡ result.0 + length (slice_index_or self.now number []) }
+    {
+        let (part, place) = place_of(self.parts.as_slice(), self.each, number);
+        bounds_at(self.parts.as_slice(), part, place)
+    }
+
+    /// The item with a number, of one list after another.
+    pub fn item(&self, number: usize) -> &T
+        requires { number < length (joined self.now) }
+        ensures { result.now ≡ slice_index_or (joined self.now) number result.now }
+    {
+        let (part, place) = item_place(self.parts.as_slice(), number);
+        item_at(self.parts.as_slice(), part, place)
+    }
+}
