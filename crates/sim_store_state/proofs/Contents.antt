@@ -12,7 +12,7 @@ use Rattle.sim_standard.specs.declared.net_view.NetView.{NetView}
 use Rattle.sim_standard.specs.State.{State, Owned, nothing_owned, net_at, waves}
 use Rattle.sim_standard.specs.Nets.{changed_to, net_value, nets_updated}
 use Rattle.sim_standard.specs.Cycle.{own_taken, updated}
-use Rattle.sim_store_state.specs.FlatState.{FlatState, flat_state_of, views_of, owned_lists, AreLists, sources_of}
+use Rattle.sim_store_state.specs.FlatState.{FlatState, flat_state_of, held, views_of, owned_lists, AreLists, sources_of}
 use Rattle.sim_store_state.specs.Changes.{row_value}
 use Rattle.sim_store_state.proofs.Views.{length-views_of}
 
@@ -56,10 +56,6 @@ owned-waves (ds ∷ dss) (vs ∷ vss) e = ap (λ w. ds ++ w) (owned-waves dss vs
 
 pub same_owned : {ds es : List Waveform} {vs ws : List Held} → ds ≡ es → vs ≡ ws → as_owned ds vs ≡ as_owned es ws
 same_owned {es = es} {vs = vs} d v = ap (λ w. as_owned w vs) d ∙ ap (as_owned es) v
-
--- what flat lists hold
-abbrev pub held : List (List Source) → List Logic → List Logic → List (List Waveform) → List (List Held) → FlatState
-held sources values last_values dss vss = record { sources = sources; nets = views_of values last_values; owned = owned_lists dss vss }
 
 pub owned-by : {h : FlatState} {sources : List (List Source)} {values last_values : List Logic} {dss : List (List Waveform)} {vss : List (List Held)}
     → held sources values last_values dss vss ≡ h

@@ -15,3 +15,5 @@ pub mod Skips
 pub mod Ranges
 pub mod Taking
 pub mod Values
+pub mod Items
+pub mod Placed

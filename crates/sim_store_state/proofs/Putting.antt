@@ -6,12 +6,13 @@ use Rattle.sim_logic.specs.declared.logic.Logic.{Logic}
 use Rattle.sim_flat_design.specs.declared.held.Held.{Held}
 use Rattle.sim_flat_design.specs.declared.design.Source.{Source}
 use Rattle.sim_standard.specs.Drivers.{Waveform, next_time}
-use Rattle.sim_store_sets.specs.RowArray.{joined, starts_from, IsFlat}
-use Rattle.sim_store_sets.proofs.Flat.{cut, cut-set, start-at}
+use Rattle.sim_store_sets.specs.RowArray.{joined}
+use Rattle.sim_store_sets.proofs.Flat.{cut, cut-set}
 use Rattle.sim_store_sets.specs.Numbers.{is_in}
 use Rattle.sim_standard.specs.State.{driver_at, driver_values}
 use Rattle.sim_store_state.specs.Changes.{AreTimes, IsHeld, value_at}
 use Rattle.sim_store_state.proofs.Reaching.{same_rows}
+use Rattle.sim_store_state.proofs.Values.{value-of}
 
 same-behind : (r s after : List Waveform) (d : ℕ) → length r ≡ length s → length r ≤ d → driver_at (r ++ after) d ≡ driver_at (s ++ after) d
 same-behind [] [] after d l le = refl
@@ -42,21 +43,10 @@ set-outside dss p ds d a b lt l ea eb side =
     at (inl h) = inl (omega (arith, h, ea))
     at (inr h) = inr (omega (arith, h, ea, eb, l))
 
--- where the drivers of a process stand
-pub start-is : {dss ess : List (List Waveform)} {starts : List ℕ} {flat : List Waveform} → IsFlat dss starts flat → dss ≡ ess → (p a : ℕ) (starts₂ : List ℕ)
-    → p < length ess → starts₂ ≡ starts → a ≡ get_or starts₂ p 0 → a ≡ length (joined (take p ess))
-start-is {dss} {ess} {starts} i e p a starts₂ lt es ea =
-    ea ∙ (ap (λ w. get_or w p 0) (es ∙ i.starting) ∙ (ap (λ w. get_or (starts_from 0 w) p 0) e ∙ (start-at 0 ess p 0 (omega arith) ∙ omega arith)))
-
 -- ---- values
 
-value-of : (ds : List Waveform) (d : ℕ) → (driver_at ds d).value ≡ value_at (driver_values ds) d
-value-of [] d = refl
-value-of (w ∷ ds) zero = refl
-value-of (w ∷ ds) (suc d) = value-of ds d
-
 pub values-each : (ds es : List Waveform) → driver_values ds ≡ driver_values es → (d : ℕ) → (driver_at ds d).value ≡ (driver_at es d).value
-values-each ds es e d = value-of ds d ∙ (ap (λ w. value_at w d) e ∙ sym (value-of es d))
+values-each ds es e d = sym (value-of ds d) ∙ (ap (λ w. value_at w d) e ∙ value-of es d)
 
 abbrev value_of : Waveform → Logic
 value_of w = w.value
@@ -64,13 +54,13 @@ value_of w = w.value
 pub values-count : (ds es : List Waveform) → driver_values ds ≡ driver_values es → length ds ≡ length es
 values-count ds es e = omega (arith, ap length e, length-map ds value_of, length-map es value_of)
 
-values-set : (dss : List (List Waveform)) (p : ℕ) (ds : List Waveform) → driver_values ds ≡ driver_values (get_or dss p [])
+row-values : (dss : List (List Waveform)) (p : ℕ) (ds : List Waveform) → driver_values ds ≡ driver_values (get_or dss p [])
     → driver_values (joined (set dss p ds)) ≡ driver_values (joined dss)
-values-set [] p ds e = refl
-values-set (xs ∷ dss) zero ds e =
+row-values [] p ds e = refl
+row-values (xs ∷ dss) zero ds e =
     map-append value_of ds (joined dss) ∙ (ap (λ w. w ++ driver_values (joined dss)) e ∙ sym (map-append value_of xs (joined dss)))
-values-set (xs ∷ dss) (suc p) ds e =
-    map-append value_of xs (joined (set dss p ds)) ∙ (ap (λ w. driver_values xs ++ w) (values-set dss p ds e) ∙ sym (map-append value_of xs (joined dss)))
+row-values (xs ∷ dss) (suc p) ds e =
+    map-append value_of xs (joined (set dss p ds)) ∙ (ap (λ w. driver_values xs ++ w) (row-values dss p ds e) ∙ sym (map-append value_of xs (joined dss)))
 
 -- ---- what is kept stays right, where the drivers of the process are stale
 
@@ -81,14 +71,16 @@ AreMarked stale stale' dss p = (row : List Waveform) (d : ℕ) → length row �
 -- each driver has the value that it had
 pub values-kept : (dss dss' : List (List Waveform)) (p : ℕ) (ds : List Waveform) → dss' ≡ set dss p ds → driver_values ds ≡ driver_values (get_or dss p [])
     → driver_values (joined dss') ≡ driver_values (joined dss)
-values-kept dss dss' p ds ed e = ap (λ w. driver_values (joined w)) ed ∙ values-set dss p ds e
+values-kept dss dss' p ds ed e = ap (λ w. driver_values (joined w)) ed ∙ row-values dss p ds e
 
-pub own-keeps : {values last_values : List Logic} {dss : List (List Waveform)} {vss : List (List Held)} {sources : List (List Source)} {fan_out : List (List ℕ)}
-    {times : List (Option ℕ)} {stale touched : List Bool} → IsHeld values last_values dss vss sources fan_out times stale touched → (p : ℕ) (ds : List Waveform)
+pub own-keeps : {values last_values driving : List Logic} {dss : List (List Waveform)} {vss : List (List Held)}
+    {sources : List (List Source)} {fan_out : List (List ℕ)}
+    {times : List (Option ℕ)} {stale touched : List Bool} → IsHeld values last_values driving dss vss sources fan_out times stale touched
+    → (p : ℕ) (ds : List Waveform)
     (vs : List Held) (dss' : List (List Waveform)) (vss' : List (List Held)) (times' : List (Option ℕ)) (stale' : List Bool)
     → dss' ≡ set dss p ds → vss' ≡ set vss p vs → driver_values ds ≡ driver_values (get_or dss p []) → AreTimes times' stale' (joined dss')
-    → IsHeld values last_values dss' vss' sources fan_out times' stale' touched
-own-keeps {values} {last_values} {dss} {vss} {sources} {fan_out} {times} {stale} {touched} i p ds vs dss' vss' times' stale' ed ev e timed =
+    → IsHeld values last_values driving dss' vss' sources fan_out times' stale' touched
+own-keeps {values} {last_values} {driving} {dss} {vss} {sources} {fan_out} {times} {stale} {touched} i p ds vs dss' vss' times' stale' ed ev e timed =
     let same : driver_values (joined dss') ≡ driver_values (joined dss) = values-kept dss dss' p ds ed e in
     let count : length (joined dss') ≡ length (joined dss) = values-count (joined dss') (joined dss) same in
     record {
@@ -96,19 +88,22 @@ own-keeps {values} {last_values} {dss} {vss} {sources} {fan_out} {times} {stale}
         nets = i.lists.nets;
         owned = omega (arith, ap length ed, ap length ev, length-set dss p ds, length-set vss p vs, i.lists.owned);
       };
+      valued = i.valued ∙ sym same;
       timed = timed;
       fan_out_count = i.fan_out_count ∙ sym count;
-      driving = i.driving;
+      fanned = i.fanned;
       resolving = i.resolving ∙ same_rows (joined dss) (joined dss') sources (values-each (joined dss) (joined dss') (sym same));
       touching = i.touching;
     }
 
-pub put-keeps : {values last_values : List Logic} {dss : List (List Waveform)} {vss : List (List Held)} {sources : List (List Source)} {fan_out : List (List ℕ)}
-    {times : List (Option ℕ)} {stale touched : List Bool} → IsHeld values last_values dss vss sources fan_out times stale touched → (p : ℕ) (ds : List Waveform)
+pub put-keeps : {values last_values driving : List Logic} {dss : List (List Waveform)} {vss : List (List Held)}
+    {sources : List (List Source)} {fan_out : List (List ℕ)}
+    {times : List (Option ℕ)} {stale touched : List Bool} → IsHeld values last_values driving dss vss sources fan_out times stale touched
+    → (p : ℕ) (ds : List Waveform)
     (vs : List Held) (dss' : List (List Waveform)) (vss' : List (List Held)) (stale' : List Bool) → dss' ≡ set dss p ds → vss' ≡ set vss p vs
     → driver_values ds ≡ driver_values (get_or dss p []) → length stale' ≡ length stale → AreMarked stale stale' dss p
-    → IsHeld values last_values dss' vss' sources fan_out times stale' touched
-put-keeps {values} {last_values} {dss} {vss} {sources} {fan_out} {times} {stale} {touched} i p ds vs dss' vss' stale' ed ev e l marked =
+    → IsHeld values last_values driving dss' vss' sources fan_out times stale' touched
+put-keeps {values} {last_values} {driving} {dss} {vss} {sources} {fan_out} {times} {stale} {touched} i p ds vs dss' vss' stale' ed ev e l marked =
     let long : length ds ≡ length (get_or dss p []) = values-count ds (get_or dss p []) e in
     let count : length (joined dss') ≡ length (joined dss) = values-count (joined dss') (joined dss) (values-kept dss dss' p ds ed e) in
     own-keeps i p ds vs dss' vss' times stale' ed ev e (record {
@@ -120,16 +115,17 @@ put-keeps {values} {last_values} {dss} {vss} {sources} {fan_out} {times} {stale}
     })
 
 -- the queue alone changes, or what is stale
-pub times-keep : {values last_values : List Logic} {dss : List (List Waveform)} {vss : List (List Held)} {sources : List (List Source)} {fan_out : List
+pub times-keep : {values last_values driving : List Logic} {dss : List (List Waveform)} {vss : List (List Held)} {sources : List (List Source)} {fan_out : List
     (List ℕ)}
-    {times : List (Option ℕ)} {stale touched : List Bool} → IsHeld values last_values dss vss sources fan_out times stale touched
+    {times : List (Option ℕ)} {stale touched : List Bool} → IsHeld values last_values driving dss vss sources fan_out times stale touched
     → (times' : List (Option ℕ)) (stale' : List Bool) → AreTimes times' stale' (joined dss)
-    → IsHeld values last_values dss vss sources fan_out times' stale' touched
+    → IsHeld values last_values driving dss vss sources fan_out times' stale' touched
 times-keep i times' stale' t = record {
   lists = i.lists;
+  valued = i.valued;
   timed = t;
   fan_out_count = i.fan_out_count;
-  driving = i.driving;
+  fanned = i.fanned;
   resolving = i.resolving;
   touching = i.touching;
 }

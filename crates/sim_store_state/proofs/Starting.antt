@@ -16,14 +16,14 @@ use Rattle.sim_flat_design.specs.Processes.{Process}
 use Rattle.sim_flat_design.specs.Designs.{AreOwned, Design, Net}
 use Rattle.sim_flat_design.specs.declared.design.Source.{Source}
 use Rattle.sim_standard.specs.Drivers.{Transaction, Waveform, next_time}
-use Rattle.sim_standard.specs.State.{driver_at, waves}
+use Rattle.sim_standard.specs.State.{driver_at, driver_values, waves}
 use Rattle.sim_store_sets.specs.Times.{time_of}
-use Rattle.sim_store_state.specs.Changes.{AreFanOut, IsHeld, row_value, value_at}
+use Rattle.sim_store_state.specs.Changes.{AreFanOut, IsHeld, row_from, row_value, value_at}
+use Rattle.sim_store_state.proofs.Values.{rows-from}
 use Rattle.sim_store_sets.specs.RowArray.{joined}
 use Rattle.sim_standard.specs.Nets.{net_started, net_value}
 use Rattle.sim_standard.specs.Initialization.{idle, first_owned, all_first_owned, first_state}
-use Rattle.sim_store_state.specs.FlatState.{flat_state_of, views_of, owned_lists, sources_of}
-use Rattle.sim_store_state.proofs.Contents.{held}
+use Rattle.sim_store_state.specs.FlatState.{flat_state_of, held, views_of, owned_lists, sources_of}
 
 -- ---- the drivers of processes stand side by side
 
@@ -150,13 +150,24 @@ same-rows : (ws : List Waveform) (nets : List Net) → map (net_value ws) nets �
 same-rows ws [] = refl
 same-rows ws (n ∷ nets) = ap (λ w. net_value ws n ∷ w) (same-rows ws nets)
 
-pub first-kept : (design : Design) (sources : List (List Source)) (dss : List (List Waveform)) (vss : List (List Held)) (values last_values : List Logic)
+-- the values of nets, from the values of drivers
+pub first-values : (ws : List Waveform) (driving values : List Logic) (nets : List Net) → driving ≡ driver_values ws
+    → values ≡ map (row_from driving) (sources_of nets) → values ≡ map (net_value ws) nets
+first-values ws driving values nets ed ev =
+    ev ∙ (ap (λ w. map (row_from w) (sources_of nets)) ed ∙ (rows-from ws (sources_of nets) ∙ sym (same-rows ws nets)))
+
+pub count-values : (ws : List Waveform) (driving : List Logic) (count : ℕ) → driving ≡ driver_values ws → count ≡ length driving → count ≡ length ws
+count-values ws driving count ed ec = omega (arith, ec, ap length ed, length-map ws (λ (w : Waveform). w.value))
+
+pub first-kept : (design : Design) (sources : List (List Source)) (dss : List (List Waveform)) (vss : List (List Held))
+    (values last_values driving : List Logic)
     (fan_out : List (List ℕ)) (times : List (Option ℕ)) (stale touched : List Bool) (count many : ℕ)
     → sources ≡ sources_of design.nets → dss ≡ map (drivers_of design.drivers) design.processes → vss ≡ map variables_of design.processes
-    → values ≡ map (net_value (joined dss)) design.nets → last_values ≡ values → count ≡ length (joined dss) → many ≡ length values
+    → driving ≡ driver_values (joined dss) → values ≡ map (net_value (joined dss)) design.nets → last_values ≡ values → count ≡ length (joined dss)
+    → many ≡ length values
     → AreFanOut sources fan_out → length fan_out ≡ count → times ≡ replicate count None → stale ≡ replicate count false → touched ≡ replicate many false
-    → IsHeld values last_values dss vss sources fan_out times stale touched
-first-kept design sources dss vss values last_values fan_out times stale touched count many er es ev eu el ec em ad ld et est eto =
+    → IsHeld values last_values driving dss vss sources fan_out times stale touched
+first-kept design sources dss vss values last_values driving fan_out times stale touched count many er es ev eg eu el ec em ad ld et est eto =
     let here : (d : ℕ) → (driver_at (joined dss) d).pending ≡ [] =
     λ d. ap (λ w. (driver_at (joined w) d).pending) es ∙ idle-first design.drivers design.processes d in
     record {
@@ -164,13 +175,14 @@ first-kept design sources dss vss values last_values fan_out times stale touched
         nets = sym (ap length el);
         owned = omega (arith, ap length es, ap length ev, length-map design.processes (drivers_of design.drivers), length-map design.processes variables_of);
       };
+      valued = eg;
       timed = record {
         sized = omega (arith, ap length et, length-replicate count no_time, ec);
         marked = omega (arith, ap length est, length-replicate count false, ec);
         current = λ d _. ap (λ w. time_of w d) et ∙ (none-at count d ∙ sym (none-idle (driver_at (joined dss) d) (here d)));
       };
       fan_out_count = ld ∙ ec;
-      driving = ad;
+      fanned = ad;
       resolving = eu ∙ (same-rows (joined dss) design.nets ∙ ap (map (row_value (joined dss))) (sym er));
       touching = record {
         sized = omega (arith, ap length eto, length-replicate many false, em);

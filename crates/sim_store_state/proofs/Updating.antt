@@ -1,7 +1,7 @@
 -- An update keeps what is kept beside a state.
-use Rattle.std.proofs.Common.{ℕ, ◌<◌, ◌≡◌, Bool, true, false, List, [], length, get_or, map, Option, Some, ap, sym, ◌∙◌, arith}
+use Rattle.std.proofs.Common.{ℕ, ◌≡◌, Bool, true, false, List, [], length, get_or, map, Option, Some, ap, sym, ◌∙◌, arith}
 use Rattle.std.proofs.Math.Decide.{dec_lt}
-use Rattle.std.proofs.lemmas.List.{get_or-map, get_or_past, length-map}
+use Rattle.std.proofs.lemmas.List.{get_or_past, length-map}
 use Rattle.sim_logic.specs.declared.logic.Logic.{Logic}
 use Rattle.sim_logic.specs.declared.logic.Logic.TheVariants.{U}
 use Rattle.sim_flat_design.specs.declared.held.Held.{Held}
@@ -11,10 +11,11 @@ use Rattle.sim_store_sets.specs.RowArray.{joined}
 use Rattle.sim_store_sets.proofs.Flat.{joined-map}
 use Rattle.sim_store_sets.specs.Numbers.{is_in}
 use Rattle.sim_store_sets.specs.Times.{cleared, those_at}
-use Rattle.sim_standard.specs.State.{driver_at, no_driver}
-use Rattle.sim_store_state.specs.Changes.{AreFanOut, AreReached, IsHeld, first_times, is_source, row_value, value_at}
+use Rattle.sim_standard.specs.State.{driver_at, driver_values, no_driver}
+use Rattle.sim_store_state.specs.Changes.{AreFanOut, AreReached, IsHeld, first_times, is_source, row_from, row_value, value_at}
 use Rattle.sim_store_state.proofs.Due.{driver-taken, times-taken}
 use Rattle.sim_store_state.proofs.Reaching.{fan_out-there, same_row}
+use Rattle.sim_store_state.proofs.Values.{rows-from, value-here}
 
 -- the nets of each driver that has another value are touched
 abbrev pub AllReached : List Bool → List (List ℕ) → List Waveform → ℕ → Type 0
@@ -38,45 +39,42 @@ unreached sources fan_out ds es touched time n driving l long ee reached other =
           ap (λ (w : Waveform). w.value) (after d ∙ ap (taken time) none) ∙ ap (λ (w : Waveform). w.value) (sym none))
     ]
 
--- the value of a net that the sources give
-pub value-here : (values : List Logic) (sources : List (List Source)) (ds : List Waveform) (n : ℕ) → values ≡ map (row_value ds) sources → n < length values
-    → value_at values n ≡ row_value ds (get_or sources n [])
-value-here values sources ds n e lt =
-    ap (λ w. value_at w n) e ∙ get_or-map (row_value ds) sources n [] U (omega (arith, lt, ap length e, length-map sources (row_value ds)))
-
-pub update-keeps : {values last_values : List Logic} {dss : List (List Waveform)} {vss : List (List Held)} {sources : List
+pub update-keeps : {values last_values driving : List Logic} {dss : List (List Waveform)} {vss : List (List Held)} {sources : List
     (List Source)} {fan_out : List (List ℕ)}
-    {times : List (Option ℕ)} {stale touched : List Bool} → IsHeld values last_values dss vss sources fan_out times stale touched
-    → (time : ℕ) (values' last_values' : List Logic) (dss' : List (List Waveform)) (ws : List Waveform) (times₁ times' : List (Option ℕ))
+    {times : List (Option ℕ)} {stale touched : List Bool} → IsHeld values last_values driving dss vss sources fan_out times stale touched
+    → (time : ℕ) (values' last_values' driving' : List Logic) (dss' : List (List Waveform)) (times₁ times' : List (Option ℕ))
     (stale' touched' : List Bool)
     → next_time (joined dss) ≡ Some time → times₁ ≡ first_times (joined dss) → last_values' ≡ values → stale' ≡ those_at time times₁
     → times' ≡ cleared time times₁ → dss' ≡ map (map (taken time)) dss → AllReached touched' fan_out (joined dss) time → length touched' ≡ length touched
-    → ws ≡ joined dss' → values' ≡ map (row_value ws) sources → IsHeld values' last_values' dss' vss sources fan_out times' stale' touched'
-update-keeps {values} {last_values} {dss} {vss} {sources} {fan_out} {times} {stale} {touched} i time values' last_values' dss' ws times₁ times' stale'
+    → driving' ≡ driver_values (joined dss') → values' ≡ map (row_from driving') sources
+    → IsHeld values' last_values' driving' dss' vss sources fan_out times' stale' touched'
+update-keeps {values} {last_values} {driving} {dss} {vss} {sources} {fan_out} {times} {stale} {touched} i time values' last_values' driving'
+    dss' times₁ times' stale'
     touched' en et el
     es ec ed reached lt ew ev =
     let eds : joined dss' ≡ map (taken time) (joined dss) = ap joined ed ∙ joined-map (taken time) dss in
     let count : length (joined dss') ≡ length (joined dss) = ap length eds ∙ length-map (joined dss) (taken time) in
     let old : length values ≡ length sources = ap length i.resolving ∙ length-map sources (row_value (joined dss)) in
-    let new : length values' ≡ length sources = ap length ev ∙ length-map sources (row_value ws) in
-    let now : values' ≡ map (row_value (joined dss')) sources = ev ∙ ap (λ w. map (row_value w) sources) ew in
+    let new : length values' ≡ length sources = ap length ev ∙ length-map sources (row_from driving') in
+    let now : values' ≡ map (row_value (joined dss')) sources = ev ∙ (ap (λ w. map (row_from w) sources) ew ∙ rows-from (joined dss') sources) in
     let long : length touched' ≡ length sources = lt ∙ (i.touching.sized ∙ old) in
     record {
       lists = record {
         nets = omega (arith, new, old, ap length el);
         owned = omega (arith, ap length ed, length-map dss (map (taken time)), i.lists.owned);
       };
+      valued = ew;
       timed = times-taken (joined dss) (joined dss') times₁ times' stale' time en et es ec eds;
       fan_out_count = i.fan_out_count ∙ sym count;
-      driving = i.driving;
+      fanned = i.fanned;
       resolving = now;
       touching = record {
         sized = long ∙ sym new;
         still = λ n other. elim (dec_lt n (length sources)) [
           | yes h ↦ (
-              value-here values' sources (joined dss') n now (omega (arith, h, new))
-              ∙ (unreached sources fan_out (joined dss) (joined dss') touched' time n i.driving i.fan_out_count long eds reached other
-              ∙ (sym (value-here values sources (joined dss) n i.resolving (omega (arith, h, old))) ∙ ap (λ w. value_at w n) (sym el))))
+              value-here values' sources (row_value (joined dss')) n now (omega (arith, h, new))
+              ∙ (unreached sources fan_out (joined dss) (joined dss') touched' time n i.fanned i.fan_out_count long eds reached other
+              ∙ (sym (value-here values sources (row_value (joined dss)) n i.resolving (omega (arith, h, old))) ∙ ap (λ w. value_at w n) (sym el))))
           | no h ↦ (get_or_past values' n U (omega (arith, h, new)) ∙ sym (get_or_past last_values' n U (omega (arith, h, old, ap length el))))
         ];
       };

@@ -11,7 +11,7 @@ use Rattle.sim_standard.specs.Drivers.{Waveform, next_time}
 use Rattle.sim_store_sets.specs.RowArray.{joined}
 use Rattle.sim_store_sets.specs.Numbers.{is_in}
 use Rattle.sim_store_sets.specs.Times.{time_of}
-use Rattle.sim_standard.specs.State.{driver_at}
+use Rattle.sim_standard.specs.State.{driver_at, driver_values}
 use Rattle.sim_standard.specs.Nets.{source_value}
 use Rattle.sim_standard.specs.Orders.{is_among}
 use Rattle.sim_store_state.specs.FlatState.{AreLists}
@@ -59,6 +59,15 @@ row_value drivers row = resolved (map (source_value drivers) row)
 abbrev pub value_at : List Logic → ℕ → Logic
 value_at values n = slice_index_or values n U
 
+-- the value of a source, from the values of the drivers
+abbrev pub value_from : List Logic → Source → Logic
+value_from driving (source.Driver number) = value_at driving number
+value_from driving (source.Constant value) = value
+
+-- the value of a net with these sources, from the values of the drivers
+abbrev pub row_from : List Logic → List Source → Logic
+row_from driving row = resolved (map (value_from driving) row)
+
 -- A net that is not touched has the value that it had last: it has no event.
 pub record AreTouched (values last_values : List Logic) (touched : List Bool) : Type 0 where
   pub sized : length touched ≡ length values
@@ -71,11 +80,12 @@ AreReached touched nets before now = (n : ℕ) → n < length touched → is_in 
 -- ---- all of it
 
 -- These lists hold a state: each net has the value of its sources, and what is kept beside it is right.
-pub record IsHeld (values last_values : List Logic) (drivers : List (List Waveform)) (variables : List (List Held)) (sources : List (List Source))
+pub record IsHeld (values last_values driving : List Logic) (drivers : List (List Waveform)) (variables : List (List Held)) (sources : List (List Source))
     (fan_out : List (List ℕ)) (times : List (Option ℕ)) (stale touched : List Bool) : Type 0 where
   pub lists : AreLists values last_values drivers variables
+  pub valued : driving ≡ driver_values (joined drivers)
   pub timed : AreTimes times stale (joined drivers)
   pub fan_out_count : length fan_out ≡ length (joined drivers)
-  pub driving : AreFanOut sources fan_out
+  pub fanned : AreFanOut sources fan_out
   pub resolving : values ≡ map (row_value (joined drivers)) sources
   pub touching : AreTouched values last_values touched

@@ -35,6 +35,11 @@ owned_lists [] variables = []
 owned_lists (ds ∷ drivers) [] = []
 owned_lists (ds ∷ drivers) (vs ∷ variables) = record { drivers = ds; variables = vs } ∷ owned_lists drivers variables
 
+-- the state that flat lists hold
+abbrev pub held : List (List Source) → List Logic → List Logic → List (List Waveform) → List (List Held) → FlatState
+held sources values last_values drivers variables =
+    record { sources = sources; nets = views_of values last_values; owned = owned_lists drivers variables }
+
 -- The lists of nets are as long as each other, and so are those of processes.
 pub record AreLists (values last_values : List Logic) (drivers : List (List Waveform)) (variables : List (List Held)) : Type 0 where
   pub nets : length values ≡ length last_values

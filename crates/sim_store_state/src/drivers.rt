@@ -1,18 +1,18 @@
 //! Drivers, one after another (IEEE 1076-2008, 14.7.2).
 
-ghost use Rattle.std.specs.Prelude.{ℕ, List, ◌≡◌, ◌≢◌, ◌<◌, ◌≤◌, ◌⊎◌, [], ◌∷◌, false, not, length, map, slice_index_or, slice_set, IfOk, OnOk};
+ghost use Rattle.std.specs.Prelude.{ℕ, List, ◌≡◌, ◌≢◌, ◌<◌, ◌≤◌, ◌⊎◌, [], ◌∷◌, false, length, map, slice_index_or, slice_set, IfOk, OnOk};
 ghost use Rattle.std.specs.Bool.{Decides};
-ghost use Rattle.sim_logic.specs.Logic as logic;
 ghost use Rattle.sim_standard.specs.Drivers.{Waveform, taken};
 ghost use Rattle.sim_store_sets.specs.RowArray.{joined};
 ghost use Rattle.sim_store_sets.specs.Numbers.{is_in};
-ghost use Rattle.sim_standard.specs.State.{driver_at};
+ghost use Rattle.sim_standard.specs.State.{driver_at, driver_values};
 ghost use Rattle.sim_store_sets.specs.Times.{time_of};
-ghost use Rattle.sim_store_state.specs.Changes.{AreReached, AreTimes, first_times, time_at};
+ghost use Rattle.sim_store_state.specs.Changes.{AreReached, AreTimes, first_times, time_at, value_at};
 ghost use Rattle.sim_standard.specs.Drivers as spec;
 
 use crate::sets::{insert_each, insert_range};
-use sim_store_sets::{NumberSet, RowArray, TimeQueue, bounds};
+use sim_logic::Logic;
+use sim_store_sets::{DividedRows, NumberSet, RowArray, TimeQueue, item_place};
 use sim_wave::Driver;
 use std::alloc::{AllocError, Global};
 
@@ -32,15 +32,16 @@ fn first_time(driver: &Driver) -> Option<u64>
 pub fn bring_up_to_date(
     queue: &mut TimeQueue,
     stale: &NumberSet,
-    drivers: &[Driver],
+    drivers: &DividedRows<Driver>,
 ) -> Result<(), AllocError>
-    requires { AreTimes queue.old stale.now drivers.now }
-    ensures times { AreTimes queue.new stale.now drivers.now }
-    ensures ok { OnOk result (queue.new ≡ first_times drivers.now) }
+    requires { AreTimes queue.old stale.now (joined drivers.now) }
+    ensures times { AreTimes queue.new stale.now (joined drivers.now) }
+    ensures ok { OnOk result (queue.new ≡ first_times (joined drivers.now)) }
 {
+    let _count = stale.len();
     let mut from = 0;
     while let Some(number) = stale.next(from) {
-        queue.put(number, first_time(&drivers[number]))?;
+        queue.put(number, first_time(drivers.item(number)))?;
         from = number + 1;
     }
     Ok(())
@@ -66,44 +67,49 @@ fn tell(queue: &mut TimeQueue, stale: &mut NumberSet, number: usize, time: Optio
 fn tell_range(
     queue: &mut TimeQueue,
     stale: &mut NumberSet,
-    drivers: &[Driver],
+    drivers: &DividedRows<Driver>,
     start: usize,
     end: usize,
 )
     requires order { start ≤ end }
-    requires within { end ≤ length drivers.now }
-    requires queue { length queue.old ≡ length drivers.now }
-    requires stale { length stale.old ≡ length drivers.now }
+    requires within { end ≤ length (joined drivers.now) }
+    requires queue { length queue.old ≡ length (joined drivers.now) }
+    requires stale { length stale.old ≡ length (joined drivers.now) }
     ensures queue { length queue.new ≡ length queue.old }
     ensures stale { length stale.new ≡ length stale.old }
-    ensures here { (d : ℕ) → start ≤ d → d < end → is_in stale.new d ≡ false → time_of queue.new d ≡ time_at drivers.now d }
+    ensures here { (d : ℕ) → start ≤ d → d < end → is_in stale.new d ≡ false → time_of queue.new d ≡ time_at (joined drivers.now) d }
     ensures others { (d : ℕ) → (d < start) ⊎ (end ≤ d)
         → (time_of queue.new d ≡ time_of queue.old d) × (is_in stale.new d ≡ is_in stale.old d) }
 {
     for number in start..end {
-        tell(queue, stale, number, first_time(&drivers[number]));
+        tell(queue, stale, number, first_time(drivers.item(number)));
     }
 }
 
 /// Gives the queue the first pending times of the drivers of the process with a number, which may be
 /// other ones than it has; those of the other drivers stay as right as they were. A driver that has
 /// the time that the queue has for it costs a comparison.
-fn tell_row(queue: &mut TimeQueue, stale: &mut NumberSet, drivers: &RowArray<Driver>, number: usize)
+fn tell_row(
+    queue: &mut TimeQueue,
+    stale: &mut NumberSet,
+    drivers: &DividedRows<Driver>,
+    number: usize,
+)
     requires at { number < length drivers.now }
     requires queue { length queue.old ≡ length (joined drivers.now) }
     requires stale { length stale.old ≡ length (joined drivers.now) }
     ensures { (row : List Waveform) → length row ≡ length (slice_index_or drivers.now number [])
         → AreTimes queue.old stale.old (joined (slice_set drivers.now number row)) → AreTimes queue.new stale.new (joined drivers.now) }
 {
-    let (start, end) = bounds(drivers.starts.as_slice(), number);
-    tell_range(queue, stale, drivers.flat.as_slice(), start, end);
+    let (start, end) = drivers.row_bounds(number);
+    tell_range(queue, stale, drivers, start, end);
 }
 
 /// The same, unless nothing was done.
 pub fn tell_changed(
     queue: &mut TimeQueue,
     stale: &mut NumberSet,
-    drivers: &RowArray<Driver>,
+    drivers: &DividedRows<Driver>,
     number: usize,
     changed: bool,
 )
@@ -120,64 +126,109 @@ pub fn tell_changed(
     tell_row(queue, stale, drivers, number);
 }
 
-/// A driver takes its first transaction, if its time has come; says whether it has another value
-/// now.
-fn take_value(driver: &mut Driver, time: u64) -> bool
+/// A driver takes its first transaction, if its time has come; gives the value that it has then.
+fn take_value(driver: &mut Driver, time: u64) -> Logic
     ensures after { driver.new ≡ taken time driver.old }
-    ensures changed { result ≡ not (logic.is_same driver.old.value driver.new.value) }
+    ensures value { result ≡ driver.new.value }
 {
-    let before = driver.value();
     driver.take(time);
-    before != driver.value()
+    driver.value()
+}
+
+/// The same, of the driver at a place.
+fn take_among(drivers: &mut [Driver], place: usize, time: u64) -> Logic
+    requires { place < length drivers.old }
+    ensures drivers { drivers.new ≡ slice_set drivers.old place (taken time (driver_at drivers.old place)) }
+    ensures value { result ≡ (taken time (driver_at drivers.old place)).value }
+{
+    take_value(&mut drivers[place], time)
+}
+
+/// The same, where drivers stand by process.
+fn take_in(drivers: &mut RowArray<Driver>, place: usize, time: u64) -> Logic
+    requires { place < length (joined drivers.old) }
+    ensures rows { map length drivers.new ≡ map length drivers.old }
+    ensures drivers { joined drivers.new ≡ slice_set (joined drivers.old) place (taken time (driver_at (joined drivers.old) place)) }
+    ensures value { result ≡ (taken time (driver_at (joined drivers.old) place)).value }
+{
+    take_among(drivers.flat.as_mut_slice(), place, time)
+}
+
+/// The same, where these are a part of all.
+fn take_at(parts: &mut [RowArray<Driver>], part: usize, place: usize, time: u64) -> Logic
+    requires part { part < length parts.old }
+    requires place { place < length (joined (slice_index_or parts.old part [])) }
+    ensures parts { parts.new ≡ slice_set parts.old part (slice_index_or parts.new part []) }
+    ensures rows { map length (slice_index_or parts.new part []) ≡ map length (slice_index_or parts.old part []) }
+    ensures drivers { joined (slice_index_or parts.new part []) ≡ slice_set (joined (slice_index_or parts.old part [])) place
+        (taken time (driver_at (joined (slice_index_or parts.old part [])) place)) }
+    ensures value { result ≡ (taken time (driver_at (joined (slice_index_or parts.old part [])) place)).value }
+{
+    take_in(&mut parts[part], place, time)
+}
+
+/// The driver with a number takes its first transaction, if its time has come; gives the value that
+/// it has then.
+fn take_driver(drivers: &mut DividedRows<Driver>, number: usize, time: u64) -> Logic
+    requires { number < length (joined drivers.old) }
+    ensures rows { map length drivers.new ≡ map length drivers.old }
+    ensures drivers { joined drivers.new ≡ slice_set (joined drivers.old) number (taken time (driver_at (joined drivers.old) number)) }
+    ensures value { result ≡ (taken time (driver_at (joined drivers.old) number)).value }
+{
+    let (part, place) = item_place(drivers.parts.as_slice(), number);
+    take_at(drivers.parts.as_mut_slice(), part, place, time)
+}
+
+/// A driver has this value from now on; where it had another one, these nets are touched
+/// (14.7.3.2).
+fn note_value(
+    driving: &mut [Logic],
+    number: usize,
+    value: Logic,
+    nets: &[usize],
+    touched: &mut NumberSet,
+)
+    requires { number < length driving.old }
+    ensures driving { driving.new ≡ slice_set driving.old number value }
+    ensures sized { length touched.new ≡ length touched.old }
+    ensures kept { (n : ℕ) → is_in touched.new n ≡ false → is_in touched.old n ≡ false }
+    ensures reached { AreReached touched.new nets.now (value_at driving.old number) value }
+{
+    if driving[number] != value {
+        driving[number] = value;
+        insert_each(touched, nets);
+    }
 }
 
 /// The driver with a number takes its first transaction, if its time has come; where it has another
-/// value then, these nets are touched (14.7.3.2).
+/// value then, these nets are touched.
 fn take_one(
-    drivers: &mut [Driver],
+    drivers: &mut DividedRows<Driver>,
+    driving: &mut [Logic],
     number: usize,
     time: u64,
     nets: &[usize],
     touched: &mut NumberSet,
 )
-    requires { number < length drivers.old }
-    ensures drivers { drivers.new ≡ slice_set drivers.old number (taken time (driver_at drivers.old number)) }
+    requires at { number < length (joined drivers.old) }
+    requires driving { driving.old ≡ driver_values (joined drivers.old) }
+    ensures rows { map length drivers.new ≡ map length drivers.old }
+    ensures drivers { joined drivers.new ≡ slice_set (joined drivers.old) number (taken time (driver_at (joined drivers.old) number)) }
+    ensures driving { driving.new ≡ driver_values (joined drivers.new) }
     ensures sized { length touched.new ≡ length touched.old }
     ensures kept { (n : ℕ) → is_in touched.new n ≡ false → is_in touched.old n ≡ false }
-    ensures reached { AreReached touched.new nets.now (driver_at drivers.old number).value (taken time (driver_at drivers.old number)).value }
+    ensures reached { AreReached touched.new nets.now (driver_at (joined drivers.old) number).value
+        (taken time (driver_at (joined drivers.old) number)).value }
 {
-    if take_value(&mut drivers[number], time) {
-        insert_each(touched, nets);
-    }
+    let value = take_driver(drivers, number, time);
+    note_value(driving, number, value, nets, touched);
 }
 
 /// The drivers that are due take their transactions of a time, and nets of each that has another
 /// value then are touched. The others have none to take, and it does not look at them.
-fn take_each(
-    drivers: &mut [Driver],
-    time: u64,
-    due: &NumberSet,
-    fan_out: &RowArray<usize>,
-    touched: &mut NumberSet,
-)
-    requires due { length due.now ≡ length drivers.old }
-    requires fan_out { length fan_out.now ≡ length drivers.old }
-    requires others { (d : ℕ) → is_in due.now d ≡ false → taken time (driver_at drivers.old d) ≡ driver_at drivers.old d }
-    ensures drivers { drivers.new ≡ map (taken time) drivers.old }
-    ensures sized { length touched.new ≡ length touched.old }
-    ensures reached { (d : ℕ) → AreReached touched.new (slice_index_or fan_out.now d []) (driver_at drivers.old d).value
-        (taken time (driver_at drivers.old d)).value }
-{
-    let mut from = 0;
-    while let Some(number) = due.next(from) {
-        take_one(drivers, number, time, fan_out.row(number), touched);
-        from = number + 1;
-    }
-}
-
-/// The same, where drivers stand by process.
 pub fn take_due(
-    drivers: &mut RowArray<Driver>,
+    drivers: &mut DividedRows<Driver>,
+    driving: &mut [Logic],
     time: u64,
     due: &NumberSet,
     fan_out: &RowArray<usize>,
@@ -185,25 +236,32 @@ pub fn take_due(
 )
     requires due { length due.now ≡ length (joined drivers.old) }
     requires fan_out { length fan_out.now ≡ length (joined drivers.old) }
+    requires driving { driving.old ≡ driver_values (joined drivers.old) }
     requires others { (d : ℕ) → is_in due.now d ≡ false → taken time (driver_at (joined drivers.old) d) ≡ driver_at (joined drivers.old) d }
     ensures drivers { drivers.new ≡ map (map (taken time)) drivers.old }
+    ensures driving { driving.new ≡ driver_values (joined drivers.new) }
     ensures sized { length touched.new ≡ length touched.old }
     ensures reached { (d : ℕ) → AreReached touched.new (slice_index_or fan_out.now d []) (driver_at (joined drivers.old) d).value
         (taken time (driver_at (joined drivers.old) d)).value }
 {
-    take_each(drivers.flat.as_mut_slice(), time, due, fan_out, touched);
+    let _count = due.len();
+    let mut from = 0;
+    while let Some(number) = due.next(from) {
+        take_one(drivers, driving, number, time, fan_out.row(number), touched);
+        from = number + 1;
+    }
 }
 
 /// The drivers of the process with a number are stale from now on, as another list of drivers may
 /// stand there.
-pub fn mark_stale(stale: &mut NumberSet, drivers: &RowArray<Driver>, number: usize)
+pub fn mark_stale(stale: &mut NumberSet, drivers: &DividedRows<Driver>, number: usize)
     requires at { number < length drivers.now }
     requires stale { length stale.old ≡ length (joined drivers.now) }
     ensures sized { length stale.new ≡ length stale.old }
     ensures others { (row : List Waveform) (d : ℕ) → length row ≡ length (slice_index_or drivers.now number []) → is_in stale.new d ≡ false
         → (is_in stale.old d ≡ false) × (driver_at (joined (slice_set drivers.now number row)) d ≡ driver_at (joined drivers.now) d) }
 {
-    let (start, end) = bounds(drivers.starts.as_slice(), number);
+    let (start, end) = drivers.row_bounds(number);
     insert_range(stale, start, end);
 }
 

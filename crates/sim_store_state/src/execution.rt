@@ -11,7 +11,7 @@ ghost use Rattle.sim_standard.specs.Statements.{executed};
 use sim_exec::Nets;
 use sim_exec_code::{Codes, Frame};
 use sim_flat_design::{Body, Held};
-use sim_store_sets::{RowArray, bounds};
+use sim_store_sets::{DividedRows, RowArray, bounds, place_of};
 use sim_wave::Driver;
 use std::alloc::{AllocError, Global};
 
@@ -61,6 +61,63 @@ fn execute_between<N: Nets, P: Nets>(
     )
 }
 
+/// Executes the body of the process with a number, whose drivers stand at one place of lists and its
+/// variables at one of others. Says whether anything may have been done.
+fn execute_in_rows<N: Nets, P: Nets>(
+    alloc: Global,
+    nets: &N,
+    places: &P,
+    now: u64,
+    codes: &Codes,
+    frame: &mut Frame,
+    number: usize,
+    own_place: usize,
+    held_place: usize,
+    body: &Body,
+    drivers: &mut RowArray<Driver>,
+    variables: &mut RowArray<Held>,
+) -> Result<bool, AllocError>
+    requires now { now ≤ largest_time }
+    requires code { code.IsCodeOf body.now (code.code_at codes.now.codes number) }
+    requires placed { code.ArePlaced (N.look nets.now) (P.look places.now) (code.objects_of (code.code_at codes.now.codes number)) }
+    requires frame { code.slots_of (code.code_at codes.now.codes number) ≤ frame.old }
+    requires drivers { own_place < length drivers.old }
+    requires variables { held_place < length variables.old }
+    requires ready { IsReady body.now now (record {
+      drivers = slice_index_or drivers.old own_place [];
+      variables = slice_index_or variables.old held_place [];
+    }) }
+    ensures frame { frame.new ≡ frame.old }
+    ensures drivers { drivers.new ≡ slice_set drivers.old own_place (slice_index_or drivers.new own_place []) }
+    ensures variables { variables.new ≡ slice_set variables.old held_place (slice_index_or variables.new held_place []) }
+    ensures ok { OnOk result (record { drivers = slice_index_or drivers.new own_place []; variables = slice_index_or variables.new held_place [] }
+        ≡ executed (N.look nets.now) now body.now.statements
+        (record { drivers = slice_index_or drivers.old own_place []; variables = slice_index_or variables.old held_place [] })) }
+    ensures ready { IsReady body.now now (record {
+      drivers = slice_index_or drivers.new own_place [];
+      variables = slice_index_or variables.new held_place [];
+    }) }
+    ensures values { driver_values (slice_index_or drivers.new own_place []) ≡ driver_values (slice_index_or drivers.old own_place []) }
+    ensures idle { IfOk result (λ done. done ≡ false → slice_index_or drivers.new own_place [] ≡ slice_index_or drivers.old own_place []) }
+{
+    let owned = bounds(drivers.starts.as_slice(), own_place);
+    let held = bounds(variables.starts.as_slice(), held_place);
+    execute_between(
+        alloc,
+        nets,
+        places,
+        now,
+        codes,
+        frame,
+        number,
+        body,
+        drivers.flat.as_mut_slice(),
+        owned,
+        variables.flat.as_mut_slice(),
+        held,
+    )
+}
+
 /// Executes the body of the process with a number, where what it owns stands at a place of each of
 /// these lists. Says whether anything may have been done.
 pub fn execute_at<N: Nets, P: Nets>(
@@ -93,9 +150,45 @@ pub fn execute_at<N: Nets, P: Nets>(
     ensures values { driver_values (slice_index_or drivers.new place []) ≡ driver_values (slice_index_or drivers.old place []) }
     ensures idle { IfOk result (λ done. done ≡ false → slice_index_or drivers.new place [] ≡ slice_index_or drivers.old place []) }
 {
-    let owned = bounds(drivers.starts.as_slice(), place);
-    let held = bounds(variables.starts.as_slice(), place);
-    execute_between(
+    execute_in_rows(
+        alloc, nets, places, now, codes, frame, number, place, place, body, drivers, variables,
+    )
+}
+
+/// Executes the body of the process with a number, where what each process owns stands by its
+/// number. Says whether anything may have been done.
+pub fn execute_in_parts<N: Nets, P: Nets>(
+    alloc: Global,
+    nets: &N,
+    places: &P,
+    now: u64,
+    codes: &Codes,
+    frame: &mut Frame,
+    number: usize,
+    body: &Body,
+    drivers: &mut DividedRows<Driver>,
+    variables: &mut DividedRows<Held>,
+) -> Result<bool, AllocError>
+    requires now { now ≤ largest_time }
+    requires code { code.IsCodeOf body.now (code.code_at codes.now.codes number) }
+    requires placed { code.ArePlaced (N.look nets.now) (P.look places.now) (code.objects_of (code.code_at codes.now.codes number)) }
+    requires frame { code.slots_of (code.code_at codes.now.codes number) ≤ frame.old }
+    requires drivers { number < length drivers.old }
+    requires variables { number < length variables.old }
+    requires ready { IsReady body.now now (record { drivers = slice_index_or drivers.old number []; variables = slice_index_or variables.old number [] }) }
+    ensures frame { frame.new ≡ frame.old }
+    ensures drivers { drivers.new ≡ slice_set drivers.old number (slice_index_or drivers.new number []) }
+    ensures variables { variables.new ≡ slice_set variables.old number (slice_index_or variables.new number []) }
+    ensures ok { OnOk result (record { drivers = slice_index_or drivers.new number []; variables = slice_index_or variables.new number [] }
+        ≡ executed (N.look nets.now) now body.now.statements
+        (record { drivers = slice_index_or drivers.old number []; variables = slice_index_or variables.old number [] })) }
+    ensures ready { IsReady body.now now (record { drivers = slice_index_or drivers.new number []; variables = slice_index_or variables.new number [] }) }
+    ensures values { driver_values (slice_index_or drivers.new number []) ≡ driver_values (slice_index_or drivers.old number []) }
+    ensures idle { IfOk result (λ done. done ≡ false → slice_index_or drivers.new number [] ≡ slice_index_or drivers.old number []) }
+{
+    let owned = place_of(drivers.parts.as_slice(), drivers.each, number);
+    let held = place_of(variables.parts.as_slice(), variables.each, number);
+    execute_in_rows(
         alloc,
         nets,
         places,
@@ -103,11 +196,11 @@ pub fn execute_at<N: Nets, P: Nets>(
         codes,
         frame,
         number,
+        owned.1,
+        held.1,
         body,
-        drivers.flat.as_mut_slice(),
-        owned,
-        variables.flat.as_mut_slice(),
-        held,
+        &mut drivers.parts.as_mut_slice()[owned.0],
+        &mut variables.parts.as_mut_slice()[held.0],
     )
 }
 

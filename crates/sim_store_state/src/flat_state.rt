@@ -16,12 +16,13 @@ ghost use Rattle.sim_standard.specs.Drivers as spec;
 ghost use Rattle.sim_standard.specs.State as states;
 ghost use Rattle.sim_standard.specs.Initialization.{first_state};
 ghost use Rattle.sim_standard.specs.Cycle.{has_event_in, updated};
-ghost use Rattle.sim_store_state.specs.FlatState.{flat_state_of};
+ghost use Rattle.sim_store_state.specs.FlatState.{flat_state_of, held};
+ghost use Rattle.sim_store_state.specs.Changes.{IsHeld};
 ghost use Rattle.sim_standard.specs.Records.{changes_from, values_of};
 ghost use Rattle.sim_store_state.specs.Sensitive.{AreSensitive};
 
 use crate::drivers::{are_same, bring_up_to_date, copied, mark_stale, take_due, tell_changed};
-use crate::execution::{as_done, execute_at, may_have_changed};
+use crate::execution::{as_done, execute_in_parts, may_have_changed};
 use crate::log::Log;
 use crate::nets::{Seen, SeenBy, are_views, resolve_touched, settle, views_at};
 use crate::resumption::find_resumed;
@@ -30,21 +31,23 @@ use sim_exec::NetView;
 use sim_exec_code::{Codes, Frame};
 use sim_flat_design::{Design, Held, Process, Source};
 use sim_logic::Logic;
-use sim_store_sets::{NumberSet, RowArray, TimeQueue};
+use sim_store_sets::{DividedRows, NumberSet, RowArray, TimeQueue};
 use sim_wave::Driver;
 use std::alloc::{AllocError, Global};
 use std::marker::Model;
 
 /// The nets of a design, and what its processes own, in flat lists: values and last values by net,
-/// drivers and variables by process and place. Beside these it holds what a cycle has to look at,
-/// so that it costs no more for what is as it was: a net that is not touched has no event, and the
-/// time in the queue of a driver that is not stale is its own.
+/// drivers and variables by process and place, in parts of a range of processes each. Beside these
+/// it holds what a cycle has to look at, so that it costs no more for what is as it was: a net that
+/// is not touched has no event, and the time in the queue of a driver that is not stale is its own.
 #[derive(Drop)]
 pub struct FlatState {
     values: Vec<Logic>,
     last_values: Vec<Logic>,
-    drivers: RowArray<Driver>,
-    variables: RowArray<Held>,
+    /// The value of each driver, so that nets are resolved without a look at the drivers.
+    driving: Vec<Logic>,
+    drivers: DividedRows<Driver>,
+    variables: DividedRows<Held>,
     /// Of each net.
     sources: RowArray<Source>,
     /// The nets of each driver.
@@ -57,18 +60,29 @@ pub struct FlatState {
 }
 
 impl Model for FlatState {
-    ghost use Rattle.sim_store_state.specs.FlatState.{FlatState, views_of, owned_lists};
+    ghost use Rattle.sim_store_state.specs.FlatState.{FlatState, held};
     ghost use Rattle.sim_store_state.specs.Changes.{IsHeld};
 
     ghost Value = { FlatState };
 
-    ghost view = { λ s. record {
-      sources = s.sources;
-      nets = views_of s.values.items s.last_values.items;
-      owned = owned_lists s.drivers s.variables;
-    } };
+    ghost view = { λ s. held s.sources s.values.items s.last_values.items s.drivers s.variables };
 
-    ghost invariant = { λ s. IsHeld s.values.items s.last_values.items s.drivers s.variables s.sources s.fan_out s.queue s.stale s.touched };
+    ghost invariant = { λ s. IsHeld s.values.items s.last_values.items s.driving.items s.drivers s.variables s.sources s.fan_out s.queue s.stale s.touched };
+}
+
+/// The lists that hold a state, apart, so that a part of one of them can be given away and put back.
+#[derive(Drop)]
+pub struct Lists {
+    pub values: Vec<Logic>,
+    pub last_values: Vec<Logic>,
+    pub driving: Vec<Logic>,
+    pub drivers: DividedRows<Driver>,
+    pub variables: DividedRows<Held>,
+    pub sources: RowArray<Source>,
+    pub fan_out: RowArray<usize>,
+    pub queue: TimeQueue,
+    pub stale: NumberSet,
+    pub touched: NumberSet,
 }
 
 /// The part of a state that a process sees: the nets that it reads, and what it owns.
@@ -86,6 +100,21 @@ fn are_equal(variables: &[Held], others: &[Held]) -> bool
     variables == others
 }
 
+/// The same lists, each in about so many parts, if it is in one.
+fn divided(
+    alloc: Global,
+    drivers: DividedRows<Driver>,
+    variables: DividedRows<Held>,
+    parts: usize,
+) -> Result<(DividedRows<Driver>, DividedRows<Held>), AllocError>
+    ensures drivers { IfOk result (λ r. r.0 ≡ drivers) }
+    ensures variables { IfOk result (λ r. r.1 ≡ variables) }
+{
+    let drivers = drivers.divide(alloc, parts)?;
+    let variables = variables.divide(alloc, parts)?;
+    Ok((drivers, variables))
+}
+
 impl FlatState {
     /// The state of a design before any process is executed: each driver has its first value, each
     /// net the value of its sources (14.7.5.2).
@@ -93,14 +122,111 @@ impl FlatState {
         ensures { IfOk result (λ s. s ≡ flat_state_of design.now (first_state design.now)) }
     {
         let first = first_contents(alloc, design)?;
-        let count = first.drivers.flat().len();
+        let count = first.driving.len();
         let (sources, fan_out) = connections(alloc, design, count)?;
         let (queue, stale, touched) = nothing_pending(alloc, count, first.values.len())?;
         Ok(FlatState {
             values: first.values,
             last_values: first.last_values,
+            driving: first.driving,
             drivers: first.drivers,
             variables: first.variables,
+            sources,
+            fan_out,
+            queue,
+            stale,
+            touched,
+        })
+    }
+
+    /// The lists that hold it.
+    pub fn into_lists(self) -> Lists
+        ensures held { IsHeld result.values.items result.last_values.items result.driving.items result.drivers result.variables result.sources
+            result.fan_out result.queue result.stale result.touched }
+        ensures state { self ≡ held result.sources result.values.items result.last_values.items result.drivers result.variables }
+    {
+        let FlatState {
+            values,
+            last_values,
+            driving,
+            drivers,
+            variables,
+            sources,
+            fan_out,
+            queue,
+            stale,
+            touched,
+        } = self;
+        Lists {
+            values,
+            last_values,
+            driving,
+            drivers,
+            variables,
+            sources,
+            fan_out,
+            queue,
+            stale,
+            touched,
+        }
+    }
+
+    /// The state that these lists hold.
+    pub fn of_lists(lists: Lists) -> FlatState
+        requires { IsHeld lists.values.items lists.last_values.items lists.driving.items lists.drivers lists.variables lists.sources
+            lists.fan_out lists.queue lists.stale lists.touched }
+        ensures { result ≡ held lists.sources lists.values.items lists.last_values.items lists.drivers lists.variables }
+    {
+        let Lists {
+            values,
+            last_values,
+            driving,
+            drivers,
+            variables,
+            sources,
+            fan_out,
+            queue,
+            stale,
+            touched,
+        } = lists;
+        FlatState {
+            values,
+            last_values,
+            driving,
+            drivers,
+            variables,
+            sources,
+            fan_out,
+            queue,
+            stale,
+            touched,
+        }
+    }
+
+    /// The same state, with what the processes own in about so many parts, if it is in one. It moves
+    /// each driver and variable once.
+    pub fn divide(self, alloc: Global, parts: usize) -> Result<FlatState, AllocError>
+        ensures { IfOk result (λ s. s ≡ self) }
+    {
+        let FlatState {
+            values,
+            last_values,
+            driving,
+            drivers,
+            variables,
+            sources,
+            fan_out,
+            queue,
+            stale,
+            touched,
+        } = self;
+        let (drivers, variables) = divided(alloc, drivers, variables, parts)?;
+        Ok(FlatState {
+            values,
+            last_values,
+            driving,
+            drivers,
+            variables,
             sources,
             fan_out,
             queue,
@@ -193,7 +319,7 @@ impl FlatState {
         ensures value { IfOk result (λ next. next ≡ spec.next_time (states.waves self.old.owned)) }
         ensures least { IfOk result (λ next. spec.IsNext (states.waves self.old.owned) next) }
     {
-        bring_up_to_date(&mut self.queue, &self.stale, self.drivers.flat())?;
+        bring_up_to_date(&mut self.queue, &self.stale, &self.drivers)?;
         self.stale.clear();
         Ok(self.queue.least())
     }
@@ -207,7 +333,7 @@ impl FlatState {
             → self.new ≡ flat_state_of design (updated design s time)) }
         ensures err { OnErr result (self.new ≡ self.old) }
     {
-        bring_up_to_date(&mut self.queue, &self.stale, self.drivers.flat())?;
+        bring_up_to_date(&mut self.queue, &self.stale, &self.drivers)?;
         settle(
             self.last_values.as_mut_slice(),
             self.values.as_slice(),
@@ -217,6 +343,7 @@ impl FlatState {
         self.queue.take(time, &mut self.stale);
         take_due(
             &mut self.drivers,
+            self.driving.as_mut_slice(),
             time,
             &self.stale,
             &self.fan_out,
@@ -226,7 +353,7 @@ impl FlatState {
             self.values.as_mut_slice(),
             &self.touched,
             &self.sources,
-            self.drivers.flat(),
+            self.driving.as_slice(),
         );
         Ok(())
     }
@@ -268,14 +395,13 @@ impl FlatState {
             values,
             last_values,
         };
-        let done = execute_at(
+        let done = execute_in_parts(
             alloc,
             &seen,
             &gathered,
             time,
             codes,
             frame,
-            number,
             number,
             process.body(),
             &mut self.drivers,

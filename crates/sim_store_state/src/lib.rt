@@ -13,7 +13,7 @@ mod sets;
 mod start;
 
 pub use execution::execute_at;
-pub use flat_state::{FlatState, Part};
+pub use flat_state::{FlatState, Lists, Part};
 pub use log::{Log, Mark};
 pub use resumption::sensitive;
 pub use sim_standard::Record;

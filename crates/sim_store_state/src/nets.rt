@@ -3,10 +3,9 @@
 ghost use Rattle.std.specs.Prelude.{ℕ, [], ◌≡◌, ◌<◌, false, length, map, fold, slice_index_or, ◌↔◌, IsTrue, IfOk};
 ghost use Rattle.sim_logic.specs.declared.logic.Logic as logic;
 ghost use Rattle.sim_logic.specs.Tables.{resolution_table};
-ghost use Rattle.sim_logic.specs.Resolution.{resolved};
-ghost use Rattle.sim_standard.specs.State.{driver_at, net_at};
+ghost use Rattle.sim_standard.specs.State.{net_at};
 ghost use Rattle.sim_store_sets.specs.Numbers.{is_in};
-ghost use Rattle.sim_store_state.specs.Changes.{AreTouched, row_value, value_at};
+ghost use Rattle.sim_store_state.specs.Changes.{AreTouched, row_from, value_at, value_from};
 ghost use Rattle.sim_standard.specs.Nets as spec;
 ghost use Rattle.sim_store_state.specs.FlatState.{views_of};
 
@@ -14,47 +13,46 @@ use sim_exec::{NetView, Nets};
 use sim_flat_design::{Process, Source};
 use sim_logic::{Logic, resolve_two};
 use sim_store_sets::{NumberSet, RowArray};
-use sim_wave::Driver;
 use std::alloc::{AllocError, Global};
 
 /// The value of the driver with a number.
-fn driver_value(drivers: &[Driver], number: usize) -> Logic
-    ensures { result ≡ (driver_at drivers.now number).value }
+fn driver_value(driving: &[Logic], number: usize) -> Logic
+    ensures { result ≡ value_at driving.now number }
 {
-    match drivers.get(number) {
-        Some(driver) => driver.value(),
+    match driving.get(number) {
+        Some(value) => *value,
         None => Logic::U,
     }
 }
 
 /// The value of a source.
-fn source_value(source: Source, drivers: &[Driver]) -> Logic
-    ensures { result ≡ spec.source_value drivers.now source }
+fn source_value(source: Source, driving: &[Logic]) -> Logic
+    ensures { result ≡ value_from driving.now source }
 {
     match source {
-        Source::Driver(number) => driver_value(drivers, number),
+        Source::Driver(number) => driver_value(driving, number),
         Source::Constant(value) => value,
     }
 }
 
 /// The values of the sources, resolved from the left.
-fn merged(sources: &[Source], drivers: &[Driver]) -> Logic
-    ensures { result ≡ fold resolution_table logic.Logic.Z (map (spec.source_value drivers.now) sources.now) }
+fn merged(sources: &[Source], driving: &[Logic]) -> Logic
+    ensures { result ≡ fold resolution_table logic.Logic.Z (map (value_from driving.now) sources.now) }
 {
     let mut value = Logic::Z;
     for source in sources {
-        value = resolve_two(value, source_value(*source, drivers));
+        value = resolve_two(value, source_value(*source, driving));
     }
     value
 }
 
-/// The value of a net with these sources.
-pub fn net_value(sources: &[Source], drivers: &[Driver]) -> Logic
-    ensures { result ≡ resolved (map (spec.source_value drivers.now) sources.now) }
+/// The value of a net with these sources. It reads the value of each driver, and no driver.
+pub fn net_value(sources: &[Source], driving: &[Logic]) -> Logic
+    ensures { result ≡ row_from driving.now sources.now }
 {
     match sources {
-        [only] => source_value(*only, drivers),
-        sources => merged(sources, drivers),
+        [only] => source_value(*only, driving),
+        sources => merged(sources, driving),
     }
 }
 
@@ -76,17 +74,17 @@ pub fn resolve_touched(
     values: &mut [Logic],
     touched: &NumberSet,
     sources: &RowArray<Source>,
-    drivers: &[Driver],
+    driving: &[Logic],
 )
     requires touched { length touched.now ≡ length values.old }
     requires sources { length sources.now ≡ length values.old }
     requires others { (n : ℕ) → is_in touched.now n ≡ false → n < length values.old
-        → value_at values.old n ≡ row_value drivers.now (slice_index_or sources.now n []) }
-    ensures { values.new ≡ map (row_value drivers.now) sources.now }
+        → value_at values.old n ≡ row_from driving.now (slice_index_or sources.now n []) }
+    ensures { values.new ≡ map (row_from driving.now) sources.now }
 {
     let mut from = 0;
     while let Some(net) = touched.next(from) {
-        values[net] = net_value(sources.row(net), drivers);
+        values[net] = net_value(sources.row(net), driving);
         from = net + 1;
     }
 }

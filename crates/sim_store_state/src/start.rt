@@ -4,8 +4,8 @@
 ghost use Rattle.std.specs.Prelude.{ℕ, [], None, false, ◌≡◌, ◌+◌, ◌<◌, ◌≤◌, ◌==◌, ◌||◌, ◌&&◌, map, length, take, drop, slice_index_or, replicate, IfOk, OnOk};
 ghost use Rattle.std.specs.List.{All};
 ghost use Rattle.sim_standard.specs.Initialization as at_start;
-ghost use Rattle.sim_standard.specs.Nets.{net_value};
-ghost use Rattle.sim_store_state.specs.Changes.{AreFanOut, is_source, is_driver};
+ghost use Rattle.sim_standard.specs.State.{driver_values};
+ghost use Rattle.sim_store_state.specs.Changes.{AreFanOut, is_source, is_driver, row_from};
 ghost use Rattle.sim_store_state.specs.FlatState.{sources_of};
 ghost use Rattle.sim_standard.specs.Orders.{is_among};
 ghost use Rattle.sim_store_sets.specs.RowArray.{joined};
@@ -14,7 +14,7 @@ use crate::lists::{add, empty_lists, in_rows};
 use crate::nets::net_value;
 use sim_flat_design::{Design, DriverOf, Held, Net, Process, Source};
 use sim_logic::Logic;
-use sim_store_sets::{NumberSet, RowArray, TimeQueue};
+use sim_store_sets::{DividedRows, NumberSet, RowArray, TimeQueue};
 use sim_wave::Driver;
 use sqlite_items::Items;
 use std::alloc::{AllocError, Global};
@@ -90,13 +90,24 @@ fn first_owned(
     Ok((drivers, variables))
 }
 
-/// The value of each net.
-fn values(alloc: Global, nets: &[Net], drivers: &[Driver]) -> Result<Vec<Logic>, AllocError>
-    ensures { IfOk result (λ v. v.items ≡ map (net_value drivers.now) nets.now) }
+/// The value of each driver.
+fn driving_values(alloc: Global, drivers: &[Driver]) -> Result<Vec<Logic>, AllocError>
+    ensures { IfOk result (λ v. v.items ≡ driver_values drivers.now) }
+{
+    let mut values = Vec::with_capacity(alloc, drivers.len())?;
+    for driver in drivers {
+        values.push(driver.value())?;
+    }
+    Ok(values)
+}
+
+/// The value of each net, from the values of the drivers.
+fn values(alloc: Global, nets: &[Net], driving: &[Logic]) -> Result<Vec<Logic>, AllocError>
+    ensures { IfOk result (λ v. v.items ≡ map (row_from driving.now) (sources_of nets.now)) }
 {
     let mut values = Vec::with_capacity(alloc, nets.len())?;
     for net in nets {
-        values.push(net_value(net.sources(), drivers))?;
+        values.push(net_value(net.sources(), driving))?;
     }
     Ok(values)
 }
@@ -105,21 +116,52 @@ fn values(alloc: Global, nets: &[Net], drivers: &[Driver]) -> Result<Vec<Logic>,
 fn first_values(
     alloc: Global,
     nets: &[Net],
-    drivers: &[Driver],
+    driving: &[Logic],
 ) -> Result<(Vec<Logic>, Vec<Logic>), AllocError>
-    ensures values { IfOk result (λ r. r.0.items ≡ map (net_value drivers.now) nets.now) }
+    ensures values { IfOk result (λ r. r.0.items ≡ map (row_from driving.now) (sources_of nets.now)) }
     ensures last_values { IfOk result (λ r. r.1.items ≡ r.0.items) }
 {
-    let values = values(alloc, nets, drivers)?;
+    let values = values(alloc, nets, driving)?;
     let last_values = Vec::from_slice(alloc, values.as_slice())?;
     Ok((values, last_values))
 }
 
-/// What processes own at first, and the values of nets that come of it.
+/// The drivers and the variables of each process at first, in one part, and the value of each
+/// driver.
+fn first_parts(
+    alloc: Global,
+    design: &Design,
+) -> Result<(DividedRows<Driver>, DividedRows<Held>, Vec<Logic>), AllocError>
+    ensures drivers { IfOk result (λ r. r.0 ≡ map (λ p. (at_start.first_owned design.now.drivers p).drivers) design.now.processes) }
+    ensures variables { IfOk result (λ r. r.1 ≡ map (λ p. p.body.variables) design.now.processes) }
+    ensures driving { IfOk result (λ r. r.2.items ≡ driver_values (joined r.0)) }
+{
+    let (drivers, variables) = first_owned(alloc, design)?;
+    let driving = driving_values(alloc, drivers.flat())?;
+    let (drivers, variables) = in_one_part(alloc, drivers, variables)?;
+    Ok((drivers, variables, driving))
+}
+
+/// The same lists, each in one part.
+fn in_one_part(
+    alloc: Global,
+    drivers: RowArray<Driver>,
+    variables: RowArray<Held>,
+) -> Result<(DividedRows<Driver>, DividedRows<Held>), AllocError>
+    ensures drivers { IfOk result (λ r. r.0 ≡ drivers) }
+    ensures variables { IfOk result (λ r. r.1 ≡ variables) }
+{
+    let drivers = DividedRows::of(alloc, drivers)?;
+    let variables = DividedRows::of(alloc, variables)?;
+    Ok((drivers, variables))
+}
+
+/// What processes own at first, and the values of drivers and nets that come of it.
 #[derive(Drop)]
 pub struct FirstContents {
-    pub drivers: RowArray<Driver>,
-    pub variables: RowArray<Held>,
+    pub drivers: DividedRows<Driver>,
+    pub variables: DividedRows<Held>,
+    pub driving: Vec<Logic>,
     pub values: Vec<Logic>,
     pub last_values: Vec<Logic>,
 }
@@ -128,14 +170,16 @@ pub struct FirstContents {
 pub fn first_contents(alloc: Global, design: &Design) -> Result<FirstContents, AllocError>
     ensures drivers { IfOk result (λ r. r.drivers ≡ map (λ p. (at_start.first_owned design.now.drivers p).drivers) design.now.processes) }
     ensures variables { IfOk result (λ r. r.variables ≡ map (λ p. p.body.variables) design.now.processes) }
-    ensures values { IfOk result (λ r. r.values.items ≡ map (net_value (joined r.drivers)) design.now.nets) }
+    ensures driving { IfOk result (λ r. r.driving.items ≡ driver_values (joined r.drivers)) }
+    ensures values { IfOk result (λ r. r.values.items ≡ map (row_from r.driving.items) (sources_of design.now.nets)) }
     ensures last_values { IfOk result (λ r. r.last_values.items ≡ r.values.items) }
 {
-    let (drivers, variables) = first_owned(alloc, design)?;
-    let (values, last_values) = first_values(alloc, design.nets(), drivers.flat())?;
+    let (drivers, variables, driving) = first_parts(alloc, design)?;
+    let (values, last_values) = first_values(alloc, design.nets(), driving.as_slice())?;
     Ok(FirstContents {
         drivers,
         variables,
+        driving,
         values,
         last_values,
     })

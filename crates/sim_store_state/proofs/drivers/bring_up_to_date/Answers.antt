@@ -1,6 +1,7 @@
 use Rattle.std.proofs.Common.{◌∷◌, [], ◌≡◌, ap, length, arith, ◌∙◌}
 use Rattle.std.proofs.lemmas.List.{get_or_default, length-set}
 use Rattle.sim_standard.specs.Drivers.{Waveform, next_time}
+use Rattle.sim_store_sets.specs.RowArray.{joined}
 use Rattle.sim_store_sets.specs.Times.{time_of}
 use Rattle.sim_standard.specs.State.{driver_at, no_driver}
 use Rattle.sim_store_state.proofs.Walks.{member_within, walk_start, walk_done, walk_others}
@@ -18,16 +19,20 @@ pub put-requires : goal.put-requires
 put-requires c =
     omega (arith, member_within c.args.stale.now c.in-Some.number c.in-Some.ensures.passes, c.requires.marked, c.loop-number.invariant.sized)
 
-pub bounds-drivers-number : goal.bounds-drivers-number
-bounds-drivers-number c = omega (arith, member_within c.args.stale.now c.in-Some.number c.in-Some.ensures.passes, c.requires.marked)
+pub item-requires : goal.item-requires
+item-requires c = omega (arith, member_within c.args.stale.now c.in-Some.number c.in-Some.ensures.passes, c.requires.marked)
+
+pub overflow_add-from : goal.overflow_add-from
+overflow_add-from c =
+    omega (arith, member_within c.args.stale.now c.in-Some.number c.in-Some.ensures.passes, c.len-count.ensures, c.len-count.type_inv)
 
 pub loop-number-preserved : goal.loop-number-preserved
 loop-number-preserved c =
     let n = c.in-Some.number in
-    let ds = c.args.drivers.now in
+    let ds = joined c.args.drivers.now in
     let within = member_within c.args.stale.now n c.in-Some.ensures.passes in
-    let here : c.index-drivers-number.result ≡ driver_at ds n =
-    c.index-drivers-number.is ∙ get_or_default ds n c.index-drivers-number.result no_driver (omega (arith, within, c.requires.marked)) in
+    let here : c.item.result.now ≡ driver_at ds n =
+    c.item.ensures ∙ get_or_default ds n c.item.result.now no_driver (omega (arith, within, c.requires.marked)) in
     record {
       sized = ap length c.in_ok-put.ensures.ok ∙ (length-set c.loop-number.queue n c.first_time.result ∙ c.loop-number.invariant.sized);
       within = omega (arith, within, c.requires.marked);
@@ -52,5 +57,5 @@ returns c = record {
     marked = c.requires.marked;
     current = walk_others c.loop-number.invariant.walked;
   };
-  ok = all-times c.loop-number.queue c.args.drivers.now c.loop-number.invariant.sized (walk_done c.loop-number.invariant.walked c.in_default.ensures);
+  ok = all-times c.loop-number.queue (joined c.args.drivers.now) c.loop-number.invariant.sized (walk_done c.loop-number.invariant.walked c.in_default.ensures);
 }

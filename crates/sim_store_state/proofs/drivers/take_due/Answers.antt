@@ -1,34 +1,67 @@
-use Rattle.std.proofs.Common.{◌≡◌, [], List, get_or, ap, length, sym, subst, ◌∙◌}
-use Rattle.sim_standard.specs.Drivers.{Waveform, taken}
-use Rattle.sim_store_sets.specs.RowArray.{joined}
-use Rattle.sim_store_sets.proofs.Flat.{mapped_back, viewed_again, rows-flat}
+use Rattle.std.proofs.Common.{arith, refl, ap, length, ◌∙◌}
+use Rattle.std.proofs.lemmas.List.{length-set}
+use Rattle.sim_standard.specs.Drivers.{taken}
 use Rattle.sim_standard.specs.State.{driver_at}
-use Rattle.sim_store_state.specs.Changes.{AreReached}
+use Rattle.sim_store_sets.specs.RowArray.{joined}
+use Rattle.sim_store_state.proofs.Walks.{member_within, walk_done}
+use Rattle.sim_store_state.proofs.Taking.{none-taken, taken-more, rest-more, all-same}
+use Rattle.sim_store_state.proofs.Items.{each-item}
 use Rattle.sim_store_state.proofs.drivers.take_due.Goals as goal
 
-pub take_each-requires : goal.take_each-requires
-take_each-requires c =
-    let flat : c.as_mut_slice.result.now ≡ joined c.args.drivers.now =
-    c.as_mut_slice.ensures.value ∙ (c.drivers.invariant.holding ∙ ap joined c.drivers.view_is) in
-    record {
-      due = c.requires.due ∙ sym (ap length flat);
-      fan_out = c.requires.fan_out ∙ sym (ap length flat);
-      others = λ d e. subst (λ (ws : List Waveform). taken c.args.time (driver_at ws d) ≡ driver_at ws d) (sym flat) (c.requires.others d e);
-    }
+pub loop-number-init : goal.loop-number-init
+loop-number-init c = record {
+  sized = refl;
+  rows = refl;
+  long = refl;
+  valued = c.requires.driving;
+  within = omega arith;
+  rest = λ d le. refl;
+  walked = none-taken c.args.time (joined c.args.drivers.now) c.args.fan_out.now c.args.touched.now c.args.due.now c.requires.others;
+}
 
-pub invariant_of-drivers : goal.invariant_of-drivers
-invariant_of-drivers c =
-    viewed_again (mapped_back (taken c.args.time) c.drivers.invariant c.drivers.view_is c.drivers.inside.flat.len _ _ c.as_mut_slice.ensures.value
-    c.take_each.ensures.drivers c.drivers.inside.flat.ok.0)
+pub row-requires : goal.row-requires
+row-requires c =
+    omega (arith, member_within c.args.due.now c.in-Some.number c.in-Some.ensures.passes, c.requires.due, c.requires.fan_out)
+
+pub take_one-requires : goal.take_one-requires
+take_one-requires c = record {
+  at = omega (arith, member_within c.args.due.now c.in-Some.number c.in-Some.ensures.passes, c.requires.due, c.loop-number.invariant.long);
+  driving = c.loop-number.invariant.valued;
+}
+
+pub overflow_add-from : goal.overflow_add-from
+overflow_add-from c =
+    omega (arith, member_within c.args.due.now c.in-Some.number c.in-Some.ensures.passes, c.len-count.ensures, c.len-count.type_inv)
+
+pub loop-number-preserved : goal.loop-number-preserved
+loop-number-preserved c =
+    let k = c.in-Some.number in
+    let old = joined c.args.drivers.now in
+    let now = joined c.loop-number.drivers in
+    let new = joined c.take_one.new.drivers in
+    let i = c.loop-number.invariant in
+    let e = c.take_one.ensures in
+    let within = member_within c.args.due.now k c.in-Some.ensures.passes in
+    record {
+      sized = e.sized ∙ i.sized;
+      rows = e.rows ∙ i.rows;
+      long = ap length e.drivers ∙ (length-set now k (taken c.args.time (driver_at now k)) ∙ i.long);
+      valued = e.driving;
+      within = omega (arith, within, c.requires.due);
+      rest = rest-more c.args.time old now new c.loop-number.from k c.in-Some.ensures.further i.rest e.drivers;
+      walked = taken-more c.args.time old c.args.fan_out.now now new c.loop-number.touched c.take_one.new.touched c.args.due.now
+          c.loop-number.from k i.walked c.in-Some.ensures (omega (arith, within, c.requires.due, i.long)) (i.rest k c.in-Some.ensures.further) e.drivers
+          e.sized e.kept (rw c.row.ensures at e.reached);
+    }
 
 pub returns : goal.returns
 returns c =
-    let flat : c.as_mut_slice.result.now ≡ joined c.args.drivers.now =
-    c.as_mut_slice.ensures.value ∙ (c.drivers.invariant.holding ∙ ap joined c.drivers.view_is) in
+    let i = c.loop-number.invariant in
+    let each = walk_done i.walked c.in_default.ensures in
     record {
-      drivers = rows-flat (mapped_back (taken c.args.time) c.drivers.invariant c.drivers.view_is c.drivers.inside.flat.len _ _ c.as_mut_slice.ensures.value
-          c.take_each.ensures.drivers c.drivers.inside.flat.ok.0);
-      sized = c.take_each.ensures.sized;
-      reached = λ d. subst (λ (ws : List Waveform). AreReached c.take_each.new.touched (get_or c.args.fan_out.now d []) (driver_at ws d).value
-          (taken c.args.time (driver_at ws d)).value) flat (c.take_each.ensures.reached d);
+      drivers = each-item (taken c.args.time) c.args.drivers.now c.loop-number.drivers i.rows
+          (all-same (joined c.loop-number.drivers) (joined c.args.drivers.now) c.args.time i.long (λ d. (each d).driver));
+      driving = i.valued;
+      sized = i.sized;
+      reached = λ d. (each d).nets;
     }

@@ -1,6 +1,7 @@
 use Rattle.std.proofs.Common.{◌∷◌, [], ◌≡◌, ap, arith, ◌∙◌}
 use Rattle.std.proofs.lemmas.List.{get_or_default}
 use Rattle.sim_standard.specs.Drivers.{Waveform, next_time}
+use Rattle.sim_store_sets.specs.RowArray.{joined}
 use Rattle.sim_standard.specs.State.{driver_at, no_driver}
 use Rattle.sim_store_state.proofs.Ranges.{range-end}
 use Rattle.sim_store_state.proofs.Telling.{told-more, others-kept}
@@ -9,11 +10,11 @@ use Rattle.sim_store_state.proofs.drivers.tell_range.Goals as goal
 pub loop-number-preserved : goal.loop-number-preserved
 loop-number-preserved c =
     let k = c.loop-number.number in
-    let ds = c.args.drivers.now in
+    let ds = joined c.args.drivers.now in
     let i = c.loop-number.invariant in
     let e = c.tell.ensures in
-    let at : c.index-drivers-number.result ≡ driver_at ds k =
-    c.index-drivers-number.is ∙ get_or_default ds k c.index-drivers-number.result no_driver (omega (arith, c.loop-number-test.true, c.requires.within)) in
+    let at : c.item.result.now ≡ driver_at ds k =
+    c.item.ensures ∙ get_or_default ds k c.item.result.now no_driver (omega (arith, c.loop-number-test.true, c.requires.within)) in
     record {
       queue = e.queue ∙ i.queue;
       stale = e.stale ∙ i.stale;

@@ -31,8 +31,8 @@ on_outcome : {E : Type 0} (P : Type 0) (r : Result Bool E) (s : Result Unit E) �
 on_outcome P (Ok done) s e h = subst (λ (t : Result Unit _). OnOk t P) (sym e) h
 on_outcome P (Err x) s e h = subst (λ (t : Result Unit _). OnOk t P) (sym e) h
 
-pub execute_at-done-requires : goal.execute_at-done-requires
-execute_at-done-requires c = record {
+pub execute_in_parts-done-requires : goal.execute_in_parts-done-requires
+execute_in_parts-done-requires c = record {
   now = c.requires.time;
   code = subst (λ (b : Body). IsCodeOf b (code_at c.args.codes.now.codes c.args.number)) (sym c.body.ensures) c.requires.code;
   placed = gathered_placed c.args.process.now.nets c.as_slice-values.result.now c.as_slice-last_values.result.now
@@ -48,7 +48,7 @@ execute_at-done-requires c = record {
 pub tell_changed-requires : goal.tell_changed-requires
 tell_changed-requires c =
     let n = c.args.number in
-    let e = c.execute_at-done in
+    let e = c.execute_in_parts-done in
     let old = c.self.inside.drivers in
     let row = get_or e.new.drivers n [] in
     let count = values-count (joined e.new.drivers) (joined old) (values-kept old e.new.drivers n row e.ensures.drivers e.ensures.values) in
@@ -61,7 +61,7 @@ tell_changed-requires c =
 pub invariant_of-self : goal.invariant_of-self
 invariant_of-self c =
     let n = c.args.number in
-    let e = c.execute_at-done in
+    let e = c.execute_in_parts-done in
     let old = c.self.inside.drivers in
     let row = get_or e.new.drivers n [] in
     own-keeps c.self.invariant n row (get_or e.new.variables n []) e.new.drivers e.new.variables c.tell_changed.new.queue c.tell_changed.new.stale
@@ -75,7 +75,7 @@ pub returns : goal.returns
 returns c =
     let n = c.args.number in
     let s = c.self.inside in
-    let e = c.execute_at-done in
+    let e = c.execute_in_parts-done in
     let was = owned-by c.self.view_is c.self.invariant.lists n in
     let is = owned-now c.self.invariant.lists n _ _ e.new.drivers e.new.variables e.ensures.drivers e.ensures.variables in
     let now = get_or (owned_lists e.new.drivers e.new.variables) n nothing_owned in

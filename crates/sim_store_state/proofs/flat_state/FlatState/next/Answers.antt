@@ -1,10 +1,9 @@
-use Rattle.std.proofs.Common.{◌≡◌, List, false, length, ap, ◌∙◌, sym, subst}
+use Rattle.std.proofs.Common.{◌≡◌, false, length, ap, ◌∙◌, sym, subst}
 use Rattle.std.proofs.lemmas.List.{length-replicate}
-use Rattle.sim_standard.specs.Drivers.{Waveform, next_time, IsNext}
+use Rattle.sim_standard.specs.Drivers.{next_time, IsNext}
 use Rattle.sim_store_sets.specs.RowArray.{joined}
 use Rattle.sim_store_sets.specs.Times.{earliest}
 use Rattle.sim_standard.specs.State.{waves}
-use Rattle.sim_store_state.specs.Changes.{AreTimes, first_times}
 use Rattle.sim_store_state.proofs.Times.{next_is_least}
 use Rattle.sim_store_state.proofs.Contents.{drivers-by}
 use Rattle.sim_store_state.proofs.Due.{earliest-next, up-to-date}
@@ -12,22 +11,19 @@ use Rattle.sim_store_state.proofs.Putting.{times-keep}
 use Rattle.sim_store_state.proofs.flat_state.FlatState.next.Goals as goal
 
 pub invariant_of-self : goal.invariant_of-self
-invariant_of-self c =
-    times-keep c.self.invariant c.bring_up_to_date.new.queue c.self.inside.stale
-    (subst (λ (ws : List Waveform). AreTimes c.bring_up_to_date.new.queue c.self.inside.stale ws) c.flat.ensures c.bring_up_to_date.ensures.times)
+invariant_of-self c = times-keep c.self.invariant c.bring_up_to_date.new.queue c.self.inside.stale c.bring_up_to_date.ensures.times
 
 pub invariant_of-self-2 : goal.invariant_of-self-2
 invariant_of-self-2 c =
     times-keep c.self.invariant c.bring_up_to_date.new.queue c.clear.new.self
-    (up-to-date c.bring_up_to_date.new.queue c.clear.new.self (joined c.self.inside.drivers)
-    (c.in_ok-bring_up_to_date.ensures.ok ∙ ap first_times c.flat.ensures)
+    (up-to-date c.bring_up_to_date.new.queue c.clear.new.self (joined c.self.inside.drivers) c.in_ok-bring_up_to_date.ensures.ok
     (ap length c.clear.ensures ∙ (length-replicate (length c.self.inside.stale) false ∙ c.self.invariant.timed.marked)))
 
 pub returns : goal.returns
 returns c =
     let ds = joined c.self.inside.drivers in
     let is : c.least.result ≡ next_time (waves c.args.self.now.owned) =
-    c.least.ensures ∙ (ap earliest (c.in_ok-bring_up_to_date.ensures.ok ∙ ap first_times c.flat.ensures) ∙ (earliest-next ds
+    c.least.ensures ∙ (ap earliest c.in_ok-bring_up_to_date.ensures.ok ∙ (earliest-next ds
     ∙ ap next_time (sym (drivers-by c.self.view_is c.self.invariant.lists)))) in
     record {
       same = c.self.view_is;

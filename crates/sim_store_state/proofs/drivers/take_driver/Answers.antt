@@ -1,0 +1,33 @@
+use Rattle.std.proofs.Common.{set, ap, ◌∙◌}
+use Rattle.sim_standard.specs.Drivers.{Waveform, taken}
+use Rattle.sim_standard.specs.State.{no_driver}
+use Rattle.sim_store_sets.specs.RowArray.{joined}
+use Rattle.sim_store_state.proofs.Items.{item-in, item-read}
+use Rattle.sim_store_state.proofs.drivers.take_driver.Goals as goal
+
+pub invariant_of-drivers : goal.invariant_of-drivers
+invariant_of-drivers c =
+    let it = item-in c.drivers.invariant c.drivers.view_is c.item_place-part.ensures c.as_slice.ensures.value c.as_mut_slice.ensures.value
+    c.drivers.inside.parts.len _ _ c.take_at.new.parts c.take_at.ensures.parts c.take_at.ensures.rows c.take_at.ensures.drivers
+    c.drivers.inside.parts.ok.0 in
+    it.parts
+
+pub returns-clause-rows : goal.returns-clause-rows
+returns-clause-rows c =
+    let it = item-in c.drivers.invariant c.drivers.view_is c.item_place-part.ensures c.as_slice.ensures.value c.as_mut_slice.ensures.value
+    c.drivers.inside.parts.len _ _ c.take_at.new.parts c.take_at.ensures.parts c.take_at.ensures.rows c.take_at.ensures.drivers
+    c.drivers.inside.parts.ok.0 in
+    it.rows
+
+pub returns-clause-drivers : goal.returns-clause-drivers
+returns-clause-drivers c =
+    let it = item-in c.drivers.invariant c.drivers.view_is c.item_place-part.ensures c.as_slice.ensures.value c.as_mut_slice.ensures.value
+    c.drivers.inside.parts.len _ _ c.take_at.new.parts c.take_at.ensures.parts c.take_at.ensures.rows c.take_at.ensures.drivers
+    c.drivers.inside.parts.ok.0 in
+    it.items ∙ ap (λ (w : Waveform). set (joined c.args.drivers.now) c.args.number (taken c.args.time w))
+    (item-read c.drivers.view_is c.item_place-part.ensures c.as_slice.ensures.value c.as_mut_slice.ensures.value no_driver)
+
+pub returns-clause-value : goal.returns-clause-value
+returns-clause-value c =
+    c.take_at.ensures.value ∙ ap (λ (w : Waveform). (taken c.args.time w).value)
+    (item-read c.drivers.view_is c.item_place-part.ensures c.as_slice.ensures.value c.as_mut_slice.ensures.value no_driver)
