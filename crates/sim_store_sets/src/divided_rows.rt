@@ -123,14 +123,14 @@ fn bounds_at<T>(parts: &[RowArray<T>], part: usize, place: usize) -> (usize, usi
     (before + start, before + end)
 }
 
-/// How many lists a part gets where so many are divided into about so many parts.
+/// How many lists a part gets where so many are divided into so many parts at the most.
 fn in_each(lists: usize, parts: usize) -> usize
     ensures { 0 < result }
 {
-    if parts < 2 {
-        return lists.max(1);
+    if lists == 0 {
+        return 1;
     }
-    lists / parts + 1
+    (lists - 1) / parts.max(1) + 1
 }
 
 /// Moves lists into parts with so many each.
@@ -151,7 +151,7 @@ where
     Ok(DividedRows { parts, each })
 }
 
-/// Moves lists into about so many parts.
+/// Moves lists into so many parts at the most.
 fn cut_in<T>(alloc: Global, rows: RowArray<T>, parts: usize) -> Result<DividedRows<T>, AllocError>
 where
     T: Drop,
@@ -223,7 +223,7 @@ impl<T> DividedRows<T> {
         cut(alloc, rows, each)
     }
 
-    /// The same lists in about so many parts, if they are in one. It moves each item, and copies
+    /// The same lists in so many parts at the most, if they are in one. It moves items, and copies
     /// none.
     pub fn divide(self, alloc: Global, parts: usize) -> Result<DividedRows<T>, AllocError>
     where

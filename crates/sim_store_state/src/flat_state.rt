@@ -100,7 +100,7 @@ fn are_equal(variables: &[Held], others: &[Held]) -> bool
     variables == others
 }
 
-/// The same lists, each in about so many parts, if it is in one.
+/// The same lists, each in so many parts at the most, if it is in one.
 fn divided(
     alloc: Global,
     drivers: DividedRows<Driver>,
@@ -203,8 +203,8 @@ impl FlatState {
         }
     }
 
-    /// The same state, with what the processes own in about so many parts, if it is in one. It moves
-    /// each driver and variable once.
+    /// The same state, with what the processes own in so many parts at the most, if it is in one. It
+    /// moves drivers and variables, and copies none.
     pub fn divide(self, alloc: Global, parts: usize) -> Result<FlatState, AllocError>
         ensures { IfOk result (λ s. s ≡ self) }
     {
