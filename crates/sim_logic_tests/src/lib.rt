@@ -7,4 +7,6 @@ mod drivers;
 #[cfg(test)]
 mod queues;
 #[cfg(test)]
+mod rows;
+#[cfg(test)]
 mod values;
