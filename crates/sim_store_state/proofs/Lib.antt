@@ -17,3 +17,6 @@ pub mod Taking
 pub mod Values
 pub mod Items
 pub mod Placed
+pub mod Sharing
+pub mod Outcomes
+pub mod Lent

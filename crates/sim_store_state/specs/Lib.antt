@@ -3,3 +3,5 @@ pub mod FlatState
 pub mod Sensitive
 pub mod Changes
 pub mod Log
+pub mod Lending
+pub mod Apart

@@ -1,0 +1,150 @@
+//! A state of which what processes own is taken away, and given back.
+
+ghost use Rattle.std.specs.Prelude.{ℕ, ◌≡◌, ◌<◌, List, true, false, length, IfSome};
+ghost use Rattle.sim_standard.specs.State.{Owned};
+ghost use Rattle.sim_store_sets.specs.Numbers.{is_in};
+ghost use Rattle.sim_store_sets.specs.RowArray.{joined};
+ghost use Rattle.sim_store_state.specs.Apart.{AreApart};
+ghost use Rattle.sim_store_state.specs.FlatState.{views_of};
+ghost use Rattle.sim_store_state.specs.Lending.{HaveValues, IsOfRow};
+
+use crate::flat_state::{FlatState, Lists};
+use crate::sets::insert_range;
+use crate::shares::Shares;
+use sim_flat_design::Source;
+use sim_logic::Logic;
+use sim_store_sets::{DividedRows, NumberSet, RowArray, TimeQueue};
+use sim_wave::Driver;
+
+/// What stays of a state where what its processes own is elsewhere, and nets are read elsewhere.
+#[derive(Drop)]
+pub struct Remains {
+    pub driving: Vec<Logic>,
+    pub sources: RowArray<Source>,
+    pub fan_out: RowArray<usize>,
+    pub queue: TimeQueue,
+    pub stale: NumberSet,
+    pub touched: NumberSet,
+    /// How many processes each share has but the last.
+    pub each: usize,
+}
+
+/// A state that is taken apart.
+#[derive(Drop)]
+pub struct Apart {
+    pub values: Vec<Logic>,
+    pub last_values: Vec<Logic>,
+    pub shares: Shares,
+    pub remains: Remains,
+}
+
+/// The drivers of the process with a number are stale from now on.
+fn mark_row(stale: &mut NumberSet, drivers: &DividedRows<Driver>, number: usize)
+    requires at { number < length drivers.now }
+    requires stale { length stale.old ≡ length (joined drivers.now) }
+    ensures sized { length stale.new ≡ length stale.old }
+    ensures kept { (d : ℕ) → is_in stale.new d ≡ false → is_in stale.old d ≡ false }
+    ensures marked { (d : ℕ) → is_in stale.new d ≡ false → IsOfRow drivers.now number d → ⊥ }
+{
+    let (start, end) = drivers.row_bounds(number);
+    insert_range(stale, start, end);
+}
+
+/// The drivers of each of these processes are stale from now on.
+fn mark_rows(stale: &mut NumberSet, drivers: &DividedRows<Driver>, processes: &NumberSet)
+    requires processes { length processes.now ≡ length drivers.now }
+    requires stale { length stale.old ≡ length (joined drivers.now) }
+    ensures sized { length stale.new ≡ length stale.old }
+    ensures kept { (d : ℕ) → is_in stale.new d ≡ false → is_in stale.old d ≡ false }
+    ensures marked { (p : ℕ) → is_in processes.now p ≡ true → (d : ℕ) → is_in stale.new d ≡ false → IsOfRow drivers.now p d → ⊥ }
+{
+    let _count = processes.len();
+    let mut from = 0;
+    while let Some(number) = processes.next(from) {
+        mark_row(stale, drivers, number);
+        from = number + 1;
+    }
+}
+
+/// Takes a state apart.
+pub fn take_apart(state: FlatState) -> Apart
+    ensures shares { result.shares ≡ state.owned }
+    ensures nets { views_of result.values.items result.last_values.items ≡ state.nets }
+    ensures sources { result.remains.sources ≡ state.sources }
+    ensures held { AreApart result.values.items result.last_values.items state.owned result.remains }
+{
+    let Lists {
+        values,
+        last_values,
+        driving,
+        drivers,
+        variables,
+        sources,
+        fan_out,
+        queue,
+        stale,
+        touched,
+    } = state.into_lists();
+    let (drivers, each) = drivers.into_parts();
+    let (variables, _each) = variables.into_parts();
+    Apart {
+        values,
+        last_values,
+        shares: Shares::of(drivers, variables),
+        remains: Remains {
+            driving,
+            sources,
+            fan_out,
+            queue,
+            stale,
+            touched,
+            each,
+        },
+    }
+}
+
+/// The state of these processes again, of which those of a set own something else now, whose drivers
+/// have the values that they had; none where they are not in the shares that they were in. The
+/// drivers of that set are stale.
+pub fn put_together(apart: Apart, changed: &NumberSet) -> Option<FlatState>
+    requires { (before : List Owned) × AreApart apart.values.items apart.last_values.items before apart.remains
+        × HaveValues changed.now apart.shares before }
+    ensures { IfSome result (λ s. s ≡ record {
+      sources = apart.remains.sources;
+      nets = views_of apart.values.items apart.last_values.items;
+      owned = apart.shares;
+    }) }
+{
+    let Apart {
+        values,
+        last_values,
+        shares,
+        remains,
+    } = apart;
+    let Remains {
+        driving,
+        sources,
+        fan_out,
+        queue,
+        stale,
+        touched,
+        each,
+    } = remains;
+    let (drivers, variables) = shares.into_parts();
+    let drivers = DividedRows::of_parts(drivers, each)?;
+    let variables = DividedRows::of_parts(variables, each)?;
+    let mut stale = stale;
+    mark_rows(&mut stale, &drivers, changed);
+    Some(FlatState::of_lists(Lists {
+        values,
+        last_values,
+        driving,
+        drivers,
+        variables,
+        sources,
+        fan_out,
+        queue,
+        stale,
+        touched,
+    }))
+}

@@ -1,0 +1,119 @@
+//! What the processes of a range own, apart from the rest of a state.
+
+ghost use Rattle.std.specs.Prelude.{◌≡◌, ◌<◌, ◌≤◌, [], length, slice_index_or, slice_set, OnOk};
+ghost use Rattle.sim_logic.specs.Time.{largest_time};
+ghost use Rattle.sim_exec.specs.Jobs.{IsReady};
+ghost use Rattle.sim_exec_code.specs.Codes as code;
+ghost use Rattle.sim_standard.specs.Processes.{object_net};
+ghost use Rattle.sim_standard.specs.State.{net_at, owned_at};
+ghost use Rattle.sim_standard.specs.Statements.{executed};
+ghost use Rattle.sim_store_state.specs.FlatState.{owned_lists, views_of};
+
+use crate::execution::{as_done, execute_at};
+use crate::nets::{Seen, SeenBy};
+use sim_exec_code::{Codes, Frame};
+use sim_flat_design::{Held, Process};
+use sim_logic::Logic;
+use sim_store_sets::RowArray;
+use sim_wave::Driver;
+use std::alloc::{AllocError, Global};
+use std::marker::Model;
+
+/// The drivers and the variables of some processes side by side, by place. Contracts see what each
+/// of these owns.
+#[derive(Drop)]
+pub struct Share {
+    drivers: RowArray<Driver>,
+    variables: RowArray<Held>,
+}
+
+impl Model for Share {
+    ghost use Rattle.std.specs.Prelude.{◌≡◌, List, length};
+    ghost use Rattle.sim_standard.specs.State.{Owned};
+    ghost use Rattle.sim_store_state.specs.FlatState.{owned_lists};
+
+    ghost Value = { List Owned };
+
+    ghost view = { λ s. owned_lists s.drivers s.variables };
+
+    ghost invariant = { λ s. length s.drivers ≡ length s.variables };
+}
+
+impl Share {
+    /// Of as many lists of drivers as of variables.
+    pub fn new(drivers: RowArray<Driver>, variables: RowArray<Held>) -> Share
+        requires { length drivers ≡ length variables }
+        ensures { result ≡ owned_lists drivers variables }
+    {
+        Share { drivers, variables }
+    }
+
+    /// How many processes there are.
+    pub fn len(&self) -> usize
+        ensures { result ≡ length self.now }
+    {
+        self.drivers.len()
+    }
+
+    /// Its lists.
+    pub fn into_parts(self) -> (RowArray<Driver>, RowArray<Held>)
+        ensures lists { owned_lists result.0 result.1 ≡ self }
+        ensures long { length result.0 ≡ length result.1 }
+    {
+        let Share { drivers, variables } = self;
+        (drivers, variables)
+    }
+
+    /// Executes a process, which has this number and stands at this place, by its code, where nets
+    /// have these values. If allocation fails, what it owns must not be executed again.
+    pub fn execute(
+        &mut self,
+        alloc: Global,
+        number: usize,
+        place: usize,
+        process: &Process,
+        time: u64,
+        codes: &Codes,
+        frame: &mut Frame,
+        values: &[Logic],
+        last_values: &[Logic],
+    ) -> Result<(), AllocError>
+        requires at { place < length self.old }
+        requires time { time ≤ largest_time }
+        requires code { code.IsCodeOf process.now.body (code.code_at codes.now.codes number) }
+        requires nets { slice_index_or codes.now.nets number [] ≡ code.gathered_nets process.now.nets (code.code_at codes.now.codes number) }
+        requires frame { code.slots_of (code.code_at codes.now.codes number) ≤ frame.old }
+        requires ready { IsReady process.now.body time (owned_at self.old place) }
+        ensures frame { frame.new ≡ frame.old }
+        ensures alone { self.new ≡ slice_set self.old place (owned_at self.new place) }
+        ensures ok { OnOk result (self.new ≡ slice_set self.old place
+            (executed (λ object. net_at (views_of values.now last_values.now) (object_net process.now object)) time
+            process.now.body.statements (owned_at self.old place))) }
+        ensures ready { IsReady process.now.body time (owned_at self.new place) }
+    {
+        let seen = SeenBy {
+            process,
+            values,
+            last_values,
+        };
+        let gathered = Seen {
+            object_nets: codes.nets(number),
+            values,
+            last_values,
+        };
+        let done = execute_at(
+            alloc,
+            &seen,
+            &gathered,
+            time,
+            codes,
+            frame,
+            number,
+            place,
+            process.body(),
+            &mut self.drivers,
+            &mut self.variables,
+        );
+        as_done(done)
+    }
+}
