@@ -7,4 +7,7 @@ pub mod Readiness
 pub mod Boxes
 pub mod Stores
 pub mod Walks
+pub mod Handed
+pub mod Returning
+pub mod Keeping
 pub mod Crossing

@@ -9,7 +9,7 @@ ghost use Rattle.sim_standard.specs.Processes.{process_at};
 ghost use Rattle.sim_store_state.specs.Sensitive.{AreSensitive};
 ghost use Rattle.sim_store.specs.Simulation.{listed, those_in};
 
-use crate::waiting::Waiting;
+use crate::waiting::{Waiting, copy};
 use sim_store_sets::{NumberSet, RowArray};
 use sim_store_state::FlatState;
 use std::alloc::{AllocError, Global};
@@ -59,12 +59,28 @@ impl Due {
         self.set.contains(number)
     }
 
+    /// The first from a number on that is due.
+    pub fn next(&self, from: usize) -> Option<usize>
+        ensures { MatchOption result (NoneFrom (those_in self.now) from) (IsNext (those_in self.now) from) }
+    {
+        self.set.next(from)
+    }
+
     /// The first from a number on that is due and is not among others.
     pub fn next_beside(&self, others: &NumberSet, from: usize) -> Option<usize>
         ensures value { MatchOption result (NoneFrom (is_beside self.now others.now) from) (IsNext (is_beside self.now others.now) from) }
         ensures bound { IfSome result (λ n. n + 1 < 2 ^ 64) }
     {
         self.set.next_beside(others, from)
+    }
+
+    /// Gives a set those that are due as its members. It takes no memory.
+    pub fn copy_to(&self, set: &mut NumberSet)
+        requires { length self.now ≡ length set.old }
+        ensures sized { length set.new ≡ length set.old }
+        ensures same { (p : ℕ) → those_in set.new p ≡ those_in self.now p }
+    {
+        copy(set, &self.set);
     }
 
     /// The numbers of those that are due, rising.

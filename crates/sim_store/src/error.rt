@@ -45,3 +45,20 @@ impl From<AllocError> for StoreError {
         StoreError::Memory
     }
 }
+
+/// Why a phase that was handed out does not come back. The store is then gone.
+#[derive(Clone, Copy, Debug, PartialEq, Eq, Error)]
+pub enum HandOutError {
+    /// No memory.
+    #[error("Memory")]
+    Memory,
+    /// What comes back is not what went out.
+    #[error("Stranger")]
+    Stranger,
+}
+
+impl From<AllocError> for HandOutError {
+    fn from(_e: AllocError) -> HandOutError {
+        HandOutError::Memory
+    }
+}

@@ -4,13 +4,22 @@
 
 mod due;
 mod error;
+mod front;
+mod handing;
 mod history;
+mod kept;
+mod naming;
+mod order;
 mod phase;
+mod rest;
 mod simulation;
 mod store;
 mod totals;
 mod waiting;
 
-pub use error::StoreError;
+pub use error::{HandOutError, StoreError};
+pub use naming::Naming;
+pub use order::{Answer, Order};
+pub use rest::Rest;
 pub use sim_store_state::{Log, Record};
 pub use store::{Look, Step, WaveStore};

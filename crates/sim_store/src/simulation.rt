@@ -104,27 +104,27 @@ fn leave(waiting: &mut Waiting, phase: Phase)
 /// What is made of a design once: for each net the processes that are sensitive to it, for each
 /// process its code, and a frame on which codes are executed.
 #[derive(Drop)]
-struct Lists {
-    sensitive: RowArray<usize>,
-    codes: Codes,
-    frame: Frame,
+pub struct Lists {
+    pub sensitive: RowArray<usize>,
+    pub codes: Codes,
+    pub frame: Frame,
 }
 
 /// What is made of a design, and carried on from cycle to cycle: the time and the delta number of
 /// the last cycle, and the lists.
 #[derive(Drop)]
-struct Made {
-    time: u64,
-    delta: u64,
-    lists: Lists,
-    state: FlatState,
-    log: Log,
+pub struct Made {
+    pub time: u64,
+    pub delta: u64,
+    pub lists: Lists,
+    pub state: FlatState,
+    pub log: Log,
     /// Which processes are executed now.
-    phase: Phase,
-    due: Due,
-    waiting: Waiting,
-    deposited: NumberSet,
-    totals: Vec<u64>,
+    pub phase: Phase,
+    pub due: Due,
+    pub waiting: Waiting,
+    pub deposited: NumberSet,
+    pub totals: Vec<u64>,
 }
 
 /// The record of a first state, whose design has this number of nets.
@@ -219,6 +219,25 @@ fn boxed(alloc: Global, design: &Design) -> Result<Box<Made>, AllocError>
     let made = prepared(alloc, design)?;
     let made = Box::new(alloc, made)?;
     Ok(made)
+}
+
+/// The same, with what the processes own in about so many shares.
+fn divided(alloc: Global, made: Made, shares: usize) -> Result<Made, AllocError>
+    ensures { IfOk result (λ m. m ≡ made) }
+{
+    let state = made.state.divide(alloc, shares)?;
+    Ok(Made {
+        time: made.time,
+        delta: made.delta,
+        lists: made.lists,
+        state,
+        log: made.log,
+        phase: made.phase,
+        due: made.due,
+        waiting: made.waiting,
+        deposited: made.deposited,
+        totals: made.totals,
+    })
 }
 
 /// Executes a process in place that is due and has not been executed since the last cycle.
@@ -495,6 +514,43 @@ impl Simulation {
         let mut made = made;
         execute_all(alloc, &design, &mut made)?;
         Ok(Simulation { design, made })
+    }
+
+    /// Its design, and what it holds.
+    pub fn into_made(self) -> (Design, Made)
+        ensures of { IsOf result.0 result.1 }
+        ensures same { simulation_of result.0 result.1 ≡ self }
+    {
+        let Simulation { design, made } = self;
+        let made = Box::into_inner(made);
+        (design, made)
+    }
+
+    /// The simulation that holds this.
+    pub fn of_made(alloc: Global, design: Design, made: Made) -> Result<Simulation, AllocError>
+        requires { IsOf design made }
+        ensures { IfOk result (λ s. s ≡ simulation_of design made) }
+    {
+        let made = Box::new(alloc, made)?;
+        Ok(Simulation { design, made })
+    }
+
+    /// The same simulation, with what its processes own in about so many shares, which can be handed
+    /// out. If allocation fails it is gone.
+    pub fn divide(self, alloc: Global, shares: usize) -> Result<Simulation, AllocError>
+        ensures { IfOk result (λ s. s ≡ self) }
+    {
+        let (design, made) = self.into_made();
+        let made = divided(alloc, made, shares)?;
+        let simulation = Simulation::of_made(alloc, design, made)?;
+        Ok(simulation)
+    }
+
+    /// Whether none has been executed in this phase.
+    pub fn is_untouched(&self) -> bool
+        ensures { result ≡ true → (p : ℕ) → spec.those_in self.now.deposited p ≡ false }
+    {
+        self.made.deposited.is_empty()
     }
 
     /// The numbers of the processes that this phase executes, rising.

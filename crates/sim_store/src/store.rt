@@ -1,6 +1,6 @@
 //! The store of a run (IEEE 1076-2008, 14.7.5).
 
-ghost use Rattle.std.specs.Prelude.{◌≡◌, ◌<◌, ◌≤◌, Ok, Err, Some, None, suc, drop, length};
+ghost use Rattle.std.specs.Prelude.{◌≡◌, ◌<◌, ◌≤◌, Ok, Err, Some, None, suc, drop, length, true};
 ghost use Rattle.std.specs.Prelude.{MatchOption, MatchResult, IfSome, IfOk, IfErr, OnOk, OnErr};
 ghost use Rattle.sim_flat_design.specs.Designs.{most};
 ghost use Rattle.sim_logic.specs.Time.{largest_time};
@@ -10,12 +10,16 @@ ghost use Rattle.sim_standard.specs.Agreement.{total_of, value_by};
 ghost use Rattle.sim_standard.specs.Histories.{IsNamed, records_to};
 ghost use Rattle.sim_standard.specs.Cycle.{CycleAt};
 ghost use Rattle.sim_store.specs.Simulation as simulations;
+ghost use Rattle.sim_store.specs.Handing as hands;
 ghost use Rattle.sim_store.specs.WaveStore as spec;
 ghost use Rattle.sim_store.specs.declared.error.StoreError.TheVariants as refusal;
 ghost use Rattle.sim_store.specs.declared.store.Step.TheVariants as step;
 
-use crate::error::StoreError;
+use crate::error::{HandOutError, StoreError};
+use crate::naming::Naming;
+use crate::order::Order;
 use crate::phase::Upcoming;
+use crate::rest::{Rest, handed_out};
 use crate::simulation::Simulation;
 use sim_exec::{Done, Job};
 use sim_flat_design::Design;
@@ -180,6 +184,68 @@ impl WaveStore {
             limit,
             ended,
         })
+    }
+
+    /// The store of a run that has not ended.
+    pub(crate) fn open(simulation: Simulation, stop: u64, limit: u32) -> WaveStore
+        requires { spec.IsStore (record { simulation = simulation; stop = stop; limit = limit; ended = None }) }
+        ensures { result ≡ record { simulation = simulation; stop = stop; limit = limit; ended = None } }
+    {
+        WaveStore {
+            simulation,
+            stop,
+            limit,
+            ended: None,
+        }
+    }
+
+    /// The same store, with what its processes own in about so many shares, each of which is handed
+    /// out by itself. If allocation fails it is gone.
+    pub fn divide(self, alloc: Global, shares: usize) -> Result<WaveStore, AllocError>
+        ensures { IfOk result (λ s. s ≡ self) }
+    {
+        let WaveStore {
+            simulation,
+            stop,
+            limit,
+            ended,
+        } = self;
+        let simulation = simulation.divide(alloc, shares)?;
+        Ok(WaveStore {
+            simulation,
+            stop,
+            limit,
+            ended,
+        })
+    }
+
+    /// Whether the run has not ended, and no process has been executed in this phase.
+    pub fn is_untouched(&self) -> bool
+        ensures { result ≡ true → hands.IsUntouched self.now }
+    {
+        if self.ended.is_some() {
+            return false;
+        }
+        self.simulation.is_untouched()
+    }
+
+    /// Hands out what the processes own, so that those that are due may be executed elsewhere. If
+    /// allocation fails the store is gone.
+    pub fn hand_out<J: Naming>(
+        self,
+        alloc: Global,
+    ) -> Result<(Rest<J>, Vec<Order<J>>), HandOutError>
+        requires design { self.simulation.design ≡ J.design }
+        requires untouched { hands.IsUntouched self }
+        ensures { IfOk result (λ r. r.0 ≡ self) }
+    {
+        let WaveStore {
+            simulation,
+            stop,
+            limit,
+            ended: _,
+        } = self;
+        handed_out::<J>(alloc, simulation, stop, limit)
     }
 
     /// Goes on once all that are due have been executed (14.7.5.3): to the postponed processes of the

@@ -60,7 +60,7 @@ fn set_aside(set: &mut NumberSet, postponed: &NumberSet, waiting: &mut NumberSet
 }
 
 /// Gives a set the members of another one.
-fn copy(set: &mut NumberSet, others: &NumberSet)
+pub fn copy(set: &mut NumberSet, others: &NumberSet)
     requires { length others.now ≡ length set.old }
     ensures sized { length set.new ≡ length set.old }
     ensures same { (p : ℕ) → is_in set.new p ≡ is_in others.now p }

@@ -1,0 +1,22 @@
+use Rattle.std.proofs.Common.{ℕ, ◌≡◌, ◌+◌, ◌-◌, length, ap, sym, ◌∙◌, subst}
+use Rattle.std.proofs.lemmas.List.{length-set}
+use Rattle.sim_exec_code.specs.Codes.{FitsAll}
+use Rattle.sim_store.specs.Handing.{front_of, result_in}
+use Rattle.sim_store.proofs.Handed.{partly-last, partly-more}
+use Rattle.sim_store.proofs.order.execute_range.Goals as goal
+
+pub loop-next-preserved : goal.loop-next-preserved
+loop-next-preserved g c =
+    let h = front_of g.J.Naming.design c.args.front.now in
+    let n = c.in-Some.number in
+    let i = c.loop-next.invariant in
+    let e = c.in_ok-execute.ensures in
+    let long : length c.execute.new.share ≡ length c.loop-next.share = ap length e.ok ∙ length-set c.loop-next.share (n - c.args.from) (result_in h n) in
+    record {
+      partly = partly-more c.loop-next.next _ n c.execute.new.share i.end i.partly c.in-Some.ensures c.count-count.ensures.all e.ok e.ready;
+      end = i.end ∙ ap (λ (k : ℕ). c.args.from + k) (sym long);
+      fits = subst (λ (k : ℕ). FitsAll c.args.front.now.codes.codes k) (sym e.frame) i.fits;
+    }
+
+pub returns : goal.returns
+returns g c = partly-last c.loop-next.next _ c.loop-next.invariant.end c.loop-next.invariant.partly c.in_default.ensures

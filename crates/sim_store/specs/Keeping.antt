@@ -1,0 +1,21 @@
+-- What stays of a simulation while a phase is handed out.
+-- Of the implementation: what `simulate` promises does not rest on this file.
+use Rattle.std.specs.Prelude.{ℕ, ◌≡◌, false}
+use Rattle.sim_flat_design.specs.Designs.{Design}
+use Rattle.sim_store_state.specs.Apart.{AreApart}
+use Rattle.sim_store_state.specs.FlatState.{views_of}
+use Rattle.sim_store.specs.declared.kept.Kept.{Kept}
+use Rattle.sim_store.specs.Handing.{Front}
+use Rattle.sim_store.specs.Simulation.{Simulation, IsSimulation, reached, those_in}
+
+-- the simulation of which a phase is handed out
+abbrev pub kept_of : Design → Front → Kept → Simulation
+kept_of design f k = record { design = design; cycles = f.cycles; phase = f.phase; deposited = k.deposited }
+
+-- It is what stays of it, beside what is read, and without what processes own. None has been executed in this phase.
+pub record IsKept (design : Design) (f : Front) (k : Kept) : Type 0 where
+  pub fresh : (p : ℕ) → those_in k.deposited p ≡ false
+  pub apart : AreApart f.values f.last_values (reached (kept_of design f k)).owned k.remains
+  pub holds : IsSimulation (kept_of design f k) k.sensitive f.codes k.frame f.time k.delta
+      (record { sources = k.remains.sources; nets = views_of f.values f.last_values; owned = (reached (kept_of design f k)).owned })
+      k.log.records f.due k.waiting.postponed k.waiting.waiting k.totals.items

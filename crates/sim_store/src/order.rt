@@ -1,0 +1,182 @@
+//! A share of the processes that is handed out to be executed, and what comes back.
+
+ghost use Rattle.std.specs.Prelude.{ℕ, ◌≡◌, ◌≤◌, ◌+◌, IfOk, OnOk, length};
+ghost use Rattle.std.specs.Arc.{arc_value};
+ghost use Rattle.sim_exec_code.specs.Codes.{FitsAll};
+ghost use Rattle.sim_store.specs.Handing as spec;
+ghost use Rattle.sim_store.specs.Simulation.{reached};
+
+use crate::front::Front;
+use crate::naming::Naming;
+use crate::phase::Phase;
+use sim_exec_code::Frame;
+use sim_store_state::Share;
+use std::alloc::{AllocError, Global};
+use std::marker::{Model, PhantomData};
+use std::sync::Arc;
+
+/// So many processes have to be due in a share, or else handing it out takes longer than executing
+/// them here.
+const WORTH: usize = 16;
+
+/// What the processes of a range own as a phase begins, with the number of the first of them, and
+/// what they read. Contracts see the number.
+#[derive(Drop)]
+pub struct Order<J: Naming> {
+    from: usize,
+    share: Share,
+    front: Arc<Front<J>, Global>,
+}
+
+impl<J: Naming> Model for Order<J> {
+    ghost use Rattle.std.specs.Prelude.{ℕ};
+    ghost use Rattle.std.specs.Arc.{arc_value};
+    ghost use Rattle.sim_store.specs.Handing.{IsRange, front_of};
+    ghost use Rattle.sim_store.specs.Simulation.{reached};
+
+    ghost Value = { ℕ };
+
+    ghost view = { λ o. o.from };
+
+    ghost invariant = { λ o. IsRange (front_of J.design (arc_value o.front)) (reached (front_of J.design (arc_value o.front))).owned o.from o.share };
+}
+
+/// What the processes of a range own once all of them that are due in a phase have been executed.
+/// By its type it is that of the design that J names.
+#[derive(Drop)]
+pub struct Answer<J: Naming> {
+    cycles: usize,
+    phase: Phase,
+    from: usize,
+    share: Share,
+    of: PhantomData<J>,
+}
+
+impl<J: Naming> Model for Answer<J> {
+    ghost use Rattle.sim_store.specs.Handing.{Answer, IsRange, at_phase, completed};
+
+    ghost Value = { Answer };
+
+    ghost view = { λ a. record { cycles = a.cycles; phase = a.phase; from = a.from; owned = a.share } };
+
+    ghost invariant = { λ a. IsRange (at_phase J.design a.cycles a.phase) (completed (at_phase J.design a.cycles a.phase)).owned a.from a.share };
+}
+
+/// Executes those of a share that are due.
+fn execute_range<J: Naming>(
+    alloc: Global,
+    front: &Front<J>,
+    from: usize,
+    frame: &mut Frame,
+    share: &mut Share,
+) -> Result<(), AllocError>
+    requires range { spec.IsRange (spec.front_of J.design front.now) (reached (spec.front_of J.design front.now)).owned from share.old }
+    requires frame { FitsAll front.now.codes.codes frame.old }
+    ensures { OnOk result (spec.IsRange (spec.front_of J.design front.now) (spec.completed (spec.front_of J.design front.now)).owned from share.new) }
+{
+    let _count = front.count();
+    let to = from + share.len();
+    let mut next = from;
+    while let Some(number) = front.next(next, to) {
+        front.execute(alloc, number, number - from, frame, share)?;
+        next = number + 1;
+    }
+    Ok(())
+}
+
+/// The same, on a frame of its own.
+fn executed<J: Naming>(
+    alloc: Global,
+    front: &Front<J>,
+    from: usize,
+    share: Share,
+) -> Result<Share, AllocError>
+    requires range { spec.IsRange (spec.front_of J.design front.now) (reached (spec.front_of J.design front.now)).owned from share }
+    ensures { IfOk result (spec.IsRange (spec.front_of J.design front.now) (spec.completed (spec.front_of J.design front.now)).owned from) }
+{
+    let mut share = share;
+    let mut frame = front.frame(alloc)?;
+    execute_range(alloc, front, from, &mut frame, &mut share)?;
+    Ok(share)
+}
+
+impl<J: Naming> Order<J> {
+    /// What these processes own, of what all own as the phase begins.
+    pub fn new(from: usize, share: Share, front: Arc<Front<J>, Global>) -> Order<J>
+        requires { spec.IsRange (spec.front_of J.design (arc_value front)) (reached (spec.front_of J.design (arc_value front))).owned from share }
+    {
+        Order { from, share, front }
+    }
+
+    /// Whether so many processes are due that it is worth handing out.
+    pub fn is_worthwhile(&self) -> bool {
+        let front = &*self.front;
+        let _count = front.count();
+        let to = self.from + self.share.len();
+        let mut next = self.from;
+        for _turn in 0..WORTH {
+            match front.next(next, to) {
+                None => return false,
+                Some(number) => next = number + 1,
+            }
+        }
+        true
+    }
+
+    /// Executes those that are due; none where memory is refused, and then the share is gone.
+    pub fn execute(self, alloc: Global) -> Option<Answer<J>> {
+        let Order { from, share, front } = self;
+        let cycles = front.cycles();
+        let phase = front.phase();
+        match executed(alloc, &front, from, share) {
+            Ok(share) => Some(Answer::new(cycles, phase, from, share)),
+            Err(_) => None,
+        }
+    }
+}
+
+impl<J: Naming> Answer<J> {
+    /// What these processes own once all that are due have been executed.
+    fn new(cycles: usize, phase: Phase, from: usize, share: Share) -> Answer<J>
+        requires { spec.IsRange (spec.at_phase J.design cycles phase) (spec.completed (spec.at_phase J.design cycles phase)).owned from share }
+        ensures { result ≡ record { cycles = cycles; phase = phase; from = from; owned = share } }
+    {
+        Answer {
+            cycles,
+            phase,
+            from,
+            share,
+            of: PhantomData,
+        }
+    }
+
+    /// After how many cycles it is.
+    pub fn cycles(&self) -> usize
+        ensures { result ≡ self.now.cycles }
+    {
+        self.cycles
+    }
+
+    /// In which phase.
+    pub fn phase(&self) -> Phase
+        ensures { result ≡ self.now.phase }
+    {
+        self.phase
+    }
+
+    /// The number of the first process.
+    pub fn from(&self) -> usize
+        ensures { result ≡ self.now.from }
+    {
+        self.from
+    }
+
+    /// What the processes own.
+    pub fn into_share(self) -> Share
+        ensures share { result ≡ self.owned }
+        ensures range { spec.IsRange (spec.at_phase J.design self.cycles self.phase)
+            (spec.completed (spec.at_phase J.design self.cycles self.phase)).owned self.from self.owned }
+    {
+        self.share
+    }
+}
