@@ -9,6 +9,7 @@ pub mod StepsRight
 pub mod FromTheEnd
 pub mod HeldVariables
 pub mod Executions
+pub mod EdgesMissing
 pub mod Assembled
 pub mod OperationsCounted
 pub mod SharedCodes

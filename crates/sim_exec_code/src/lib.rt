@@ -5,6 +5,7 @@ mod assembly;
 mod backward;
 mod code;
 mod codes;
+mod edges;
 mod execution;
 mod expressions;
 mod fingerprint;
