@@ -24,7 +24,7 @@ ghost use Rattle.sim_store_state.specs.Sensitive.{AreSensitive};
 use crate::drivers::{are_same, bring_up_to_date, copied, mark_stale, take_due, tell_changed};
 use crate::execution::{as_done, execute_in_parts, may_have_changed};
 use crate::log::Log;
-use crate::nets::{Seen, SeenBy, are_views, resolve_touched, settle, views_at};
+use crate::nets::{ByNumber, Seen, SeenBy, are_views, resolve_touched, settle, views_at};
 use crate::resumption::find_resumed;
 use crate::start::{connections, first_contents, nothing_pending};
 use sim_exec::NetView;
@@ -416,6 +416,42 @@ impl FlatState {
             changed,
         );
         as_done(done)
+    }
+
+    /// Executes a process, which has this number, in place, unless the edge is missing without which
+    /// it does nothing. If allocation fails, what it owns must not be executed again.
+    #[inline(always)]
+    pub fn resume(
+        &mut self,
+        alloc: Global,
+        number: usize,
+        process: &Process,
+        time: u64,
+        codes: &Codes,
+        frame: &mut Frame,
+    ) -> Result<(), AllocError>
+        requires at { number < length self.old.owned }
+        requires time { time ≤ largest_time }
+        requires code { code.IsCodeOf process.now.body (code.code_at codes.now.codes number) }
+        requires nets { slice_index_or codes.now.nets number [] ≡ code.gathered_nets process.now.nets (code.code_at codes.now.codes number) }
+        requires frame { code.slots_of (code.code_at codes.now.codes number) ≤ frame.old }
+        requires ready { IsReady process.now.body time (owned_at self.old.owned number) }
+        ensures frame { frame.new ≡ frame.old }
+        ensures alone { self.new ≡ record self.old { owned = slice_set self.old.owned number (owned_at self.new.owned number) } }
+        ensures ok { OnOk result (self.new ≡ record self.old {
+          owned = slice_set self.old.owned number
+              (executed (λ object. net_at self.old.nets (object_net process.now object)) time process.now.body.statements (owned_at self.old.owned number));
+        }) }
+        ensures ready { IsReady process.now.body time (owned_at self.new.owned number) }
+    {
+        let seen = ByNumber {
+            values: self.values.as_slice(),
+            last_values: self.last_values.as_slice(),
+        };
+        if codes.is_idle(&seen, number) {
+            return Ok(());
+        }
+        self.execute(alloc, number, process, time, codes, frame)
     }
 
     /// Finds the processes that the next step executes, where the last cycle is done: those that

@@ -146,6 +146,22 @@ pub struct SeenBy<'a> {
     pub last_values: &'a [Logic],
 }
 
+/// How nets are seen by their numbers.
+#[derive(Clone, Copy)]
+pub struct ByNumber<'a> {
+    pub values: &'a [Logic],
+    pub last_values: &'a [Logic],
+}
+
+impl<'a> Nets for ByNumber<'a> {
+    ghost look = { λ s number. net_at (views_of s.values.now s.last_values.now) number };
+
+    #[inline(always)]
+    fn view(&self, number: usize) -> NetView {
+        view_at(self.values, self.last_values, number)
+    }
+}
+
 /// The number of the net of a port or signal.
 fn object_net(object_nets: &[usize], object: usize) -> usize
     ensures { result ≡ slice_index_or object_nets.now object 0 }
