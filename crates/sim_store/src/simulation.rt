@@ -255,7 +255,7 @@ fn execute(alloc: Global, design: &Design, made: &mut Made, number: usize) -> Re
     let lists = &mut made.lists;
     let frame = &mut lists.frame;
     made.state
-        .execute(alloc, number, process, made.time, &lists.codes, frame)?;
+        .resume(alloc, number, process, made.time, &lists.codes, frame)?;
     made.deposited.insert(number);
     Ok(())
 }

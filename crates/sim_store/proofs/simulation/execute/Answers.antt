@@ -10,11 +10,11 @@ use Rattle.sim_store.specs.Simulation.{AreMade, IsStateOf, with_marks}
 use Rattle.sim_store.proofs.Going.{executed-keeps, held-count, ready-here}
 use Rattle.sim_store.proofs.simulation.execute.Goals as goal
 
-pub execute-requires-clause-at : goal.execute-requires-clause-at
-execute-requires-clause-at c = omega (arith, c.requires.at, held-count c.requires.of.state)
+pub resume-requires-clause-at : goal.resume-requires-clause-at
+resume-requires-clause-at c = omega (arith, c.requires.at, held-count c.requires.of.state)
 
-pub execute-requires-clause-code : goal.execute-requires-clause-code
-execute-requires-clause-code c =
+pub resume-requires-clause-code : goal.resume-requires-clause-code
+resume-requires-clause-code c =
     let is : c.index-processes-number.result ≡ process_at c.args.design.now.processes c.args.number =
     c.index-processes-number.is ∙ (get_or_default c.processes.result.now c.args.number _ no_process
     (omega (arith, c.requires.at, ap length c.processes.ensures.value))
@@ -22,8 +22,8 @@ execute-requires-clause-code c =
     subst (λ (q : Process). IsCodeOf q.body (code_at c.args.made.now.lists.codes.codes c.args.number)) (sym is)
     (c.requires.of.made.codes_are.codes_are c.args.number)
 
-pub execute-requires-clause-nets : goal.execute-requires-clause-nets
-execute-requires-clause-nets c =
+pub resume-requires-clause-nets : goal.resume-requires-clause-nets
+resume-requires-clause-nets c =
     let ps = c.args.design.now.processes in
     let is : c.index-processes-number.result ≡ process_at ps c.args.number =
     c.index-processes-number.is ∙ (get_or_default c.processes.result.now c.args.number _ no_process
@@ -32,11 +32,11 @@ execute-requires-clause-nets c =
     c.requires.of.made.codes_are.nets_are c.args.number c.requires.at
     ∙ ap (λ (q : Process). gathered_nets q.nets (code_at c.args.made.now.lists.codes.codes c.args.number)) (sym is)
 
-pub execute-requires-clause-frame : goal.execute-requires-clause-frame
-execute-requires-clause-frame c = c.requires.of.made.frame_fits c.args.number
+pub resume-requires-clause-frame : goal.resume-requires-clause-frame
+resume-requires-clause-frame c = c.requires.of.made.frame_fits c.args.number
 
-pub execute-requires-clause-ready : goal.execute-requires-clause-ready
-execute-requires-clause-ready c =
+pub resume-requires-clause-ready : goal.resume-requires-clause-ready
+resume-requires-clause-ready c =
     let is : c.index-processes-number.result ≡ process_at c.args.design.now.processes c.args.number =
     c.index-processes-number.is ∙ (get_or_default c.processes.result.now c.args.number _ no_process
     (omega (arith, c.requires.at, ap length c.processes.ensures.value))
@@ -52,13 +52,13 @@ returns-clause-of c =
     (omega (arith, c.requires.at, ap length c.processes.ensures.value))
     ∙ ap (λ (ps : List Process). process_at ps c.args.number) c.processes.ensures.value) in
     record {
-      made = subst (AreMade c.args.design.now c.args.made.now.lists.sensitive c.args.made.now.lists.codes) (sym c.in_ok-execute.ensures.frame)
+      made = subst (AreMade c.args.design.now c.args.made.now.lists.sensitive c.args.made.now.lists.codes) (sym c.in_ok-resume.ensures.frame)
           c.requires.of.made;
       marked = c.requires.of.marked;
       state = subst (λ (marks : List Bool). IsStateOf (with_marks (simulation_of c.args.design.now c.args.made.now) marks) c.args.made.now.time
-          c.args.made.now.delta c.execute.new.self c.args.made.now.log.records c.args.made.now.due c.args.made.now.waiting.waiting)
+          c.args.made.now.delta c.resume.new.self c.args.made.now.log.records c.args.made.now.due c.args.made.now.waiting.waiting)
           (sym c.insert.ensures)
-          (executed-keeps i c.args.number c.requires.at c.requires.fresh c.index-processes-number.result c.execute.new.self is
-          (sym (i.due_are c.args.number c.requires.at) ∙ c.requires.due) c.in_ok-execute.ensures.ok c.in_ok-execute.ensures.ready);
+          (executed-keeps i c.args.number c.requires.at c.requires.fresh c.index-processes-number.result c.resume.new.self is
+          (sym (i.due_are c.args.number c.requires.at) ∙ c.requires.due) c.in_ok-resume.ensures.ok c.in_ok-resume.ensures.ready);
       counts = c.requires.of.counts;
     }
