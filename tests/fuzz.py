@@ -4,8 +4,10 @@
     fuzz.py PROGRAM [--seed N] [--seconds N] [--ghdl COMMAND]
 
 In turn, until the time is over (60 s):
-- a lawful design is run with 1, 2, 7 and 16 workers: the same bytes each time. Where GHDL is installed (ghdl-mcode), it runs
-  the design too, and each net has the same value at the end of each time.
+- a lawful design is run with 1, 2, 7 and 16 workers: the same bytes each time. A third of the designs are wide: hundreds of
+  instances read the same few signals, so that a cycle resumes hundreds of processes and their shares go to other threads. Where
+  GHDL is installed (ghdl-mcode), it runs the designs that are not wide too, and each net has the same value at the end of each
+  time.
 - its text is damaged: the program ends by itself with a status of 0 to 4, with 1 and with 7 workers it says the same, and with
   a refusal it writes one line to standard error and nothing to standard output.
 
@@ -122,15 +124,18 @@ class Writer:
         return "".join(self.chance.choice((self.concurrent, self.process))() for _ in range(self.chance.randint(1, most)))
 
 
-def lawful(chance):
-    """A design of one or two entities, for top `t`."""
+def lawful(chance, wide=False):
+    """A design of one or two entities, for top `t`; a wide one has hundreds of instances, each with an output of its own."""
     signals = [f"s{i}" for i in range(chance.randint(2, 6))]
+    outputs = [f"w{i}" for i in range(chance.randint(100, 400) if wide else 0)]
     declared = "".join(f"signal {it}: std_logic := '{chance.choice(VALUES + '0101')}';\n" for it in signals)
     clock = f"{signals[0]} <= not {signals[0]} after {chance.randint(1, 9)} ns;\n" if chance.random() < 0.6 else ""
     own = Writer(chance, signals, signals[1:]).statements(5)
+    targets = outputs or [chance.choice(signals) for _ in range(chance.randint(0, 3))]
     instances = "".join(
-        f"u{i}: entity work.e port map ({chance.choice(signals)}, {chance.choice(signals)}, {chance.choice(signals)});\n" for i in range(chance.randint(0, 3))
+        f"u{i}: entity work.e port map ({chance.choice(signals)}, {chance.choice(signals + outputs)}, {target});\n" for i, target in enumerate(targets)
     )
+    declared += f"signal {', '.join(outputs)}: std_logic;\n" if wide else ""
     inner = Writer(chance, ["a", "b", "x"], ["x", "q"]).statements(3)
     entity = (
         f"{CONTEXT}entity e is port (a, b: in std_logic; q: out std_logic := 'Z'); end;\n"
@@ -250,9 +255,11 @@ def main():
     program, chance, end = os.path.abspath(given.program), random.Random(given.seed), time.monotonic() + given.seconds
     number = wrong = 0
     while time.monotonic() < end:
-        text = lawful(chance)
+        wide = chance.random() < 1 / 3
+        text = lawful(chance, wide)
         spoilt = damaged(chance, text)
-        for fault, tried in ((fault_of_lawful(program, given.ghdl, text), text.encode()), (fault_of_damaged(program, spoilt), spoilt)):
+        ghdl = None if wide else given.ghdl
+        for fault, tried in ((fault_of_lawful(program, ghdl, text), text.encode()), (fault_of_damaged(program, spoilt), spoilt)):
             number += 1
             if fault:
                 wrong += 1

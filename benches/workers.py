@@ -1,0 +1,65 @@
+#!/usr/bin/env python3
+"""Measures what threads gain: whole runs of vsim by one worker and by several, whose listing is thrown away.
+
+    workers.py PROGRAM [--workers N ..] [--repeat N] [SHAPE ..]
+
+The shapes are those of shapes.py, and `wide`: a shift register of 60,000 flip-flops on one clock. Of each shape and number of
+workers (1, 2, 3 and 4) the least wall seconds of N runs (3), and the processor seconds of that run. The listing of each has to be
+the same, byte for byte.
+"""
+import argparse
+import hashlib
+import os
+import subprocess
+import sys
+import tempfile
+import time
+
+from large import NS, shift
+from shapes import SHAPES
+
+
+def wide():
+    return shift(15_000), 500 * NS
+
+
+def once(program, workers, source, stop):
+    """Wall seconds, processor seconds and the digest of the listing."""
+    words = [program, "--top", "t", "--stop", str(stop), "--limit", "1000000", "--workers", str(workers)]
+    with open(source, "rb") as file, tempfile.TemporaryFile() as listing:
+        start = time.monotonic()
+        child = subprocess.Popen(words, stdin=file, stdout=listing)
+        _, status, used = os.wait4(child.pid, 0)
+        wall = time.monotonic() - start
+        child.returncode = os.waitstatus_to_exitcode(status)
+        if child.returncode:
+            sys.exit(f"workers: {' '.join(words)}: status {child.returncode}")
+        listing.seek(0)
+        return wall, used.ru_utime + used.ru_stime, hashlib.file_digest(listing, "sha256").hexdigest()
+
+
+def main():
+    given = argparse.ArgumentParser()
+    given.add_argument("program")
+    given.add_argument("shapes", nargs="*", default=[*SHAPES, "wide"])
+    given.add_argument("--workers", type=int, nargs="+", default=[1, 2, 3, 4])
+    given.add_argument("--repeat", type=int, default=3)
+    given = given.parse_intermixed_args()
+    program = os.path.abspath(given.program)
+    print("| Shape |" + "".join(f" {count}: wall | {count}: processor |" for count in given.workers))
+    print("|---|" + "--:|--:|" * len(given.workers))
+    for name in given.shapes:
+        text, stop = {**SHAPES, "wide": wide}[name]()
+        with tempfile.NamedTemporaryFile("w", suffix=".vhd") as source:
+            source.write(text)
+            source.flush()
+            # in turn, so that what else the machine does meets all alike
+            runs = [[once(program, count, source.name, stop) for count in given.workers] for _ in range(given.repeat)]
+        if len({run[2] for turn in runs for run in turn}) != 1:
+            sys.exit(f"workers: {name}: the listings differ")
+        cells = "".join(f" {wall:.2f} | {spent:.2f} |" for wall, spent, _ in (min(of) for of in zip(*runs)))
+        print(f"| {name} |{cells}", flush=True)
+
+
+if __name__ == "__main__":
+    main()
