@@ -4,6 +4,7 @@ use sim_exec::{Job, NetView};
 use sim_flat_design::{Design, Held};
 use sim_logic::Logic;
 use sim_wave::{Driver, Transaction};
+use std::alloc::{AllocError, Global};
 
 /// The job of a process of a design, if the lists fit it.
 pub fn job(
@@ -25,6 +26,49 @@ pub fn job(
         return None;
     }
     Some(Job::new(1, number, time, process, views, variables, drivers))
+}
+
+/// The views of a job, in which the net at a place has another value.
+fn changed_views(
+    alloc: Global,
+    views: &[NetView],
+    place: usize,
+    value: Logic,
+) -> Result<Vec<NetView>, AllocError> {
+    let mut changed = Vec::new(alloc);
+    for (at, view) in views.iter().enumerate() {
+        let value = if at == place { value } else { view.value };
+        changed.push(NetView { value, ..*view })?;
+    }
+    Ok(changed)
+}
+
+/// The same variables.
+fn copied_variables(alloc: Global, variables: &[Held]) -> Result<Vec<Held>, AllocError> {
+    let mut copies = Vec::new(alloc);
+    for held in variables {
+        copies.push(*held)?;
+    }
+    Ok(copies)
+}
+
+/// The same drivers.
+fn copied_drivers(alloc: Global, drivers: &[Driver]) -> Result<Vec<Driver>, AllocError> {
+    let mut copies = Vec::new(alloc);
+    for driver in drivers {
+        let copy = driver.try_copy()?;
+        copies.push(copy)?;
+    }
+    Ok(copies)
+}
+
+/// A job of the first cycle that is like another, but that the net at a place of its views has
+/// another value.
+pub fn like(alloc: Global, design: &Design, own: &Job, place: usize, value: Logic) -> Option<Job> {
+    let views = changed_views(alloc, own.views(), place, value).ok()?;
+    let variables = copied_variables(alloc, own.variables()).ok()?;
+    let drivers = copied_drivers(alloc, own.drivers()).ok()?;
+    job(design, own.number(), own.time(), views, variables, drivers)
 }
 
 /// A net that this cycle changed to a value.

@@ -2,11 +2,12 @@
 
 use crate::line::Line;
 use crate::scripts::Call::{
-    Advance, Bounds, Deposit, Due, Ended, History, Look, Records, Run, Total, Value,
+    Advance, Bounds, Deposit, Due, Ended, History, Look, Records, Run, RunSeeing, State, Total,
+    Value,
 };
 use crate::scripts::{Script, follow};
 use crate::texts::{CHOICE, EMPTY, EXCHANGE, ONCE, POSTPONED, TOGGLE, TWO_DRIVERS};
-use sim_logic::LATEST;
+use sim_logic::{LATEST, Logic};
 use std::alloc::Global;
 use std::test::Fail;
 
@@ -15,8 +16,9 @@ use std::test::Fail;
 /// due; a run that has ended; as many cycles as the limit, and one more; the latest stop time, and
 /// one later; who is sensitive to what changed, and processes that read each other take the values
 /// before; a run that has ended is read, and its history is copied; record 0 has every net; a store
-/// tells its bounds.
-static SCRIPTS: [Script<'_>; 13] = [
+/// tells its bounds; a result of a changed input, and then the right one; an ended run takes and
+/// hands out nothing. What refuses leaves the store as it was.
+static SCRIPTS: [Script<'_>; 15] = [
     (
         TWO_DRIVERS,
         LATEST,
@@ -147,6 +149,43 @@ a q 0+0 0=0 1=0,1000000+0 0=1,8000000+0 1=1,10000000+0,3 2;",
         0,
         &[Bounds, Ended],
         "4611686018427387903 7 1;none;",
+    ),
+    (
+        EXCHANGE,
+        LATEST,
+        10,
+        1,
+        &[
+            RunSeeing(1, 1, Logic::Zero),
+            Run(1),
+            State,
+            Deposit(0),
+            State,
+            Deposit(1),
+        ],
+        "done;done;2 5000000+0,1;1 2 ;0+0 0=0 1=0 2=1,5000000+0 0=1,;\
+Foreign;2 5000000+0,1;1 2 ;0+0 0=0 1=0 2=1,5000000+0 0=1,;done;",
+    ),
+    (
+        ONCE,
+        LATEST,
+        10,
+        0,
+        &[
+            Run(0),
+            Run(0),
+            Deposit(0),
+            Advance,
+            Advance,
+            State,
+            Deposit(1),
+            State,
+            Advance,
+            Run(0),
+            State,
+        ],
+        "done;done;done;Next;Finished;2 5000000+0,1;;0+0 0=0,5000000+0 0=1,;\
+Ended;2 5000000+0,1;;0+0 0=0,5000000+0 0=1,;Ended;Ended;2 5000000+0,1;;0+0 0=0,5000000+0 0=1,;",
     ),
 ];
 

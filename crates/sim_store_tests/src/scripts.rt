@@ -1,8 +1,9 @@
 //! What is done with a store, step by step, and what it answers, as a line.
 
+use crate::jobs::like;
 use crate::line::Line;
 use crate::texts::{flat, go_on};
-use sim_exec::Done;
+use sim_exec::{Done, Job};
 use sim_logic::Logic;
 use sim_run::Finished;
 use sim_store::{Look, Step, WaveStore};
@@ -15,6 +16,8 @@ pub enum Call {
     Advance,
     /// Takes the job of a process, executes it, and keeps the result.
     Run(usize),
+    /// The same in the first cycle, with the net at a place of its views at another value.
+    RunSeeing(usize, usize, Logic),
     /// Hands in the result that was kept at a place.
     Deposit(usize),
     /// Who is due.
@@ -29,6 +32,8 @@ pub enum Call {
     Value(usize),
     /// How many events a net had.
     Total(usize),
+    /// How far it has come, who is due, and all records.
+    State,
     /// The stop time, the limit, and how many processes there are.
     Bounds,
     /// The names, the records, the cycles and the events of a copy of the history.
@@ -42,14 +47,41 @@ pub type Script<'a> = (&'a str, u64, u32, usize, &'a [Call], &'a str);
 /// Results that wait to be handed in.
 pub type Kept = Vec<Option<Done>>;
 
+/// Executes a job, and keeps the result.
+fn keep(line: &mut Line, alloc: Global, kept: &mut Kept, job: Job) {
+    match kept.push(Done::run(alloc, job).ok()) {
+        Ok(()) => line.put("done"),
+        Err(_refused) => line.put("no memory"),
+    }
+}
+
 /// Takes the job of a process, executes it, and keeps the result.
 fn run(line: &mut Line, alloc: Global, store: &WaveStore, kept: &mut Kept, process: usize) {
     match store.job(alloc, process) {
         Err(refusal) => line.put_refusal(refusal),
-        Ok(job) => match kept.push(Done::run(alloc, job).ok()) {
-            Ok(()) => line.put("done"),
-            Err(_refused) => line.put("no memory"),
-        },
+        Ok(job) => keep(line, alloc, kept, job),
+    }
+}
+
+/// A job like that of a process, with the net at a place of its views at another value.
+fn job_like(
+    alloc: Global,
+    store: &WaveStore,
+    process: usize,
+    place: usize,
+    value: Logic,
+) -> Option<Job> {
+    match store.job(alloc, process) {
+        Err(_refused) => None,
+        Ok(job) => like(alloc, store.design(), &job, place, value),
+    }
+}
+
+/// Executes a job, if there is one, and keeps the result.
+fn keep_any(line: &mut Line, alloc: Global, kept: &mut Kept, job: Option<Job>) {
+    match job {
+        None => line.put("none"),
+        Some(job) => keep(line, alloc, kept, job),
     }
 }
 
@@ -112,6 +144,15 @@ fn put_records(line: &mut Line, alloc: Global, store: &WaveStore, number: usize)
     }
 }
 
+/// Puts how far a run has come, who is due, and all records.
+fn put_state(line: &mut Line, alloc: Global, store: &WaveStore) {
+    put_look(line, store.look());
+    line.put(";");
+    put_due(line, store.due());
+    line.put(";");
+    put_records(line, alloc, store, 0);
+}
+
 /// Puts a value, if there is one.
 fn put_value(line: &mut Line, value: Option<Logic>) {
     match value {
@@ -162,6 +203,14 @@ fn put_answer(line: &mut Line, alloc: Global, store: &mut WaveStore, kept: &mut 
     match call {
         Call::Advance => advance(line, alloc, store),
         Call::Run(process) => run(line, alloc, store, kept, process),
+        Call::RunSeeing(process, place, value) => {
+            keep_any(
+                line,
+                alloc,
+                kept,
+                job_like(alloc, store, process, place, value),
+            )
+        }
         Call::Deposit(place) => deposit(line, store, kept_at(kept.as_mut_slice(), place)),
         Call::Due => put_due(line, store.due()),
         Call::Ended => put_ended(line, store.ended()),
@@ -169,6 +218,7 @@ fn put_answer(line: &mut Line, alloc: Global, store: &mut WaveStore, kept: &mut 
         Call::Records(number) => put_records(line, alloc, store, number),
         Call::Value(net) => put_value(line, store.value(net)),
         Call::Total(net) => put_total(line, store.total(net)),
+        Call::State => put_state(line, alloc, store),
         Call::Bounds => put_bounds(line, store),
         Call::History => put_history(line, alloc, store),
     }
