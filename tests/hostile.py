@@ -3,9 +3,10 @@
 
     hostile.py PROGRAM [--texts]
 
-- Each proper prefix of a design is refused as a text, but for the one that ends after its entity.
-- A zero byte in place of each byte of a design is refused at its place, or at the token that it breaks.
+- Each proper prefix of three designs is refused as a text, but for the one that ends after its entity.
+- A zero byte in place of each byte of these designs is refused at its place, or at the token that it breaks.
 - Texts of 1 MiB, each of one thing over and over, and one of a byte more: each is answered as the manual says, in at most 20 s of a processor.
+- In little memory a run answers `vsim: Memory`, and in more its listing, by one worker and by three.
 - Standard output is full, closed, or a pipe that nobody reads; standard input is closed, a folder or a terminal; standard error
   is closed. The status and the line are those of the manual.
 
@@ -27,6 +28,13 @@ DESIGN = (
     b"process(s_1)begin if s_1/='0' then q<=not s_1 after 2 ns;end if;end process;end;"
 )
 LISTING = b"0 0 s_1 0\n0 0 q 0\n5000000 0 s_1 1\ndone 2 1\n"
+# each begins with an entity of as many bytes
+DESIGNS = (
+    b"entity t is end;architecture a of t is signal s:std_logic:='0';begin s <= '1' after 5 ns; end;",
+    b"entity t is end;architecture a of t is signal clk:std_logic:='0'; signal q:std_logic;begin clk <= not clk after 5 ns; "
+    b"process (clk) variable v:std_logic:='0'; begin if rising_edge(clk) then v := not v; q <= v; end if; end process; end;",
+    DESIGN,
+)
 ENTITY = 16
 OF_A_TEXT = re.compile(rb"vsim: (BadByte|OpenComment|BadLiteral|Syntax|TooDeep|TimeRange) at \d+\n")
 
@@ -75,28 +83,35 @@ class Tally:
 
 
 def prefixes(program, tally):
-    for length in range(len(DESIGN)):
-        answer = run(program, DESIGN[:length])
-        if length == ENTITY:
-            holds = answer.same(1, b"", b"vsim: NoArchitecture at 7\n")
-        else:
-            holds = answer.status == 1 and not answer.out and OF_A_TEXT.fullmatch(answer.err)
-        tally.note(holds, f"a prefix of {length} bytes", answer)
+    for design in DESIGNS:
+        for length in range(len(design)):
+            answer = run(program, design[:length])
+            if length == ENTITY:
+                holds = answer.same(1, b"", b"vsim: NoArchitecture at 7\n")
+            else:
+                holds = answer.status == 1 and not answer.out and OF_A_TEXT.fullmatch(answer.err)
+            tally.note(holds, f"a prefix of {length} bytes of {design!r}", answer)
+
+
+def of_a_zero(design, place):
+    """The refusal of a design with a zero byte at a place.
+
+    A literal is at fault where it begins; `<` and `/` are no tokens without their `=`, nor is an underscore without a letter
+    or digit after it.
+    """
+    literal = next((first for first in (place - 2, place - 1) if first >= 0 and re.match(rb"'.'", design[first:])), None)
+    if literal is not None:
+        return f"vsim: BadLiteral at {literal}\n"
+    if design[place - 1 : place + 1] in (b"<=", b"/=") or design[place - 1 : place] == b"_":
+        return f"vsim: BadByte at {place - 1}\n"
+    return f"vsim: BadByte at {place}\n"
 
 
 def zeros(program, tally):
-    """A literal is at fault where it begins; `<` is no token without its `=`, nor an underscore without a letter or digit."""
-    literals = [found.start() for found in re.finditer(rb"'.'", DESIGN)]
-    for place in range(len(DESIGN)):
-        kind, at = "BadByte", place
-        if place - 1 in literals or place - 2 in literals:
-            kind, at = "BadLiteral", next(first for first in literals if place - first in (1, 2))
-        elif DESIGN[place - 1 : place + 1] == b"<=" or DESIGN[place - 1 : place] == b"_":
-            at = place - 1
-        elif DESIGN[place - 1 : place + 1] == b"/=":
-            at = place - 1
-        answer = run(program, DESIGN[:place] + b"\0" + DESIGN[place + 1 :])
-        tally.note(answer.same(1, b"", f"vsim: {kind} at {at}\n".encode()), f"a zero byte at {place}", answer)
+    for design in DESIGNS:
+        for place in range(len(design)):
+            answer = run(program, design[:place] + b"\0" + design[place + 1 :])
+            tally.note(answer.same(1, b"", of_a_zero(design, place).encode()), f"a zero byte at {place} of {design!r}", answer)
 
 
 def filled(begin, again, end=b""):
@@ -161,6 +176,28 @@ def huge(program, tally):
         tally.note(ended and answer.seconds < 20, name, answer)
 
 
+def limited(program, text, words, kibibytes):
+    """A run that has an address space of so many KiB."""
+    ran = subprocess.run(["sh", "-c", 'ulimit -v "$1"; shift; exec "$@"', "sh", str(kibibytes), program, *words],
+                         input=text, capture_output=True, timeout=LONGEST)
+    return Answer(ran.returncode, ran.stdout, ran.stderr)
+
+
+def memory(program, tally):
+    """From what the program needs to start, up to ample."""
+    text = with_signals(2000, "{0}<={1};")
+    least = next(it for it in range(0, 1 << 20, 64) if limited(program, b"", WORDS, it).err == b"vsim: Syntax at 0\n")
+    for workers in ("1", "3"):
+        words, refused = [*WORDS, "--workers", workers], []
+        ample = run(program, text, words)
+        tally.note(ample.status == 0, f"2,000 signals by {workers}", ample)
+        for kibibytes in range(least, least + (5 << 10), 64):
+            answer = limited(program, text, words, kibibytes)
+            refused.append(answer.same(4, b"", b"vsim: Memory\n"))
+            tally.note(refused[-1] or answer.same(0, ample.out, b""), f"{kibibytes} KiB by {workers}", answer)
+        tally.note(refused[0] and not refused[-1], f"little memory and ample by {workers}", ample)
+
+
 def streams(program, tally):
     """Streams that fail, each with the status and the line that the manual has for it."""
     write, read = (4, b"vsim: Write\n"), (4, b"vsim: Read\n")
@@ -206,7 +243,7 @@ def main():
     program, tally = os.path.abspath(program), Tally()
     answer = run(program, DESIGN)
     tally.note(answer.same(0, LISTING, b""), "the design", answer)
-    for part in (prefixes, zeros, huge) if words else (prefixes, zeros, huge, streams, terminal):
+    for part in (prefixes, zeros, huge, memory) if words else (prefixes, zeros, huge, memory, streams, terminal):
         part(program, tally)
     print(f"{tally.passed} passed, {tally.failed} failed")
     return 1 if tally.failed else 0
