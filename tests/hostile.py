@@ -191,7 +191,7 @@ def memory(program, tally):
         words, refused = [*WORDS, "--workers", workers], []
         ample = run(program, text, words)
         tally.note(ample.status == 0, f"2,000 signals by {workers}", ample)
-        for kibibytes in range(least, least + (5 << 10), 64):
+        for kibibytes in range(least, least + (8 << 10), 128):
             answer = limited(program, text, words, kibibytes)
             refused.append(answer.same(4, b"", b"vsim: Memory\n"))
             tally.note(refused[-1] or answer.same(0, ample.out, b""), f"{kibibytes} KiB by {workers}", answer)
