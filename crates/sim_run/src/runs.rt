@@ -14,6 +14,7 @@ use crate::finished::{Finished, names_of};
 use sim_flat_design::Design;
 use sim_run_listing::write_listing;
 use sim_run_options::Options;
+use sim_run_team::carry_to_end;
 use sim_run_workers::{Gate, run_to_end};
 use sim_store::{Step, WaveStore};
 use std::alloc::Global;
@@ -168,6 +169,42 @@ pub fn run_by_workers<R: Threads + Wait + Sync, G: Gate + Sync>(
     finished_run(run)
 }
 
+/// The store of a run that has ended, by a team of threads, each of which executes a share of what a
+/// cycle resumes.
+fn run_in_shares<R: Threads + Wait + Sync>(
+    rt: &R,
+    alloc: Global,
+    design: Design,
+    options: &Options,
+) -> Result<WaveStore, RunError>
+    requires { options.now.stop ≤ largest_time }
+    ensures ok { IfOk result (λ run. IsRunOf design options.now run × (run.ended ≢ None)) }
+    ensures err { IfErr result (λ e. (e ≡ refusal.Stranger) ⊎ (e ≡ refusal.Memory)) }
+{
+    let run = begun_run(alloc, design, options)?;
+    match carry_to_end(rt, alloc, run, options.workers) {
+        Ok(run) => Ok(run),
+        Err(sim_run_team::Fault::Memory) => Err(RunError::Memory),
+        Err(sim_run_team::Fault::Gone) => Err(RunError::Stranger),
+    }
+}
+
+/// The run of a design by a team of threads, of which nobody is told, up to the stop time and within
+/// the limit: its store, once it is finished.
+pub fn run_by_team<R: Threads + Wait + Sync>(
+    rt: &R,
+    alloc: Global,
+    design: Design,
+    options: &Options,
+) -> Result<WaveStore, RunError>
+    requires { options.now.stop ≤ largest_time }
+    ensures finished { IfOk result (λ run. Finishes (behaviour_of design) options.now (history_of run)) }
+    ensures refused { IfErr result (λ e. (e ≡ refusal.Stranger) ⊎ IsRefusalAlone (behaviour_of design) options.now e) }
+{
+    let run = run_in_shares(rt, alloc, design, options)?;
+    finished_run(run)
+}
+
 /// The history of a store under a lock, if its run has ended; none where it goes on. It is compared
 /// with the design and the options first.
 fn answer_of(
@@ -209,8 +246,8 @@ pub fn write_run<W: Write>(alloc: Global, run: &WaveStore, out: &mut W) -> Resul
     Ok(())
 }
 
-/// The run of a design, by workers where there are several or the gate watches, and else on the
-/// calling thread: its store, once it is finished.
+/// The run of a design: by workers who share its store where the gate watches, else by a team where
+/// there are several workers, else on the calling thread: its store, once it is finished.
 fn run_either<R: Threads + Wait + Sync, G: Gate + Sync>(
     rt: &R,
     alloc: Global,
@@ -223,8 +260,11 @@ fn run_either<R: Threads + Wait + Sync, G: Gate + Sync>(
     ensures refused { IfErr result (λ e. (e ≢ refusal.Options) × IsRunRefusal (behaviour_of design.now) options.now e) }
 {
     let copy = design.try_copy()?;
-    if options.workers > 1 || gate.watches() {
-        run_by_workers(rt, alloc, copy, options, gate)
+    if gate.watches() {
+        return run_by_workers(rt, alloc, copy, options, gate);
+    }
+    if options.workers > 1 {
+        run_by_team(rt, alloc, copy, options)
     } else {
         run_alone(alloc, copy, options)
     }
@@ -232,8 +272,9 @@ fn run_either<R: Threads + Wait + Sync, G: Gate + Sync>(
 
 /// Runs a design from its initialization to the end of its run, and answers its history. Its
 /// processes are executed by as many workers as the options say; the gate is reported of each
-/// execution where it watches. With one worker and a gate that does not watch all is done on the
-/// calling thread, with no lock. The refusals: `Options` where an option is out of its range,
+/// execution where it watches. With a gate that does not watch no lock is taken: each worker
+/// executes a share of what a cycle resumes, or with one worker all is done on the calling thread.
+/// The refusals: `Options` where an option is out of its range,
 /// `CycleLimit` where the run needs more cycles than the limit, `PostponedDelta` where a postponed
 /// process makes a delta cycle follow, `Memory`.
 pub fn run<R: Threads + Wait + Sync, G: Gate + Sync>(

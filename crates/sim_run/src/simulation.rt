@@ -6,11 +6,10 @@ ghost use Rattle.sim_run.specs.Run.{Finishes, Lists, ListsPart, history_of};
 ghost use Rattle.sim_run.specs.Simulation.{IsDesignOf, HasDesign, IsOfText, IsRefusal};
 
 use crate::error::RunError;
-use crate::runs::{run_alone, run_by_workers, write_run};
+use crate::runs::{run_alone, run_by_team, write_run};
 use sim_flat::flatten;
 use sim_flat_design::Design;
 use sim_run_options::Options;
-use sim_run_workers::Open;
 use sim_store::WaveStore;
 use sim_text::parse;
 use std::alloc::Global;
@@ -42,7 +41,7 @@ fn run_text<R: Threads + Wait + Sync>(
 {
     let design = elaborate(alloc, source, options)?;
     if options.workers > 1 {
-        run_by_workers(rt, alloc, design, options, &Open)
+        run_by_team(rt, alloc, design, options)
     } else {
         run_alone(alloc, design, options)
     }

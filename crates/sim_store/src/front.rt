@@ -18,10 +18,9 @@ use sim_store_state::Share;
 use std::alloc::{AllocError, Global};
 use std::marker::{Model, PhantomData};
 
-/// What is read in a phase of the execution after a number of cycles. By its type it is that of the
-/// design that J names.
+/// What is read in a phase of the execution after a number of cycles.
 #[derive(Drop)]
-pub struct Front<J: Naming> {
+pub struct Scene {
     pub(crate) cycles: usize,
     pub(crate) phase: Phase,
     pub(crate) time: u64,
@@ -30,6 +29,12 @@ pub struct Front<J: Naming> {
     pub(crate) values: Vec<Logic>,
     pub(crate) last_values: Vec<Logic>,
     pub(crate) due: Due,
+}
+
+/// The same: by its type it is that of the design that J names.
+#[derive(Drop)]
+pub struct Front<J: Naming> {
+    pub(crate) scene: Scene,
     pub(crate) of: PhantomData<J>,
 }
 
@@ -39,23 +44,23 @@ impl<J: Naming> Model for Front<J> {
     ghost Value = { Front };
 
     ghost view = { λ f. record {
-      cycles = f.cycles;
-      phase = f.phase;
-      time = f.time;
-      codes = f.codes;
-      values = f.values.items;
-      last_values = f.last_values.items;
-      due = f.due;
+      cycles = f.scene.cycles;
+      phase = f.scene.phase;
+      time = f.scene.time;
+      codes = f.scene.codes;
+      values = f.scene.values.items;
+      last_values = f.scene.last_values.items;
+      due = f.scene.due;
     } };
 
-    ghost invariant = { λ f. IsFront J.design f.design (record {
-      cycles = f.cycles;
-      phase = f.phase;
-      time = f.time;
-      codes = f.codes;
-      values = f.values.items;
-      last_values = f.last_values.items;
-      due = f.due;
+    ghost invariant = { λ f. IsFront J.design f.scene.design (record {
+      cycles = f.scene.cycles;
+      phase = f.scene.phase;
+      time = f.scene.time;
+      codes = f.scene.codes;
+      values = f.scene.values.items;
+      last_values = f.scene.last_values.items;
+      due = f.scene.due;
     }) };
 }
 
@@ -64,14 +69,14 @@ impl<J: Naming> Front<J> {
     pub fn cycles(&self) -> usize
         ensures { result ≡ self.now.cycles }
     {
-        self.cycles
+        self.scene.cycles
     }
 
     /// In which phase.
     pub fn phase(&self) -> Phase
         ensures { result ≡ self.now.phase }
     {
-        self.phase
+        self.scene.phase
     }
 
     /// How many processes there are.
@@ -79,14 +84,14 @@ impl<J: Naming> Front<J> {
         ensures count { result ≡ length J.design.processes }
         ensures all { length (reached (spec.front_of J.design self.now)).owned ≡ length J.design.processes }
     {
-        self.design.processes().len()
+        self.scene.design.processes().len()
     }
 
     /// A frame on which each process may be executed.
     pub fn frame(&self, alloc: Global) -> Result<Frame, AllocError>
         ensures { IfOk result (FitsAll self.now.codes.codes) }
     {
-        self.codes.frame(alloc)
+        self.scene.codes.frame(alloc)
     }
 
     /// The first process from a number on that is due, below another number.
@@ -95,7 +100,7 @@ impl<J: Naming> Front<J> {
         ensures { MatchOption result (spec.NoneBetween (is_due (spec.front_of J.design self.now)) from to)
             (spec.IsNextBelow (is_due (spec.front_of J.design self.now)) from to) }
     {
-        match self.due.next(from) {
+        match self.scene.due.next(from) {
             None => None,
             Some(number) => { if number < to { Some(number) } else { None } }
         }
@@ -120,17 +125,17 @@ impl<J: Naming> Front<J> {
         ensures ok { OnOk result (share.new ≡ slice_set share.old place (spec.result_in (spec.front_of J.design self.now) number)) }
         ensures ready { IsReady (process_at J.design.processes number).body (reached (spec.front_of J.design self.now)).time (owned_at share.new place) }
     {
-        let process = &self.design.processes()[number];
+        let process = &self.scene.design.processes()[number];
         share.execute(
             alloc,
             number,
             place,
             process,
-            self.time,
-            &self.codes,
+            self.scene.time,
+            &self.scene.codes,
             frame,
-            self.values.as_slice(),
-            self.last_values.as_slice(),
+            self.scene.values.as_slice(),
+            self.scene.last_values.as_slice(),
         )
     }
 }

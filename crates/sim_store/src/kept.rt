@@ -6,7 +6,7 @@ ghost use Rattle.sim_store.specs.Keeping.{IsKept, kept_of};
 ghost use Rattle.sim_store.specs.Made.{IsOf, simulation_of};
 ghost use Rattle.sim_store.specs.Simulation as simulations;
 
-use crate::front::Front;
+use crate::front::{Front, Scene};
 use crate::naming::Naming;
 use crate::simulation::{Lists, Made};
 use crate::waiting::Waiting;
@@ -51,7 +51,7 @@ pub fn taken_apart<J: Naming>(design: Design, made: Made) -> (Front<J>, Shares, 
         shares,
         remains,
     } = take_apart(made.state);
-    let front = Front {
+    let scene = Scene {
         cycles: made.log.len() - 1,
         phase: made.phase,
         time: made.time,
@@ -60,6 +60,9 @@ pub fn taken_apart<J: Naming>(design: Design, made: Made) -> (Front<J>, Shares, 
         values,
         last_values,
         due: made.due,
+    };
+    let front = Front {
+        scene,
         of: PhantomData,
     };
     let kept = Kept {
@@ -85,7 +88,8 @@ pub fn made_whole<J: Naming>(front: Front<J>, shares: Shares, kept: Kept) -> Opt
     ensures same { IfSome result (λ r. simulation_of r.0 r.1 ≡ simulations.with_marks (kept_of J.design front kept) r.1.deposited) }
     ensures complete { IfSome result (λ r. simulations.IsComplete (simulation_of r.0 r.1)) }
 {
-    let Front {
+    let Front { scene, of: _ } = front;
+    let Scene {
         cycles: _,
         phase,
         time,
@@ -94,8 +98,7 @@ pub fn made_whole<J: Naming>(front: Front<J>, shares: Shares, kept: Kept) -> Opt
         values,
         last_values,
         due,
-        of: _,
-    } = front;
+    } = scene;
     let mut deposited = kept.deposited;
     due.copy_to(&mut deposited);
     let apart = Apart {

@@ -30,6 +30,7 @@ impl<T> Model for DividedRows<T> {
 }
 
 /// The part in which the list with a number stands, and its place there.
+#[inline(always)]
 pub fn place_of<T>(parts: &[RowArray<T>], each: usize, number: usize) -> (usize, usize)
     requires parts { AreParts each parts.now }
     requires number { number < length (joined parts.now) }
@@ -42,6 +43,7 @@ pub fn place_of<T>(parts: &[RowArray<T>], each: usize, number: usize) -> (usize,
 }
 
 /// The part in which the item with a number stands, and its place there.
+#[inline(always)]
 pub fn item_place<T>(parts: &[RowArray<T>], number: usize) -> (usize, usize)
     requires { number < length (joined (joined parts.now)) }
     ensures { IsAt (map joined parts.now) number result.0 result.1 }
@@ -53,6 +55,7 @@ pub fn item_place<T>(parts: &[RowArray<T>], number: usize) -> (usize, usize)
 }
 
 /// The same, by the counts of the parts.
+#[inline(never)]
 fn find_item<T>(parts: &[RowArray<T>], number: usize) -> (usize, usize)
     requires { number < length (joined (joined parts.now)) }
     ensures { IsAt (map joined parts.now) number result.0 result.1 }
@@ -69,6 +72,7 @@ fn find_item<T>(parts: &[RowArray<T>], number: usize) -> (usize, usize)
 }
 
 /// How many items the parts before one have.
+#[inline(always)]
 fn items_before<T>(parts: &[RowArray<T>], part: usize) -> usize
     requires part { part ≤ length parts.now }
     requires few { length (joined (joined parts.now)) < 2 ^ 64 }
@@ -82,6 +86,7 @@ fn items_before<T>(parts: &[RowArray<T>], part: usize) -> usize
 }
 
 /// The list at a place of a part.
+#[inline(always)]
 fn row_at<T>(parts: &[RowArray<T>], part: usize, place: usize) -> &[T]
     requires part { part < length parts.now }
     requires place { place < length (slice_index_or parts.now part []) }
@@ -102,6 +107,7 @@ fn put_at<T>(parts: &mut [RowArray<T>], part: usize, place: usize, row: &mut [T]
 }
 
 /// The item at a place of a part.
+#[inline(always)]
 fn item_at<T>(parts: &[RowArray<T>], part: usize, place: usize) -> &T
     requires part { part < length parts.now }
     requires place { place < length (joined (slice_index_or parts.now part [])) }
@@ -111,6 +117,7 @@ fn item_at<T>(parts: &[RowArray<T>], part: usize, place: usize) -> &T
 }
 
 /// Where the list at a place of a part starts among all items, and where it ends.
+#[inline(always)]
 fn bounds_at<T>(parts: &[RowArray<T>], part: usize, place: usize) -> (usize, usize)
     requires part { part < length parts.now }
     requires place { place < length (slice_index_or parts.now part []) }

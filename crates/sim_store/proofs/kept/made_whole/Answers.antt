@@ -8,7 +8,7 @@ use Rattle.sim_store.proofs.kept.made_whole.Goals as goal
 pub put_together-requires : goal.put_together-requires
 put_together-requires g c =
     let d = g.J.Naming.design in
-    let s = c.front.inside in
+    let s = c.front.inside.scene in
     let k = c.args.kept in
     let f : Front = record {
       cycles = s.cycles;
@@ -31,7 +31,7 @@ put_together-requires g c =
 pub returns-clause-of : goal.returns-clause-of
 returns-clause-of g c =
     let d = g.J.Naming.design in
-    let s = c.front.inside in
+    let s = c.front.inside.scene in
     let k = c.args.kept in
     let f : Front = record {
       cycles = s.cycles;
@@ -51,7 +51,7 @@ returns-clause-of g c =
 pub returns-clause-same : goal.returns-clause-same
 returns-clause-same g c =
     let d = g.J.Naming.design in
-    let s = c.front.inside in
+    let s = c.front.inside.scene in
     let k = c.args.kept in
     let f : Front = record {
       cycles = s.cycles;
@@ -72,7 +72,7 @@ returns-clause-same g c =
 pub returns-clause-complete : goal.returns-clause-complete
 returns-clause-complete g c =
     let d = g.J.Naming.design in
-    let s = c.front.inside in
+    let s = c.front.inside.scene in
     let k = c.args.kept in
     let f : Front = record {
       cycles = s.cycles;

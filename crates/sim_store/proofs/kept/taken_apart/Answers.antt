@@ -10,8 +10,8 @@ use Rattle.sim_store.proofs.Keeping.{first-front, first-range, first-state, name
 use Rattle.sim_store.proofs.Returning.{fresh-owned}
 use Rattle.sim_store.proofs.kept.taken_apart.Goals as goal
 
-pub overflow_sub-front : goal.overflow_sub-front
-overflow_sub-front g c = omega (arith, c.len.ensures, cycle-count c.requires.of.state)
+pub overflow_sub-scene : goal.overflow_sub-scene
+overflow_sub-scene g c = omega (arith, c.len.ensures, cycle-count c.requires.of.state)
 
 pub invariant_of-front : goal.invariant_of-front
 invariant_of-front g c =

@@ -15,7 +15,7 @@ use Rattle.sim_store.proofs.front.Front.execute.Goals as goal
 pub returns-clause-ok : goal.returns-clause-ok
 returns-clause-ok g c =
     let design = g.J.Naming.design in
-    let s = c.self.inside in
+    let s = c.self.inside.scene in
     let f = c.args.self.now in
     let i : IsFront design s.design f = subst (λ (w : Front). IsFront design s.design w) c.self.view_is c.self.invariant in
     let n = c.args.number in

@@ -1,0 +1,162 @@
+//! From where a store stands to the end of its run.
+
+ghost use Rattle.std.specs.Prelude.{◌≡◌, ◌≢◌, None, IfOk};
+ghost use Rattle.sim_store.specs.Simulation as simulations;
+ghost use Rattle.sim_store.specs.WaveStore as store;
+ghost use Rattle.sim_run_team.specs.Runs.{IsCarriedOn};
+
+use crate::bell::Bell;
+use crate::team::{Fault, Order, Team, pair};
+use sim_store::{Answer, Naming, Order as Share, WaveStore};
+use std::alloc::{AllocError, Global};
+use std::marker::Brand;
+use std::sync::Wait;
+use std::thread;
+use std::thread::Threads;
+
+/// How many processes have to be due for shares to be handed out at all: with fewer a cycle is over
+/// before another thread has its share.
+const LEAST: usize = 64;
+
+impl<J: Naming> Order for Share<J> {
+    type Answer = Answer<J>;
+
+    fn is_large(&self) -> bool {
+        self.is_worthwhile()
+    }
+
+    fn carry_out(self, alloc: Global) -> Option<Answer<J>> {
+        self.execute(alloc)
+    }
+}
+
+/// Executes all that are due on this thread.
+fn execute_alone(alloc: Global, run: WaveStore) -> Result<WaveStore, Fault>
+    ensures same { IfOk result (λ s. s ≡ store.with_deposited run s.simulation.deposited) }
+    ensures complete { IfOk result (λ s. simulations.IsComplete s.simulation) }
+{
+    let run = run.execute_due(alloc)?;
+    Ok(run)
+}
+
+/// Executes all that are due, each share by a worker where it is large.
+fn execute<J: Naming, R: Wait>(
+    rt: &R,
+    alloc: Global,
+    run: WaveStore,
+    team: &mut Team<'_, Share<J>>,
+) -> Result<WaveStore, Fault>
+    requires { run.simulation.design ≡ J.design }
+    ensures same { IfOk result (λ s. s ≡ store.with_deposited run s.simulation.deposited) }
+    ensures complete { IfOk result (λ s. simulations.IsComplete s.simulation) }
+{
+    if run.due().len() < LEAST {
+        return execute_alone(alloc, run);
+    }
+    if !run.is_untouched() {
+        return execute_alone(alloc, run);
+    }
+    let (rest, shares) = run.hand_out::<J>(alloc)?;
+    let answers = team.carry_out(rt, alloc, shares)?;
+    let run = rest.take_back(alloc, answers)?;
+    Ok(run)
+}
+
+/// Carries out one phase of a cycle, and goes on.
+fn go_on<J: Naming, R: Wait>(
+    rt: &R,
+    alloc: Global,
+    run: WaveStore,
+    team: &mut Team<'_, Share<J>>,
+) -> Result<WaveStore, Fault>
+    requires design { run.simulation.design ≡ J.design }
+    requires open { store.IsOpen run }
+    ensures { IfOk result (IsCarriedOn run) }
+{
+    let mut run = execute(rt, alloc, run, team)?;
+    match run.advance(alloc) {
+        Ok(_step) => Ok(run),
+        // All that are due have been executed and the run has not ended, so only memory was short.
+        Err(_refusal) => Err(Fault::Memory),
+    }
+}
+
+/// Carries a run on until it has ended.
+fn lead<J: Naming, R: Wait>(
+    rt: &R,
+    alloc: Global,
+    run: WaveStore,
+    team: &mut Team<'_, Share<J>>,
+) -> Result<WaveStore, Fault>
+    requires { run.simulation.design ≡ J.design }
+    ensures { IfOk result (λ r. IsCarriedOn run r × (r.ended ≢ None)) }
+{
+    let mut run = run;
+    for _turn in rt.forever() {
+        if run.ended().is_some() {
+            return Ok(run);
+        }
+        run = go_on(rt, alloc, run, team)?;
+    }
+    Err(Fault::Gone)
+}
+
+/// A bell for each of so many workers.
+fn bells(alloc: Global, workers: usize) -> Result<Vec<Bell>, AllocError> {
+    let mut bells = Vec::with_capacity(alloc, workers)?;
+    for _worker in 0..workers {
+        if bells.push(Bell::new()).is_err() {
+            return Err(AllocError);
+        }
+    }
+    Ok(bells)
+}
+
+/// Carries a run that has a name on to its end. As many threads are started as can be, up to so
+/// many less one.
+fn run_by<J: Naming + Send + Sync, R: Threads + Wait + Sync>(
+    rt: &R,
+    alloc: Global,
+    run: WaveStore,
+    workers: usize,
+) -> Result<WaveStore, Fault>
+    requires { run.simulation.design ≡ J.design }
+    ensures { IfOk result (λ r. IsCarriedOn run r × (r.ended ≢ None)) }
+{
+    let main = Bell::new();
+    let main = &main;
+    let bells = bells(alloc, workers.saturating_sub(1))?;
+    let bells = bells.as_slice();
+    thread::scope(
+        thread::scope_env(),
+        rt,
+        |scope| -> Result<WaveStore, Fault>
+            requires { run.simulation.design ≡ J.design }
+            ensures { IfOk result (λ r. IsCarriedOn run r × (r.ended ≢ None)) }
+        {
+            let mut team = Team::new(alloc, main);
+            for bell in bells {
+                let (line, worker) = pair::<Share<J>>(alloc, bell)?;
+                if scope.spawn(move || worker.work(rt, alloc, bell, main)).is_ok() {
+                    team.add(line)?;
+                }
+            }
+            lead(rt, alloc, run, &mut team)
+        },
+    )
+}
+
+/// Carries a run on from where its store stands until it has ended, by at most so many threads. In
+/// each cycle with enough processes that are due, each thread gets a share of them by value. What
+/// can't be told apart by a caller: which thread executes which process.
+pub fn carry_to_end<R: Threads + Wait + Sync>(
+    rt: &R,
+    alloc: Global,
+    run: WaveStore,
+    workers: usize,
+) -> Result<WaveStore, Fault>
+    ensures { IfOk result (λ r. IsCarriedOn run r × (r.ended ≢ None)) }
+{
+    let run = run.divide(alloc, workers)?;
+    run_by::<Brand, R>(rt, alloc, run, workers)
+}

@@ -1,0 +1,222 @@
+//! Workers, and who gives them orders.
+
+use crate::bell::Bell;
+use crate::message::next;
+use rtrb::{Consumer, Producer, PushError, RingBuffer};
+use sim_store::HandOutError;
+use std::alloc::{AllocError, Global};
+use std::sync::Wait;
+
+/// Work that any thread may carry out. What is known of an answer is what its type says.
+pub trait Order: Drop {
+    /// What comes of it.
+    type Answer: Drop;
+
+    /// Whether it is worth giving to another thread.
+    fn is_large(&self) -> bool;
+
+    /// Carries it out; none where memory is refused.
+    fn carry_out(self, alloc: Global) -> Option<Self::Answer>;
+}
+
+/// Why orders have no answers.
+#[derive(Clone, Copy, Debug, PartialEq, Eq)]
+pub enum Fault {
+    /// No memory.
+    Memory,
+    /// A worker is gone.
+    Gone,
+}
+
+impl From<AllocError> for Fault {
+    fn from(_error: AllocError) -> Fault {
+        Fault::Memory
+    }
+}
+
+impl From<HandOutError> for Fault {
+    fn from(error: HandOutError) -> Fault {
+        match error {
+            HandOutError::Memory => Fault::Memory,
+            HandOutError::Stranger => Fault::Gone,
+        }
+    }
+}
+
+/// The ends of a worker: it takes orders and hands in answers, one at a time.
+#[derive(Drop)]
+pub struct Worker<O: Order> {
+    orders: Consumer<O>,
+    answers: Producer<Option<O::Answer>>,
+}
+
+/// The other ends, which the main thread has. Where they are dropped the worker is woken and ends.
+pub struct Line<'a, O: Order> {
+    orders: Producer<O>,
+    answers: Consumer<Option<O::Answer>>,
+    bell: &'a Bell,
+}
+
+impl<O: Order> Drop for Line<'_, O> {
+    fn drop(self) {
+        let Line {
+            orders,
+            answers,
+            bell,
+        } = self;
+        drop(orders);
+        drop(answers);
+        bell.ring();
+    }
+}
+
+/// The ends of the main thread and of a worker, who sleeps until this bell rings.
+pub fn pair<O: Order>(
+    alloc: Global,
+    bell: &Bell,
+) -> Result<(Line<'_, O>, Worker<O>), AllocError> {
+    let (orders, their_orders) = RingBuffer::new(alloc, 1)?;
+    let (their_answers, answers) = RingBuffer::new(alloc, 1)?;
+    Ok((
+        Line {
+            orders,
+            answers,
+            bell,
+        },
+        Worker {
+            orders: their_orders,
+            answers: their_answers,
+        },
+    ))
+}
+
+impl<O: Order> Worker<O> {
+    /// Carries out order after order, until the main thread's ends are gone.
+    pub fn work<R: Wait>(self, rt: &R, alloc: Global, mine: &Bell, main: &Bell) {
+        let Worker { orders, answers } = self;
+        let mut orders = orders;
+        let mut answers = answers;
+        for _ in rt.forever() {
+            let Some(order) = next(rt, &mut orders, mine) else {
+                return;
+            };
+            let _ = answers.push(order.carry_out(alloc));
+            main.ring();
+        }
+    }
+}
+
+/// An order that was begun: it was carried out here, or given to the worker with a number.
+#[derive(Drop)]
+enum Begun<A> {
+    Done(Option<A>),
+    Given(usize),
+}
+
+/// The workers of a run, as the main thread has them, and the bell by which they wake it.
+#[derive(Drop)]
+pub struct Team<'a, O: Order> {
+    lines: Vec<Line<'a, O>>,
+    bell: &'a Bell,
+}
+
+impl<'a, O: Order> Team<'a, O> {
+    /// A team of nobody.
+    pub fn new(alloc: Global, bell: &'a Bell) -> Team<'a, O> {
+        Team {
+            lines: Vec::new(alloc),
+            bell,
+        }
+    }
+
+    /// A worker more.
+    pub fn add(&mut self, line: Line<'a, O>) -> Result<(), Fault> {
+        match self.lines.push(line) {
+            Ok(()) => Ok(()),
+            Err(_) => Err(Fault::Memory),
+        }
+    }
+
+    /// Gives an order to the worker with a number, or carries it out here where it is small or
+    /// there is no such worker.
+    fn begin(&mut self, alloc: Global, order: O, number: usize) -> Begun<O::Answer> {
+        if !order.is_large() || number >= self.lines.len() {
+            return Begun::Done(order.carry_out(alloc));
+        }
+        let line = &mut self.lines[number];
+        match line.orders.push(order) {
+            Ok(()) => {
+                line.bell.ring();
+                Begun::Given(number)
+            }
+            Err(PushError::Full(order)) => Begun::Done(order.carry_out(alloc)),
+        }
+    }
+
+    /// The answer of an order that was begun.
+    fn answer<R: Wait>(&mut self, rt: &R, begun: Begun<O::Answer>) -> Result<O::Answer, Fault> {
+        match begun {
+            Begun::Done(Some(answer)) => Ok(answer),
+            Begun::Done(None) => Err(Fault::Memory),
+            Begun::Given(number) => {
+                if number >= self.lines.len() {
+                    return Err(Fault::Gone);
+                }
+                match next(rt, &mut self.lines[number].answers, self.bell) {
+                    Some(Some(answer)) => Ok(answer),
+                    Some(None) => Err(Fault::Memory),
+                    None => Err(Fault::Gone),
+                }
+            }
+        }
+    }
+
+    /// Begins each order: it is given to the worker with its number, so that a worker has the same
+    /// share each time; where there is none it is carried out here meanwhile.
+    fn begin_all(&mut self, alloc: Global, orders: Vec<O>) -> Result<Vec<Begun<O::Answer>>, Fault> {
+        let mut begun = Vec::with_capacity(alloc, orders.len())?;
+        for (number, order) in orders.into_iter().enumerate() {
+            let one = self.begin(alloc, order, number);
+            if begun.push(one).is_err() {
+                return Err(Fault::Memory);
+            }
+        }
+        Ok(begun)
+    }
+
+    /// The answers of orders, in their order. All that were given away are waited for; then a fault
+    /// is told.
+    fn answers<R: Wait>(
+        &mut self,
+        rt: &R,
+        begun: Vec<Begun<O::Answer>>,
+        answers: &mut Vec<O::Answer>,
+    ) -> Result<(), Fault> {
+        let mut fault = Ok(());
+        for one in begun {
+            match self.answer(rt, one) {
+                Ok(answer) => {
+                    if answers.push(answer).is_err() {
+                        fault = Err(Fault::Memory);
+                    }
+                }
+                Err(error) => fault = Err(error),
+            }
+        }
+        fault
+    }
+
+    /// Has orders carried out by the workers and this thread, and gives their answers in the same
+    /// order.
+    pub fn carry_out<R: Wait>(
+        &mut self,
+        rt: &R,
+        alloc: Global,
+        orders: Vec<O>,
+    ) -> Result<Vec<O::Answer>, Fault> {
+        let mut answers = Vec::with_capacity(alloc, orders.len())?;
+        let begun = self.begin_all(alloc, orders)?;
+        self.answers(rt, begun, &mut answers)?;
+        Ok(answers)
+    }
+}
