@@ -553,6 +553,12 @@ impl Simulation {
         self.made.deposited.is_empty()
     }
 
+    /// About how many steps the execution of a process takes. It is a hint by which work is divided
+    /// among threads, so nothing is promised of it.
+    pub fn mean_length(&self) -> usize {
+        self.made.lists.codes.mean_length()
+    }
+
     /// The numbers of the processes that this phase executes, rising.
     pub fn due(&self) -> &[usize]
         ensures value { result.now ≡ spec.due_numbers self.now }

@@ -229,6 +229,12 @@ impl WaveStore {
         self.simulation.is_untouched()
     }
 
+    /// About how many steps the execution of a process takes. It is a hint by which work is divided
+    /// among threads, so nothing is promised of it.
+    pub fn mean_length(&self) -> usize {
+        self.simulation.mean_length()
+    }
+
     /// Hands out what the processes own, so that those that are due may be executed elsewhere. If
     /// allocation fails the store is gone.
     pub fn hand_out<J: Naming>(
