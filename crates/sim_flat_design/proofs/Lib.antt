@@ -1,3 +1,4 @@
 pub mod FirstNamed
+mod Joined
 pub mod Fitting
 pub mod Crossing

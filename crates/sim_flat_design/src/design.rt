@@ -3,12 +3,13 @@
 ghost use Rattle.std.specs.Prelude.{◌≡◌};
 ghost use Rattle.std.specs.Bool.{Decides};
 
+use crate::pieces::{is_joined, same_joined};
 use crate::process::Process;
 use sim_logic::Logic;
 use sqlite_items::Items;
 use std::alloc::{AllocError, Global};
 use std::marker::Model;
-use std::sync::Arc;
+use std::sync::{Arc, ArcStr};
 
 /// A leaf of the sources of a net: a driver, by its number, or a constant.
 #[derive(Clone, Copy, Debug, PartialEq, Eq)]
@@ -17,39 +18,80 @@ pub enum Source {
     Constant(Logic),
 }
 
-/// A net, with its name and the leaves of the tree of its sources, from left to right (14.7.3).
+/// A net, with its name and the leaves of the tree of its sources, from left to right (14.7.3). The
+/// nets of an instance share what stands before their simple names.
 #[derive(Drop)]
 pub struct Net {
-    name: String,
+    path: ArcStr<Global>,
+    simple_name: String,
     sources: Items<Source>,
 }
 
 impl Model for Net {
-    ghost use Rattle.std.specs.Prelude.{string_bytes};
+    ghost use Rattle.std.specs.Prelude.{◌++◌, string_bytes};
+    ghost use Rattle.std.specs.Arc.{arc_str_bytes};
     ghost use Rattle.sim_flat_design.specs.Designs.{Net};
 
     ghost Value = { Net };
 
-    ghost view = { λ n. record { name = string_bytes n.name; sources = n.sources } };
+    ghost view = { λ n. record { name = arc_str_bytes n.path ++ string_bytes n.simple_name; sources = n.sources } };
 }
 
 impl Net {
-    ghost use Rattle.std.specs.Prelude.{◌≡◌, string_bytes};
+    ghost use Rattle.std.specs.Prelude.{◌≡◌, ◌++◌, string_bytes, IfOk};
+    ghost use Rattle.std.specs.Arc.{arc_str_bytes};
     ghost use Rattle.std.specs.Bool.{Decides};
 
-    /// The net with this name and these sources.
-    pub fn new(name: String, sources: Items<Source>) -> Net
-        ensures { result ≡ record { name = string_bytes name; sources = sources } }
+    /// The net with these sources whose name is these two pieces: the path, and the simple name.
+    pub fn new(path: ArcStr<Global>, simple_name: String, sources: Items<Source>) -> Net
+        ensures { result ≡ record { name = arc_str_bytes path ++ string_bytes simple_name; sources = sources } }
     {
-        Net { name, sources }
+        Net {
+            path,
+            simple_name,
+            sources,
+        }
     }
 
-    /// The labels of the instances in which it stands and its own name, with a `.` between each
-    /// two.
-    pub fn name(&self) -> &str
-        ensures { result.now ≡ self.now.name }
+    /// The two pieces of its name: the labels of the instances in which it stands, each with a `.`
+    /// after it, and its simple name.
+    pub fn name_pieces(&self) -> (&str, &str)
+        ensures { result.0.now ++ result.1.now ≡ self.now.name }
     {
-        self.name.as_str()
+        (self.path.as_str(), self.simple_name.as_str())
+    }
+
+    /// Its whole name: the labels and its simple name, with a `.` between each two.
+    pub fn to_name(&self, alloc: Global) -> Result<String, AllocError>
+        ensures { IfOk result (λ name. string_bytes name ≡ self.now.name) }
+    {
+        let (path, simple_name) = self.name_pieces();
+        let mut name = String::with_capacity(alloc, path.len() + simple_name.len())?;
+        name.push_str(path)?;
+        name.push_str(simple_name)?;
+        Ok(name)
+    }
+
+    /// Whether this is its whole name. It takes no memory.
+    pub fn is_named(&self, name: &str) -> bool
+        ensures { Decides result (self.now.name ≡ name.now) }
+    {
+        let (path, simple_name) = self.name_pieces();
+        is_joined(path.as_bytes(), simple_name.as_bytes(), name.as_bytes())
+    }
+
+    /// Whether its name is that of another net.
+    fn is_namesake(&self, other: &Net) -> bool
+        ensures { Decides result (self.now.name ≡ other.now.name) }
+    {
+        let (path, simple_name) = self.name_pieces();
+        let (other_path, other_name) = other.name_pieces();
+        same_joined(
+            path.as_bytes(),
+            simple_name.as_bytes(),
+            other_path.as_bytes(),
+            other_name.as_bytes(),
+        )
     }
 
     /// The leaves of its sources; a net without drivers has a constant.
@@ -63,7 +105,7 @@ impl Net {
     fn same(&self, other: &Net) -> bool
         ensures { Decides result (self.now ≡ other.now) }
     {
-        self.name() == other.name() && same_sources(self.sources(), other.sources())
+        self.is_namesake(other) && same_sources(self.sources(), other.sources())
     }
 }
 
@@ -208,7 +250,7 @@ impl Design {
     pub fn net_named(&self, name: &str) -> Option<usize>
         ensures { MatchOption result (All (λ (net : Net). net.name ≢ name.now) self.now.nets) (λ n. IsFirstNamed name.now n self.now.nets) }
     {
-        self.nets().iter().position(|net| net.name() == name)
+        self.nets().iter().position(|net| net.is_named(name))
     }
 
     /// Whether it is the same design as another. It takes no memory.

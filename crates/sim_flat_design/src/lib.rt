@@ -6,6 +6,7 @@ pub mod body;
 pub mod design;
 pub mod expression;
 pub mod held;
+mod pieces;
 pub mod process;
 pub mod statement;
 pub mod waveform;
