@@ -3,13 +3,14 @@
 ghost use Rattle.std.specs.Prelude.{◌≡◌};
 ghost use Rattle.std.specs.Bool.{Decides};
 
-use crate::pieces::{is_joined, same_joined};
+use crate::instance_path::InstancePath;
+use crate::pieces::{is_joined, joined, same_joined};
 use crate::process::Process;
 use sim_logic::Logic;
 use sqlite_items::Items;
 use std::alloc::{AllocError, Global};
 use std::marker::Model;
-use std::sync::{Arc, ArcStr};
+use std::sync::Arc;
 
 /// A leaf of the sources of a net: a driver, by its number, or a constant.
 #[derive(Clone, Copy, Debug, PartialEq, Eq)]
@@ -22,35 +23,40 @@ pub enum Source {
 /// nets of an instance share what stands before their simple names.
 #[derive(Drop)]
 pub struct Net {
-    path: ArcStr<Global>,
+    path: InstancePath,
     simple_name: String,
     sources: Items<Source>,
 }
 
 impl Model for Net {
     ghost use Rattle.std.specs.Prelude.{◌++◌, string_bytes};
-    ghost use Rattle.std.specs.Arc.{arc_str_bytes};
     ghost use Rattle.sim_flat_design.specs.Designs.{Net};
 
     ghost Value = { Net };
 
-    ghost view = { λ n. record { name = arc_str_bytes n.path ++ string_bytes n.simple_name; sources = n.sources } };
+    ghost view = { λ n. record { name = n.path ++ string_bytes n.simple_name; sources = n.sources } };
 }
 
 impl Net {
     ghost use Rattle.std.specs.Prelude.{◌≡◌, ◌++◌, string_bytes, IfOk};
-    ghost use Rattle.std.specs.Arc.{arc_str_bytes};
     ghost use Rattle.std.specs.Bool.{Decides};
 
-    /// The net with these sources whose name is these two pieces: the path, and the simple name.
-    pub fn new(path: ArcStr<Global>, simple_name: String, sources: Items<Source>) -> Net
-        ensures { result ≡ record { name = arc_str_bytes path ++ string_bytes simple_name; sources = sources } }
+    /// The net with this simple name in the instance of this path, and with these sources.
+    pub fn new(
+        alloc: Global,
+        path: &InstancePath,
+        simple_name: &str,
+        sources: Items<Source>,
+    ) -> Result<Net, AllocError>
+        ensures { IfOk result (λ net. net ≡ record { name = path.now ++ simple_name.now; sources = sources }) }
     {
-        Net {
+        let path = path.try_copy()?;
+        let simple_name = String::from_str(alloc, simple_name)?;
+        Ok(Net {
             path,
             simple_name,
             sources,
-        }
+        })
     }
 
     /// The two pieces of its name: the labels of the instances in which it stands, each with a `.`
@@ -66,10 +72,7 @@ impl Net {
         ensures { IfOk result (λ name. string_bytes name ≡ self.now.name) }
     {
         let (path, simple_name) = self.name_pieces();
-        let mut name = String::with_capacity(alloc, path.len() + simple_name.len())?;
-        name.push_str(path)?;
-        name.push_str(simple_name)?;
-        Ok(name)
+        joined(alloc, path, simple_name)
     }
 
     /// Whether this is its whole name. It takes no memory.

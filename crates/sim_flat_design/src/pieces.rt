@@ -1,7 +1,19 @@
-//! Texts of two pieces, compared without a copy.
+//! Texts of two pieces.
 
-ghost use Rattle.std.specs.Prelude.{◌≡◌, ◌++◌, ◌≤◌, length};
+ghost use Rattle.std.specs.Prelude.{◌≡◌, ◌++◌, ◌≤◌, length, string_bytes, IfOk};
 ghost use Rattle.std.specs.Bool.{Decides};
+
+use std::alloc::{AllocError, Global};
+
+/// The text of two pieces, one after the other.
+pub fn joined(alloc: Global, first: &str, last: &str) -> Result<String, AllocError>
+    ensures { IfOk result (λ whole. string_bytes whole ≡ first.now ++ last.now) }
+{
+    let mut whole = String::with_capacity(alloc, first.len() + last.len())?;
+    whole.push_str(first)?;
+    whole.push_str(last)?;
+    Ok(whole)
+}
 
 /// Whether two pieces, one after the other, are this text.
 pub fn is_joined(first: &[u8], last: &[u8], whole: &[u8]) -> bool

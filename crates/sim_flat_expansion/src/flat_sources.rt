@@ -4,11 +4,10 @@ ghost use Rattle.std.specs.Prelude.{ℕ, ◌≡◌, ◌+◌, ◌++◌, ◌∷◌
 ghost use Rattle.sim_flat_blocks.specs.Blocks.{constant_at};
 ghost use Rattle.sim_flat_expansion.specs.Expanding as spec;
 
-use crate::names::joined;
 use crate::object_nets::next;
 use sim_flat_blocks::links::{Link, Links};
 use sim_flat_blocks::parts::{Block, Object, Port};
-use sim_flat_design::{Net, Source};
+use sim_flat_design::{InstancePath, Net, Source};
 use sim_logic::Logic;
 use sqlite_items::Items;
 use std::alloc::{AllocError, Global};
@@ -100,22 +99,21 @@ fn taken(alloc: Global, flat_sources: &mut [Items<Source>], at: usize) -> Items<
 /// The net of a port or signal with these flat sources, or with this constant where there are none.
 fn net(
     alloc: Global,
-    prefix: &str,
+    prefix: &InstancePath,
     object: &Object,
     constant: Logic,
     flat_sources: Items<Source>,
 ) -> Result<Net, AllocError>
     ensures { IfOk result (λ n. n ≡ record { name = prefix.now ++ object.now.name.text; sources = spec.finished constant flat_sources }) }
 {
-    let name = joined(alloc, prefix, &object.name)?;
     let sources = finished(alloc, constant, flat_sources)?;
-    Ok(Net::new(name, sources))
+    Net::new(alloc, prefix, object.name.as_str(), sources)
 }
 
 /// What becomes of the flat sources of a port: its net has them, or what it is associated with.
 fn expand_object(
     alloc: Global,
-    prefix: &str,
+    prefix: &InstancePath,
     link: Link,
     port: &Port,
     flat_sources: Items<Source>,
@@ -144,7 +142,7 @@ fn expand_object(
 #[tactic(auto, unfolding(crate::specs::Expanding::ports_expanded))]
 fn ports(
     alloc: Global,
-    prefix: &str,
+    prefix: &InstancePath,
     links: &Links,
     own: &mut [Items<Source>],
     ports: &[Port],
@@ -173,7 +171,7 @@ fn ports(
 #[tactic(auto, unfolding(crate::specs::Expanding::signals_expanded))]
 fn signals(
     alloc: Global,
-    prefix: &str,
+    prefix: &InstancePath,
     own: &mut [Items<Source>],
     first: usize,
     signals: &[Object],
@@ -194,7 +192,7 @@ fn signals(
 /// what they are associated with.
 pub fn objects_expanded(
     alloc: Global,
-    prefix: &str,
+    prefix: &InstancePath,
     links: &Links,
     own: &mut [Items<Source>],
     at: &Block,

@@ -13,7 +13,7 @@ use crate::processes::{Sketch, processes};
 use sim_flat_blocks::links::Links;
 use sim_flat_blocks::parts::{Block, Instance};
 use sim_flat_design::process::ObjectNets;
-use sim_flat_design::{Design, Net, Source};
+use sim_flat_design::{Design, InstancePath, Net, Source};
 use sqlite_items::Items;
 use std::alloc::{AllocError, Global};
 
@@ -27,7 +27,7 @@ fn block(
     alloc: Global,
     blocks: &[Block],
     levels: usize,
-    prefix: &str,
+    prefix: &InstancePath,
     links: &Links,
     outer: &[usize],
     at: &Block,
@@ -63,7 +63,7 @@ fn inside(
     alloc: Global,
     blocks: &[Block],
     levels: usize,
-    prefix: &str,
+    prefix: &InstancePath,
     links: &Links,
     object_nets: &ObjectNets,
     at: &Block,
@@ -89,7 +89,7 @@ fn occupants(
     alloc: Global,
     blocks: &[Block],
     levels: usize,
-    prefix: &str,
+    prefix: &InstancePath,
     object_nets: &ObjectNets,
     at: &Block,
     flat: &mut Sketch,
@@ -132,7 +132,7 @@ fn instances(
     blocks: &[Block],
     levels: usize,
     object_nets: &[usize],
-    prefix: &str,
+    prefix: &InstancePath,
     at: &Block,
     list: &[Instance],
     own: &mut [Items<Source>],
@@ -169,7 +169,7 @@ fn instance(
     blocks: &[Block],
     levels: usize,
     object_nets: &[usize],
-    prefix: &str,
+    prefix: &InstancePath,
     at: &Block,
     each: &Instance,
     own: &mut [Items<Source>],
@@ -185,7 +185,7 @@ fn instance(
         alloc,
         blocks,
         levels,
-        prefix.as_str(),
+        &prefix,
         &each.links,
         object_nets,
         &blocks[each.block],
@@ -203,6 +203,7 @@ pub fn expand(alloc: Global, blocks: &[Block], top: usize) -> Result<Design, All
     ensures { IfOk result (λ d. d ≡ flat blocks.now top) }
 {
     let nothing = Links::open(alloc, 0, 0)?;
+    let path = InstancePath::top(alloc)?;
     let mut flat = Sketch {
         nets: 0,
         processes: Items::new(alloc),
@@ -212,7 +213,7 @@ pub fn expand(alloc: Global, blocks: &[Block], top: usize) -> Result<Design, All
         alloc,
         blocks,
         LEVELS,
-        "",
+        &path,
         &nothing,
         &[],
         &blocks[top],
