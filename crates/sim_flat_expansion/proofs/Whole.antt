@@ -55,12 +55,13 @@ expanded_is_design blocks top known lt small =
     }
 
 -- the same of the flat design of the hierarchy
-pub is_flat : (blocks : List Block) (top : ℕ) (b : Block) (links : List Link) (ps : List Process) (ds : List DriverOf) (x : Made)
-    → All (IsBlock blocks) blocks → top < length blocks → b ≡ get_or blocks top b → links ≡ [] → ps ≡ [] → ds ≡ []
-    → x ≡ block_expanded blocks 33 [] links [] b [] (record { nets = 0; processes = ps; drivers = ds }) → design x ≡ flat blocks top
-is_flat blocks top b links ps ds x known lt eb el ep ed e =
+pub is_flat : (blocks : List Block) (top : ℕ) (b : Block) (path : List ℕ) (links : List Link) (ps : List Process) (ds : List DriverOf) (x : Made)
+    → All (IsBlock blocks) blocks → top < length blocks → b ≡ get_or blocks top b → path ≡ [] → links ≡ [] → ps ≡ [] → ds ≡ []
+    → x ≡ block_expanded blocks 33 path links [] b [] (record { nets = 0; processes = ps; drivers = ds }) → design x ≡ flat blocks top
+is_flat blocks top b path links ps ds x known lt eb et el ep ed e =
     is_expanded blocks top b ps ds x lt eb ep ed
-    (e ∙ ap (λ (ls : List Link). block_expanded blocks 33 [] ls [] b [] (record { nets = 0; processes = ps; drivers = ds })) el)
+    (e ∙ (ap (λ (t : List ℕ). block_expanded blocks 33 t links [] b [] (record { nets = 0; processes = ps; drivers = ds })) et
+    ∙ ap (λ (ls : List Link). block_expanded blocks 33 [] ls [] b [] (record { nets = 0; processes = ps; drivers = ds })) el))
     ∙ expanded_is_flat blocks top known lt
 
 pub flat_is_design : (blocks : List Block) (top : ℕ) → All (IsBlock blocks) blocks → top < length blocks → IsWithinLimits (flat blocks top)

@@ -10,11 +10,7 @@ use std::alloc::{AllocError, Global};
 
 /// What stands before the names in an instance.
 #[tactic(auto, unfolding(sim_flat_blocks::specs::Blocks::below))]
-pub fn below(
-    alloc: Global,
-    prefix: &InstancePath,
-    label: &Name,
-) -> Result<InstancePath, AllocError>
+pub fn below(alloc: Global, prefix: &InstancePath, label: &Name) -> Result<InstancePath, AllocError>
     ensures { IfOk result (λ r. r ≡ spec.below prefix.now label.now.text) }
 {
     prefix.below(alloc, label.as_str())

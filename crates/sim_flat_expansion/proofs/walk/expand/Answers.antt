@@ -9,14 +9,14 @@ block-requires-clause-here c = block_at c.args.blocks.now c.args.top c.index-blo
 
 pub new-requires-3 : goal.new-requires-3
 new-requires-3 c =
-    let e = is_flat c.args.blocks.now c.args.top c.index-blocks-top.result c.in_ok-nothing.nothing c.new.result c.new-2.result
+    let e = is_flat c.args.blocks.now c.args.top c.index-blocks-top.result c.in_ok-path.path c.in_ok-nothing.nothing c.new.result c.new-2.result
     (c.in_ok-nets.nets, c.block.new.around, c.block.new.flat)
-    c.requires.known c.requires.top c.index-blocks-top.is c.in_ok-nothing.ensures c.new.ensures c.new-2.ensures c.in_ok-nets.ensures in
+    c.requires.known c.requires.top c.index-blocks-top.is c.in_ok-path.ensures c.in_ok-nothing.ensures c.new.ensures c.new-2.ensures c.in_ok-nets.ensures in
     subst IsDesign (sym e) (flat_is_design c.args.blocks.now c.args.top c.requires.known c.requires.top c.requires.bounds)
 
 pub returns : goal.returns
 returns c =
-    let e = is_flat c.args.blocks.now c.args.top c.index-blocks-top.result c.in_ok-nothing.nothing c.new.result c.new-2.result
+    let e = is_flat c.args.blocks.now c.args.top c.index-blocks-top.result c.in_ok-path.path c.in_ok-nothing.nothing c.new.result c.new-2.result
     (c.in_ok-nets.nets, c.block.new.around, c.block.new.flat)
-    c.requires.known c.requires.top c.index-blocks-top.is c.in_ok-nothing.ensures c.new.ensures c.new-2.ensures c.in_ok-nets.ensures in
+    c.requires.known c.requires.top c.index-blocks-top.is c.in_ok-path.ensures c.in_ok-nothing.ensures c.new.ensures c.new-2.ensures c.in_ok-nets.ensures in
     rw (← e) c.new-3.ensures
