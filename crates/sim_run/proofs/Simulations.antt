@@ -1,6 +1,6 @@
 -- From the run of a design to that of a text.
 use Rattle.std.proofs.Common.{◌≡◌, ◌≢◌, ◌<◌, ℕ, inl, inr, List, Result, Ok, Err, refl, sym, subst}
-use Rattle.std.specs.Prelude.{◌⊎◌, MatchResult, IfOk, IfErr}
+use Rattle.std.specs.Prelude.{◌⊎◌, MatchResult, IfOk, IfErr, OnErr}
 use Rattle.sim_flat_design.specs.Designs.{Design}
 use Rattle.sim_store.specs.WaveStore.{WaveStore}
 use Rattle.sim_standard.specs.Behaviour.{Behaviour, behaviour_of}
@@ -36,13 +36,11 @@ module _ (text : List ℕ) (options : Options) (design : Design) where
   text_run_among (Ok run) d several f e = record { design = design; is_design = d; holds = f }
   text_run_among (Err e) d several f why = stopped_among text options design e d several why
 
--- A listing that was not written, but for a failed write, was refused for want of memory; its text has a design.
-unwritten : (text : List ℕ) (options : Options) (e : RunError) → HasDesign text options (λ design. Unit {0}) → (e ≡ refusal.Write) ⊎ (e ≡ refusal.Memory)
-    → (e ≡ refusal.Write → ⊥) → IsRefusal text options e
-unwritten text options e d (inl p) other = absurd (other p)
-unwritten text options e d (inr p) other = subst (IsRefusal text options) (sym p) d
+-- A listing is refused for a failed write alone.
+pub write_failed : (r : Result (Unit {0}) RunError) (Why : RunError → Type 0) → IfErr r (λ e. e ≡ refusal.Write) → IfErr r (λ e. e ≢ refusal.Write → Why e)
+write_failed (Ok done) Why is = tt
+write_failed (Err e) Why is = λ other. absurd (other is)
 
-pub not_written : (text : List ℕ) (options : Options) {Holds : Behaviour → Type 0} (r : Result (Unit {0}) RunError) → HasDesign text options Holds
-    → IfErr r (λ e. (e ≡ refusal.Write) ⊎ (e ≡ refusal.Memory)) → IfErr r (λ e. e ≢ refusal.Write → IsRefusal text options e)
-not_written text options (Ok done) d why = tt
-not_written text options (Err e) d why = unwritten text options e (record { design = d.design; is_design = d.is_design; holds = tt }) why
+-- what is known where it failed
+pub where_failed : (r : Result (Unit {0}) RunError) (e : RunError) (P : Type 0) → OnErr r P → r ≡ Err e → P
+where_failed r e P part failed = subst (λ (s : Result (Unit {0}) RunError). OnErr s P) failed part

@@ -14,12 +14,12 @@ use std::io::Write;
 use std::marker::Model;
 
 /// The names of nets.
-pub fn names_of(alloc: Global, nets: &[Net]) -> Result<Vec<String>, AllocError>
+fn names_of(alloc: Global, nets: &[Net]) -> Result<Vec<String>, AllocError>
     ensures { IfOk result (λ v. map string_bytes v.items ≡ map (λ n. n.name) nets.now) }
 {
     let mut names = Vec::new(alloc);
     for net in nets {
-        names.push(String::from_str(alloc, net.name())?)?;
+        names.push(net.to_name(alloc)?)?;
     }
     Ok(names)
 }

@@ -1,6 +1,6 @@
 //! A whole run of a design: on the calling thread, or by several that share its store.
-ghost use Rattle.std.specs.Prelude.{◌≡◌, ◌≢◌, ◌<◌, ◌≤◌, ◌⊎◌, ◌↔◌, IsTrue, None, Err, IfOk, IfErr, IfSome, OnOk, MatchResult};
-ghost use Rattle.std.specs.Io.KnownBytes.{Appends, Keeps};
+ghost use Rattle.std.specs.Prelude.{◌≡◌, ◌≢◌, ◌<◌, ◌≤◌, ◌⊎◌, ◌↔◌, IsTrue, None, Err, IfOk, IfErr, IfSome, OnOk, OnErr, MatchResult};
+ghost use Rattle.std.specs.Io.KnownBytes.{Appends};
 ghost use Rattle.sim_run_listing.specs.Listing.{listing};
 ghost use Rattle.sim_run_listing.specs.Writing.{AppendsPart};
 ghost use Rattle.sim_logic.specs.Time.{largest_time};
@@ -10,7 +10,7 @@ ghost use Rattle.sim_run.specs.declared.error.RunError.TheVariants as refusal;
 ghost use Rattle.sim_run.specs.Run.{Finishes, IsRefusalAlone, IsAnswer, IsRunOf, IsRunRefusal, IsSameRun, history_of, steps_left};
 
 use crate::error::RunError;
-use crate::finished::{Finished, names_of};
+use crate::finished::Finished;
 use sim_flat_design::Design;
 use sim_run_listing::write_listing;
 use sim_run_options::Options;
@@ -232,17 +232,14 @@ fn answer_of(
     }
 }
 
-/// Writes the listing of a store's history, from its log. Where there is no memory for the names of
-/// the nets, nothing is written.
-pub fn write_run<W: Write>(alloc: Global, run: &WaveStore, out: &mut W) -> Result<(), RunError>
+/// Writes the listing of a store's history, from its log and the nets of its design. Nothing is
+/// copied, and nothing allocated.
+pub fn write_run<W: Write>(run: &WaveStore, out: &mut W) -> Result<(), RunError>
     ensures ok { OnOk result (Appends (W.contents out.old) (W.contents out.new) (listing (history_of run.now).names (history_of run.now).records)) }
-    ensures part { result ≡ Err RunError.Write
-        → AppendsPart (W.contents out.old) (W.contents out.new) (listing (history_of run.now).names (history_of run.now).records) }
-    ensures err { IfErr result (λ e. (e ≡ refusal.Write) ⊎ (e ≡ refusal.Memory)) }
-    ensures quiet { IfErr result (λ e. e ≢ RunError.Write → Keeps (W.contents out.old) (W.contents out.new)) }
+    ensures part { OnErr result (AppendsPart (W.contents out.old) (W.contents out.new) (listing (history_of run.now).names (history_of run.now).records)) }
+    ensures err { IfErr result (λ e. e ≡ refusal.Write) }
 {
-    let names = names_of(alloc, run.design().nets())?;
-    write_listing(names.as_slice(), run.history(), run.look().events, out)?;
+    write_listing(run.design().nets(), run.history(), run.look().events, out)?;
     Ok(())
 }
 

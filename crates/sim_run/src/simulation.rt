@@ -75,5 +75,5 @@ pub fn simulate<R: Threads + Wait + Sync, W: Write>(
         return Err(RunError::Options);
     }
     let run = run_text(rt, alloc, source, options)?;
-    write_run(alloc, &run, out)
+    write_run(&run, out)
 }

@@ -5,8 +5,10 @@ mod block;
 mod error;
 mod history;
 mod listing;
+mod named;
 
 pub use block::write_whole;
 pub use error::WriteError;
 pub use history::{Change, Records};
 pub use listing::write_listing;
+pub use named::Named;

@@ -1,5 +1,5 @@
 //! The listing of a run.
-ghost use Rattle.std.specs.Prelude.{◌≡◌, ◌++◌, ◌<◌, ◌≤◌, ◌+◌, length, OnOk, OnErr, All, map, flat_map, string_bytes, decimal, codes, ℕ};
+ghost use Rattle.std.specs.Prelude.{◌≡◌, ◌++◌, ◌<◌, ◌≤◌, ◌+◌, length, true, OnOk, OnErr, All, map, flat_map, decimal, codes, ℕ};
 ghost use Rattle.std.specs.Io.KnownBytes.{Appends};
 ghost use Rattle.arrayvec.specs.ArrayVec.{array_vec_len};
 ghost use Rattle.sim_logic.specs.declared.logic.Logic as logic;
@@ -11,6 +11,7 @@ ghost use Rattle.sim_run_listing.specs.Writing.{AppendsPart, Gathers};
 use crate::block::{Block, SIZE, put_all, write_out};
 use crate::error::WriteError;
 use crate::history::{Change, Records};
+use crate::named::Named;
 use arrayvec::ArrayVec;
 use itoa::Buffer;
 use sim_logic::Logic;
@@ -38,13 +39,23 @@ fn head_at(time: u64, delta: u64) -> Head
     head
 }
 
+/// Whether there is room for a line.
+fn has_room(block: &Block, head: &Head, path: &[u8], simple_name: &[u8]) -> bool
+    ensures { result ≡ true → array_vec_len block.now + array_vec_len head.now + length path.now + length simple_name.now + TAIL ≤ SIZE }
+{
+    let beside = head.len() + path.len() + TAIL;
+    let room = block.remaining_capacity();
+    beside <= room && simple_name.len() <= room - beside
+}
+
 /// Gathers a line, where there is room for it.
-fn gather_line(block: &mut Block, head: &Head, name: &[u8], value: Logic)
-    requires { array_vec_len block.old + array_vec_len head.now + length name.now + TAIL ≤ SIZE }
-    ensures { block.new.items ≡ block.old.items ++ pieces_of head.now.items name.now value }
+fn gather_line(block: &mut Block, head: &Head, path: &[u8], simple_name: &[u8], value: Logic)
+    requires { array_vec_len block.old + array_vec_len head.now + length path.now + length simple_name.now + TAIL ≤ SIZE }
+    ensures { block.new.items ≡ block.old.items ++ pieces_of head.now.items (path.now ++ simple_name.now) value }
 {
     block.try_extend_from_slice(head.as_slice()).unwrap();
-    block.try_extend_from_slice(name).unwrap();
+    block.try_extend_from_slice(path).unwrap();
+    block.try_extend_from_slice(simple_name).unwrap();
     block
         .try_extend_from_slice(&[b' ', value.to_byte(), b'\n'])
         .unwrap();
@@ -52,69 +63,76 @@ fn gather_line(block: &mut Block, head: &Head, name: &[u8], value: Logic)
 
 /// Gathers a line, and writes each block that is full.
 #[inline(never)]
-fn put_pieces<W: Write>(
+fn put_pieces<'a, W: Write>(
     out: &mut W,
     block: &mut Block,
-    head: &[u8],
-    name: &[u8],
+    head: &'a [u8],
+    path: &'a [u8],
+    simple_name: &'a [u8],
     value: Logic,
 ) -> Result<(), WriteError>
-    ensures ok { OnOk result (Gathers (W.contents out.old) block.old.items (W.contents out.new) block.new.items (pieces_of head.now name.now value)) }
-    ensures part { OnErr result (AppendsPart (W.contents out.old) (W.contents out.new) (block.old.items ++ pieces_of head.now name.now value)) }
+    ensures ok { OnOk result (Gathers (W.contents out.old) block.old.items (W.contents out.new) block.new.items
+        (pieces_of head.now (path.now ++ simple_name.now) value)) }
+    ensures part { OnErr result (AppendsPart (W.contents out.old) (W.contents out.new) (block.old.items ++
+        pieces_of head.now (path.now ++ simple_name.now) value)) }
 {
     let tail = [b' ', value.to_byte(), b'\n'];
-    put_all(out, block, &[head, name, &tail])
+    put_all(out, block, &[head, path, simple_name, &tail])
 }
 
-/// A line of how it begins, a name and a value.
+/// A line of how it begins, the pieces of a name, and a value.
 fn put_named<W: Write>(
     out: &mut W,
     block: &mut Block,
     head: &Head,
-    name: &[u8],
+    path: &[u8],
+    simple_name: &[u8],
     value: Logic,
 ) -> Result<(), WriteError>
-    ensures ok { OnOk result (Gathers (W.contents out.old) block.old.items (W.contents out.new) block.new.items (pieces_of head.now.items name.now value)) }
-    ensures part { OnErr result (AppendsPart (W.contents out.old) (W.contents out.new) (block.old.items ++ pieces_of head.now.items name.now value)) }
+    ensures ok { OnOk result (Gathers (W.contents out.old) block.old.items (W.contents out.new) block.new.items
+        (pieces_of head.now.items (path.now ++ simple_name.now) value)) }
+    ensures part { OnErr result (AppendsPart (W.contents out.old) (W.contents out.new) (block.old.items ++
+        pieces_of head.now.items (path.now ++ simple_name.now) value)) }
 {
-    if head.len() + name.len() + TAIL > block.remaining_capacity() {
-        return put_pieces(out, block, head.as_slice(), name, value);
+    if !has_room(block, head, path, simple_name) {
+        return put_pieces(out, block, head.as_slice(), path, simple_name, value);
     }
-    gather_line(block, head, name, value);
+    gather_line(block, head, path, simple_name, value);
     Ok(())
 }
 
 /// The line of a change: `TIME DELTA NAME VALUE`.
-fn put_line<W: Write>(
+fn put_line<N: Named, W: Write>(
     out: &mut W,
     block: &mut Block,
-    names: &[String],
+    names: &[N],
     head: &Head,
     net: usize,
     value: Logic,
 ) -> Result<(), WriteError>
     requires { net < length names.now }
     ensures ok { OnOk result (Gathers (W.contents out.old) block.old.items (W.contents out.new) block.new.items
-        (line_of head.now.items (map string_bytes names.now) (net, value))) }
+        (line_of head.now.items (map N.name_of names.now) (net, value))) }
     ensures part { OnErr result (AppendsPart (W.contents out.old) (W.contents out.new) (block.old.items ++
-        line_of head.now.items (map string_bytes names.now) (net, value))) }
+        line_of head.now.items (map N.name_of names.now) (net, value))) }
 {
-    put_named(out, block, head, names[net].as_str().as_bytes(), value)
+    let (path, simple_name) = names[net].name_pieces();
+    put_named(out, block, head, path, simple_name, value)
 }
 
 /// The lines of a cycle's changes.
-fn put_changes<C: Change, W: Write>(
+fn put_changes<N: Named, C: Change, W: Write>(
     out: &mut W,
     block: &mut Block,
-    names: &[String],
+    names: &[N],
     head: &Head,
     changes: &[C],
 ) -> Result<(), WriteError>
     requires { All (λ (c : ℕ × logic.Logic). c.0 < length names.now) (map C.change_of changes.now) }
     ensures ok { OnOk result (Gathers (W.contents out.old) block.old.items (W.contents out.new) block.new.items
-        (flat_map (line_of head.now.items (map string_bytes names.now)) (map C.change_of changes.now))) }
+        (flat_map (line_of head.now.items (map N.name_of names.now)) (map C.change_of changes.now))) }
     ensures part { OnErr result (AppendsPart (W.contents out.old) (W.contents out.new) (block.old.items ++
-        flat_map (line_of head.now.items (map string_bytes names.now)) (map C.change_of changes.now))) }
+        flat_map (line_of head.now.items (map N.name_of names.now)) (map C.change_of changes.now))) }
 {
     for change in changes {
         let (net, value) = change.to_change();
@@ -124,19 +142,19 @@ fn put_changes<C: Change, W: Write>(
 }
 
 /// The lines of a cycle.
-fn put_record<R: Records, W: Write>(
+fn put_record<N: Named, R: Records, W: Write>(
     out: &mut W,
     block: &mut Block,
-    names: &[String],
+    names: &[N],
     records: &R,
     number: usize,
 ) -> Result<(), WriteError>
     requires number { number < length (R.contents records.now) }
     requires named { IsNamed (length names.now) (record_at (R.contents records.now) number) }
     ensures ok { OnOk result (Gathers (W.contents out.old) block.old.items (W.contents out.new) block.new.items
-        (lines_of (map string_bytes names.now) (record_at (R.contents records.now) number))) }
+        (lines_of (map N.name_of names.now) (record_at (R.contents records.now) number))) }
     ensures part { OnErr result (AppendsPart (W.contents out.old) (W.contents out.new) (block.old.items ++
-        lines_of (map string_bytes names.now) (record_at (R.contents records.now) number))) }
+        lines_of (map N.name_of names.now) (record_at (R.contents records.now) number))) }
 {
     let (time, delta) = records.time(number);
     let head = head_at(time, delta);
@@ -144,17 +162,17 @@ fn put_record<R: Records, W: Write>(
 }
 
 /// The lines of all cycles.
-fn put_records<R: Records, W: Write>(
+fn put_records<N: Named, R: Records, W: Write>(
     out: &mut W,
     block: &mut Block,
-    names: &[String],
+    names: &[N],
     records: &R,
 ) -> Result<(), WriteError>
     requires { All (IsNamed (length names.now)) (R.contents records.now) }
     ensures ok { OnOk result (Gathers (W.contents out.old) block.old.items (W.contents out.new) block.new.items
-        (flat_map (lines_of (map string_bytes names.now)) (R.contents records.now))) }
+        (flat_map (lines_of (map N.name_of names.now)) (R.contents records.now))) }
     ensures part { OnErr result (AppendsPart (W.contents out.old) (W.contents out.new)
-        (block.old.items ++ flat_map (lines_of (map string_bytes names.now)) (R.contents records.now))) }
+        (block.old.items ++ flat_map (lines_of (map N.name_of names.now)) (R.contents records.now))) }
 {
     for number in 0..records.len() {
         put_record(out, block, names, records, number)?;
@@ -184,16 +202,16 @@ fn put_last<W: Write>(
 /// the nets by number; `events_in` counts the events of a `Log`. The lines are gathered and go out
 /// in blocks of 8 KiB; nothing is allocated. The error comes where a write fails or takes nothing;
 /// a prefix of the listing is then written.
-pub fn write_listing<R: Records, W: Write>(
-    names: &[String],
+pub fn write_listing<N: Named, R: Records, W: Write>(
+    names: &[N],
     records: &R,
     events: u64,
     out: &mut W,
 ) -> Result<(), WriteError>
-    requires history { IsHistory (map string_bytes names.now) (R.contents records.now) }
+    requires history { IsHistory (map N.name_of names.now) (R.contents records.now) }
     requires events { events ≡ event_count (R.contents records.now) }
-    ensures ok { OnOk result (Appends (W.contents out.old) (W.contents out.new) (listing (map string_bytes names.now) (R.contents records.now))) }
-    ensures part { OnErr result (AppendsPart (W.contents out.old) (W.contents out.new) (listing (map string_bytes names.now) (R.contents records.now))) }
+    ensures ok { OnOk result (Appends (W.contents out.old) (W.contents out.new) (listing (map N.name_of names.now) (R.contents records.now))) }
+    ensures part { OnErr result (AppendsPart (W.contents out.old) (W.contents out.new) (listing (map N.name_of names.now) (R.contents records.now))) }
 {
     let mut block = Block::new();
     put_records(out, &mut block, names, records)?;

@@ -31,7 +31,9 @@ fn put_source(line: &mut Line, source: Source) {
 /// A name, and the sources in their order.
 fn put_net(line: &mut Line, net: &Net) {
     line.put("net ");
-    line.put(net.name());
+    let (path, simple_name) = net.name_pieces();
+    line.put(path);
+    line.put(simple_name);
     line.put(" has");
     for source in net.sources() {
         put_source(line, *source);

@@ -52,8 +52,8 @@ fn busiest(counts: &[u64]) -> Option<usize> {
 fn write_net<W: Write>(out: &mut W, design: &Design, net: usize, changes: u64) -> io::Result<()> {
     match design.nets().get(net) {
         Some(it) => {
-            let name = it.name();
-            writeln!(out, "{changes:>10} {name}")
+            let (path, simple_name) = it.name_pieces();
+            writeln!(out, "{changes:>10} {path}{simple_name}")
         }
         None => Ok(()),
     }

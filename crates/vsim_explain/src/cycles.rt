@@ -15,8 +15,9 @@ fn write_change<W: Write>(
     let Some(it) = design.nets().get(net) else {
         return Ok(());
     };
-    let (time, delta, name) = (record.time, record.delta, it.name());
-    write!(out, "{time} {delta} {name} ")?;
+    let (time, delta) = (record.time, record.delta);
+    let (path, simple_name) = it.name_pieces();
+    write!(out, "{time} {delta} {path}{simple_name} ")?;
     out.write_all(&[value.to_byte(), b'\n'])
 }
 

@@ -1,5 +1,4 @@
 use Rattle.std.proofs.Common.{length, map, ap, ◌∙◌, ◌≡◌, arith}
-use Rattle.std.specs.Prelude.{string_bytes}
 use Rattle.std.proofs.lemmas.List.{length-map}
 use Rattle.sim_flat_design.specs.Designs.{Design, Net}
 use Rattle.sim_standard.proofs.Records.{is_history}
@@ -9,16 +8,14 @@ use Rattle.sim_run.proofs.runs.write_run.Goals as goal
 pub write_listing-requires-clause-history : goal.write_listing-requires-clause-history
 write_listing-requires-clause-history g c =
     let d = c.args.run.now.simulation.design in
-    let names : length (map string_bytes c.as_slice.result.now) ≡ length d.nets =
-    ap (λ xs. length (map string_bytes xs)) c.as_slice.ensures.value ∙ (ap length c.in_ok-names.ensures ∙ (length-map c.nets.result.now (λ (n : Net). n.name)
-    ∙ (ap length c.nets.ensures.value ∙ ap (λ (e : Design). length e.nets) c.design.ensures))) in
-    is_history (map string_bytes c.as_slice.result.now) c.history.result.now.records (length d.nets) names
+    let names : length (map (λ (n : Net). n.name) c.nets.result.now) ≡ length d.nets =
+    length-map c.nets.result.now (λ (n : Net). n.name) ∙ (ap length c.nets.ensures.value ∙ ap (λ (e : Design). length e.nets) c.design.ensures) in
+    is_history (map (λ (n : Net). n.name) c.nets.result.now) c.history.result.now.records (length d.nets) names
     (omega (arith, ap length c.history.ensures.records, length-records_to d c.args.run.now.simulation.cycles)) c.history.ensures.named
 
 pub returns-in_err-write_listing-clause-part : goal.returns-in_err-write_listing-clause-part
 returns-in_err-write_listing-clause-part g c =
     let d = c.args.run.now.simulation.design in
-    let names : map string_bytes c.as_slice.result.now ≡ map (λ (n : Net). n.name) d.nets =
-    ap (map string_bytes) c.as_slice.ensures.value ∙ (c.in_ok-names.ensures
-    ∙ (ap (map (λ (n : Net). n.name)) c.nets.ensures.value ∙ ap (λ (e : Design). map (λ (n : Net). n.name) e.nets) c.design.ensures)) in
-    λ is. rw (names, c.history.ensures.records) at c.in_err-write_listing.ensures.part
+    let names : map (λ (n : Net). n.name) c.nets.result.now ≡ map (λ (n : Net). n.name) d.nets =
+    ap (map (λ (n : Net). n.name)) c.nets.ensures.value ∙ ap (λ (e : Design). map (λ (n : Net). n.name) e.nets) c.design.ensures in
+    rw (names, c.history.ensures.records) at c.in_err-write_listing.ensures.part
