@@ -5,6 +5,7 @@ ghost use Rattle.std.specs.Prelude.{◌≡◌, ◌<◌, length, All, IfOk, ℕ};
 ghost use Rattle.sim_logic.specs.declared.logic.Logic as logic;
 ghost use Rattle.sim_standard.specs.Histories.{IsNamed, event_count};
 
+use sim_flat_design::{InstancePath, Net};
 use sim_logic::Logic;
 use sim_run_listing::{Change, Records, WriteError, write_listing, write_whole};
 use sim_store_state::{Log, Record};
@@ -105,6 +106,39 @@ fn each_change_has_a_line_as_far_as_there_is_room(rt: HostRuntime) -> Result<(),
         assert_eq!(rt; end, *ended, "{room}");
         assert_eq!(rt; written.as_slice(), *bytes, "{room}");
     }
+    Ok(())
+}
+
+/// The path of an instance `u` of the top.
+fn path(alloc: Global) -> Result<InstancePath, AllocError> {
+    let top = InstancePath::top(alloc)?;
+    top.below(alloc, "u")
+}
+
+/// Net 0, which stands in that instance.
+fn nets(alloc: Global) -> Result<Vec<Net>, AllocError>
+    ensures { IfOk result (λ v. length v.items ≡ 1) }
+{
+    let path = path(alloc)?;
+    let net = Net::new(alloc, &path, "s", Items::new(alloc))?;
+    let nets = vec![in alloc; net]?;
+    Ok(nets)
+}
+
+/// What is written of these records with the names of nets.
+fn listed_by_nets(alloc: Global) -> Result<Vec<u8>, AllocError> {
+    let nets = nets(alloc)?;
+    let records = records(alloc)?;
+    let mut out = Vec::new(alloc);
+    let _ended = write_listing(nets.as_slice(), &records.as_slice(), 1, &mut out);
+    Ok(out)
+}
+
+#[test]
+fn the_path_of_a_net_stands_before_its_simple_name(rt: HostRuntime) -> Result<(), Fail> {
+    let written = listed_by_nets(rt.alloc())?;
+    let expected = b"0 0 u.s 0\n5000000 0 u.s 1\ndone 1 1\n".as_slice();
+    assert!(rt; written.as_slice() == expected);
     Ok(())
 }
 
