@@ -3,6 +3,10 @@ use Rattle.std.proofs.lemmas.List.{length-map}
 use Rattle.sim_flat_design.specs.Designs.{Design, Net}
 use Rattle.sim_standard.proofs.Records.{is_history}
 use Rattle.sim_store.proofs.Going.{length-records_to}
+use Rattle.sim_run_listing.specs.Listing.{listing}
+use Rattle.sim_run_listing.specs.Writing.{AppendsPart}
+use Rattle.sim_run_listing.proofs.Gathering.{on_err}
+use Rattle.sim_run.specs.Run.{history_of}
 use Rattle.sim_run.proofs.runs.write_run.Goals as goal
 
 pub write_listing-requires-clause-history : goal.write_listing-requires-clause-history
@@ -18,4 +22,6 @@ returns-in_err-write_listing-clause-part g c =
     let d = c.args.run.now.simulation.design in
     let names : map (λ (n : Net). n.name) c.nets.result.now ≡ map (λ (n : Net). n.name) d.nets =
     ap (map (λ (n : Net). n.name)) c.nets.ensures.value ∙ ap (λ (e : Design). map (λ (n : Net). n.name) e.nets) c.design.ensures in
-    rw (names, c.history.ensures.records) at c.in_err-write_listing.ensures.part
+    on_err _ (AppendsPart (g.W.Write.contents c.args.out.now) (g.W.Write.contents c.write_listing.new.out)
+    (listing (history_of c.args.run.now).names (history_of c.args.run.now).records))
+    (rw (names, c.history.ensures.records) at c.in_err-write_listing.ensures.part)
