@@ -2,7 +2,7 @@
 use Rattle.std.proofs.Common.{ℕ, zero, suc, ◌+◌, ◌-◌, ◌*◌, ◌/◌, ◌%◌, ◌<◌, ◌≤◌, ◌≡◌, ◌&&◌, min, eqb, Bool, true, false, not, List, get_or, refl, ap, sym}
 use Rattle.std.proofs.Common.{◌∙◌, subst, arith, inl, inr, ◌⊎◌, Option, MatchOption}
 use Rattle.sim_store_sets.specs.Words.{has, has_beside, has_bit, uses, AreTops, IsNext, NoneFrom}
-use Rattle.sim_store_sets.specs.Numbers.{is_beside, set_of, IsNumberSet}
+use Rattle.sim_store_sets.specs.Numbers.{is_beside, is_in, set_of, IsNumberSet}
 use Rattle.sim_store_sets.proofs.Places.{at_place, in_word, unused, empty_word}
 use Rattle.sim_store_sets.proofs.Sets.{read}
 
@@ -121,10 +121,14 @@ none_further words tops others from place tops_are before empty m ge = go (side 
 
 -- ---- sets
 
-pub beside_read : (words tops words' tops' : List ℕ) (count count' : ℕ) (set' others : List Bool) → IsNumberSet words tops count
-    → set_of words count ≡ set' → IsNumberSet words' tops' count' → set_of words' count' ≡ others → (from : ℕ) (o : Option ℕ)
+pub beside_read : (words tops words' tops' : List ℕ) (count end count' end' : ℕ) (set' others : List Bool) → IsNumberSet words tops count end
+    → set_of words count ≡ set' → IsNumberSet words' tops' count' end' → set_of words' count' ≡ others → (from : ℕ) (o : Option ℕ)
     → MatchOption o (NoneFrom (has_beside words words') from) (IsNext (has_beside words words') from)
     → MatchOption o (NoneFrom (is_beside set' others) from) (IsNext (is_beside set' others) from)
-beside_read words tops words' tops' count count' set' others i e j f from o =
+beside_read words tops words' tops' count end count' end' set' others i e j f from o =
     subst (λ (p : ℕ → Bool). MatchOption o (NoneFrom p from) (IsNext p from))
-    (λ k n. read words tops count set' i e n k && not (read words' tops' count' others j f n k))
+    (λ k n. read words tops count end set' i e n k && not (read words' tops' count' end' others j f n k))
+
+-- none is beyond the end
+pub none_beside : (set' others : List Bool) (n : ℕ) → is_in set' n ≡ false → is_beside set' others n ≡ false
+none_beside set' others n e = ap (λ (b : Bool). b && not (is_in others n)) e

@@ -19,35 +19,39 @@ at_set_of words count n l = get_or-map-range_with_len (has words) 0 count n n fa
 pub length_of_view : (words : List ℕ) (count : ℕ) (set' : List Bool) → set_of words count ≡ set' → count ≡ length set'
 length_of_view words count set' e = sym (length_set_of words count) ∙ ap length e
 
--- a member by the words
 side : (i n : ℕ) → (i < n) ⊎ (n ≤ i)
 side i n = grind arith
 
-pub read : (words tops : List ℕ) (count : ℕ) (set' : List Bool) → IsNumberSet words tops count → set_of words count ≡ set' → (n : ℕ)
+-- none is beyond the bound
+beyond : (words tops : List ℕ) (count end : ℕ) → IsNumberSet words tops count end → (n : ℕ) → count ≤ n → has words n ≡ false
+beyond words tops count end i n le = let w : end ≤ count = i.within in i.none n (omega arith)
+
+-- a member by the words
+pub read : (words tops : List ℕ) (count end : ℕ) (set' : List Bool) → IsNumberSet words tops count end → set_of words count ≡ set' → (n : ℕ)
     → has words n ≡ is_in set' n
-read words tops count set' i e n = go (side n count)
+read words tops count end set' i e n = go (side n count)
   where
     go : (n < count) ⊎ (count ≤ n) → has words n ≡ is_in set' n
     go (inl l) = sym (at_set_of words count n l) ∙ ap (λ (s : List Bool). is_in s n) e
-    go (inr le) = let c = length_of_view words count set' e in i.none n le ∙ sym (get_or_past set' n false (omega arith))
+    go (inr le) = let c = length_of_view words count set' e in beyond words tops count end i n le ∙ sym (get_or_past set' n false (omega arith))
 
-pub next_read : (words tops : List ℕ) (count : ℕ) (set' : List Bool) → IsNumberSet words tops count → set_of words count ≡ set' → (from : ℕ) (o : Option ℕ)
+pub next_read : (words tops : List ℕ) (count end : ℕ) (set' : List Bool) → IsNumberSet words tops count end → set_of words count ≡ set' → (from : ℕ) (o : Option ℕ)
     → MatchOption o (NoneFrom (has words) from) (IsNext (has words) from) → MatchOption o (NoneFrom (is_in set') from) (IsNext (is_in set') from)
-next_read words tops count set' i e from o =
-    subst (λ (p : ℕ → Bool). MatchOption o (NoneFrom p from) (IsNext p from)) (λ k n. read words tops count set' i e n k)
+next_read words tops count end set' i e from o =
+    subst (λ (p : ℕ → Bool). MatchOption o (NoneFrom p from) (IsNext p from)) (λ k n. read words tops count end set' i e n k)
 
 -- what is in the words is below the bound
-pub below_bound : (words tops : List ℕ) (count : ℕ) → IsNumberSet words tops count → (n : ℕ) → has words n ≡ true → n < 2 ^ 64
-below_bound words tops count i n here = go (side n count)
+pub below_bound : (words tops : List ℕ) (count end : ℕ) → IsNumberSet words tops count end → (n : ℕ) → has words n ≡ true → n < 2 ^ 64
+below_bound words tops count end i n here = go (side n count)
   where
     go : (n < count) ⊎ (count ≤ n) → n < 2 ^ 64
     go (inl l) = let f : count < 2 ^ 64 = i.fits in omega arith
-    go (inr le) = absurd (not_both (has words n) (i.none n le) here)
+    go (inr le) = absurd (not_both (has words n) (beyond words tops count end i n le) here)
 
 -- the words of a number
-pub in_room : (words tops : List ℕ) (count n : ℕ) (set' : List Bool) → IsNumberSet words tops count → set_of words count ≡ set' → n < length set'
+pub in_room : (words tops : List ℕ) (count end n : ℕ) (set' : List Bool) → IsNumberSet words tops count end → set_of words count ≡ set' → n < length set'
     → (n < count) × (n / 64 < length words) × (n / 64 / 64 < length tops)
-in_room words tops count n set' i e l =
+in_room words tops count end n set' i e l =
     let c = length_of_view words count set' e in
     let r : count ≤ 64 * length words = i.room in
     let t : length words ≤ 64 * length tops = i.tops_room in
@@ -84,19 +88,27 @@ tops_marked old new tops tops' n words here others same k = go (eqb k (n / 64)) 
         let differ : k ≢ n / 64 = grind (arith, nat_tests) in
         others k differ ∙ (same k ∙ ap (λ (w : ℕ). not (eqb w 0)) (sym (words k differ)))
 
-pub still_set : (old new tops tops' : List ℕ) (count n : ℕ) → n < count → length new ≡ length old → length tops' ≡ length tops
+pub still_set : (old new tops tops' : List ℕ) (count end end' n : ℕ) → n < count → length new ≡ length old → length tops' ≡ length tops
     → ((m : ℕ) → m ≢ n → has new m ≡ has old m) → ((k : ℕ) → k ≢ n / 64 → get_or new k 0 ≡ get_or old k 0)
-    → has tops' (n / 64) ≡ uses new (n / 64) → ((m : ℕ) → m ≢ n / 64 → has tops' m ≡ has tops m) → IsNumberSet old tops count → IsNumberSet new tops' count
-still_set old new tops tops' count n l len tops_len others words here tops_others i =
+    → has tops' (n / 64) ≡ uses new (n / 64) → ((m : ℕ) → m ≢ n / 64 → has tops' m ≡ has tops m) → end ≤ end' → n < end' → end' ≤ count
+    → IsNumberSet old tops count end → IsNumberSet new tops' count end'
+still_set old new tops tops' count end end' n l len tops_len others words here tops_others further past within i =
     let r : count ≤ 64 * length old = i.room in
     let t : length old ≤ 64 * length tops = i.tops_room in
     record {
       room = omega arith;
       tops_room = omega arith;
       used = tops_marked old new tops tops' n words here tops_others i.used;
-      none = λ m k. others m (omega arith) ∙ i.none m k;
+      within = within;
+      none = λ m k. others m (omega arith) ∙ i.none m (omega arith);
+      empty = λ k le. words k (omega arith) ∙ i.empty k (omega arith);
       fits = i.fits;
     }
+
+-- none is beyond the end
+pub none_beyond : (words tops : List ℕ) (count end : ℕ) (set' : List Bool) → IsNumberSet words tops count end → set_of words count ≡ set'
+    → (n : ℕ) → end ≤ n → is_in set' n ≡ false
+none_beyond words tops count end set' i e n le = sym (read words tops count end set' i e n) ∙ i.none n le
 
 -- no member
 pub no_members : (words : List ℕ) (count : ℕ) → ((k : ℕ) → get_or words k 0 ≡ 0) → set_of words count ≡ replicate count false

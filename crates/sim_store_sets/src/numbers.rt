@@ -18,6 +18,8 @@ pub struct NumberSet {
     words: Vec<u64>,
     tops: Vec<u64>,
     count: usize,
+    /// No number from this one on is a member, so that a walk ends after the last one at once.
+    end: usize,
 }
 
 impl Model for NumberSet {
@@ -28,7 +30,7 @@ impl Model for NumberSet {
 
     ghost view = { λ set. set_of set.words.items set.count };
 
-    ghost invariant = { λ set. IsNumberSet set.words.items set.tops.items set.count };
+    ghost invariant = { λ set. IsNumberSet set.words.items set.tops.items set.count set.end };
 }
 
 impl NumberSet {
@@ -38,7 +40,12 @@ impl NumberSet {
     {
         let words = zeros(alloc, count / 64 + 1)?;
         let tops = zeros(alloc, count / 4096 + 1)?;
-        Ok(NumberSet { words, tops, count })
+        Ok(NumberSet {
+            words,
+            tops,
+            count,
+            end: 0,
+        })
     }
 
     /// Each number below the bound is a member.
@@ -90,15 +97,20 @@ impl NumberSet {
         self.put(number, false);
     }
 
-    /// Makes a number a member or none.
+    /// Makes a number a member or none. Where it is beyond all members and is to be none, it is so
+    /// already.
     pub fn put(&mut self, number: usize, is_member: bool)
         requires { number < length self.old }
         ensures { self.new ≡ slice_set self.old number is_member }
     {
+        if !is_member && number >= self.end {
+            return;
+        }
         let was_used = self.words[number / 64] != 0;
         mark(&mut self.words, number, is_member);
         let is_used = self.words[number / 64] != 0;
         mark_other(&mut self.tops, number / 64, was_used, is_used);
+        self.end = self.end.max(number + 1);
     }
 
     /// The least member that is not below `from`. A walk over the members is `while let
@@ -106,6 +118,9 @@ impl NumberSet {
     pub fn next(&self, from: usize) -> Option<usize>
         ensures { MatchOption result (NoneFrom (is_in self.now) from) (IsNext (is_in self.now) from) }
     {
+        if from >= self.end {
+            return None;
+        }
         next_number(self.words.as_slice(), self.tops.as_slice(), from)
     }
 
@@ -114,10 +129,14 @@ impl NumberSet {
     pub fn next_beside(&self, others: &NumberSet, from: usize) -> Option<usize>
         ensures { MatchOption result (NoneFrom (is_beside self.now others.now) from) (IsNext (is_beside self.now others.now) from) }
     {
+        if from >= self.end {
+            return None;
+        }
         next_beside(
             self.words.as_slice(),
             self.tops.as_slice(),
             others.words.as_slice(),
+            (self.end - 1) / 64,
             from,
         )
     }
@@ -126,8 +145,12 @@ impl NumberSet {
     pub fn clear(&mut self)
         ensures { self.new ≡ replicate (length self.old) false }
     {
-        clear_used(&mut self.words, self.tops.as_slice());
+        if self.end == 0 {
+            return;
+        }
+        clear_used(&mut self.words, self.tops.as_slice(), (self.end - 1) / 64);
         clear_all(&mut self.tops);
+        self.end = 0;
     }
 
     /// Lists the members in place of what `numbers` holds. It takes no memory.

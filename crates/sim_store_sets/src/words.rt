@@ -140,14 +140,12 @@ fn next_further(words: &[u64], tops: &[u64], from: usize) -> Option<usize>
 
 /// The first number from one on, where the tops say which words are in use.
 pub fn next_number(words: &[u64], tops: &[u64], from: usize) -> Option<usize>
+    requires within { from / 64 < length words.now }
     requires fits { (n : ℕ) → has words.now n ≡ true → n < 2 ^ 64 }
     requires tops { AreTops words.now tops.now }
     ensures { MatchOption result (NoneFrom (has words.now) from) (IsNext (has words.now) from) }
 {
     let place = from / 64;
-    if place >= words.len() {
-        return None;
-    }
     if let Some(found) = next_bit(words[place], from % 64) {
         return Some(place * 64 + found);
     }
@@ -192,18 +190,27 @@ fn further_beside(words: &[u64], tops: &[u64], others: &[u64], from: usize) -> O
     None
 }
 
-/// The first number from one on that others have not, where the tops say which words are in use.
-pub fn next_beside(words: &[u64], tops: &[u64], others: &[u64], from: usize) -> Option<usize>
+/// The first number from one on that others have not, where the tops say which words are in use, and
+/// none after the last is.
+pub fn next_beside(
+    words: &[u64],
+    tops: &[u64],
+    others: &[u64],
+    last: usize,
+    from: usize,
+) -> Option<usize>
+    requires within { from / 64 < length words.now }
     requires fits { (n : ℕ) → has words.now n ≡ true → n < 2 ^ 64 }
     requires tops { AreTops words.now tops.now }
+    requires last { (k : ℕ) → last < k → slice_index words.now k ≡ 0 }
     ensures { MatchOption result (NoneFrom (has_beside words.now others.now) from) (IsNext (has_beside words.now others.now) from) }
 {
     let place = from / 64;
-    if place >= words.len() {
-        return None;
-    }
     if let Some(found) = next_bit(word_beside(words, others, place), from % 64) {
         return Some(place * 64 + found);
+    }
+    if place >= last {
+        return None;
     }
     further_beside(words, tops, others, from)
 }
@@ -217,16 +224,22 @@ pub fn zeros(alloc: Global, count: usize) -> Result<Vec<u64>, AllocError>
     Ok(words)
 }
 
-/// Clears each word that is in use.
-pub fn clear_used(words: &mut Vec<u64>, tops: &[u64])
-    requires { AreTops words.old.items tops.now }
+/// Clears each word that is in use; none after the last is.
+pub fn clear_used(words: &mut Vec<u64>, tops: &[u64], last: usize)
+    requires tops { AreTops words.old.items tops.now }
+    requires last { (k : ℕ) → last < k → slice_index words.old.items k ≡ 0 }
     ensures len { length words.new.items ≡ length words.old.items }
     ensures none { (k : ℕ) → slice_index words.new.items k ≡ 0 }
 {
     let mut from = 0;
-    while let Some(place) = next_top(tops, from) {
-        words[place] = 0;
-        from = place + 1;
+    while from <= last {
+        match next_top(tops, from) {
+            Some(place) => {
+                words[place] = 0;
+                from = place + 1;
+            }
+            None => return,
+        }
     }
 }
 

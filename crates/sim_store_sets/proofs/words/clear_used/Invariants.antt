@@ -1,13 +1,13 @@
 use Rattle.std.proofs.Common.{ℕ, ◌≡◌, ◌<◌, ◌≤◌, ◌-◌, length, slice_index}
 use Rattle.sim_store_sets.proofs.words.clear_used.Given as goal
 
-abbrev pub invariant-loop-place : goal.invariant-loop-place
-invariant-loop-place l = record {
+abbrev pub invariant-loop-from : goal.invariant-loop-from
+invariant-loop-from l = record {
   len : length l.words.items ≡ length l.initial.words.items;
   none : (k : ℕ) → k < l.from → slice_index l.words.items k ≡ 0;
   rest : (k : ℕ) → l.from ≤ k → slice_index l.words.items k ≡ slice_index l.initial.words.items k;
   within : l.from ≤ length l.words.items;
 }
 
-abbrev pub decreases-loop-place : goal.decreases-loop-place
-decreases-loop-place l = length l.words.items - l.from
+abbrev pub decreases-loop-from : goal.decreases-loop-from
+decreases-loop-from l = length l.words.items - l.from
