@@ -1,5 +1,5 @@
 -- Sets of numbers and the words that hold them.
-use Rattle.std.proofs.Common.{ℕ, zero, suc, ◌*◌, ◌/◌, ◌^◌, ◌<◌, ◌≤◌, ◌≡◌, ◌≢◌, eqb, Bool, true, false, not, List, length, get_or, set, refl, ap, sym}
+use Rattle.std.proofs.Common.{ℕ, zero, suc, ◌+◌, ◌/◌, ◌^◌, ◌<◌, ◌≤◌, ◌≡◌, ◌≢◌, eqb, Bool, true, false, not, List, length, get_or, set, refl, ap, sym}
 use Rattle.std.proofs.Common.{◌∙◌, subst, arith, inl, inr, ◌⊎◌, Option, MatchOption}
 use Rattle.std.proofs.Math.ListN.{replicate}
 use Rattle.std.proofs.lemmas.Bool.Decides.{nat_tests}
@@ -8,7 +8,7 @@ use Rattle.std.proofs.lemmas.List.FromFn.{length-map-range_with_len, get_or-map-
 use Rattle.sim_store_sets.specs.Words.{has, uses, AreTops, IsNext, NoneFrom}
 use Rattle.sim_store_sets.specs.Numbers.{is_in, set_of, IsNumberSet}
 use Rattle.sim_store_sets.proofs.Bits.{not_both}
-use Rattle.sim_store_sets.proofs.Places.{unused}
+use Rattle.sim_store_sets.proofs.Places.{empty_word, unused, used_within}
 
 pub length_set_of : (words : List ℕ) (count : ℕ) → length (set_of words count) ≡ count
 length_set_of words count = length-map-range_with_len (has words) 0 count
@@ -53,8 +53,8 @@ pub in_room : (words tops : List ℕ) (count end n : ℕ) (set' : List Bool) →
     → (n < count) × (n / 64 < length words) × (n / 64 / 64 < length tops)
 in_room words tops count end n set' i e l =
     let c = length_of_view words count set' e in
-    let r : count ≤ 64 * length words = i.room in
-    let t : length words ≤ 64 * length tops = i.tops_room in
+    let r : length words ≡ count / 64 + 1 = i.room in
+    let t : length tops ≡ count / 4096 + 1 = i.tops_room in
     (omega arith, omega arith, omega arith)
 
 -- a number that is marked
@@ -93,11 +93,9 @@ pub still_set : (old new tops tops' : List ℕ) (count end end' n : ℕ) → n <
     → has tops' (n / 64) ≡ uses new (n / 64) → ((m : ℕ) → m ≢ n / 64 → has tops' m ≡ has tops m) → end ≤ end' → n < end' → end' ≤ count
     → IsNumberSet old tops count end → IsNumberSet new tops' count end'
 still_set old new tops tops' count end end' n l len tops_len others words here tops_others further past within i =
-    let r : count ≤ 64 * length old = i.room in
-    let t : length old ≤ 64 * length tops = i.tops_room in
     record {
-      room = omega arith;
-      tops_room = omega arith;
+      room = len ∙ i.room;
+      tops_room = tops_len ∙ i.tops_room;
       used = tops_marked old new tops tops' n words here tops_others i.used;
       within = within;
       none = λ m k. others m (omega arith) ∙ i.none m (omega arith);
@@ -109,6 +107,37 @@ still_set old new tops tops' count end end' n l len tops_len others words here t
 pub none_beyond : (words tops : List ℕ) (count end : ℕ) (set' : List Bool) → IsNumberSet words tops count end → set_of words count ≡ set'
     → (n : ℕ) → end ≤ n → is_in set' n ≡ false
 none_beyond words tops count end set' i e n le = sym (read words tops count end set' i e n) ∙ i.none n le
+
+-- one more word that is copied, where those before it are not in use
+pub copied_more : (words others tops : List ℕ) (from place : ℕ) → length words ≡ length others → AreTops others tops → IsNext (has tops) from place
+    → ((k : ℕ) → k < from → get_or words k 0 ≡ get_or others k 0) → ((k : ℕ) → from ≤ k → get_or words k 0 ≡ 0)
+    → (k : ℕ) → k < place + 1 → get_or (set words place (get_or others place 0)) k 0 ≡ get_or others k 0
+copied_more words others tops from place len tops_are next same rest k l = go (eqb k place) refl
+  where
+    within : place < length others
+    within = used_within others place (sym (tops_are place) ∙ next.passes)
+
+    before : (k < from) ⊎ (from ≤ k) → k ≢ place → get_or words k 0 ≡ get_or others k 0
+    before (inl lt) differ = same k lt
+    before (inr le) differ = rest k le ∙ sym (empty_word others k (sym (tops_are k) ∙ next.first k le (omega (arith, l, differ))))
+
+    go : (b : Bool) → eqb k place ≡ b → get_or (set words place (get_or others place 0)) k 0 ≡ get_or others k 0
+    go true q =
+        let at : k ≡ place = grind (arith, nat_tests) in
+        ap (λ (j : ℕ). get_or (set words place (get_or others place 0)) j 0) at
+        ∙ (get_or-set_same words place (get_or others place 0) 0 (omega (arith, within, len)) ∙ ap (λ (j : ℕ). get_or others j 0) (sym at))
+    go false q =
+        let differ : k ≢ place = grind (arith, nat_tests) in
+        get_or-set_other words place k (get_or others place 0) 0 differ ∙ before (side k from) differ
+
+-- the words of another set with the same bound
+pub copied_set : (new tops' words' tops'' : List ℕ) (count count' end' : ℕ) → length new ≡ length words'
+    → ((k : ℕ) → get_or new k 0 ≡ get_or words' k 0) → tops' ≡ tops'' → count ≡ count' → IsNumberSet words' tops'' count' end'
+    → IsNumberSet new tops' count end'
+copied_set new tops' words' tops'' count count' end' len same tops_same counts i =
+    let all : new ≡ words' = ext_get_or 0 new words' len (λ k _. same k) in
+    subst (λ (w : List ℕ). IsNumberSet w tops' count end') (sym all)
+    (subst (λ (t : List ℕ). IsNumberSet words' t count end') (sym tops_same) (subst (λ (c : ℕ). IsNumberSet words' tops'' c end') (sym counts) i))
 
 -- no member
 pub no_members : (words : List ℕ) (count : ℕ) → ((k : ℕ) → get_or words k 0 ≡ 0) → set_of words count ≡ replicate count false

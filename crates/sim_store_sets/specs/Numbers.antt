@@ -1,6 +1,6 @@
 -- A set of numbers below a bound: for each of them whether it is a member.
 -- Of the implementation: what `simulate` promises does not rest on this file.
-use Rattle.std.specs.Prelude.{ℕ, ◌≡◌, ◌<◌, ◌≤◌, ◌*◌, ◌^◌, ◌&&◌, Bool, false, not, List, length, map, filter, slice_index, slice_index_or}
+use Rattle.std.specs.Prelude.{ℕ, ◌≡◌, ◌<◌, ◌≤◌, ◌+◌, ◌*◌, ◌/◌, ◌^◌, ◌&&◌, Bool, false, not, List, length, map, filter, slice_index, slice_index_or}
 use Rattle.std.specs.List.{range_with_len}
 use Rattle.sim_store_sets.specs.Words.{has, AreTops}
 
@@ -22,8 +22,8 @@ set_of words count = map (has words) (range_with_len 0 count)
 
 -- There is a bit for each number below the bound and a bit in the tops for each word; no bit is set from the end on, in the words after it neither.
 pub record IsNumberSet (words tops : List ℕ) (count end : ℕ) : Type 0 where
-  pub room : count ≤ 64 * length words
-  pub tops_room : length words ≤ 64 * length tops
+  pub room : length words ≡ count / 64 + 1
+  pub tops_room : length tops ≡ count / 4096 + 1
   pub used : AreTops words tops
   pub within : end ≤ count
   pub none : (n : ℕ) → end ≤ n → has words n ≡ false

@@ -5,7 +5,8 @@ ghost use Rattle.sim_store_sets.specs.Words.{IsNext, NoneFrom};
 ghost use Rattle.sim_store_sets.specs.Numbers.{is_beside, is_in, members};
 
 use crate::words::{
-    clear_all, clear_used, has_number, mark, mark_other, next_beside, next_number, zeros,
+    clear_all, clear_used, copy_all, copy_used, has_number, mark, mark_other, next_beside,
+    next_number, zeros,
 };
 use std::alloc::{AllocError, Global};
 use std::marker::Model;
@@ -136,7 +137,7 @@ impl NumberSet {
             self.words.as_slice(),
             self.tops.as_slice(),
             others.words.as_slice(),
-            (self.end - 1) / 64,
+            self.end / 64,
             from,
         )
     }
@@ -148,9 +149,25 @@ impl NumberSet {
         if self.end == 0 {
             return;
         }
-        clear_used(&mut self.words, self.tops.as_slice(), (self.end - 1) / 64);
+        clear_used(&mut self.words, self.tops.as_slice(), self.end / 64);
         clear_all(&mut self.tops);
         self.end = 0;
+    }
+
+    /// Makes the members of another set its own, and no others. It touches only words in use.
+    pub fn copy_from(&mut self, others: &NumberSet)
+        requires { length others.now ≡ length self.old }
+        ensures { self.new ≡ others.now }
+    {
+        clear_used(&mut self.words, self.tops.as_slice(), self.end / 64);
+        copy_used(
+            &mut self.words,
+            others.words.as_slice(),
+            others.tops.as_slice(),
+            others.end / 64,
+        );
+        copy_all(&mut self.tops, others.tops.as_slice());
+        self.end = others.end;
     }
 
     /// Lists the members in place of what `numbers` holds. It takes no memory.

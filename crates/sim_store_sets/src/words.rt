@@ -243,6 +243,27 @@ pub fn clear_used(words: &mut Vec<u64>, tops: &[u64], last: usize)
     }
 }
 
+/// Copies each word that is in use to words that are all clear; none after the last is.
+pub fn copy_used(words: &mut Vec<u64>, others: &[u64], tops: &[u64], last: usize)
+    requires sized { length words.old.items ≡ length others.now }
+    requires none { (k : ℕ) → slice_index words.old.items k ≡ 0 }
+    requires tops { AreTops others.now tops.now }
+    requires last { (k : ℕ) → last < k → slice_index others.now k ≡ 0 }
+    ensures len { length words.new.items ≡ length others.now }
+    ensures same { (k : ℕ) → slice_index words.new.items k ≡ slice_index others.now k }
+{
+    let mut from = 0;
+    while from <= last {
+        match next_top(tops, from) {
+            Some(place) => {
+                words[place] = others[place];
+                from = place + 1;
+            }
+            None => return,
+        }
+    }
+}
+
 /// Clears each word.
 pub fn clear_all(words: &mut Vec<u64>)
     ensures len { length words.new.items ≡ length words.old.items }
@@ -251,4 +272,12 @@ pub fn clear_all(words: &mut Vec<u64>)
     for place in 0..words.len() {
         words[place] = 0;
     }
+}
+
+/// Copies each word.
+pub fn copy_all(words: &mut Vec<u64>, others: &[u64])
+    requires { length words.old.items ≡ length others.now }
+    ensures { words.new.items ≡ others.now }
+{
+    words.as_mut_slice().copy_from_slice(others);
 }
