@@ -35,8 +35,9 @@ read words tops count end set' i e n = go (side n count)
     go (inl l) = sym (at_set_of words count n l) ∙ ap (λ (s : List Bool). is_in s n) e
     go (inr le) = let c = length_of_view words count set' e in beyond words tops count end i n le ∙ sym (get_or_past set' n false (omega arith))
 
-pub next_read : (words tops : List ℕ) (count end : ℕ) (set' : List Bool) → IsNumberSet words tops count end → set_of words count ≡ set' → (from : ℕ) (o : Option ℕ)
-    → MatchOption o (NoneFrom (has words) from) (IsNext (has words) from) → MatchOption o (NoneFrom (is_in set') from) (IsNext (is_in set') from)
+pub next_read : (words tops : List ℕ) (count end : ℕ) (set' : List Bool) → IsNumberSet words tops count end → set_of words count ≡ set'
+    → (from : ℕ) (o : Option ℕ) → MatchOption o (NoneFrom (has words) from) (IsNext (has words) from)
+    → MatchOption o (NoneFrom (is_in set') from) (IsNext (is_in set') from)
 next_read words tops count end set' i e from o =
     subst (λ (p : ℕ → Bool). MatchOption o (NoneFrom p from) (IsNext p from)) (λ k n. read words tops count end set' i e n k)
 
@@ -107,6 +108,38 @@ still_set old new tops tops' count end end' n l len tops_len others words here t
 pub none_beyond : (words tops : List ℕ) (count end : ℕ) (set' : List Bool) → IsNumberSet words tops count end → set_of words count ≡ set'
     → (n : ℕ) → end ≤ n → is_in set' n ≡ false
 none_beyond words tops count end set' i e n le = sym (read words tops count end set' i e n) ∙ i.none n le
+
+-- the words before the next one in use are clear
+pub clear_before : (words old tops old_tops : List ℕ) (from place : ℕ) → AreTops old old_tops → ((k : ℕ) → from ≤ k → has tops k ≡ has old_tops k)
+    → IsNext (has tops) from place → ((k : ℕ) → k < from → get_or words k 0 ≡ 0) → ((k : ℕ) → from ≤ k → get_or words k 0 ≡ get_or old k 0)
+    → (k : ℕ) → k < place → get_or words k 0 ≡ 0
+clear_before words old tops old_tops from place tops_are same next none rest k l = go (side k from)
+  where
+    go : (k < from) ⊎ (from ≤ k) → get_or words k 0 ≡ 0
+    go (inl lt) = none k lt
+    go (inr le) = rest k le ∙ empty_word old k (sym (tops_are k) ∙ (sym (same k le) ∙ next.first k le l))
+
+-- and so is that one, once it is cleared
+pub clear_up_to : (words : List ℕ) (place : ℕ) → place < length words → ((k : ℕ) → k < place → get_or words k 0 ≡ 0)
+    → (k : ℕ) → k < place + 1 → get_or (set words place 0) k 0 ≡ 0
+clear_up_to words place within before k l = go (eqb k place) refl
+  where
+    go : (b : Bool) → eqb k place ≡ b → get_or (set words place 0) k 0 ≡ 0
+    go true q =
+        let at : k ≡ place = grind (arith, nat_tests) in
+        ap (λ (j : ℕ). get_or (set words place 0) j 0) at ∙ get_or-set_same words place 0 0 within
+    go false q =
+        let differ : k ≢ place = grind (arith, nat_tests) in
+        get_or-set_other words place k 0 0 differ ∙ before k (omega (arith, l, differ))
+
+-- none is there up to a place, where the one at the place is taken out
+pub none_up_to : (old new : List ℕ) (place : ℕ) → has new place ≡ false → ((m : ℕ) → m ≢ place → has new m ≡ has old m)
+    → ((k : ℕ) → k < place → has old k ≡ false) → (k : ℕ) → k < place + 1 → has new k ≡ false
+none_up_to old new place here others before k l = go (eqb k place) refl
+  where
+    go : (b : Bool) → eqb k place ≡ b → has new k ≡ false
+    go true q = let at : k ≡ place = grind (arith, nat_tests) in ap (has new) at ∙ here
+    go false q = let differ : k ≢ place = grind (arith, nat_tests) in others k differ ∙ before k (omega (arith, l, differ))
 
 -- one more word that is copied, where those before it are not in use
 pub copied_more : (words others tops : List ℕ) (from place : ℕ) → length words ≡ length others → AreTops others tops → IsNext (has tops) from place

@@ -5,8 +5,7 @@ ghost use Rattle.sim_store_sets.specs.Words.{IsNext, NoneFrom};
 ghost use Rattle.sim_store_sets.specs.Numbers.{is_beside, is_in, members};
 
 use crate::words::{
-    clear_all, clear_used, copy_all, copy_used, has_number, mark, mark_other, next_beside,
-    next_number, zeros,
+    clear_used, copy_all, copy_used, has_number, mark, mark_other, next_beside, next_number, zeros,
 };
 use std::alloc::{AllocError, Global};
 use std::marker::Model;
@@ -149,8 +148,7 @@ impl NumberSet {
         if self.end == 0 {
             return;
         }
-        clear_used(&mut self.words, self.tops.as_slice(), self.end / 64);
-        clear_all(&mut self.tops);
+        clear_used(&mut self.words, &mut self.tops, self.end / 64);
         self.end = 0;
     }
 
@@ -159,7 +157,7 @@ impl NumberSet {
         requires { length others.now ≡ length self.old }
         ensures { self.new ≡ others.now }
     {
-        clear_used(&mut self.words, self.tops.as_slice(), self.end / 64);
+        clear_used(&mut self.words, &mut self.tops, self.end / 64);
         copy_used(
             &mut self.words,
             others.words.as_slice(),

@@ -1,6 +1,6 @@
 //! Numbers as bits, 64 in each word.
 
-ghost use Rattle.std.specs.Prelude.{ℕ, ◌≡◌, ◌≢◌, ◌<◌, ◌/◌, ◌%◌, ◌^◌, length, true, false, not, slice_index, IfOk, MatchOption, ◌&&◌, ◌≤◌, ◌+◌};
+ghost use Rattle.std.specs.Prelude.{ℕ, ◌≡◌, ◌≢◌, ◌<◌, ◌/◌, ◌%◌, ◌^◌, length, true, false, not, slice_index, IfOk, MatchOption, ◌&&◌, ◌≤◌, ◌+◌, ◌*◌};
 ghost use Rattle.sim_store_sets.specs.Words.{has, has_beside, has_bit, uses, AreTops, IsNext, NoneFrom};
 
 use std::alloc::{AllocError, Global};
@@ -224,18 +224,22 @@ pub fn zeros(alloc: Global, count: usize) -> Result<Vec<u64>, AllocError>
     Ok(words)
 }
 
-/// Clears each word that is in use; none after the last is.
-pub fn clear_used(words: &mut Vec<u64>, tops: &[u64], last: usize)
-    requires tops { AreTops words.old.items tops.now }
+/// Clears each word that is in use, and its top; none after the last is.
+pub fn clear_used(words: &mut Vec<u64>, tops: &mut Vec<u64>, last: usize)
+    requires room { length words.old.items ≤ 64 * length tops.old.items }
+    requires tops { AreTops words.old.items tops.old.items }
     requires last { (k : ℕ) → last < k → slice_index words.old.items k ≡ 0 }
     ensures len { length words.new.items ≡ length words.old.items }
     ensures none { (k : ℕ) → slice_index words.new.items k ≡ 0 }
+    ensures tops_len { length tops.new.items ≡ length tops.old.items }
+    ensures no_tops { (k : ℕ) → has tops.new.items k ≡ false }
 {
     let mut from = 0;
     while from <= last {
-        match next_top(tops, from) {
+        match next_top(tops.as_slice(), from) {
             Some(place) => {
                 words[place] = 0;
+                mark(tops, place, false);
                 from = place + 1;
             }
             None => return,
@@ -261,16 +265,6 @@ pub fn copy_used(words: &mut Vec<u64>, others: &[u64], tops: &[u64], last: usize
             }
             None => return,
         }
-    }
-}
-
-/// Clears each word.
-pub fn clear_all(words: &mut Vec<u64>)
-    ensures len { length words.new.items ≡ length words.old.items }
-    ensures none { (k : ℕ) → slice_index words.new.items k ≡ 0 }
-{
-    for place in 0..words.len() {
-        words[place] = 0;
     }
 }
 

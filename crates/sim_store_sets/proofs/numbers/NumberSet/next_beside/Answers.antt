@@ -18,7 +18,8 @@ next_beside-requires-clause-fits c n here =
 pub returns : goal.returns
 returns c =
     beside_read c.self.inside.words.items c.self.inside.tops.items c.others.inside.words.items c.others.inside.tops.items c.self.inside.count
-    c.self.inside.end c.others.inside.count c.others.inside.end c.args.self.now c.args.others.now c.self.invariant c.self.view_is c.others.invariant c.others.view_is c.args.from
+    c.self.inside.end c.others.inside.count c.others.inside.end c.args.self.now c.args.others.now c.self.invariant c.self.view_is
+    c.others.invariant c.others.view_is c.args.from
     c.next_beside.result
     (subst (λ (words : List ℕ). MatchOption c.next_beside.result (NoneFrom (has_beside words c.others.inside.words.items) c.args.from)
     (IsNext (has_beside words c.others.inside.words.items) c.args.from)) c.as_slice.ensures.value

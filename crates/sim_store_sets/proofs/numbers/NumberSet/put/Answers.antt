@@ -47,7 +47,8 @@ invariant_of-self c =
     let room = in_room _ _ _ _ c.args.number _ c.self.invariant c.self.view_is c.requires in
     let read : c.index-2.result.now ≡ get_or c.mark.new.words.items (c.args.number / 64) 0 =
     c.index-2.ensures ∙ get_or_default_zero c.mark.new.words.items (c.args.number / 64) c.index-2.result.now (omega (arith, room.1, c.mark.ensures.len)) in
-    still_set c.self.inside.words.items c.mark.new.words.items c.self.inside.tops.items c.mark_other.new.words.items c.self.inside.count c.self.inside.end c.max-self-inside.result c.args.number room.0
+    still_set c.self.inside.words.items c.mark.new.words.items c.self.inside.tops.items c.mark_other.new.words.items c.self.inside.count
+    c.self.inside.end c.max-self-inside.result c.args.number room.0
     c.mark.ensures.len c.mark_other.ensures.len c.mark.ensures.others c.mark.ensures.words
     (c.mark_other.ensures.here ∙ ap (λ (w : ℕ). not (eqb w 0)) read) c.mark_other.ensures.others (omega arith) (omega arith) (omega arith) c.self.invariant
 
