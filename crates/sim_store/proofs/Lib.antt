@@ -7,6 +7,7 @@ pub mod Readiness
 pub mod Boxes
 pub mod Stores
 pub mod Walks
+pub mod Along
 pub mod Handed
 pub mod Returning
 pub mod Keeping

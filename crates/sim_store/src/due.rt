@@ -1,17 +1,20 @@
 //! The processes that are due.
 
-ghost use Rattle.std.specs.Prelude.{ℕ, ◌≡◌, ◌<◌, ◌&&◌, ◌||◌, not, List, length, ◌+◌, ◌^◌, IfOk, IfSome, MatchOption};
+ghost use Rattle.std.specs.Prelude.{ℕ, ◌≡◌, ◌<◌, ◌&&◌, ◌||◌, not, List, length, ◌+◌, ◌-◌, ◌^◌, IfOk, IfSome, MatchOption};
 ghost use Rattle.sim_flat_design.specs.Processes.{Process};
 ghost use Rattle.sim_store_sets.specs.Numbers.{is_beside};
 ghost use Rattle.sim_store_sets.specs.Words.{IsNext, NoneFrom};
 ghost use Rattle.sim_standard.specs.Cycle.{has_event_in};
 ghost use Rattle.sim_standard.specs.Processes.{process_at};
+ghost use Rattle.sim_standard.specs.declared.net_view.NetView.{NetView};
+ghost use Rattle.sim_standard.specs.Records.{changes_from};
+ghost use Rattle.sim_store_state.specs.Log.{record_at};
 ghost use Rattle.sim_store_state.specs.Sensitive.{AreSensitive};
 ghost use Rattle.sim_store.specs.Simulation.{listed, those_in};
 
-use crate::waiting::{Waiting, copy};
+use crate::waiting::Waiting;
 use sim_store_sets::{NumberSet, RowArray};
-use sim_store_state::FlatState;
+use sim_store_state::{Log, find_resumed};
 use std::alloc::{AllocError, Global};
 use std::marker::Model;
 
@@ -80,7 +83,7 @@ impl Due {
         ensures sized { length set.new ≡ length set.old }
         ensures same { (p : ℕ) → those_in set.new p ≡ those_in self.now p }
     {
-        copy(set, &self.set);
+        set.copy_from(&self.set);
     }
 
     /// The numbers of those that are due, rising.
@@ -90,21 +93,25 @@ impl Due {
         self.numbers.as_slice()
     }
 
-    /// Finds those that are due after a cycle: those that are sensitive to a net with an event, but
-    /// for the postponed ones, which wait. It takes no memory.
-    pub fn find(&mut self, state: &FlatState, sensitive: &RowArray<usize>, waiting: &mut Waiting)
-        requires nets { length sensitive.now ≡ length state.now.nets }
+    /// Finds those that are due after the cycle of the last record: those that are sensitive to a net
+    /// with an event, but for the postponed ones, which wait. It takes no memory.
+    pub fn find(&mut self, log: &Log, sensitive: &RowArray<usize>, waiting: &mut Waiting)
+        requires begun { 0 < length log.now.records }
         requires processes { length waiting.old.postponed ≡ length self.old }
         ensures postponed { waiting.new.postponed ≡ waiting.old.postponed }
         ensures waiting_sized { length waiting.new.waiting ≡ length waiting.old.waiting }
         ensures sized { length self.new ≡ length self.old }
-        ensures found { (processes : List Process) (p : ℕ) → AreSensitive processes sensitive.now → p < length self.old
-            → those_in self.new p ≡ (has_event_in state.now.nets (process_at processes p).sensitivity && not (those_in waiting.old.postponed p)) }
-        ensures moved { (processes : List Process) (p : ℕ) → AreSensitive processes sensitive.now → p < length self.old
+        ensures found { (nets : List NetView) (processes : List Process) (p : ℕ)
+            → (record_at log.now.records (length log.now.records - 1)).changes ≡ changes_from 0 nets → length sensitive.now ≡ length nets
+            → AreSensitive processes sensitive.now → p < length self.old
+            → those_in self.new p ≡ (has_event_in nets (process_at processes p).sensitivity && not (those_in waiting.old.postponed p)) }
+        ensures moved { (nets : List NetView) (processes : List Process) (p : ℕ)
+            → (record_at log.now.records (length log.now.records - 1)).changes ≡ changes_from 0 nets → length sensitive.now ≡ length nets
+            → AreSensitive processes sensitive.now → p < length self.old
             → those_in waiting.new.waiting p ≡ (those_in waiting.old.waiting p
-            || (has_event_in state.now.nets (process_at processes p).sensitivity && those_in waiting.old.postponed p)) }
+            || (has_event_in nets (process_at processes p).sensitivity && those_in waiting.old.postponed p)) }
     {
-        state.find_resumed(&mut self.set, sensitive);
+        find_resumed(&mut self.set, log.changes(log.len() - 1), sensitive);
         waiting.set_aside(&mut self.set);
         self.set.list(&mut self.numbers);
     }

@@ -250,6 +250,8 @@ fn execute(alloc: Global, design: &Design, made: &mut Made, number: usize) -> Re
     ensures same { OnOk result (simulation_of design.now made.new ≡ spec.with_marks (simulation_of design.now made.old) made.new.deposited) }
     ensures gone { OnOk result (spec.IsMissing (simulation_of design.now made.new) number → ⊥) }
     ensures others { OnOk result ((p : ℕ) → spec.IsMissing (simulation_of design.now made.new) p → spec.IsMissing (simulation_of design.now made.old) p) }
+    ensures due { made.new.due ≡ made.old.due }
+    ensures marks { OnOk result (made.new.deposited ≡ slice_set made.old.deposited number true) }
 {
     let process = &design.processes()[number];
     let lists = &mut made.lists;
@@ -257,6 +259,23 @@ fn execute(alloc: Global, design: &Design, made: &mut Made, number: usize) -> Re
     made.state
         .resume(alloc, number, process, made.time, &lists.codes, frame)?;
     made.deposited.insert(number);
+    Ok(())
+}
+
+/// Executes all that are due, none of which has been executed since the last cycle, in place and in
+/// rising order.
+fn execute_listed(alloc: Global, design: &Design, made: &mut Made) -> Result<(), AllocError>
+    requires of { IsOf design.now made.old }
+    requires fresh { (p : ℕ) → spec.those_in made.old.deposited p ≡ false }
+    ensures of { OnOk result (IsOf design.now made.new) }
+    ensures same { OnOk result (simulation_of design.now made.new ≡ spec.with_marks (simulation_of design.now made.old) made.new.deposited) }
+    ensures complete { OnOk result (spec.IsComplete (simulation_of design.now made.new)) }
+{
+    let count = made.due.numbers().len();
+    for place in 0..count {
+        let number = made.due.numbers()[place];
+        execute(alloc, design, made, number)?;
+    }
     Ok(())
 }
 
@@ -268,6 +287,9 @@ fn execute_all(alloc: Global, design: &Design, made: &mut Made) -> Result<(), Al
     ensures same { OnOk result (simulation_of design.now made.new ≡ spec.with_marks (simulation_of design.now made.old) made.new.deposited) }
     ensures complete { OnOk result (spec.IsComplete (simulation_of design.now made.new)) }
 {
+    if made.deposited.is_empty() {
+        return execute_listed(alloc, design, made);
+    }
     let mut from = 0;
     while let Some(number) = made.due.next_beside(&made.deposited, from) {
         execute(alloc, design, made, number)?;
@@ -470,7 +492,7 @@ impl Simulation {
         leave(&mut made.waiting, made.phase);
         made.phase = Phase::AtOnce;
         made.due
-            .find(&made.state, &made.lists.sensitive, &mut made.waiting);
+            .find(&made.log, &made.lists.sensitive, &mut made.waiting);
         made.deposited.clear();
         Ok(())
     }

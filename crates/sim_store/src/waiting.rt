@@ -59,31 +59,6 @@ fn set_aside(set: &mut NumberSet, postponed: &NumberSet, waiting: &mut NumberSet
     }
 }
 
-/// Gives a set the members of another one.
-pub fn copy(set: &mut NumberSet, others: &NumberSet)
-    requires { length others.now ≡ length set.old }
-    ensures sized { length set.new ≡ length set.old }
-    ensures same { (p : ℕ) → is_in set.new p ≡ is_in others.now p }
-{
-    set.clear();
-    insert_members(set, others);
-}
-
-/// Inserts the members of a set.
-fn insert_members(set: &mut NumberSet, others: &NumberSet)
-    requires sized { length others.now ≡ length set.old }
-    requires none { (p : ℕ) → is_in set.old p ≡ false }
-    ensures sized { length set.new ≡ length set.old }
-    ensures same { (p : ℕ) → is_in set.new p ≡ is_in others.now p }
-{
-    let _count = others.len();
-    let mut from = 0;
-    while let Some(number) = others.next(from) {
-        set.insert(number);
-        from = number + 1;
-    }
-}
-
 impl Waiting {
     /// Of these processes, none of which waits.
     pub fn of(alloc: Global, processes: &[Process]) -> Result<Waiting, AllocError>
@@ -127,7 +102,7 @@ impl Waiting {
         ensures sized { length set.new ≡ length set.old }
         ensures same { (p : ℕ) → is_in set.new p ≡ is_in self.now.waiting p }
     {
-        copy(set, &self.waiting);
+        set.copy_from(&self.waiting);
     }
 
     /// None waits any more.

@@ -16,8 +16,7 @@ use Rattle.sim_store_state.specs.Changes.{AreTouched, value_at}
 use Rattle.sim_store_state.specs.FlatState.{views_of}
 use Rattle.sim_standard.specs.Records.{changes_from}
 use Rattle.sim_standard.specs.Orders.{is_among}
-use Rattle.sim_store_state.specs.Sensitive.{is_sensitive}
-use Rattle.sim_store_state.proofs.Sensitivity.{or-turn}
+use Rattle.sim_store_state.specs.Sensitive.{is_sensitive, is_told}
 use Rattle.sim_store_state.proofs.Walks.{not_both}
 use Rattle.sim_store_state.proofs.Views.{length-views_of, past_values, view_here}
 
@@ -31,38 +30,6 @@ quiet {values} {last_values} {touched} i l n other = elim (dec_lt n (length valu
       ∙ ap not (is_same_from_same (value_at last_values n) (value_at last_values n) refl)))
   | no h ↦ ap (λ (v : NetView). v.event) (sym (past_values values last_values n (omega (arith, h))))
 ]
-
--- ---- who is sensitive to them
-
-sensitive-none : (nets : List NetView) (p : ℕ) → is_sensitive nets [] p ≡ false
-sensitive-none [] p = refl
-sensitive-none (v ∷ nets) p = refl
-
--- up to the next net with an event
-pub sensitive-next : (nets : List NetView) (sensitive : List (List ℕ)) (from n p : ℕ) → from ≤ n → n < length nets → n < length sensitive
-    → ((m : ℕ) → from ≤ m → m < n → (net_at nets m).event ≡ false)
-    → is_sensitive (drop from nets) (drop from sensitive) p
-    ≡ (((net_at nets n).event && is_among (get_or sensitive n []) p) || is_sensitive (drop (suc n) nets) (drop (suc n) sensitive) p)
-sensitive-next [] sensitive from n p le a b q = absurd (omega arith)
-sensitive-next (v ∷ nets) [] from n p le a b q = absurd (omega arith)
-sensitive-next (v ∷ nets) (ps ∷ sensitive) zero zero p le a b q = refl
-sensitive-next (v ∷ nets) (ps ∷ sensitive) zero (suc n) p le a b q =
-    ap (λ e. (e && is_among ps p) || is_sensitive nets sensitive p) (q 0 (omega arith) (omega arith))
-    ∙ sensitive-next nets sensitive zero n p (omega arith) (omega arith) (omega arith) (λ m f g. q (suc m) (omega arith) (omega arith))
-sensitive-next (v ∷ nets) (ps ∷ sensitive) (suc from) zero p le a b q = absurd (omega arith)
-sensitive-next (v ∷ nets) (ps ∷ sensitive) (suc from) (suc n) p le a b q =
-    sensitive-next nets sensitive from n p (omega arith) (omega arith) (omega arith) (λ m f g. q (suc m) (omega arith) (omega arith))
-
--- none is left
-pub sensitive-rest : (nets : List NetView) (sensitive : List (List ℕ)) (from p : ℕ) → ((m : ℕ) → from ≤ m → (net_at nets m).event ≡ false)
-    → is_sensitive (drop from nets) (drop from sensitive) p ≡ false
-sensitive-rest [] sensitive zero p q = refl
-sensitive-rest [] sensitive (suc from) p q = refl
-sensitive-rest (v ∷ nets) [] zero p q = refl
-sensitive-rest (v ∷ nets) [] (suc from) p q = sensitive-none (drop from nets) p
-sensitive-rest (v ∷ nets) (ps ∷ sensitive) zero p q =
-    ap (λ e. (e && is_among ps p) || is_sensitive nets sensitive p) (q 0 (omega arith)) ∙ sensitive-rest nets sensitive zero p (λ m f. q (suc m) (omega arith))
-sensitive-rest (v ∷ nets) (ps ∷ sensitive) (suc from) p q = sensitive-rest nets sensitive from p (λ m f. q (suc m) (omega arith))
 
 -- ---- what is recorded of them
 
@@ -100,32 +67,6 @@ between values last_values touched from n i l next m le lt = quiet i l m (next.f
 view-at : (values last_values : List Logic) (n : ℕ) → n < length values → length values ≡ length last_values
     → net_at (views_of values last_values) n ≡ changed_to (value_at values n) (value_at last_values n)
 view-at values last_values n lt l = sym (view_here values last_values n U U lt (omega (arith, lt, l)))
-
--- one net more, to which its processes are sensitive
-pub sensitive-step : {values last_values : List Logic} {touched : List Bool} {from n : ℕ} (sensitive : List (List ℕ)) (p : ℕ) (row : List ℕ)
-    (now new total : Bool) → AreTouched values last_values touched → length values ≡ length last_values → length sensitive ≡ length values
-    → IsNext (is_in touched) from n
-    → n < length values
-    → row ≡ get_or sensitive n [] → new ≡ ((not (is_same (value_at last_values n) (value_at values n)) && is_among row p) || now)
-    → (is_sensitive (drop from (views_of values last_values)) (drop from sensitive) p || now) ≡ total
-    → (is_sensitive (drop (n + 1) (views_of values last_values)) (drop (n + 1) sensitive) p || new) ≡ total
-sensitive-step {values} {last_values} {touched} {from} {n} sensitive p row now new total i l lw next lt er en e =
-    let views = views_of values last_values in
-    let rest = is_sensitive (drop (suc n) views) (drop (suc n) sensitive) p in
-    let many : n < length views = omega (arith, lt, length-views_of values last_values l) in
-    let here : new ≡ (((net_at views n).event && is_among (get_or sensitive n []) p) || now) =
-    en ∙ (ap (λ r. (not (is_same (value_at last_values n) (value_at values n)) && is_among r p) || now) er
-    ∙ ap (λ (v : NetView). (v.event && is_among (get_or sensitive n []) p) || now) (sym (view-at values last_values n lt l))) in
-    ap (λ k. is_sensitive (drop k views) (drop k sensitive) p || new) (add-one n) ∙ (ap (λ b. rest || b) here
-    ∙ (or-turn rest ((net_at views n).event && is_among (get_or sensitive n []) p) now
-    ∙ (ap (λ b. b || now) (sym (sensitive-next views sensitive from n p next.further many (omega (arith, lt, lw))
-    (between values last_values touched from n i l next))) ∙ e)))
-
-pub sensitive-end : {values last_values : List Logic} {touched : List Bool} {from : ℕ} (sensitive : List (List ℕ)) (p : ℕ) (now total : Bool)
-    → AreTouched values last_values touched → length values ≡ length last_values → NoneFrom (is_in touched) from
-    → (is_sensitive (drop from (views_of values last_values)) (drop from sensitive) p || now) ≡ total → now ≡ total
-sensitive-end {values} {last_values} {touched} {from} sensitive p now total i l none e =
-    sym (ap (λ b. b || now) (sensitive-rest (views_of values last_values) sensitive from p (λ m le. quiet i l m (none m le)))) ∙ e
 
 -- ---- and what is recorded of it
 
@@ -183,3 +124,24 @@ pub changes-end : {values last_values : List Logic} {touched : List Bool} {from 
     → now ≡ total
 changes-end {values} {last_values} {touched} {from} now total i l none e =
     sym (ap (λ w. now ++ w) (changes-rest (views_of values last_values) from from (λ m le. quiet i l m (none m le))) ∙ append-nil now) ∙ e
+
+-- ---- who is sensitive to the nets that are recorded
+
+list-at : (xs : List (List ℕ)) (k : ℕ) → k < length xs → drop k xs ≡ get_or xs k [] ∷ drop (suc k) xs
+list-at [] k lt = absurd (omega arith)
+list-at (x ∷ xs) zero lt = refl
+list-at (x ∷ xs) (suc k) lt = list-at xs k (omega arith)
+
+pub told-changes : (nets : List NetView) (sensitive : List (List ℕ)) (k p : ℕ) → k + length nets ≤ length sensitive
+    → is_told sensitive (changes_from k nets) p ≡ is_sensitive nets (drop k sensitive) p
+told-changes [] sensitive k p le = refl
+told-changes (v ∷ nets) sensitive k p le =
+    let rest = told-changes nets sensitive (k + 1) p (omega (arith, le)) ∙ ap (λ j. is_sensitive nets (drop j sensitive) p) (add-one k) in
+    ap (λ cs. is_told sensitive cs p) (first-change k v nets)
+    ∙ (go v.event rest ∙ ap (λ ss. is_sensitive (v ∷ nets) ss p) (sym (list-at sensitive k (omega (arith, le)))))
+  where
+    go : (b : Bool) → is_told sensitive (changes_from (k + 1) nets) p ≡ is_sensitive nets (drop (suc k) sensitive) p
+        → is_told sensitive (changes_if b (k, v.value) (changes_from (k + 1) nets)) p
+        ≡ ((b && is_among (get_or sensitive k []) p) || is_sensitive nets (drop (suc k) sensitive) p)
+    go true rest = ap (λ b. is_among (get_or sensitive k []) p || b) rest
+    go false rest = rest

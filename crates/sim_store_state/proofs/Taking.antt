@@ -1,16 +1,19 @@
 -- Drivers take their transactions, one by one, and touch nets.
-use Rattle.std.proofs.Common.{ℕ, ◌+◌, ◌<◌, ◌≤◌, ◌≡◌, ◌≢◌, ◌||◌, Bool, true, false, not, List, [], length, get_or, set, map, refl, ap, sym, ◌∙◌, subst, arith}
+use Rattle.std.proofs.Common.{ℕ, ◌+◌, ◌<◌, ◌≤◌, ◌≡◌, ◌≢◌, ◌||◌, ◌&&◌, eqb, Bool, Option, true, false, not, List, [], ◌∷◌, length}
+use Rattle.std.proofs.Common.{get_or, set, map, refl, ap, sym, ◌∙◌, subst, arith}
 use Rattle.std.proofs.Math.Decide.{dec_lt}
+use Rattle.std.proofs.lemmas.Bool.Decides.{nat_tests}
 use Rattle.std.proofs.lemmas.List.{get_or-set_same, get_or-set_other, get_or_past, length-map, same_lists, get_or_default}
 use Rattle.sim_logic.specs.declared.logic.Logic.{Logic}
 use Rattle.sim_logic.specs.Logic.{is_same}
 use Rattle.sim_logic.proofs.SameValues.{same_from_is_same}
-use Rattle.sim_standard.specs.Drivers.{Waveform, taken}
+use Rattle.sim_standard.specs.Drivers.{Waveform, next_time, taken}
 use Rattle.sim_store_sets.specs.Numbers.{is_in}
-use Rattle.sim_store_sets.specs.Words.{IsNext}
+use Rattle.sim_store_sets.specs.Words.{IsNext, NoneFrom}
+use Rattle.sim_store_sets.specs.Times.{time_of}
 use Rattle.sim_standard.specs.State.{driver_at, no_driver}
 use Rattle.sim_standard.specs.Orders.{is_among}
-use Rattle.sim_store_state.specs.Changes.{AreReached}
+use Rattle.sim_store_state.specs.Changes.{AreReached, AreTimes, AreTold, time_at}
 use Rattle.sim_store_state.proofs.Sensitivity.{or_left, or_right}
 use Rattle.sim_store_state.proofs.Walks.{Walked, not_both, walk_start, walk_more}
 use Rattle.sim_store_state.proofs.Due.{driver-taken}
@@ -55,6 +58,65 @@ pub rest-more : (time : ℕ) (old now now' : List Waveform) (from k : ℕ) → f
 rest-more time old now now' from k le rest en d lt =
     let apart : d ≢ k = omega arith in
     ap (λ w. driver_at w d) en ∙ (get_or-set_other now k d (taken time (driver_at now k)) no_driver apart ∙ rest d (omega arith))
+
+-- Of the drivers that are due and that were passed the queue has the times, if it was so told; the times of the others are as they were.
+pub record IsTold (told : Bool) (due : List Bool) (from : ℕ) (before times : List (Option ℕ)) (now : List Waveform) : Type 0 where
+  pub sized : length times ≡ length before
+  pub current : told ≡ true → (d : ℕ) → d < from → is_in due d ≡ true → time_of times d ≡ time_at now d
+  pub others : (d : ℕ) → is_in due d ≡ false → time_of times d ≡ time_of before d
+
+pub none-told : (told : Bool) (due : List Bool) (times : List (Option ℕ)) (now : List Waveform) → IsTold told due 0 times times now
+none-told told due times now = record { sized = refl; current = λ _ d lt _. absurd (omega (arith, lt)); others = λ d e. refl }
+
+and-both : (a b : Bool) → (a && b) ≡ true → (a ≡ true) × (b ≡ true)
+and-both true true e = (refl, refl)
+and-both true false e = absurd cc
+and-both false b e = absurd cc
+
+pub told-more : {told : Bool} {due : List Bool} {from : ℕ} {before times : List (Option ℕ)} {now : List Waveform} (k : ℕ) (is_told told' : Bool)
+    (times' : List (Option ℕ)) (now' : List Waveform) (new : Waveform) → IsTold told due from before times now → IsNext (is_in due) from k
+    → told' ≡ (is_told && told) → now' ≡ set now k new → length times' ≡ length times → (is_told ≡ true → time_of times' k ≡ time_at now' k)
+    → ((d : ℕ) → d ≢ k → time_of times' d ≡ time_of times d) → IsTold told' due (k + 1) before times' now'
+told-more {told} {due} {from} {before} {times} {now} k is_told told' times' now' new i next et en l here untold = record {
+  sized = l ∙ i.sized;
+  current = λ t d lt e. at (and-both is_told told (sym et ∙ t)) d lt e (eqb d k) refl;
+  others = λ d e. let apart : d ≢ k = λ q. not_both (is_in due d) e (ap (is_in due) q ∙ next.passes) in untold d apart ∙ i.others d e;
+}
+  where
+    passed : (d : ℕ) → d < k → is_in due d ≡ true → d < from
+    passed d lt e = elim (dec_lt d from) [ yes h ↦ h | no h ↦ absurd (not_both (is_in due d) (next.first d (omega (arith, h)) lt) e) ]
+
+    at : (is_told ≡ true) × (told ≡ true) → (d : ℕ) → d < k + 1 → is_in due d ≡ true → (b : Bool) → eqb d k ≡ b → time_of times' d ≡ time_at now' d
+    at both d lt e true q =
+        let same : d ≡ k = grind (arith, nat_tests) in
+        ap (time_of times') same ∙ (here both.0 ∙ ap (time_at now') (sym same))
+    at both d lt e false q =
+        let apart : d ≢ k = grind (arith, nat_tests) in
+        untold d apart ∙ (i.current both.1 d (passed d (omega (arith, lt, apart)) e) e
+        ∙ ap (λ (w : Waveform). next_time (w ∷ [])) (sym (ap (λ w. driver_at w d) en ∙ get_or-set_other now k d new no_driver apart)))
+
+-- once none that is due is left
+pub all-told : {told : Bool} {due : List Bool} {from : ℕ} {before times : List (Option ℕ)} {now : List Waveform} → IsTold told due from before times now
+    → NoneFrom (is_in due) from → AreTold told due before times now
+all-told {due = due} {from} i none = record {
+  sized = i.sized;
+  current = λ t d e. i.current t d (elim (dec_lt d from) [ yes h ↦ h | no h ↦ absurd (not_both (is_in due d) (none d (omega (arith, h))) e) ]) e;
+  others = i.others;
+}
+
+-- where the queue was told all times no driver need be stale
+pub told-times : {before times : List (Option ℕ)} {due stale : List Bool} {drivers : List Waveform} (told : Bool) → AreTimes before due drivers
+    → AreTold told due before times drivers → length stale ≡ length due → (told ≡ false → stale ≡ due) → AreTimes times stale drivers
+told-times {before} {times} {due} {stale} {drivers} told a t l same = record {
+  sized = t.sized ∙ a.sized;
+  marked = l ∙ a.marked;
+  current = λ d e. go told refl d e (is_in due d) refl;
+}
+  where
+    go : (b : Bool) → told ≡ b → (d : ℕ) → is_in stale d ≡ false → (c : Bool) → is_in due d ≡ c → time_of times d ≡ time_at drivers d
+    go b q d e false f = t.others d f ∙ a.current d f
+    go true q d e true f = t.current q d f
+    go false q d e true f = absurd (not_both (is_in due d) (sym (ap (λ (s : List Bool). is_in s d) (same q)) ∙ e) f)
 
 -- lists of drivers are equal where each driver is
 pub all-same : (now old : List Waveform) (time : ℕ) → length now ≡ length old → ((d : ℕ) → driver_at now d ≡ taken time (driver_at old d))

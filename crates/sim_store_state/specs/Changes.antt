@@ -32,6 +32,12 @@ pub record AreTimes (times : List (Option ℕ)) (stale : List Bool) (drivers : L
   pub marked : length stale ≡ length drivers
   pub current : (d : ℕ) → is_in stale d ≡ false → time_of times d ≡ time_at drivers d
 
+-- The times of the drivers that are due are their first pending times, if it was so told; those of the others are as they were.
+pub record AreTold (told : Bool) (due : List Bool) (before times : List (Option ℕ)) (drivers : List Waveform) : Type 0 where
+  pub sized : length times ≡ length before
+  pub current : told ≡ true → (d : ℕ) → is_in due d ≡ true → time_of times d ≡ time_at drivers d
+  pub others : (d : ℕ) → is_in due d ≡ false → time_of times d ≡ time_of before d
+
 -- ---- the nets of the drivers
 
 -- whether a source is the driver with a number

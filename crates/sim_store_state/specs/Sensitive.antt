@@ -1,6 +1,7 @@
 -- Which processes are sensitive to each net (IEEE 1076-2008, 11.3, 14.7.5.3).
 -- Of the implementation: what `simulate` promises does not rest on this file.
 use Rattle.std.specs.Prelude.{ℕ, ◌≡◌, ◌<◌, ◌&&◌, ◌||◌, List, [], ◌∷◌, Bool, false, length, slice_index_or}
+use Rattle.sim_logic.specs.declared.logic.Logic.{Logic}
 use Rattle.sim_flat_design.specs.Processes.{Process}
 use Rattle.sim_standard.specs.declared.net_view.NetView.{NetView}
 use Rattle.sim_standard.specs.Processes.{process_at}
@@ -16,3 +17,8 @@ abbrev pub is_sensitive : List NetView → List (List ℕ) → ℕ → Bool
 is_sensitive [] sensitive process = false
 is_sensitive (net ∷ nets) [] process = false
 is_sensitive (net ∷ nets) (processes ∷ sensitive) process = (net.event && is_among processes process) || is_sensitive nets sensitive process
+
+-- whether a process is sensitive to a net of these changes
+abbrev pub is_told : List (List ℕ) → List (ℕ × Logic) → ℕ → Bool
+is_told sensitive [] process = false
+is_told sensitive (change ∷ changes) process = is_among (slice_index_or sensitive change.0 []) process || is_told sensitive changes process

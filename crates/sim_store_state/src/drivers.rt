@@ -1,13 +1,13 @@
 //! Drivers, one after another (IEEE 1076-2008, 14.7.2).
 
-ghost use Rattle.std.specs.Prelude.{ℕ, List, ◌≡◌, ◌≢◌, ◌<◌, ◌≤◌, ◌⊎◌, [], ◌∷◌, false, length, map, slice_index_or, slice_set, IfOk, OnOk};
+ghost use Rattle.std.specs.Prelude.{ℕ, List, ◌≡◌, ◌≢◌, ◌<◌, ◌≤◌, ◌⊎◌, [], ◌∷◌, true, false, length, map, slice_index_or, slice_set, IfOk, OnOk};
 ghost use Rattle.std.specs.Bool.{Decides};
 ghost use Rattle.sim_standard.specs.Drivers.{Waveform, taken};
 ghost use Rattle.sim_store_sets.specs.RowArray.{joined};
 ghost use Rattle.sim_store_sets.specs.Numbers.{is_in};
 ghost use Rattle.sim_standard.specs.State.{driver_at, driver_values};
 ghost use Rattle.sim_store_sets.specs.Times.{time_of};
-ghost use Rattle.sim_store_state.specs.Changes.{AreReached, AreTimes, first_times, time_at, value_at};
+ghost use Rattle.sim_store_state.specs.Changes.{AreReached, AreTimes, AreTold, first_times, time_at, value_at};
 ghost use Rattle.sim_standard.specs.Drivers as spec;
 
 use crate::sets::{insert_each, insert_range};
@@ -126,54 +126,65 @@ pub fn tell_changed(
     tell_row(queue, stale, drivers, number);
 }
 
-/// A driver takes its first transaction, if its time has come; gives the value that it has then.
-fn take_value(driver: &mut Driver, time: u64) -> Logic
+/// A driver takes its first transaction, if its time has come; gives the value that it has then, and
+/// its first pending time.
+fn take_value(driver: &mut Driver, time: u64) -> (Logic, Option<u64>)
     ensures after { driver.new ≡ taken time driver.old }
-    ensures value { result ≡ driver.new.value }
+    ensures value { result.0 ≡ driver.new.value }
+    ensures next { result.1 ≡ spec.next_time (driver.new ∷ []) }
 {
     driver.take(time);
-    driver.value()
+    (driver.value(), first_time(driver))
 }
 
 /// The same, of the driver at a place.
-fn take_among(drivers: &mut [Driver], place: usize, time: u64) -> Logic
+fn take_among(drivers: &mut [Driver], place: usize, time: u64) -> (Logic, Option<u64>)
     requires { place < length drivers.old }
     ensures drivers { drivers.new ≡ slice_set drivers.old place (taken time (driver_at drivers.old place)) }
-    ensures value { result ≡ (taken time (driver_at drivers.old place)).value }
+    ensures value { result.0 ≡ (taken time (driver_at drivers.old place)).value }
+    ensures next { result.1 ≡ spec.next_time (taken time (driver_at drivers.old place) ∷ []) }
 {
     take_value(&mut drivers[place], time)
 }
 
 /// The same, where drivers stand by process.
-fn take_in(drivers: &mut RowArray<Driver>, place: usize, time: u64) -> Logic
+fn take_in(drivers: &mut RowArray<Driver>, place: usize, time: u64) -> (Logic, Option<u64>)
     requires { place < length (joined drivers.old) }
     ensures rows { map length drivers.new ≡ map length drivers.old }
     ensures drivers { joined drivers.new ≡ slice_set (joined drivers.old) place (taken time (driver_at (joined drivers.old) place)) }
-    ensures value { result ≡ (taken time (driver_at (joined drivers.old) place)).value }
+    ensures value { result.0 ≡ (taken time (driver_at (joined drivers.old) place)).value }
+    ensures next { result.1 ≡ spec.next_time (taken time (driver_at (joined drivers.old) place) ∷ []) }
 {
     take_among(drivers.flat.as_mut_slice(), place, time)
 }
 
 /// The same, where these are a part of all.
-fn take_at(parts: &mut [RowArray<Driver>], part: usize, place: usize, time: u64) -> Logic
+fn take_at(
+    parts: &mut [RowArray<Driver>],
+    part: usize,
+    place: usize,
+    time: u64,
+) -> (Logic, Option<u64>)
     requires part { part < length parts.old }
     requires place { place < length (joined (slice_index_or parts.old part [])) }
     ensures parts { parts.new ≡ slice_set parts.old part (slice_index_or parts.new part []) }
     ensures rows { map length (slice_index_or parts.new part []) ≡ map length (slice_index_or parts.old part []) }
     ensures drivers { joined (slice_index_or parts.new part []) ≡ slice_set (joined (slice_index_or parts.old part [])) place
         (taken time (driver_at (joined (slice_index_or parts.old part [])) place)) }
-    ensures value { result ≡ (taken time (driver_at (joined (slice_index_or parts.old part [])) place)).value }
+    ensures value { result.0 ≡ (taken time (driver_at (joined (slice_index_or parts.old part [])) place)).value }
+    ensures next { result.1 ≡ spec.next_time (taken time (driver_at (joined (slice_index_or parts.old part [])) place) ∷ []) }
 {
     take_in(&mut parts[part], place, time)
 }
 
 /// The driver with a number takes its first transaction, if its time has come; gives the value that
-/// it has then.
-fn take_driver(drivers: &mut DividedRows<Driver>, number: usize, time: u64) -> Logic
+/// it has then, and its first pending time.
+fn take_driver(drivers: &mut DividedRows<Driver>, number: usize, time: u64) -> (Logic, Option<u64>)
     requires { number < length (joined drivers.old) }
     ensures rows { map length drivers.new ≡ map length drivers.old }
     ensures drivers { joined drivers.new ≡ slice_set (joined drivers.old) number (taken time (driver_at (joined drivers.old) number)) }
-    ensures value { result ≡ (taken time (driver_at (joined drivers.old) number)).value }
+    ensures value { result.0 ≡ (taken time (driver_at (joined drivers.old) number)).value }
+    ensures next { result.1 ≡ spec.next_time (taken time (driver_at (joined drivers.old) number) ∷ []) }
 {
     let (part, place) = item_place(drivers.parts.as_slice(), number);
     take_at(drivers.parts.as_mut_slice(), part, place, time)
@@ -200,17 +211,42 @@ fn note_value(
     }
 }
 
+/// Gives the queue the time of a driver; says whether there was memory for it.
+fn is_told(queue: &mut TimeQueue, number: usize, time: Option<u64>) -> bool
+    requires { number < length queue.old }
+    ensures sized { length queue.new ≡ length queue.old }
+    ensures here { result ≡ true → time_of queue.new number ≡ time }
+    ensures others { (d : ℕ) → d ≢ number → time_of queue.new d ≡ time_of queue.old d }
+{
+    match queue.put(number, time) {
+        Ok(()) => true,
+        Err(_) => false,
+    }
+}
+
+/// None of the drivers is stale any more, where the queue has been told the time of each.
+pub fn forget(stale: &mut NumberSet, told: bool)
+    ensures sized { length stale.new ≡ length stale.old }
+    ensures same { told ≡ false → stale.new ≡ stale.old }
+{
+    if told {
+        stale.clear();
+    }
+}
+
 /// The driver with a number takes its first transaction, if its time has come; where it has another
-/// value then, these nets are touched.
+/// value then, these nets are touched. Says whether the queue has been told its first pending time.
 fn take_one(
     drivers: &mut DividedRows<Driver>,
     driving: &mut [Logic],
     number: usize,
     time: u64,
     nets: &[usize],
+    queue: &mut TimeQueue,
     touched: &mut NumberSet,
-)
+) -> bool
     requires at { number < length (joined drivers.old) }
+    requires queue { length queue.old ≡ length (joined drivers.old) }
     requires driving { driving.old ≡ driver_values (joined drivers.old) }
     ensures rows { map length drivers.new ≡ map length drivers.old }
     ensures drivers { joined drivers.new ≡ slice_set (joined drivers.old) number (taken time (driver_at (joined drivers.old) number)) }
@@ -219,23 +255,30 @@ fn take_one(
     ensures kept { (n : ℕ) → is_in touched.new n ≡ false → is_in touched.old n ≡ false }
     ensures reached { AreReached touched.new nets.now (driver_at (joined drivers.old) number).value
         (taken time (driver_at (joined drivers.old) number)).value }
+    ensures times { length queue.new ≡ length queue.old }
+    ensures told { result ≡ true → time_of queue.new number ≡ time_at (joined drivers.new) number }
+    ensures untold { (d : ℕ) → d ≢ number → time_of queue.new d ≡ time_of queue.old d }
 {
-    let value = take_driver(drivers, number, time);
+    let (value, next) = take_driver(drivers, number, time);
     note_value(driving, number, value, nets, touched);
+    is_told(queue, number, next)
 }
 
 /// The drivers that are due take their transactions of a time, and nets of each that has another
-/// value then are touched. The others have none to take, and it does not look at them.
+/// value then are touched. The others have none to take, and it does not look at them. Says whether
+/// the queue has been told the first pending time of each that is due.
 pub fn take_due(
     drivers: &mut DividedRows<Driver>,
     driving: &mut [Logic],
     time: u64,
     due: &NumberSet,
     fan_out: &RowArray<usize>,
+    queue: &mut TimeQueue,
     touched: &mut NumberSet,
-)
+) -> bool
     requires due { length due.now ≡ length (joined drivers.old) }
     requires fan_out { length fan_out.now ≡ length (joined drivers.old) }
+    requires queue { length queue.old ≡ length (joined drivers.old) }
     requires driving { driving.old ≡ driver_values (joined drivers.old) }
     requires others { (d : ℕ) → is_in due.now d ≡ false → taken time (driver_at (joined drivers.old) d) ≡ driver_at (joined drivers.old) d }
     ensures drivers { drivers.new ≡ map (map (taken time)) drivers.old }
@@ -243,13 +286,18 @@ pub fn take_due(
     ensures sized { length touched.new ≡ length touched.old }
     ensures reached { (d : ℕ) → AreReached touched.new (slice_index_or fan_out.now d []) (driver_at (joined drivers.old) d).value
         (taken time (driver_at (joined drivers.old) d)).value }
+    ensures told { AreTold result due.now queue.old queue.new (joined drivers.new) }
 {
     let _count = due.len();
+    let mut told = true;
     let mut from = 0;
     while let Some(number) = due.next(from) {
-        take_one(drivers, driving, number, time, fan_out.row(number), touched);
+        let nets = fan_out.row(number);
+        let is_known = take_one(drivers, driving, number, time, nets, queue, touched);
+        told = is_known & told;
         from = number + 1;
     }
+    told
 }
 
 /// The drivers of the process with a number are stale from now on, as another list of drivers may

@@ -15,17 +15,17 @@ ghost use Rattle.sim_standard.specs.Statements.{executed};
 ghost use Rattle.sim_standard.specs.Drivers as spec;
 ghost use Rattle.sim_standard.specs.State as states;
 ghost use Rattle.sim_standard.specs.Initialization.{first_state};
-ghost use Rattle.sim_standard.specs.Cycle.{has_event_in, updated};
+ghost use Rattle.sim_standard.specs.Cycle.{updated};
 ghost use Rattle.sim_store_state.specs.FlatState.{flat_state_of, held};
 ghost use Rattle.sim_store_state.specs.Changes.{IsHeld};
 ghost use Rattle.sim_standard.specs.Records.{changes_from, values_of};
-ghost use Rattle.sim_store_state.specs.Sensitive.{AreSensitive};
 
-use crate::drivers::{are_same, bring_up_to_date, copied, mark_stale, take_due, tell_changed};
+use crate::drivers::{
+    are_same, bring_up_to_date, copied, forget, mark_stale, take_due, tell_changed,
+};
 use crate::execution::{as_done, execute_in_parts, may_have_changed};
 use crate::log::Log;
 use crate::nets::{ByNumber, Seen, SeenBy, are_views, resolve_touched, settle, views_at};
-use crate::resumption::find_resumed;
 use crate::start::{connections, first_contents, nothing_pending};
 use sim_exec::NetView;
 use sim_exec_code::{Codes, Frame};
@@ -341,14 +341,16 @@ impl FlatState {
         );
         self.touched.clear();
         self.queue.take(time, &mut self.stale);
-        take_due(
+        let told = take_due(
             &mut self.drivers,
             self.driving.as_mut_slice(),
             time,
             &self.stale,
             &self.fan_out,
+            &mut self.queue,
             &mut self.touched,
         );
+        forget(&mut self.stale, told);
         resolve_touched(
             self.values.as_mut_slice(),
             &self.touched,
@@ -452,23 +454,6 @@ impl FlatState {
             return Ok(());
         }
         self.execute(alloc, number, process, time, codes, frame)
-    }
-
-    /// Finds the processes that the next step executes, where the last cycle is done: those that
-    /// are sensitive to a net with an event.
-    pub fn find_resumed(&self, resumed: &mut NumberSet, sensitive: &RowArray<usize>)
-        requires { length sensitive.now ≡ length self.now.nets }
-        ensures sized { length resumed.new ≡ length resumed.old }
-        ensures found { (processes : List process_value) (p : ℕ) → AreSensitive processes sensitive.now → p < length resumed.old
-            → is_in resumed.new p ≡ has_event_in self.now.nets (process_at processes p).sensitivity }
-    {
-        find_resumed(
-            resumed,
-            self.values.as_slice(),
-            self.last_values.as_slice(),
-            &self.touched,
-            sensitive,
-        );
     }
 
     /// Appends what the last cycle changed to a log that has room for it.

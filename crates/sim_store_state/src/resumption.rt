@@ -1,14 +1,13 @@
 //! Which processes a cycle resumes (IEEE 1076-2008, 14.7.5.3).
 
-ghost use Rattle.std.specs.Prelude.{ℕ, ◌≡◌, ◌<◌, ◌||◌, ◌&&◌, ◌==◌, not, [], List, length, slice_index_or, IfOk, OnOk};
-ghost use Rattle.sim_logic.specs.Logic.{is_same};
+ghost use Rattle.std.specs.Prelude.{ℕ, ◌≡◌, ◌<◌, ◌||◌, ◌&&◌, ◌==◌, [], List, length, slice_index_or, IfOk, OnOk};
 ghost use Rattle.sim_flat_design.specs.Processes.{Process as process_value};
-ghost use Rattle.sim_store_state.specs.FlatState.{views_of};
+ghost use Rattle.sim_standard.specs.declared.net_view.NetView.{NetView};
+ghost use Rattle.sim_standard.specs.Records.{changes_from};
 ghost use Rattle.sim_standard.specs.Cycle.{has_event_in};
 ghost use Rattle.sim_standard.specs.Processes.{process_at};
 ghost use Rattle.sim_store_sets.specs.Numbers.{is_in};
-ghost use Rattle.sim_store_state.specs.Changes.{AreTouched};
-ghost use Rattle.sim_store_state.specs.Sensitive.{AreSensitive, is_sensitive};
+ghost use Rattle.sim_store_state.specs.Sensitive.{AreSensitive, is_told};
 ghost use Rattle.sim_standard.specs.Orders.{is_among};
 
 use crate::lists::{add, empty_lists, in_rows};
@@ -57,56 +56,34 @@ pub fn sensitive(alloc: Global, design: &Design) -> Result<RowArray<usize>, Allo
     in_rows(alloc, lists.as_slice())
 }
 
-/// Where a net has an event, processes are resumed.
-fn resume_at_event(resumed: &mut NumberSet, value: Logic, last: Logic, numbers: &[usize])
-    ensures sized { length resumed.new ≡ length resumed.old }
-    ensures members { (p : ℕ) → p < length resumed.old
-        → is_in resumed.new p ≡ ((not (is_same last value) && is_among numbers.now p) || is_in resumed.old p) }
+/// The processes that are sensitive to the net with a number; none if there is no such net.
+fn sensitive_to(sensitive: &RowArray<usize>, net: usize) -> &[usize]
+    ensures { result.now ≡ slice_index_or sensitive.now net [] }
 {
-    if last != value {
-        insert_each(resumed, numbers);
+    if net >= sensitive.len() {
+        return &[];
+    }
+    sensitive.row(net)
+}
+
+/// Processes that are sensitive to a net of these changes are resumed.
+fn resume_sensitive(resumed: &mut NumberSet, changes: &[(u32, Logic)], sensitive: &RowArray<usize>)
+    ensures sized { length resumed.new ≡ length resumed.old }
+    ensures members { (p : ℕ) → p < length resumed.old → is_in resumed.new p ≡ (is_told sensitive.now changes.now p || is_in resumed.old p) }
+{
+    for (net, _value) in changes {
+        insert_each(resumed, sensitive_to(sensitive, *net as usize));
     }
 }
 
-/// Processes that are sensitive to a net with an event are resumed. It looks only at nets that are
-/// touched.
-fn resume_sensitive(
-    resumed: &mut NumberSet,
-    values: &[Logic],
-    last_values: &[Logic],
-    touched: &NumberSet,
-    sensitive: &RowArray<usize>,
-)
-    requires last_values { length last_values.now ≡ length values.now }
-    requires touched { AreTouched values.now last_values.now touched.now }
-    requires sensitive { length sensitive.now ≡ length values.now }
+/// Finds the processes that are resumed after a cycle with these changes: those that are sensitive to
+/// a net with an event, and no others. It looks only at the nets that changed.
+pub fn find_resumed(resumed: &mut NumberSet, changes: &[(u32, Logic)], sensitive: &RowArray<usize>)
     ensures sized { length resumed.new ≡ length resumed.old }
-    ensures members { (p : ℕ) → p < length resumed.old
-        → is_in resumed.new p ≡ (is_sensitive (views_of values.now last_values.now) sensitive.now p || is_in resumed.old p) }
-{
-    let mut from = 0;
-    while let Some(net) = touched.next(from) {
-        resume_at_event(resumed, values[net], last_values[net], sensitive.row(net));
-        from = net + 1;
-    }
-}
-
-/// Finds the processes that are resumed: those that are sensitive to a net with an event, and no
-/// others.
-pub fn find_resumed(
-    resumed: &mut NumberSet,
-    values: &[Logic],
-    last_values: &[Logic],
-    touched: &NumberSet,
-    sensitive: &RowArray<usize>,
-)
-    requires last_values { length last_values.now ≡ length values.now }
-    requires touched { AreTouched values.now last_values.now touched.now }
-    requires sensitive { length sensitive.now ≡ length values.now }
-    ensures sized { length resumed.new ≡ length resumed.old }
-    ensures found { (processes : List process_value) (p : ℕ) → AreSensitive processes sensitive.now → p < length resumed.old
-        → is_in resumed.new p ≡ has_event_in (views_of values.now last_values.now) (process_at processes p).sensitivity }
+    ensures found { (nets : List NetView) (processes : List process_value) (p : ℕ) → changes.now ≡ changes_from 0 nets → length sensitive.now ≡ length nets
+        → AreSensitive processes sensitive.now → p < length resumed.old
+        → is_in resumed.new p ≡ has_event_in nets (process_at processes p).sensitivity }
 {
     resumed.clear();
-    resume_sensitive(resumed, values, last_values, touched, sensitive);
+    resume_sensitive(resumed, changes, sensitive);
 }

@@ -1,10 +1,10 @@
-use Rattle.std.proofs.Common.{arith, refl, ap, length, ◌∙◌}
+use Rattle.std.proofs.Common.{arith, refl, ap, sym, true, length, ◌∙◌}
 use Rattle.std.proofs.lemmas.List.{length-set}
 use Rattle.sim_standard.specs.Drivers.{taken}
 use Rattle.sim_standard.specs.State.{driver_at}
 use Rattle.sim_store_sets.specs.RowArray.{joined}
 use Rattle.sim_store_state.proofs.Walks.{member_within, walk_done}
-use Rattle.sim_store_state.proofs.Taking.{none-taken, taken-more, rest-more, all-same}
+use Rattle.sim_store_state.proofs.Taking.{all-told, none-taken, none-told, taken-more, told-more, rest-more, all-same}
 use Rattle.sim_store_state.proofs.Items.{each-item}
 use Rattle.sim_store_state.proofs.drivers.take_due.Goals as goal
 
@@ -16,16 +16,18 @@ loop-number-init c = record {
   valued = c.requires.driving;
   within = omega arith;
   rest = λ d le. refl;
+  told = none-told true c.args.due.now c.args.queue.now (joined c.args.drivers.now);
   walked = none-taken c.args.time (joined c.args.drivers.now) c.args.fan_out.now c.args.touched.now c.args.due.now c.requires.others;
 }
 
-pub row-requires : goal.row-requires
-row-requires c =
+pub row-nets-requires : goal.row-nets-requires
+row-nets-requires c =
     omega (arith, member_within c.args.due.now c.in-Some.number c.in-Some.ensures.passes, c.requires.due, c.requires.fan_out)
 
-pub take_one-requires : goal.take_one-requires
-take_one-requires c = record {
+pub take_one-is_known-requires : goal.take_one-is_known-requires
+take_one-is_known-requires c = record {
   at = omega (arith, member_within c.args.due.now c.in-Some.number c.in-Some.ensures.passes, c.requires.due, c.loop-number.invariant.long);
+  queue = c.loop-number.invariant.told.sized ∙ (c.requires.queue ∙ sym c.loop-number.invariant.long);
   driving = c.loop-number.invariant.valued;
 }
 
@@ -38,9 +40,9 @@ loop-number-preserved c =
     let k = c.in-Some.number in
     let old = joined c.args.drivers.now in
     let now = joined c.loop-number.drivers in
-    let new = joined c.take_one.new.drivers in
+    let new = joined c.take_one-is_known.new.drivers in
     let i = c.loop-number.invariant in
-    let e = c.take_one.ensures in
+    let e = c.take_one-is_known.ensures in
     let within = member_within c.args.due.now k c.in-Some.ensures.passes in
     record {
       sized = e.sized ∙ i.sized;
@@ -49,9 +51,11 @@ loop-number-preserved c =
       valued = e.driving;
       within = omega (arith, within, c.requires.due);
       rest = rest-more c.args.time old now new c.loop-number.from k c.in-Some.ensures.further i.rest e.drivers;
-      walked = taken-more c.args.time old c.args.fan_out.now now new c.loop-number.touched c.take_one.new.touched c.args.due.now
+      told = told-more k c.take_one-is_known.result _ c.take_one-is_known.new.queue new (taken c.args.time (driver_at now k)) i.told c.in-Some.ensures refl
+          e.drivers e.times e.told e.untold;
+      walked = taken-more c.args.time old c.args.fan_out.now now new c.loop-number.touched c.take_one-is_known.new.touched c.args.due.now
           c.loop-number.from k i.walked c.in-Some.ensures (omega (arith, within, c.requires.due, i.long)) (i.rest k c.in-Some.ensures.further) e.drivers
-          e.sized e.kept (rw c.row.ensures at e.reached);
+          e.sized e.kept (rw c.row-nets.ensures at e.reached);
     }
 
 pub returns : goal.returns
@@ -64,4 +68,5 @@ returns c =
       driving = i.valued;
       sized = i.sized;
       reached = λ d. (each d).nets;
+      told = all-told i.told c.in_default.ensures;
     }

@@ -2,7 +2,7 @@ use Rattle.std.proofs.Common.{ℕ, ◌≡◌, ◌≤◌, ◌-◌, length, map}
 use Rattle.sim_store_sets.specs.RowArray.{joined}
 use Rattle.sim_standard.specs.State.{driver_at, driver_values}
 use Rattle.sim_store_state.proofs.Walks.{Walked}
-use Rattle.sim_store_state.proofs.Taking.{IsTaken}
+use Rattle.sim_store_state.proofs.Taking.{IsTaken, IsTold}
 use Rattle.sim_store_state.proofs.drivers.take_due.Given as goal
 
 abbrev pub invariant-loop-number : goal.invariant-loop-number
@@ -13,6 +13,7 @@ invariant-loop-number l = record {
   valued : l.driving ≡ driver_values (joined l.drivers);
   within : l.from ≤ length (joined l.initial.drivers);
   rest : (d : ℕ) → l.from ≤ d → driver_at (joined l.drivers) d ≡ driver_at (joined l.initial.drivers) d;
+  told : IsTold l.told l.due l.from l.initial.queue l.queue (joined l.drivers);
   walked : Walked l.due l.from (IsTaken l.time (joined l.initial.drivers) l.fan_out (joined l.drivers) l.touched);
 }
 

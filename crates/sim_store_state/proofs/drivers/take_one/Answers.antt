@@ -1,7 +1,8 @@
-use Rattle.std.proofs.Common.{List, set, ap, sym, ◌∙◌}
+use Rattle.std.proofs.Common.{List, [], ◌∷◌, set, ap, sym, ◌∙◌}
+use Rattle.std.proofs.lemmas.List.{get_or-set_same}
 use Rattle.sim_logic.specs.declared.logic.Logic.{Logic}
-use Rattle.sim_standard.specs.Drivers.{taken}
-use Rattle.sim_standard.specs.State.{driver_at, driver_values}
+use Rattle.sim_standard.specs.Drivers.{Waveform, next_time, taken}
+use Rattle.sim_standard.specs.State.{driver_at, driver_values, no_driver}
 use Rattle.sim_store_sets.specs.RowArray.{joined}
 use Rattle.sim_store_state.proofs.Values.{values-set}
 use Rattle.sim_store_state.proofs.drivers.take_one.Goals as goal
@@ -12,5 +13,14 @@ returns-clause-driving c =
     let n = c.args.number in
     let e = c.take_driver-value.ensures in
     let d = taken c.args.time (driver_at old n) in
-    c.note_value.ensures.driving ∙ (ap (λ (ws : List Logic). set ws n c.take_driver-value.result) c.requires.driving
+    c.note_value.ensures.driving ∙ (ap (λ (ws : List Logic). set ws n c.take_driver-value.result.0) c.requires.driving
     ∙ (ap (set (driver_values old) n) e.value ∙ (sym (values-set old n d) ∙ ap driver_values (sym e.drivers))))
+
+pub returns-clause-told : goal.returns-clause-told
+returns-clause-told c is =
+    let old = joined c.args.drivers.now in
+    let n = c.args.number in
+    let e = c.take_driver-value.ensures in
+    let d = taken c.args.time (driver_at old n) in
+    c.is_told.ensures.here is ∙ (e.next ∙ ap (λ (w : Waveform). next_time (w ∷ []))
+    (sym (ap (λ (ws : List Waveform). driver_at ws n) e.drivers ∙ get_or-set_same old n d no_driver c.requires.at)))

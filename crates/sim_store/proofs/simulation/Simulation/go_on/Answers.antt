@@ -50,14 +50,6 @@ record-requires-clause-changes c =
     let count = advanced-count kept.state done c.args.time c.update.new.self c.in_ok-update.ensures.ok in
     omega (arith, count, ap length c.nets-nets.ensures.value, c.in_ok-reserve.ensures.changes)
 
-pub find-requires-clause-nets : goal.find-requires-clause-nets
-find-requires-clause-nets c =
-    let kept = held c.self.inside.design c.deref_mut-made.ensures.value c.self.invariant in
-    let view = shown c.self.inside.design c.deref_mut-made.ensures.value c.self.view_is in
-    let done = subst IsExecuted (sym view) c.requires.executed in
-    let count = advanced-count kept.state done c.args.time c.update.new.self c.in_ok-update.ensures.ok in
-    kept.made.sensitive_sized ∙ sym count
-
 pub find-requires-clause-processes : goal.find-requires-clause-processes
 find-requires-clause-processes c =
     let kept = held c.self.inside.design c.deref_mut-made.ensures.value c.self.invariant in
@@ -103,6 +95,8 @@ invariant_of-self-2 c =
     let same : c.find.new.waiting.postponed ≡ m.waiting.postponed = c.find.ensures.postponed ∙ c.leave.ensures.postponed in
     let marks = c.clear.ensures ∙ none-marked-now m.deposited in
     let last = last-record m.log.records c.record.new.log.records one records in
+    let changes = ap (λ (r : Record). r.changes) last in
+    let sensed = kept.made.sensitive_sized ∙ sym (advanced-count i done c.args.time c.update.new.self c.in_ok-update.ensures.ok) in
     let written = written_back c.count_last.new.totals m.totals.items m.totals.len (c.count_last.ensures.sized ∙ c.as_mut_slice.ensures.len) in
     record {
       made = kept.made;
@@ -111,10 +105,10 @@ invariant_of-self-2 c =
           c.update.new.self c.record.new.log.records m.waiting.postponed c.find.new.self c.find.new.waiting.waiting _ c.next_delta-made.ensures
           c.in_ok-update.ensures.ok records c.find.ensures.sized (c.find.ensures.waiting_sized ∙ c.leave.ensures.sized)
           kept.marked.are
-          (λ p lt. c.find.ensures.found h.design.processes p kept.made.sensitive_are lt
+          (λ p lt. c.find.ensures.found c.update.new.self.nets h.design.processes p changes sensed kept.made.sensitive_are lt
           ∙ ap (λ (ps : List Bool). has_event_in c.update.new.self.nets (process_at h.design.processes p).sensitivity && not (those_in ps p))
           c.leave.ensures.postponed)
-          (λ p lt. c.find.ensures.moved h.design.processes p kept.made.sensitive_are lt
+          (λ p lt. c.find.ensures.moved c.update.new.self.nets h.design.processes p changes sensed kept.made.sensitive_are lt
           ∙ (ap (λ (ps : List Bool). those_in c.leave.new.waiting.waiting p
           || (has_event_in c.update.new.self.nets (process_at h.design.processes p).sensitivity && those_in ps p)) c.leave.ensures.postponed
           ∙ ap (λ (b : Bool). b

@@ -6,11 +6,12 @@ use Rattle.std.specs.Prelude.{false}
 use Rattle.sim_standard.specs.Drivers.{taken, next_time}
 use Rattle.sim_store_sets.specs.RowArray.{joined}
 use Rattle.sim_store_sets.proofs.Flat.{joined-map, written_back}
-use Rattle.sim_store_sets.specs.Times.{earliest, is_at}
+use Rattle.sim_store_sets.specs.Times.{clear, earliest, is_at}
 use Rattle.sim_store_state.specs.Changes.{row_from, row_value, value_at}
 use Rattle.sim_store_state.proofs.Contents.{drivers-by, held-updated}
 use Rattle.sim_store_state.proofs.Due.{earliest-next, others-keep}
 use Rattle.sim_store_state.proofs.Putting.{times-keep}
+use Rattle.sim_store_state.proofs.Taking.{told-times}
 use Rattle.sim_store_state.proofs.Updating.{unreached, update-keeps}
 use Rattle.sim_store_state.proofs.Values.{row-from, rows-from, value-here}
 use Rattle.sim_store_state.proofs.flat_state.FlatState.update.Goals as goal
@@ -33,14 +34,15 @@ take-requires c =
       sized = c.self.invariant.timed.marked ∙ sym c.bring_up_to_date.ensures.times.sized;
     }
 
-pub take_due-requires : goal.take_due-requires
-take_due-requires c =
+pub take_due-told-requires : goal.take_due-told-requires
+take_due-told-requires c =
     let ds = joined c.self.inside.drivers in
     let queue = c.bring_up_to_date.new.queue in
     let next : next_time ds ≡ Some c.args.time = ap next_time (sym (drivers-by c.self.view_is c.self.invariant.lists)) ∙ c.requires.next in
     record {
       due = ap length c.take.ensures.taken ∙ (length-map queue (is_at c.args.time) ∙ c.bring_up_to_date.ensures.times.sized);
       fan_out = c.self.invariant.fan_out_count;
+      queue = ap length c.take.ensures.queue ∙ (length-map queue (clear c.args.time) ∙ c.bring_up_to_date.ensures.times.sized);
       driving = c.as_mut_slice-2.ensures.value ∙ c.self.invariant.valued;
       others = others-keep ds queue c.take.new.taken c.args.time next c.in_ok-bring_up_to_date.ensures.ok c.take.ensures.taken;
     }
@@ -50,21 +52,21 @@ resolve_touched-requires c =
     let s = c.self.inside in
     let i = c.self.invariant in
     let ds = joined s.drivers in
-    let now = joined c.take_due.new.drivers in
-    let es : now ≡ map (taken c.args.time) ds = ap joined c.take_due.ensures.drivers ∙ joined-map (taken c.args.time) s.drivers in
-    let long : length c.take_due.new.touched ≡ length s.values.items =
-    c.take_due.ensures.sized ∙ (ap length c.clear.ensures ∙ (length-replicate (length s.touched) false ∙ i.touching.sized)) in
+    let now = joined c.take_due-told.new.drivers in
+    let es : now ≡ map (taken c.args.time) ds = ap joined c.take_due-told.ensures.drivers ∙ joined-map (taken c.args.time) s.drivers in
+    let long : length c.take_due-told.new.touched ≡ length s.values.items =
+    c.take_due-told.ensures.sized ∙ (ap length c.clear.ensures ∙ (length-replicate (length s.touched) false ∙ i.touching.sized)) in
     let nets : length s.values.items ≡ length s.sources = ap length i.resolving ∙ length-map s.sources (row_value ds) in
     let back : length c.as_mut_slice-3.result.now ≡ length s.values.items = ap length c.as_mut_slice-3.ensures.value in
     let driving : c.as_slice-2.result.now ≡ driver_values now =
-    c.as_slice-2.ensures.value ∙ (written_back c.take_due.new.driving s.driving.items s.driving.len
-    (omega (arith, c.take_due.auto.driving, ap length c.as_mut_slice-2.ensures.value, s.driving.ok)) ∙ c.take_due.ensures.driving) in
+    c.as_slice-2.ensures.value ∙ (written_back c.take_due-told.new.driving s.driving.items s.driving.len
+    (omega (arith, c.take_due-told.auto.driving, ap length c.as_mut_slice-2.ensures.value, s.driving.ok)) ∙ c.take_due-told.ensures.driving) in
     record {
       touched = long ∙ sym back;
       sources = sym nets ∙ sym back;
       others = λ n other lt. ap (λ w. value_at w n) c.as_mut_slice-3.ensures.value ∙ (value-here s.values.items s.sources (row_value ds) n i.resolving
-          (omega (arith, lt, back)) ∙ (sym (unreached s.sources s.fan_out ds now c.take_due.new.touched c.args.time n i.fanned
-          i.fan_out_count (long ∙ nets) es c.take_due.ensures.reached other) ∙ (sym (row-from now (get_or s.sources n []))
+          (omega (arith, lt, back)) ∙ (sym (unreached s.sources s.fan_out ds now c.take_due-told.new.touched c.args.time n i.fanned
+          i.fan_out_count (long ∙ nets) es c.take_due-told.ensures.reached other) ∙ (sym (row-from now (get_or s.sources n []))
           ∙ ap (λ ws. row_from ws (get_or s.sources n [])) (sym driving))));
     }
 
@@ -77,14 +79,16 @@ invariant_of-self-2 c =
     (omega (arith, c.resolve_touched.auto.values, ap length c.as_mut_slice-3.ensures.value, s.values.ok)) in
     let last_values = written_back c.settle.new.last_values s.last_values.items s.last_values.len
     (omega (arith, c.settle.auto.last_values, ap length c.as_mut_slice.ensures.value, s.last_values.ok)) in
-    let driving = written_back c.take_due.new.driving s.driving.items s.driving.len
-    (omega (arith, c.take_due.auto.driving, ap length c.as_mut_slice-2.ensures.value, s.driving.ok)) in
-    update-keeps c.self.invariant c.args.time _ _ _ c.take_due.new.drivers c.bring_up_to_date.new.queue c.take.new.self c.take.new.taken
-    c.take_due.new.touched next c.in_ok-bring_up_to_date.ensures.ok
-    (last_values ∙ (c.settle.ensures ∙ c.as_slice.ensures.value)) c.take.ensures.taken c.take.ensures.queue c.take_due.ensures.drivers
-    c.take_due.ensures.reached
-    (c.take_due.ensures.sized ∙ (ap length c.clear.ensures ∙ length-replicate (length s.touched) false)) (driving ∙ c.take_due.ensures.driving)
-    (values ∙ (c.resolve_touched.ensures ∙ ap (λ (w : List Logic). map (row_from w) s.sources) c.as_slice-2.ensures.value))
+    let driving = written_back c.take_due-told.new.driving s.driving.items s.driving.len
+    (omega (arith, c.take_due-told.auto.driving, ap length c.as_mut_slice-2.ensures.value, s.driving.ok)) in
+    let held = update-keeps c.self.invariant c.args.time _ _ _ c.take_due-told.new.drivers c.bring_up_to_date.new.queue c.take.new.self c.take.new.taken
+    c.take_due-told.new.touched next c.in_ok-bring_up_to_date.ensures.ok
+    (last_values ∙ (c.settle.ensures ∙ c.as_slice.ensures.value)) c.take.ensures.taken c.take.ensures.queue c.take_due-told.ensures.drivers
+    c.take_due-told.ensures.reached
+    (c.take_due-told.ensures.sized ∙ (ap length c.clear.ensures ∙ length-replicate (length s.touched) false)) (driving ∙ c.take_due-told.ensures.driving)
+    (values ∙ (c.resolve_touched.ensures ∙ ap (λ (w : List Logic). map (row_from w) s.sources) c.as_slice-2.ensures.value)) in
+    times-keep held c.take_due-told.new.queue c.forget.new.stale (told-times c.take_due-told.result held.timed c.take_due-told.ensures.told
+    c.forget.ensures.sized c.forget.ensures.same)
 
 pub returns : goal.returns
 returns c =
@@ -94,14 +98,14 @@ returns c =
     (omega (arith, c.resolve_touched.auto.values, ap length c.as_mut_slice-3.ensures.value, s.values.ok)) in
     let last_values = written_back c.settle.new.last_values s.last_values.items s.last_values.len
     (omega (arith, c.settle.auto.last_values, ap length c.as_mut_slice.ensures.value, s.last_values.ok)) in
-    let driving : c.as_slice-2.result.now ≡ driver_values (joined c.take_due.new.drivers) =
-    c.as_slice-2.ensures.value ∙ (written_back c.take_due.new.driving s.driving.items s.driving.len
-    (omega (arith, c.take_due.auto.driving, ap length c.as_mut_slice-2.ensures.value, s.driving.ok)) ∙ c.take_due.ensures.driving) in
-    let nets : map (row_from c.as_slice-2.result.now) s.sources ≡ map (row_value (joined c.take_due.new.drivers)) s.sources =
-    ap (λ (w : List Logic). map (row_from w) s.sources) driving ∙ rows-from (joined c.take_due.new.drivers) s.sources in
+    let driving : c.as_slice-2.result.now ≡ driver_values (joined c.take_due-told.new.drivers) =
+    c.as_slice-2.ensures.value ∙ (written_back c.take_due-told.new.driving s.driving.items s.driving.len
+    (omega (arith, c.take_due-told.auto.driving, ap length c.as_mut_slice-2.ensures.value, s.driving.ok)) ∙ c.take_due-told.ensures.driving) in
+    let nets : map (row_from c.as_slice-2.result.now) s.sources ≡ map (row_value (joined c.take_due-told.new.drivers)) s.sources =
+    ap (λ (w : List Logic). map (row_from w) s.sources) driving ∙ rows-from (joined c.take_due-told.new.drivers) s.sources in
     record {
-      ok = λ design state is. held-updated c.self.view_is i.lists c.args.time _ _ c.take_due.new.drivers (joined c.take_due.new.drivers)
-          (sym (ap length i.resolving ∙ length-map s.sources (row_value (joined s.drivers)))) c.take_due.ensures.drivers refl
+      ok = λ design state is. held-updated c.self.view_is i.lists c.args.time _ _ c.take_due-told.new.drivers (joined c.take_due-told.new.drivers)
+          (sym (ap length i.resolving ∙ length-map s.sources (row_value (joined s.drivers)))) c.take_due-told.ensures.drivers refl
           (values ∙ (c.resolve_touched.ensures ∙ nets)) (last_values ∙ (c.settle.ensures ∙ c.as_slice.ensures.value)) design state is;
       err = tt;
     }
