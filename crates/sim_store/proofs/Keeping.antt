@@ -2,11 +2,14 @@
 use Rattle.std.proofs.Common.{ℕ, ◌+◌, ◌-◌, ◌<◌, ◌≡◌, Bool, true, false, List}
 use Rattle.std.proofs.Common.{length, refl, ap, sym, ◌∙◌, subst, arith}
 use Rattle.std.specs.List.{All}
+use Rattle.std.proofs.lemmas.List.{length-map}
 use Rattle.std.proofs.lemmas.List.Elements.{All-get_or}
 use Rattle.sim_logic.specs.declared.logic.Logic.{Logic}
 use Rattle.sim_flat_design.specs.declared.design.Source.{Source}
+use Rattle.sim_flat_design.specs.Bodies.{Body}
 use Rattle.sim_flat_design.specs.Designs.{Design}
 use Rattle.sim_flat_design.specs.Processes.{IsProcess}
+use Rattle.sim_exec.specs.Jobs.{IsReady, holds_bit}
 use Rattle.sim_exec_code.specs.Codes.{Coded, AreCodesOf}
 use Rattle.sim_standard.specs.declared.net_view.NetView.{NetView}
 use Rattle.sim_standard.specs.State.{Owned, driver_values, net_at, owned_at}
@@ -92,6 +95,10 @@ simulation_by design records phase marks = record { design = design; cycles = le
 
 -- ---- made whole
 
+-- what fits a body has as many variables
+ready-long : {body : Body} {time : ℕ} {own : Owned} → IsReady body time own → length own.variables ≡ length body.variables
+ready-long {body} {time} {own} r = sym (length-map own.variables holds_bit) ∙ (ap length r.variables ∙ length-map body.variables holds_bit)
+
 -- an execution leaves the values of drivers
 result-values : (h : Simulation) (p : ℕ) → All IsProcess h.design.processes → p < length h.design.processes
     → driver_values (result_in h p).drivers ≡ driver_values (owned_at (reached h).owned p).drivers
@@ -136,6 +143,11 @@ module _ (d : Design) (f : Front) (k : Kept) (is : IsKept d f k) (owned' : List 
         range.owned_are p (omega (arith, lt, all, reached-all i)) ∙ (ap (owned_at (completed (front_of d f)).owned) z
         ∙ completed-other (front_of d f) p is_out);
     values = λ p lt. same-values p lt (is_due (kept_of d f k) p) refl;
+    variables = λ p lt.
+        let z : 0 + p ≡ p = omega arith in
+        let now = ready-long (range.ready p (omega (arith, lt, all, reached-all i))) in
+        let before = ready-long (i.ready p (omega (arith, lt, reached-all i))) in
+        now ∙ (ap (λ (n : ℕ). length (process_at d.processes n).body.variables) z ∙ sym before);
   }
 
   -- how many cycles there were, by the records

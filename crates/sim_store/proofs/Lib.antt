@@ -12,3 +12,4 @@ pub mod Handed
 pub mod Returning
 pub mod Keeping
 pub mod Crossing
+pub mod Orders

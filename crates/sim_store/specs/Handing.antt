@@ -1,6 +1,6 @@
 -- The processes of a phase, handed out in ranges to be executed, and what comes back.
 -- Of the implementation: what `simulate` promises does not rest on this file.
-use Rattle.std.specs.Prelude.{ℕ, ◌≡◌, ◌+◌, ◌<◌, ◌≤◌, List, [], Bool, true, false, length}
+use Rattle.std.specs.Prelude.{ℕ, ◌≡◌, ◌+◌, ◌<◌, ◌≤◌, List, [], ◌∷◌, Bool, true, false, map, length}
 use Rattle.std.specs.List.{All}
 use Rattle.sim_logic.specs.declared.logic.Logic.{Logic}
 use Rattle.sim_logic.specs.Time.{largest_time}
@@ -71,12 +71,43 @@ pub record IsNextBelow (test : ℕ → Bool) (from to n : ℕ) : Type 0 where
   pub passes : test n ≡ true
   pub first : (p : ℕ) → from ≤ p → p < n → test p ≡ false
 
--- What came back: of which cycle and phase it is, and what the processes from a number on own now.
-pub record Answer : Type 0 where
+-- An order, or the answer to it: of which cycle and phase it is, and what the processes from a number on own then.
+pub record Range : Type 0 where
   pub cycles : ℕ
   pub phase : Phase
   pub from : ℕ
   pub owned : List Owned
+
+-- An answer is of the phase and of the processes of an order.
+pub record IsAnswer (order answer : Range) : Type 0 where
+  pub cycles_are : answer.cycles ≡ order.cycles
+  pub phase_is : answer.phase ≡ order.phase
+  pub from_is : answer.from ≡ order.from
+  pub count_is : length answer.owned ≡ length order.owned
+
+-- of how many processes each is
+abbrev pub lengths : List Range → List ℕ
+lengths ranges = map (λ (r : Range). length r.owned) ranges
+
+-- Each is of this phase after this number of cycles. The first begins with the process that has this number, each other one where the one before it ends.
+abbrev pub AreInOrder : ℕ → Phase → ℕ → List Range → Type 0
+AreInOrder cycles phase from [] = Unit
+AreInOrder cycles phase from (r ∷ rs) =
+    (r.cycles ≡ cycles) × (r.phase ≡ phase) × (r.from ≡ from) × AreInOrder cycles phase (from + length r.owned) rs
+
+-- They are all parts of a phase, in their order, of so many processes each.
+pub record AreParts (cycles : ℕ) (phase : Phase) (parts : List ℕ) (ranges : List Range) : Type 0 where
+  pub counts_are : lengths ranges ≡ parts
+  pub in_order : AreInOrder cycles phase 0 ranges
+
+-- What stays of a store while a phase is handed out in parts of so many processes each.
+pub record Rest : Type 0 where
+  pub store : WaveStore
+  pub parts : List ℕ
+
+-- They are all orders of the phase that was handed out, or the answers to all of them, in their order.
+abbrev pub AreAll : Rest → List Range → Type 0
+AreAll rest ranges = AreParts rest.store.simulation.cycles rest.store.simulation.phase rest.parts ranges
 
 -- The run has not ended, and none has been executed in this phase.
 pub record IsUntouched (w : WaveStore) : Type 0 where

@@ -1,6 +1,7 @@
 //! Why a store refuses a call.
 
 ghost use Rattle.std.specs.Prelude.{◌≡◌};
+ghost use Rattle.sim_store.specs.declared.error.HandOutError.TheVariants as reason;
 ghost use Rattle.sim_store.specs.declared.error.StoreError.TheVariants as refusal;
 
 use std::alloc::AllocError;
@@ -52,12 +53,17 @@ pub enum HandOutError {
     /// No memory.
     #[error("Memory")]
     Memory,
-    /// What comes back is not what went out.
+    /// The answers are not those to all orders, in their order.
     #[error("Stranger")]
     Stranger,
+    /// An order has not been executed: it is there still.
+    #[error("OrderLeft")]
+    OrderLeft,
 }
 
 impl From<AllocError> for HandOutError {
+    ghost from_gives = { λ _ e. e ≡ reason.Memory };
+
     fn from(_e: AllocError) -> HandOutError {
         HandOutError::Memory
     }

@@ -106,7 +106,7 @@ impl<J: Naming> Front<J> {
         }
     }
 
-    /// Executes the process with a number, of which what it owns stands at a place of a share. If
+    /// Resumes the process with a number, of which what it owns stands at a place of a share. If
     /// allocation fails, it must not be executed again.
     pub fn execute(
         &self,
@@ -126,7 +126,7 @@ impl<J: Naming> Front<J> {
         ensures ready { IsReady (process_at J.design.processes number).body (reached (spec.front_of J.design self.now)).time (owned_at share.new place) }
     {
         let process = &self.scene.design.processes()[number];
-        share.execute(
+        share.resume(
             alloc,
             number,
             place,

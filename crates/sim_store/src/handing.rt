@@ -1,17 +1,19 @@
 //! A phase of a cycle that is handed out: orders, what stays here, and how both come together again.
 
-ghost use Rattle.std.specs.Prelude.{ℕ, ◌≡◌, ◌≤◌, ◌+◌, true, IfOk, length};
+ghost use Rattle.std.specs.Prelude.{ℕ, ◌≡◌, ◌≤◌, ◌+◌, true, Decides, IfErr, IfOk, length};
 ghost use Rattle.std.specs.Arc.{arc_value};
 ghost use Rattle.sim_store.specs.Handing as spec;
 ghost use Rattle.sim_store.specs.Simulation as simulations;
+ghost use Rattle.sim_store.specs.declared.error.HandOutError.TheVariants as reason;
+ghost use Rattle.sim_store_sets.specs.RowArray.{joined};
+ghost use Rattle.sim_store_state.specs.Lending.{counts};
 
 use crate::error::HandOutError;
 use crate::front::Front;
 use crate::naming::Naming;
 use crate::order::{Answer, Order};
-use crate::phase::Phase;
 use sim_store_state::{Share, Shares};
-use std::alloc::Global;
+use std::alloc::{AllocError, Global};
 use std::sync::Arc;
 
 /// The order for the processes of a share, of which the first has this number.
@@ -19,9 +21,15 @@ fn order_of<J: Naming>(
     front: &Arc<Front<J>, Global>,
     from: usize,
     share: Share,
-) -> Result<Order<J>, HandOutError>
+) -> Result<Order<J>, AllocError>
     requires { spec.IsRange (spec.front_of J.design (arc_value front.now))
         (simulations.reached (spec.front_of J.design (arc_value front.now))).owned from share }
+    ensures { IfOk result (λ o. o ≡ record {
+      cycles = (arc_value front.now).cycles;
+      phase = (arc_value front.now).phase;
+      from = from;
+      owned = share;
+    }) }
 {
     let theirs = Arc::try_clone(front)?;
     Ok(Order::new(from, share, theirs))
@@ -32,59 +40,79 @@ pub fn orders_of<J: Naming>(
     alloc: Global,
     shares: Shares,
     front: &Arc<Front<J>, Global>,
-) -> Result<Vec<Order<J>>, HandOutError>
+) -> Result<Vec<Order<J>>, AllocError>
     requires range { spec.IsRange (spec.front_of J.design (arc_value front.now))
-        (simulations.reached (spec.front_of J.design (arc_value front.now))).owned 0 shares }
-    requires all { length shares ≡ length J.design.processes }
+        (simulations.reached (spec.front_of J.design (arc_value front.now))).owned 0 (joined shares) }
+    requires all { length (joined shares) ≡ length J.design.processes }
+    ensures { IfOk result (λ v. spec.AreParts (arc_value front.now).cycles (arc_value front.now).phase (counts shares) v.items) }
 {
-    let mut orders = Vec::with_capacity(alloc, shares.count())?;
+    let count = shares.count();
+    let mut orders = Vec::with_capacity(alloc, count)?;
     let mut shares = shares;
     let mut to = front.count();
-    for _turn in 0..shares.count() {
+    for _turn in 0..count {
         let Some((rest, share)) = shares.pop() else {
-            return Err(HandOutError::Stranger);
+            unreachable!()
         };
         shares = rest;
         to -= share.len();
         let order = order_of(front, to, share)?;
-        if orders.push(order).is_err() {
-            return Err(HandOutError::Memory);
-        }
+        orders.push(order)?;
     }
     orders.as_mut_slice().reverse();
     Ok(orders)
 }
 
-/// Whether an answer is of this phase after this number of cycles, and begins with this process.
-fn is_next<J: Naming>(answer: &Answer<J>, cycles: usize, phase: Phase, from: usize) -> bool
-    ensures { result ≡ true → (answer.now.cycles ≡ cycles) × (answer.now.phase ≡ phase) × (answer.now.from ≡ from) }
+/// Of how many processes each order is.
+pub fn lengths_of<J: Naming>(alloc: Global, orders: &[Order<J>]) -> Result<Vec<usize>, AllocError>
+    ensures { IfOk result (λ v. v.items ≡ spec.lengths orders.now) }
 {
-    answer.cycles() == cycles && answer.phase() == phase && answer.from() == from
+    let mut lengths = Vec::with_capacity(alloc, orders.len())?;
+    for order in orders {
+        lengths.push(order.len())?;
+    }
+    Ok(lengths)
 }
 
-/// What all processes own, of which there are so many, by the answers to all orders of a phase.
+/// Whether an answer is of the phase that is read here, begins with this process, and is of so many.
+fn is_next<J: Naming>(answer: &Answer<J>, front: &Front<J>, from: usize, count: usize) -> bool
+    ensures { Decides result ((answer.now.cycles ≡ front.now.cycles) × (answer.now.phase ≡ front.now.phase)
+        × (answer.now.from ≡ from) × (length answer.now.owned ≡ count)) }
+{
+    answer.cycles() == front.cycles()
+        && answer.phase() == front.phase()
+        && answer.from() == from
+        && answer.len() == count
+}
+
+/// What all processes own, by the answers to all orders of the phase that is read here, which were of
+/// so many processes each.
 pub fn shares_of<J: Naming>(
     alloc: Global,
+    front: &Front<J>,
+    parts: &[usize],
     answers: Vec<Answer<J>>,
-    cycles: usize,
-    phase: Phase,
-    count: usize,
 ) -> Result<Shares, HandOutError>
-    requires { count ≡ length J.design.processes }
-    ensures range { IfOk result (spec.IsRange (spec.at_phase J.design cycles phase) (spec.completed (spec.at_phase J.design cycles phase)).owned 0) }
-    ensures all { IfOk result (λ s. length s ≡ length J.design.processes) }
+    ensures range { IfOk result (λ s. spec.IsRange (spec.front_of J.design front.now)
+        (spec.completed (spec.front_of J.design front.now)).owned 0 (joined s)) }
+    ensures counts { IfOk result (λ s. counts s ≡ parts.now) }
+    ensures err { IfErr result (λ e. e ≡ reason.Stranger → spec.AreParts front.now.cycles front.now.phase parts.now answers.items → ⊥) }
 {
-    let mut shares = Shares::with_room(alloc, answers.len())?;
-    let mut from = 0usize;
+    let _count = front.count();
+    let mut shares = Shares::with_room(alloc, parts.len())?;
+    let mut from = 0;
     for answer in answers {
-        if !is_next(&answer, cycles, phase, from) {
+        let number = shares.count();
+        if number == parts.len() {
             return Err(HandOutError::Stranger);
         }
-        let share = answer.into_share();
-        from += share.len();
-        shares.push(share)?;
+        if !is_next(&answer, front, from, parts[number]) {
+            return Err(HandOutError::Stranger);
+        }
+        from += parts[number];
+        shares.push(answer.into_share())?;
     }
-    if from != count {
+    if shares.count() != parts.len() {
         return Err(HandOutError::Stranger);
     }
     Ok(shares)

@@ -1,10 +1,12 @@
 //! What stays of a simulation while a phase is handed out, and how it is made whole again.
 
-ghost use Rattle.std.specs.Prelude.{ℕ, ◌≡◌, false, length, IfSome};
+ghost use Rattle.std.specs.Prelude.{ℕ, ◌≡◌, false, length, IfOk};
 ghost use Rattle.sim_store.specs.Handing as spec;
 ghost use Rattle.sim_store.specs.Keeping.{IsKept, kept_of};
 ghost use Rattle.sim_store.specs.Made.{IsOf, simulation_of};
 ghost use Rattle.sim_store.specs.Simulation as simulations;
+ghost use Rattle.sim_store_sets.specs.RowArray.{joined};
+ghost use Rattle.sim_store_state.specs.Lending.{AreShares, counts};
 
 use crate::front::{Front, Scene};
 use crate::naming::Naming;
@@ -14,6 +16,7 @@ use sim_exec_code::Frame;
 use sim_flat_design::Design;
 use sim_store_sets::{NumberSet, RowArray};
 use sim_store_state::{Apart, Log, Remains, Shares, put_together, take_apart};
+use std::alloc::{AllocError, Global};
 use std::marker::PhantomData;
 
 /// What a simulation holds, but for what is read while a phase is executed and for what its
@@ -30,16 +33,23 @@ pub struct Kept {
     pub totals: Vec<u64>,
 }
 
-/// Takes apart what a simulation holds, none of whose processes has been executed in this phase.
-pub fn taken_apart<J: Naming>(design: Design, made: Made) -> (Front<J>, Shares, Kept)
+/// Takes apart what a simulation holds, none of whose processes has been executed in this phase. If
+/// allocation fails it is gone.
+pub fn taken_apart<J: Naming>(
+    alloc: Global,
+    design: Design,
+    made: Made,
+) -> Result<(Front<J>, Shares, Kept), AllocError>
     requires design { design ≡ J.design }
     requires of { IsOf design made }
     requires fresh { (p : ℕ) → simulations.those_in made.deposited p ≡ false }
-    ensures same { kept_of J.design result.0 result.2 ≡ simulation_of design made }
-    ensures range { spec.IsRange (spec.front_of J.design result.0) (simulations.reached (spec.front_of J.design result.0)).owned 0 result.1 }
-    ensures all { length result.1 ≡ length J.design.processes }
-    ensures kept { IsKept J.design result.0 result.2 }
+    ensures same { IfOk result (λ r. kept_of J.design r.0 r.2 ≡ simulation_of design made) }
+    ensures range { IfOk result (λ r. spec.IsRange (spec.front_of J.design r.0) (simulations.reached (spec.front_of J.design r.0)).owned 0 (joined r.1)) }
+    ensures all { IfOk result (λ r. length (joined r.1) ≡ length J.design.processes) }
+    ensures shares { IfOk result (λ r. AreShares r.2.remains.each (counts r.1)) }
+    ensures kept { IfOk result (λ r. IsKept J.design r.0 r.2) }
 {
+    let _processes = design.processes();
     let Lists {
         sensitive,
         codes,
@@ -50,7 +60,7 @@ pub fn taken_apart<J: Naming>(design: Design, made: Made) -> (Front<J>, Shares, 
         last_values,
         shares,
         remains,
-    } = take_apart(made.state);
+    } = take_apart(alloc, made.state)?;
     let scene = Scene {
         cycles: made.log.len() - 1,
         phase: made.phase,
@@ -75,18 +85,18 @@ pub fn taken_apart<J: Naming>(design: Design, made: Made) -> (Front<J>, Shares, 
         deposited: made.deposited,
         totals: made.totals,
     };
-    (front, shares, kept)
+    Ok((front, shares, kept))
 }
 
-/// Makes it whole again, once all that are due have been executed; none where what processes own is
-/// not in the parts that it was in.
-pub fn made_whole<J: Naming>(front: Front<J>, shares: Shares, kept: Kept) -> Option<(Design, Made)>
+/// Makes it whole again, once all that are due have been executed, by the shares that it was in.
+pub fn made_whole<J: Naming>(front: Front<J>, shares: Shares, kept: Kept) -> (Design, Made)
     requires kept { IsKept J.design front kept }
-    requires range { spec.IsRange (spec.front_of J.design front) (spec.completed (spec.front_of J.design front)).owned 0 shares }
-    requires all { length shares ≡ length J.design.processes }
-    ensures of { IfSome result (λ r. IsOf r.0 r.1) }
-    ensures same { IfSome result (λ r. simulation_of r.0 r.1 ≡ simulations.with_marks (kept_of J.design front kept) r.1.deposited) }
-    ensures complete { IfSome result (λ r. simulations.IsComplete (simulation_of r.0 r.1)) }
+    requires range { spec.IsRange (spec.front_of J.design front) (spec.completed (spec.front_of J.design front)).owned 0 (joined shares) }
+    requires all { length (joined shares) ≡ length J.design.processes }
+    requires shares { AreShares kept.remains.each (counts shares) }
+    ensures of { IsOf result.0 result.1 }
+    ensures same { simulation_of result.0 result.1 ≡ simulations.with_marks (kept_of J.design front kept) result.1.deposited }
+    ensures complete { simulations.IsComplete (simulation_of result.0 result.1) }
 {
     let Front { scene, of: _ } = front;
     let Scene {
@@ -107,7 +117,7 @@ pub fn made_whole<J: Naming>(front: Front<J>, shares: Shares, kept: Kept) -> Opt
         shares,
         remains: kept.remains,
     };
-    let state = put_together(apart, &deposited)?;
+    let state = put_together(apart, &deposited);
     let made = Made {
         time,
         delta: kept.delta,
@@ -124,5 +134,5 @@ pub fn made_whole<J: Naming>(front: Front<J>, shares: Shares, kept: Kept) -> Opt
         deposited,
         totals: kept.totals,
     };
-    Some((design, made))
+    (design, made)
 }

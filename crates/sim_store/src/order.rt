@@ -29,14 +29,13 @@ pub struct Order<J: Naming> {
 }
 
 impl<J: Naming> Model for Order<J> {
-    ghost use Rattle.std.specs.Prelude.{ℕ};
     ghost use Rattle.std.specs.Arc.{arc_value};
-    ghost use Rattle.sim_store.specs.Handing.{IsRange, front_of};
+    ghost use Rattle.sim_store.specs.Handing.{IsRange, Range, front_of};
     ghost use Rattle.sim_store.specs.Simulation.{reached};
 
-    ghost Value = { ℕ };
+    ghost Value = { Range };
 
-    ghost view = { λ o. o.from };
+    ghost view = { λ o. record { cycles = (arc_value o.front).cycles; phase = (arc_value o.front).phase; from = o.from; owned = o.share } };
 
     ghost invariant = { λ o. IsRange (front_of J.design (arc_value o.front)) (reached (front_of J.design (arc_value o.front))).owned o.from o.share };
 }
@@ -53,9 +52,9 @@ pub struct Answer<J: Naming> {
 }
 
 impl<J: Naming> Model for Answer<J> {
-    ghost use Rattle.sim_store.specs.Handing.{Answer, IsRange, at_phase, completed};
+    ghost use Rattle.sim_store.specs.Handing.{IsRange, Range, at_phase, completed};
 
-    ghost Value = { Answer };
+    ghost Value = { Range };
 
     ghost view = { λ a. record { cycles = a.cycles; phase = a.phase; from = a.from; owned = a.share } };
 
@@ -72,7 +71,8 @@ fn execute_range<J: Naming>(
 ) -> Result<(), AllocError>
     requires range { spec.IsRange (spec.front_of J.design front.now) (reached (spec.front_of J.design front.now)).owned from share.old }
     requires frame { FitsAll front.now.codes.codes frame.old }
-    ensures { OnOk result (spec.IsRange (spec.front_of J.design front.now) (spec.completed (spec.front_of J.design front.now)).owned from share.new) }
+    ensures range { OnOk result (spec.IsRange (spec.front_of J.design front.now) (spec.completed (spec.front_of J.design front.now)).owned from share.new) }
+    ensures count { OnOk result (length share.new ≡ length share.old) }
 {
     let _count = front.count();
     let to = from + share.len();
@@ -92,7 +92,8 @@ fn executed<J: Naming>(
     share: Share,
 ) -> Result<Share, AllocError>
     requires range { spec.IsRange (spec.front_of J.design front.now) (reached (spec.front_of J.design front.now)).owned from share }
-    ensures { IfOk result (spec.IsRange (spec.front_of J.design front.now) (spec.completed (spec.front_of J.design front.now)).owned from) }
+    ensures range { IfOk result (spec.IsRange (spec.front_of J.design front.now) (spec.completed (spec.front_of J.design front.now)).owned from) }
+    ensures count { IfOk result (λ done. length done ≡ length share) }
 {
     let mut share = share;
     let mut frame = front.frame(alloc)?;
@@ -104,8 +105,16 @@ impl<J: Naming> Order<J> {
     /// What these processes own, of what all own as the phase begins.
     pub fn new(from: usize, share: Share, front: Arc<Front<J>, Global>) -> Order<J>
         requires { spec.IsRange (spec.front_of J.design (arc_value front)) (reached (spec.front_of J.design (arc_value front))).owned from share }
+        ensures { result ≡ record { cycles = (arc_value front).cycles; phase = (arc_value front).phase; from = from; owned = share } }
     {
         Order { from, share, front }
+    }
+
+    /// Of how many processes it is.
+    pub fn len(&self) -> usize
+        ensures { result ≡ length self.now.owned }
+    {
+        self.share.len()
     }
 
     /// Whether so many processes are due that it is worth handing out.
@@ -123,15 +132,15 @@ impl<J: Naming> Order<J> {
         true
     }
 
-    /// Executes those that are due; none where memory is refused, and then the share is gone.
-    pub fn execute(self, alloc: Global) -> Option<Answer<J>> {
+    /// Executes those that are due. If allocation fails the share is gone.
+    pub fn execute(self, alloc: Global) -> Result<Answer<J>, AllocError>
+        ensures { IfOk result (spec.IsAnswer self) }
+    {
         let Order { from, share, front } = self;
         let cycles = front.cycles();
         let phase = front.phase();
-        match executed(alloc, &front, from, share) {
-            Ok(share) => Some(Answer::new(cycles, phase, from, share)),
-            Err(_) => None,
-        }
+        let share = executed(alloc, &front, from, share)?;
+        Ok(Answer::new(cycles, phase, from, share))
     }
 }
 
@@ -169,6 +178,13 @@ impl<J: Naming> Answer<J> {
         ensures { result ≡ self.now.from }
     {
         self.from
+    }
+
+    /// Of how many processes it is.
+    pub fn len(&self) -> usize
+        ensures { result ≡ length self.now.owned }
+    {
+        self.share.len()
     }
 
     /// What the processes own.

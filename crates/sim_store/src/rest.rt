@@ -1,52 +1,80 @@
 //! A run of which a phase is handed out.
 
-ghost use Rattle.std.specs.Prelude.{ℕ, ◌≡◌, None, false, length, IfOk};
+ghost use Rattle.std.specs.Prelude.{ℕ, ◌≡◌, None, false, length, IfErr, IfOk};
+ghost use Rattle.std.specs.Arc.{arc_value};
 ghost use Rattle.sim_store.specs.Handing as spec;
 ghost use Rattle.sim_store.specs.Keeping.{IsKept, kept_of};
 ghost use Rattle.sim_store.specs.Simulation as simulations;
 ghost use Rattle.sim_store.specs.WaveStore as store;
+ghost use Rattle.sim_store.specs.declared.error.HandOutError.TheVariants as reason;
+ghost use Rattle.sim_store_sets.specs.RowArray.{joined};
+ghost use Rattle.sim_store_state.specs.Lending.{AreShares, counts};
 
 use crate::error::HandOutError;
 use crate::front::Front;
-use crate::handing::{orders_of, shares_of};
+use crate::handing::{lengths_of, orders_of, shares_of};
 use crate::kept::{Kept, made_whole, taken_apart};
 use crate::naming::Naming;
 use crate::order::{Answer, Order};
 use crate::simulation::Simulation;
 use crate::store::WaveStore;
 use sim_store_state::Shares;
-use std::alloc::Global;
+use std::alloc::{AllocError, Global};
 use std::marker::Model;
 use std::sync::Arc;
 
 /// What stays here of a run while a phase is handed out. Contracts see the store that was handed
-/// out.
+/// out, and of how many processes each order is.
 #[derive(Drop)]
 pub struct Rest<J: Naming> {
     front: Arc<Front<J>, Global>,
     kept: Kept,
+    parts: Vec<usize>,
     stop: u64,
     limit: u32,
 }
 
 impl<J: Naming> Model for Rest<J> {
-    ghost use Rattle.std.specs.Prelude.{None};
+    ghost use Rattle.std.specs.Prelude.{◌≡◌, None, length, sum};
     ghost use Rattle.std.specs.Arc.{arc_value};
     ghost use Rattle.std.specs.Coded.{codes};
     ghost use Rattle.sim_flat_design.specs.contracts.expression.LogicExpression as logic;
     ghost use Rattle.sim_flat_design.specs.contracts.expression.BooleanExpression as boolean;
     ghost use Rattle.sim_flat_design.specs.contracts.statement.Statement as statement;
+    ghost use Rattle.sim_store.specs.Handing.{Rest};
     ghost use Rattle.sim_store.specs.Keeping.{IsKept, kept_of};
-    ghost use Rattle.sim_store.specs.WaveStore.{WaveStore, IsStore};
+    ghost use Rattle.sim_store.specs.WaveStore.{IsStore};
+    ghost use Rattle.sim_store_state.specs.Lending.{AreShares};
 
-    ghost Value = { WaveStore };
+    ghost Value = { Rest };
 
     ghost coded = { Prim.hlevel (codes, logic.the_row.coded, boolean.the_row.coded, statement.the_row.coded) };
 
-    ghost view = { λ r. record { simulation = kept_of J.design (arc_value r.front) r.kept; stop = r.stop; limit = r.limit; ended = None } };
+    ghost view = { λ r. record {
+      store = record { simulation = kept_of J.design (arc_value r.front) r.kept; stop = r.stop; limit = r.limit; ended = None };
+      parts = r.parts.items;
+    } };
 
     ghost invariant = { λ r. IsKept J.design (arc_value r.front) r.kept
-        × IsStore (record { simulation = kept_of J.design (arc_value r.front) r.kept; stop = r.stop; limit = r.limit; ended = None }) };
+        × IsStore (record { simulation = kept_of J.design (arc_value r.front) r.kept; stop = r.stop; limit = r.limit; ended = None })
+        × AreShares r.kept.remains.each r.parts.items × (sum r.parts.items ≡ length J.design.processes) };
+}
+
+/// The orders for all processes, and of how many each is.
+fn orders_and_lengths<J: Naming>(
+    alloc: Global,
+    shares: Shares,
+    front: &Arc<Front<J>, Global>,
+) -> Result<(Vec<Order<J>>, Vec<usize>), AllocError>
+    requires range { spec.IsRange (spec.front_of J.design (arc_value front.now))
+        (simulations.reached (spec.front_of J.design (arc_value front.now))).owned 0 (joined shares) }
+    requires all { length (joined shares) ≡ length J.design.processes }
+    ensures orders { IfOk result (λ r. spec.AreParts (arc_value front.now).cycles (arc_value front.now).phase r.1.items r.0.items) }
+    ensures lengths { IfOk result (λ r. r.1.items ≡ counts shares) }
+{
+    let orders = orders_of(alloc, shares, front)?;
+    let lengths = lengths_of(alloc, orders.as_slice())?;
+    Ok((orders, lengths))
 }
 
 /// Hands out a phase of a simulation that may go on to these bounds.
@@ -55,21 +83,21 @@ pub fn handed_out<J: Naming>(
     simulation: Simulation,
     stop: u64,
     limit: u32,
-) -> Result<(Rest<J>, Vec<Order<J>>), HandOutError>
+) -> Result<(Rest<J>, Vec<Order<J>>), AllocError>
     requires design { simulation.design ≡ J.design }
     requires fresh { (p : ℕ) → simulations.those_in simulation.deposited p ≡ false }
     requires bounds { store.IsStore (record { simulation = simulation; stop = stop; limit = limit; ended = None }) }
-    ensures { IfOk result (λ r. r.0 ≡ record { simulation = simulation; stop = stop; limit = limit; ended = None }) }
+    ensures store { IfOk result (λ r. r.0.store ≡ record { simulation = simulation; stop = stop; limit = limit; ended = None }) }
+    ensures orders { IfOk result (λ r. spec.AreAll r.0 r.1.items) }
 {
     let (design, made) = simulation.into_made();
-    let (front, shares, kept) = taken_apart::<J>(design, made);
-    let Ok(front) = Arc::new(alloc, front) else {
-        return Err(HandOutError::Memory);
-    };
-    let orders = orders_of(alloc, shares, &front)?;
+    let (front, shares, kept) = taken_apart::<J>(alloc, design, made)?;
+    let front = Arc::new(alloc, front)?;
+    let (orders, parts) = orders_and_lengths(alloc, shares, &front)?;
     let rest = Rest {
         front,
         kept,
+        parts,
         stop,
         limit,
     };
@@ -82,40 +110,42 @@ fn simulation_of<J: Naming>(
     front: Front<J>,
     shares: Shares,
     kept: Kept,
-) -> Result<Simulation, HandOutError>
+) -> Result<Simulation, AllocError>
     requires kept { IsKept J.design front kept }
-    requires range { spec.IsRange (spec.front_of J.design front) (spec.completed (spec.front_of J.design front)).owned 0 shares }
-    requires all { length shares ≡ length J.design.processes }
+    requires range { spec.IsRange (spec.front_of J.design front) (spec.completed (spec.front_of J.design front)).owned 0 (joined shares) }
+    requires all { length (joined shares) ≡ length J.design.processes }
+    requires shares { AreShares kept.remains.each (counts shares) }
     ensures same { IfOk result (λ s. s ≡ simulations.with_marks (kept_of J.design front kept) s.deposited) }
     ensures complete { IfOk result simulations.IsComplete }
 {
-    let Some((design, made)) = made_whole(front, shares, kept) else {
-        return Err(HandOutError::Stranger);
-    };
+    let (design, made) = made_whole(front, shares, kept);
     let simulation = Simulation::of_made(alloc, design, made)?;
     Ok(simulation)
 }
 
 impl<J: Naming> Rest<J> {
-    /// The store again, by the answers to all orders, in their order, no order being left. All that
-    /// are due have been executed.
+    /// The store again, by the answers to all orders, in their order. All that are due have been
+    /// executed. Refusals: `Stranger` where the answers are not these; `OrderLeft` where an order is
+    /// there still, which contracts can't see; `Memory`. The store is then gone.
     pub fn take_back(
         self,
         alloc: Global,
         answers: Vec<Answer<J>>,
     ) -> Result<WaveStore, HandOutError>
-        ensures same { IfOk result (λ s. s ≡ store.with_deposited self s.simulation.deposited) }
+        ensures same { IfOk result (λ s. s ≡ store.with_deposited self.store s.simulation.deposited) }
         ensures complete { IfOk result (λ s. simulations.IsComplete s.simulation) }
+        ensures err { IfErr result (λ e. e ≡ reason.Stranger → spec.AreAll self answers.items → ⊥) }
     {
         let Rest {
             front,
             kept,
+            parts,
             stop,
             limit,
         } = self;
-        let shares = shares_of(alloc, answers, front.cycles(), front.phase(), front.count())?;
+        let shares = shares_of(alloc, &front, parts.as_slice(), answers)?;
         let Ok(front) = Arc::try_unwrap(front) else {
-            return Err(HandOutError::Stranger);
+            return Err(HandOutError::OrderLeft);
         };
         let simulation = simulation_of(alloc, front, shares, kept)?;
         Ok(WaveStore::open(simulation, stop, limit))

@@ -15,7 +15,7 @@ ghost use Rattle.sim_store.specs.WaveStore as spec;
 ghost use Rattle.sim_store.specs.declared.error.StoreError.TheVariants as refusal;
 ghost use Rattle.sim_store.specs.declared.store.Step.TheVariants as step;
 
-use crate::error::{HandOutError, StoreError};
+use crate::error::StoreError;
 use crate::naming::Naming;
 use crate::order::Order;
 use crate::phase::Upcoming;
@@ -235,15 +235,13 @@ impl WaveStore {
         self.simulation.mean_length()
     }
 
-    /// Hands out what the processes own, so that those that are due may be executed elsewhere. If
-    /// allocation fails the store is gone.
-    pub fn hand_out<J: Naming>(
-        self,
-        alloc: Global,
-    ) -> Result<(Rest<J>, Vec<Order<J>>), HandOutError>
+    /// Hands out what the processes own, so that those that are due may be executed elsewhere: all
+    /// processes, in order, each share of them in an order. If allocation fails the store is gone.
+    pub fn hand_out<J: Naming>(self, alloc: Global) -> Result<(Rest<J>, Vec<Order<J>>), AllocError>
         requires design { self.simulation.design ≡ J.design }
         requires untouched { hands.IsUntouched self }
-        ensures { IfOk result (λ r. r.0 ≡ self) }
+        ensures store { IfOk result (λ r. r.0.store ≡ self) }
+        ensures orders { IfOk result (λ r. hands.AreAll r.0 r.1.items) }
     {
         let WaveStore {
             simulation,

@@ -168,57 +168,6 @@ where
     cut(alloc, rows, each)
 }
 
-/// Whether a part with this number of lists may stand there.
-fn is_part(lists: usize, each: usize, is_last: bool) -> bool
-    ensures full { result ≡ true → is_last ≡ false → lists ≡ each }
-    ensures most { result ≡ true → lists ≤ each }
-{
-    if is_last {
-        return lists <= each;
-    }
-    lists == each
-}
-
-/// Whether each part has so many lists, but for the last, which may have fewer.
-fn have_each<T>(parts: &[RowArray<T>], each: usize) -> bool
-    ensures full { result ≡ true → (p : ℕ) → p + 1 < length parts.now → length (slice_index_or parts.now p []) ≡ each }
-    ensures most { result ≡ true → (p : ℕ) → p < length parts.now → length (slice_index_or parts.now p []) ≤ each }
-{
-    for part in 0..parts.len() {
-        if !is_part(parts[part].len(), each, part + 1 == parts.len()) {
-            return false;
-        }
-    }
-    true
-}
-
-/// Whether all their items can be numbered.
-fn are_few<T>(parts: &[RowArray<T>]) -> bool
-    ensures { result ≡ true → length (joined (joined parts.now)) < 2 ^ 64 }
-{
-    let mut count: usize = 0;
-    for part in parts {
-        match count.checked_add(part.flat().len()) {
-            Some(sum) => count = sum,
-            None => return false,
-        }
-    }
-    true
-}
-
-/// Whether row arrays can be the parts of one list of lists.
-fn are_parts<T>(parts: &[RowArray<T>], each: usize) -> bool
-    ensures { result ≡ true → AreParts each parts.now }
-{
-    if parts.is_empty() || each == 0 {
-        return false;
-    }
-    if !are_few(parts) {
-        return false;
-    }
-    have_each(parts, each)
-}
-
 impl<T> DividedRows<T> {
     /// Lists in one part.
     pub fn of(alloc: Global, rows: RowArray<T>) -> Result<DividedRows<T>, AllocError>
@@ -259,17 +208,12 @@ impl<T> DividedRows<T> {
         (parts, each)
     }
 
-    /// The lists in these parts, each of which but for the last is to have so many; `None` if they
-    /// have not.
-    pub fn of_parts(parts: Vec<RowArray<T>>, each: usize) -> Option<DividedRows<T>>
-    where
-        T: Drop,
-        ensures { IfSome result (λ divided. divided ≡ joined parts.items) }
+    /// The lists in these parts, each of which but the last has so many.
+    pub fn of_parts(parts: Vec<RowArray<T>>, each: usize) -> DividedRows<T>
+        requires { AreParts each parts.items }
+        ensures { result ≡ joined parts.items }
     {
-        if !are_parts(parts.as_slice(), each) {
-            return None;
-        }
-        Some(DividedRows { parts, each })
+        DividedRows { parts, each }
     }
 
     /// The list with a number.

@@ -16,6 +16,7 @@ use Rattle.sim_store_state.specs.Lending.{HaveValues, IsOfRow, drivers_of, varia
 use Rattle.sim_store_state.proofs.Contents.{length-owned, owned-at}
 use Rattle.sim_store_state.proofs.Putting.{values-count, values-each}
 use Rattle.sim_store_state.proofs.Reaching.{same_rows}
+use Rattle.sim_store_state.proofs.Sharing.{rows-joined}
 
 pub drivers-of : (dss : List (List Waveform)) (vss : List (List Held)) → length dss ≡ length vss → drivers_of (owned_lists dss vss) ≡ dss
 drivers-of [] vss l = refl
@@ -142,6 +143,20 @@ module _ (owned : List Owned) (dss : List (List Waveform)) (vss : List (List Hel
 
   pub back-count : length (joined dss) ≡ length (joined (drivers_of owned))
   back-count = values-count (joined dss) (joined (drivers_of owned)) back-values
+
+  -- and as many variables
+  pub back-held-count : length (joined vss) ≡ length (joined (variables_of owned))
+  back-held-count =
+      rows-joined vss (variables_of owned) (omega (arith, long, back-rows, length-map owned (λ (o : Owned). o.variables)))
+      (λ p lt. at p (omega (arith, lt, length-map owned (λ (o : Owned). o.variables))))
+    where
+      at : (p : ℕ) → p < length owned → length (get_or vss p []) ≡ length (get_or (variables_of owned) p [])
+      at p lt =
+          let mine : (owned_at now p).variables ≡ get_or vss p [] =
+          ap (λ (os : List Owned). (owned_at os p).variables) (sym view) ∙ ap (λ (o : Owned). o.variables) (owned-at dss vss p long) in
+          let before : get_or (variables_of owned) p [] ≡ (owned_at owned p).variables =
+          get_or-map (λ (o : Owned). o.variables) owned p nothing_owned [] lt in
+          ap length (sym mine) ∙ (have.variables p lt ∙ ap length (sym before))
 
   pub back-times : {times : List (Option ℕ)} {stale : List Bool} → AreTimes times stale (joined (drivers_of owned)) → (stale' : List Bool)
       → length stale' ≡ length stale → ((d : ℕ) → is_in stale' d ≡ false → is_in stale d ≡ false)

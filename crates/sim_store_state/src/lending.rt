@@ -1,12 +1,12 @@
 //! A state of which what processes own is taken away, and given back.
 
-ghost use Rattle.std.specs.Prelude.{ℕ, ◌≡◌, ◌<◌, List, true, false, length, IfSome};
+ghost use Rattle.std.specs.Prelude.{ℕ, ◌≡◌, ◌<◌, ◌^◌, List, true, false, length, IfOk};
 ghost use Rattle.sim_standard.specs.State.{Owned};
 ghost use Rattle.sim_store_sets.specs.Numbers.{is_in};
 ghost use Rattle.sim_store_sets.specs.RowArray.{joined};
 ghost use Rattle.sim_store_state.specs.Apart.{AreApart};
 ghost use Rattle.sim_store_state.specs.FlatState.{views_of};
-ghost use Rattle.sim_store_state.specs.Lending.{HaveValues, IsOfRow};
+ghost use Rattle.sim_store_state.specs.Lending.{AreShares, HaveValues, IsOfRow, counts};
 
 use crate::flat_state::{FlatState, Lists};
 use crate::sets::insert_range;
@@ -15,6 +15,7 @@ use sim_flat_design::Source;
 use sim_logic::Logic;
 use sim_store_sets::{DividedRows, NumberSet, RowArray, TimeQueue};
 use sim_wave::Driver;
+use std::alloc::{AllocError, Global};
 
 /// What stays of a state where what its processes own is elsewhere, and nets are read elsewhere.
 #[derive(Drop)]
@@ -66,12 +67,14 @@ fn mark_rows(stale: &mut NumberSet, drivers: &DividedRows<Driver>, processes: &N
     }
 }
 
-/// Takes a state apart.
-pub fn take_apart(state: FlatState) -> Apart
-    ensures shares { result.shares ≡ state.owned }
-    ensures nets { views_of result.values.items result.last_values.items ≡ state.nets }
-    ensures sources { result.remains.sources ≡ state.sources }
-    ensures held { AreApart result.values.items result.last_values.items state.owned result.remains }
+/// Takes a state apart. If allocation fails it is gone.
+pub fn take_apart(alloc: Global, state: FlatState) -> Result<Apart, AllocError>
+    requires { length state.owned < 2 ^ 64 }
+    ensures owned { IfOk result (λ r. joined r.shares ≡ state.owned) }
+    ensures shares { IfOk result (λ r. AreShares r.remains.each (counts r.shares)) }
+    ensures nets { IfOk result (λ r. views_of r.values.items r.last_values.items ≡ state.nets) }
+    ensures sources { IfOk result (λ r. r.remains.sources ≡ state.sources) }
+    ensures held { IfOk result (λ r. AreApart r.values.items r.last_values.items state.owned r.remains) }
 {
     let Lists {
         values,
@@ -86,11 +89,12 @@ pub fn take_apart(state: FlatState) -> Apart
         touched,
     } = state.into_lists();
     let (drivers, each) = drivers.into_parts();
-    let (variables, _each) = variables.into_parts();
-    Apart {
+    let (variables, variables_each) = variables.into_parts();
+    let shares = Shares::of(alloc, drivers, variables, variables_each)?;
+    Ok(Apart {
         values,
         last_values,
-        shares: Shares::of(drivers, variables),
+        shares,
         remains: Remains {
             driving,
             sources,
@@ -100,20 +104,21 @@ pub fn take_apart(state: FlatState) -> Apart
             touched,
             each,
         },
-    }
+    })
 }
 
-/// The state of these processes again, of which those of a set own something else now, whose drivers
-/// have the values that they had; none where they are not in the shares that they were in. The
-/// drivers of that set are stale.
-pub fn put_together(apart: Apart, changed: &NumberSet) -> Option<FlatState>
-    requires { (before : List Owned) × AreApart apart.values.items apart.last_values.items before apart.remains
-        × HaveValues changed.now apart.shares before }
-    ensures { IfSome result (λ s. s ≡ record {
+/// The state of these processes again, in the shares that they were in, of which those of a set own
+/// something else now, whose drivers have the values that they had. The drivers of that set are
+/// stale.
+pub fn put_together(apart: Apart, changed: &NumberSet) -> FlatState
+    requires shares { AreShares apart.remains.each (counts apart.shares) }
+    requires owned { (before : List Owned) × AreApart apart.values.items apart.last_values.items before apart.remains
+        × HaveValues changed.now (joined apart.shares) before }
+    ensures { result ≡ record {
       sources = apart.remains.sources;
       nets = views_of apart.values.items apart.last_values.items;
-      owned = apart.shares;
-    }) }
+      owned = joined apart.shares;
+    } }
 {
     let Apart {
         values,
@@ -131,11 +136,11 @@ pub fn put_together(apart: Apart, changed: &NumberSet) -> Option<FlatState>
         each,
     } = remains;
     let (drivers, variables) = shares.into_parts();
-    let drivers = DividedRows::of_parts(drivers, each)?;
-    let variables = DividedRows::of_parts(variables, each)?;
+    let drivers = DividedRows::of_parts(drivers, each);
+    let variables = DividedRows::of_parts(variables, each);
     let mut stale = stale;
     mark_rows(&mut stale, &drivers, changed);
-    Some(FlatState::of_lists(Lists {
+    FlatState::of_lists(Lists {
         values,
         last_values,
         driving,
@@ -146,5 +151,5 @@ pub fn put_together(apart: Apart, changed: &NumberSet) -> Option<FlatState>
         queue,
         stale,
         touched,
-    }))
+    })
 }

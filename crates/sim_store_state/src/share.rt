@@ -10,7 +10,7 @@ ghost use Rattle.sim_standard.specs.Statements.{executed};
 ghost use Rattle.sim_store_state.specs.FlatState.{owned_lists, views_of};
 
 use crate::execution::{as_done, execute_at};
-use crate::nets::{Seen, SeenBy};
+use crate::nets::{ByNumber, Seen, SeenBy};
 use sim_exec_code::{Codes, Frame};
 use sim_flat_design::{Held, Process};
 use sim_logic::Logic;
@@ -65,8 +65,56 @@ impl Share {
     }
 
     /// Executes a process, which has this number and stands at this place, by its code, where nets
-    /// have these values. If allocation fails, what it owns must not be executed again.
-    pub fn execute(
+    /// have these values, unless the edge is missing without which it does nothing. If allocation
+    /// fails, what it owns must not be executed again.
+    #[inline(always)]
+    pub fn resume(
+        &mut self,
+        alloc: Global,
+        number: usize,
+        place: usize,
+        process: &Process,
+        time: u64,
+        codes: &Codes,
+        frame: &mut Frame,
+        values: &[Logic],
+        last_values: &[Logic],
+    ) -> Result<(), AllocError>
+        requires at { place < length self.old }
+        requires time { time ≤ largest_time }
+        requires code { code.IsCodeOf process.now.body (code.code_at codes.now.codes number) }
+        requires nets { slice_index_or codes.now.nets number [] ≡ code.gathered_nets process.now.nets (code.code_at codes.now.codes number) }
+        requires frame { code.slots_of (code.code_at codes.now.codes number) ≤ frame.old }
+        requires ready { IsReady process.now.body time (owned_at self.old place) }
+        ensures frame { frame.new ≡ frame.old }
+        ensures alone { self.new ≡ slice_set self.old place (owned_at self.new place) }
+        ensures ok { OnOk result (self.new ≡ slice_set self.old place
+            (executed (λ object. net_at (views_of values.now last_values.now) (object_net process.now object)) time
+            process.now.body.statements (owned_at self.old place))) }
+        ensures ready { IsReady process.now.body time (owned_at self.new place) }
+    {
+        let seen = ByNumber {
+            values,
+            last_values,
+        };
+        if codes.is_idle(&seen, number) {
+            return Ok(());
+        }
+        self.execute(
+            alloc,
+            number,
+            place,
+            process,
+            time,
+            codes,
+            frame,
+            values,
+            last_values,
+        )
+    }
+
+    /// Executes a process by its code, also where the edge is missing.
+    fn execute(
         &mut self,
         alloc: Global,
         number: usize,

@@ -1,17 +1,19 @@
 //! What all processes own, in shares.
 
-ghost use Rattle.std.specs.Prelude.{◌≡◌, ◌++◌, [], length, MatchOption, OnOk, IfOk};
+ghost use Rattle.std.specs.Prelude.{◌≡◌, ◌+◌, ◌^◌, ◌<◌, ◌≤◌, ◌++◌, ◌∷◌, [], true, length, take, drop, MatchOption, OnOk, IfOk};
+ghost use Rattle.sim_store_sets.specs.DividedRows.{AreParts};
 ghost use Rattle.sim_store_sets.specs.RowArray.{joined};
+ghost use Rattle.sim_store_state.specs.Lending.{counts};
 ghost use Rattle.sim_store_state.specs.FlatState.{owned_lists};
 
 use crate::share::Share;
 use sim_flat_design::Held;
-use sim_store_sets::RowArray;
+use sim_store_sets::{DividedRows, RowArray};
 use sim_wave::Driver;
 use std::alloc::{AllocError, Global};
 use std::marker::Model;
 
-/// Shares, one after another. Contracts see what all their processes own.
+/// Shares, one after another. Contracts see what the processes of each of them own.
 #[derive(Drop)]
 pub struct Shares {
     drivers: Vec<RowArray<Driver>>,
@@ -19,16 +21,89 @@ pub struct Shares {
 }
 
 impl Model for Shares {
-    ghost use Rattle.std.specs.Prelude.{◌≡◌, List, length};
+    ghost use Rattle.std.specs.Prelude.{◌≡◌, List};
     ghost use Rattle.sim_standard.specs.State.{Owned};
-    ghost use Rattle.sim_store_sets.specs.RowArray.{joined};
-    ghost use Rattle.sim_store_state.specs.FlatState.{owned_lists};
+    ghost use Rattle.sim_store_state.specs.Lending.{counts, owned_parts};
 
-    ghost Value = { List Owned };
+    ghost Value = { List (List Owned) };
 
-    ghost view = { λ s. owned_lists (joined s.drivers.items) (joined s.variables.items) };
+    ghost view = { λ s. owned_parts s.drivers.items s.variables.items };
 
-    ghost invariant = { λ s. length (joined s.drivers.items) ≡ length (joined s.variables.items) };
+    ghost invariant = { λ s. counts s.drivers.items ≡ counts s.variables.items };
+}
+
+/// Whether each part has as many lists of variables as of drivers.
+fn are_alike(drivers: &[RowArray<Driver>], variables: &[RowArray<Held>]) -> bool
+    ensures { result ≡ true → counts drivers.now ≡ counts variables.now }
+{
+    if drivers.len() != variables.len() {
+        return false;
+    }
+    for part in 0..drivers.len() {
+        if drivers[part].len() != variables[part].len() {
+            return false;
+        }
+    }
+    true
+}
+
+/// Copies of so many lists, from the one with a number on.
+fn copied_from(
+    alloc: Global,
+    lists: &DividedRows<Held>,
+    from: usize,
+    count: usize,
+) -> Result<RowArray<Held>, AllocError>
+    requires within { from + count ≤ length lists.now }
+    requires few { length lists.now < 2 ^ 64 }
+    ensures { IfOk result (λ r. r ≡ take count (drop from lists.now)) }
+{
+    let mut rows = RowArray::new(alloc)?;
+    for place in 0..count {
+        rows.push_row(lists.row(from + place))?;
+    }
+    Ok(rows)
+}
+
+/// Copies of lists of variables, in parts with as many lists as those of drivers.
+fn copied_like(
+    alloc: Global,
+    drivers: &[RowArray<Driver>],
+    variables: &DividedRows<Held>,
+) -> Result<Vec<RowArray<Held>>, AllocError>
+    requires long { length (joined drivers.now) ≡ length variables.now }
+    requires few { length variables.now < 2 ^ 64 }
+    ensures lists { IfOk result (λ v. joined v.items ≡ variables.now) }
+    ensures counts { IfOk result (λ v. counts drivers.now ≡ counts v.items) }
+{
+    let mut parts = Vec::with_capacity(alloc, drivers.len())?;
+    let mut from = 0;
+    for part in drivers {
+        let rows = copied_from(alloc, variables, from, part.len())?;
+        parts.push(rows)?;
+        from += part.len();
+    }
+    Ok(parts)
+}
+
+/// Lists of variables, which are in parts of so many, in parts with as many lists as those of
+/// drivers. If they are so, none is copied.
+fn parts_like(
+    alloc: Global,
+    drivers: &[RowArray<Driver>],
+    variables: Vec<RowArray<Held>>,
+    each: usize,
+) -> Result<Vec<RowArray<Held>>, AllocError>
+    requires parts { AreParts each variables.items }
+    requires long { length (joined drivers.now) ≡ length (joined variables.items) }
+    requires few { length (joined variables.items) < 2 ^ 64 }
+    ensures lists { IfOk result (λ v. joined v.items ≡ joined variables.items) }
+    ensures counts { IfOk result (λ v. counts drivers.now ≡ counts v.items) }
+{
+    if are_alike(drivers, variables.as_slice()) {
+        return Ok(variables);
+    }
+    copied_like(alloc, drivers, &DividedRows::of_parts(variables, each))
 }
 
 impl Shares {
@@ -41,22 +116,34 @@ impl Shares {
         Ok(Shares { drivers, variables })
     }
 
-    /// Of lists in parts: there are as many lists of drivers as of variables.
-    pub fn of(drivers: Vec<RowArray<Driver>>, variables: Vec<RowArray<Held>>) -> Shares
-        requires { length (joined drivers.items) ≡ length (joined variables.items) }
-        ensures { result ≡ owned_lists (joined drivers.items) (joined variables.items) }
+    /// The shares of the processes that have these drivers and these variables, which are in parts of
+    /// so many, as the drivers are.
+    pub fn of(
+        alloc: Global,
+        drivers: Vec<RowArray<Driver>>,
+        variables: Vec<RowArray<Held>>,
+        each: usize,
+    ) -> Result<Shares, AllocError>
+        requires parts { AreParts each variables.items }
+        requires long { length (joined drivers.items) ≡ length (joined variables.items) }
+        requires few { length (joined variables.items) < 2 ^ 64 }
+        ensures owned { IfOk result (λ s. joined s ≡ owned_lists (joined drivers.items) (joined variables.items)) }
+        ensures counts { IfOk result (λ s. counts s ≡ counts drivers.items) }
     {
-        Shares { drivers, variables }
+        let variables = parts_like(alloc, drivers.as_slice(), variables, each)?;
+        Ok(Shares { drivers, variables })
     }
 
     /// How many shares there are.
-    pub fn count(&self) -> usize {
+    pub fn count(&self) -> usize
+        ensures { result ≡ length self.now }
+    {
         self.drivers.len()
     }
 
     /// Adds a share at the end. If allocation fails it is gone.
     pub fn push(&mut self, share: Share) -> Result<(), AllocError>
-        ensures { OnOk result (self.new ≡ self.old ++ share) }
+        ensures { OnOk result (self.new ≡ self.old ++ share ∷ []) }
     {
         let (drivers, variables) = share.into_parts();
         self.drivers.reserve(1)?;
@@ -66,27 +153,25 @@ impl Shares {
         Ok(())
     }
 
-    /// All but the last share, and that one; none where there is none, or it has other lists of
-    /// drivers than of variables.
+    /// All but the last share, and that one; none where there is none.
     pub fn pop(self) -> Option<(Shares, Share)>
-        ensures { MatchOption result Unit (λ r. self ≡ r.0 ++ r.1) }
+        ensures { MatchOption result (self ≡ []) (λ r. self ≡ r.0 ++ r.1 ∷ []) }
     {
         let Shares { drivers, variables } = self;
         let mut drivers = drivers;
         let mut variables = variables;
         let rows = drivers.pop()?;
         let held = variables.pop()?;
-        if rows.len() != held.len() {
-            return None;
-        }
         let rest = Shares { drivers, variables };
         Some((rest, Share::new(rows, held)))
     }
 
     /// Its lists, in parts.
     pub fn into_parts(self) -> (Vec<RowArray<Driver>>, Vec<RowArray<Held>>)
-        ensures lists { owned_lists (joined result.0.items) (joined result.1.items) ≡ self }
+        ensures lists { owned_lists (joined result.0.items) (joined result.1.items) ≡ joined self }
         ensures long { length (joined result.0.items) ≡ length (joined result.1.items) }
+        ensures drivers { counts result.0.items ≡ counts self }
+        ensures variables { counts result.1.items ≡ counts self }
     {
         let Shares { drivers, variables } = self;
         (drivers, variables)

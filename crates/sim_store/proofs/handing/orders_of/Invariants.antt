@@ -1,11 +1,17 @@
-use Rattle.std.proofs.Common.{◌≡◌, length}
+use Rattle.std.proofs.Common.{◌≡◌, ◌+◌, ◌++◌, length, reverse}
 use Rattle.std.specs.Arc.{arc_value}
-use Rattle.sim_store.specs.Handing.{IsRange, front_of}
+use Rattle.sim_store_sets.specs.RowArray.{joined}
+use Rattle.sim_store_state.specs.Lending.{counts}
+use Rattle.sim_store.specs.Handing.{AreInOrder, IsRange, front_of, lengths}
 use Rattle.sim_store.specs.Simulation.{reached}
 use Rattle.sim_store.proofs.handing.orders_of.Given as goal
 
--- the processes that are left are those below a number
+-- the processes that are left are those below a number, and the orders are for the others
 abbrev pub invariant-loop-turn : goal.invariant-loop-turn
-invariant-loop-turn g l =
-    IsRange (front_of g.J.Naming.design (arc_value l.fn.front)) (reached (front_of g.J.Naming.design (arc_value l.fn.front))).owned 0 l.shares
-    × (l.to ≡ length l.shares)
+invariant-loop-turn g l = record {
+  range : IsRange (front_of g.J.Naming.design (arc_value l.fn.front)) (reached (front_of g.J.Naming.design (arc_value l.fn.front))).owned 0 (joined l.shares);
+  to : l.to ≡ length (joined l.shares);
+  left : length l.shares + l._turn ≡ length l.fn.shares;
+  counted : counts l.shares ++ lengths (reverse l.orders.items) ≡ counts l.fn.shares;
+  order : AreInOrder (arc_value l.fn.front).cycles (arc_value l.fn.front).phase l.to (reverse l.orders.items);
+}

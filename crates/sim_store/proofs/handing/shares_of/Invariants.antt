@@ -1,10 +1,20 @@
-use Rattle.std.proofs.Common.{◌≡◌, length}
-use Rattle.sim_store.specs.Handing.{IsRange, at_phase, completed}
+use Rattle.std.proofs.Common.{◌≡◌, ◌≤◌, length, take}
+use Rattle.std.specs.Vec.Iter.{into_iter_items, into_iter_len}
+use Rattle.sim_store_sets.specs.RowArray.{joined}
+use Rattle.sim_store_state.specs.Lending.{counts}
+use Rattle.sim_store.specs.Handing.{AreParts, IsRange, completed, front_of}
+use Rattle.sim_store.proofs.Orders.{AreLeft}
 use Rattle.sim_store.proofs.handing.shares_of.Given as goal
 
+-- the parts before one have been taken, and where the answers are to all orders, those that are left are to the orders that are left
 abbrev pub invariant-loop-answer : goal.invariant-loop-answer
 invariant-loop-answer g l =
     (goal.iterator-loop-answer g).can_next l.answer-iterator
     × (goal.iterator-loop-answer g).is_finite l.answer-iterator
-    × IsRange (at_phase g.J.Naming.design l.fn.cycles l.fn.phase) (completed (at_phase g.J.Naming.design l.fn.cycles l.fn.phase)).owned 0 l.shares
-    × (l.from ≡ length l.shares)
+    × IsRange (front_of g.J.Naming.design l.fn.front) (completed (front_of g.J.Naming.design l.fn.front)).owned 0 (joined l.shares)
+    × (l.from ≡ length (joined l.shares))
+    × (length l.shares ≤ length l.fn.parts)
+    × (counts l.shares ≡ take (length l.shares) l.fn.parts)
+    × (length (into_iter_items l.answer-iterator) ≡ into_iter_len l.answer-iterator)
+    × (AreParts l.fn.front.cycles l.fn.front.phase l.fn.parts l.fn.answers.items
+    → AreLeft l.fn.front.cycles l.fn.front.phase l.fn.parts (length l.shares) l.from (into_iter_items l.answer-iterator))

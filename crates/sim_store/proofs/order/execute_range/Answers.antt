@@ -15,8 +15,12 @@ loop-next-preserved g c =
     record {
       partly = partly-more c.loop-next.next _ n c.execute.new.share i.end i.partly c.in-Some.ensures c.count-count.ensures.all e.ok e.ready;
       end = i.end ∙ ap (λ (k : ℕ). c.args.from + k) (sym long);
+      many = long ∙ i.many;
       fits = subst (λ (k : ℕ). FitsAll c.args.front.now.codes.codes k) (sym e.frame) i.fits;
     }
 
 pub returns : goal.returns
-returns g c = partly-last c.loop-next.next _ c.loop-next.invariant.end c.loop-next.invariant.partly c.in_default.ensures
+returns g c = record {
+  range = partly-last c.loop-next.next _ c.loop-next.invariant.end c.loop-next.invariant.partly c.in_default.ensures;
+  count = c.loop-next.invariant.many;
+}

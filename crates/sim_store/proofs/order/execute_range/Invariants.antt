@@ -9,6 +9,7 @@ abbrev pub invariant-loop-next : goal.invariant-loop-next
 invariant-loop-next g l = record {
   partly : IsPartly (front_of g.J.Naming.design l.front) l.from l.next l.share;
   end : l.to ≡ l.from + length l.share;
+  many : length l.share ≡ length l.initial.share;
   fits : FitsAll l.front.codes.codes l.frame;
 }
 

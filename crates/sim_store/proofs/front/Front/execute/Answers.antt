@@ -30,4 +30,4 @@ returns-clause-ok g c =
     let step = executed-is (front_of design f) n s.time (owned_at c.args.share.now c.args.place)
     (views_of c.as_slice.result.now c.as_slice-2.result.now) c.index-processes-number.result i.processes c.requires.number (time ∙ i.time_is)
     c.requires.begun nets is in
-    on_ok_weaker c.execute.result (λ e. e ∙ ap (set c.args.share.now c.args.place) step) c.execute.ensures.ok
+    on_ok_weaker c.resume.result (λ e. e ∙ ap (set c.args.share.now c.args.place) step) c.resume.ensures.ok
