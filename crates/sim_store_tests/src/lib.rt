@@ -11,6 +11,8 @@ mod jobs;
 #[cfg(test)]
 mod line;
 #[cfg(test)]
+mod orders;
+#[cfg(test)]
 mod plain;
 #[cfg(test)]
 mod processes;

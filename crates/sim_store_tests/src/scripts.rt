@@ -225,7 +225,7 @@ fn put_answer(line: &mut Line, alloc: Global, store: &mut WaveStore, kept: &mut 
 }
 
 /// Makes calls, one after another; results that were kept before are at hand.
-fn put_answers(
+pub fn put_answers(
     line: &mut Line,
     alloc: Global,
     store: &mut WaveStore,

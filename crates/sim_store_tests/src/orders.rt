@@ -1,0 +1,214 @@
+//! Phases that are handed out, executed share by share, and taken back.
+
+ghost use Rattle.std.specs.Prelude.{◌≡◌, IfSome};
+
+use crate::line::Line;
+use crate::scripts::Call::{Advance, State, Total, Value};
+use crate::scripts::put_answers;
+use crate::texts::{EXCHANGE, POSTPONED, flat, go_on};
+use sim_flat_design::Design;
+use sim_logic::LATEST;
+use sim_store::{Answer, HandOutError, Naming, Order, Rest, WaveStore};
+use std::alloc::{AllocError, Global};
+use std::marker::Brand;
+use std::test::Fail;
+
+/// Which answers are handed in.
+#[derive(Clone, Copy)]
+enum Given {
+    /// Those to all orders, in their order.
+    Own,
+    /// These, the first two exchanged.
+    Exchanged,
+    /// These, but for the last.
+    LastMissing,
+    /// Those to the orders of another store.
+    OfOther,
+    /// The same, while the own orders are there still.
+    OfOtherOwnLeft,
+}
+
+/// A text, after how many phases one is handed out, after how many another store has got there whose
+/// answers may be handed in, which answers are, and what comes of it: nothing is said where the store
+/// goes on as if all had been executed in it.
+type Row<'a> = (&'a str, usize, usize, Given, &'a str);
+
+static ROWS: [Row<'_>; 13] = [
+    (EXCHANGE, 0, 0, Given::Own, ""),
+    (EXCHANGE, 1, 1, Given::Own, ""),
+    (EXCHANGE, 2, 2, Given::Own, ""),
+    (POSTPONED, 0, 0, Given::Own, ""),
+    (POSTPONED, 1, 1, Given::Own, ""),
+    (EXCHANGE, 1, 1, Given::OfOther, ""),
+    (EXCHANGE, 1, 1, Given::OfOtherOwnLeft, "OrderLeft"),
+    (EXCHANGE, 1, 1, Given::Exchanged, "Stranger"),
+    (EXCHANGE, 1, 1, Given::LastMissing, "Stranger"),
+    (EXCHANGE, 1, 0, Given::OfOther, "Stranger"),
+    (EXCHANGE, 0, 1, Given::OfOther, "Stranger"),
+    (POSTPONED, 1, 0, Given::OfOther, "Stranger"),
+    (POSTPONED, 0, 1, Given::OfOtherOwnLeft, "Stranger"),
+];
+
+/// A store of a copy of a design after so many phases, with what its processes own in three shares.
+fn begun(alloc: Global, design: &Design, phases: usize) -> Option<WaveStore>
+    ensures { IfSome result (λ s. s.simulation.design ≡ design.now) }
+{
+    let copy = design.try_copy().ok()?;
+    let mut store = WaveStore::new(alloc, copy, LATEST, 100).ok()?;
+    go_on(alloc, &mut store, phases);
+    let store = store.divide(alloc, 3).ok()?;
+    if !store.design().same(design) {
+        return None;
+    }
+    Some(store)
+}
+
+/// The answers to orders, in their order.
+fn answers_to<J: Naming>(
+    alloc: Global,
+    orders: Vec<Order<J>>,
+) -> Result<Vec<Answer<J>>, AllocError> {
+    let mut answers = Vec::new(alloc);
+    for order in orders {
+        let answer = order.execute(alloc)?;
+        answers.push(answer)?;
+    }
+    Ok(answers)
+}
+
+/// Exchanges the first two answers, or takes the last one away.
+fn change<J: Naming>(given: Given, answers: Vec<Answer<J>>) -> Vec<Answer<J>> {
+    let mut answers = answers;
+    match given {
+        Given::Exchanged if answers.len() > 1 => answers.as_mut_slice().swap(0, 1),
+        Given::LastMissing => {
+            let _last = answers.pop();
+        }
+        _ => {}
+    }
+    answers
+}
+
+/// The answers that are handed in, and the orders that are there still.
+fn answers_given<J: Naming>(
+    alloc: Global,
+    given: Given,
+    own: Vec<Order<J>>,
+    others: Vec<Order<J>>,
+) -> Result<(Vec<Answer<J>>, Vec<Order<J>>), AllocError> {
+    let (executed, left) = match given {
+        Given::OfOther => (others, Vec::new(alloc)),
+        Given::OfOtherOwnLeft => (others, own),
+        _ => (own, others),
+    };
+    let answers = answers_to(alloc, executed)?;
+    Ok((change(given, answers), left))
+}
+
+/// Goes on, and puts all that can be read of a store.
+fn put_next(line: &mut Line, alloc: Global, store: WaveStore) {
+    let mut store = store;
+    let mut kept = Vec::new(alloc);
+    let calls = [Advance, State, Value(0), Value(1), Total(1), Advance];
+    put_answers(line, alloc, &mut store, &mut kept, calls.as_slice());
+}
+
+/// Takes a phase back, and puts what comes of it.
+fn put_taken_back<J: Naming>(
+    line: &mut Line,
+    alloc: Global,
+    rest: Rest<J>,
+    answers: Vec<Answer<J>>,
+) {
+    match rest.take_back(alloc, answers) {
+        Ok(store) => put_next(line, alloc, store),
+        Err(HandOutError::Stranger) => line.put("Stranger"),
+        Err(HandOutError::OrderLeft) => line.put("OrderLeft"),
+        Err(HandOutError::Memory) => line.put("Memory"),
+    }
+}
+
+/// Hands out a phase of a store and one of another, and puts what comes of the answers.
+fn put_handed<J: Naming>(
+    line: &mut Line,
+    alloc: Global,
+    own: WaveStore,
+    other: WaveStore,
+    given: Given,
+)
+    requires own { own.simulation.design ≡ J.design }
+    requires other { other.simulation.design ≡ J.design }
+{
+    if !own.is_untouched() {
+        return line.put("touched");
+    }
+    if !other.is_untouched() {
+        return line.put("touched");
+    }
+    let Ok((rest, orders)) = own.hand_out::<J>(alloc) else {
+        return line.put("no memory");
+    };
+    let Ok((_rest, others)) = other.hand_out::<J>(alloc) else {
+        return line.put("no memory");
+    };
+    match answers_given(alloc, given, orders, others) {
+        Err(_refused) => line.put("no memory"),
+        Ok((answers, _left)) => put_taken_back(line, alloc, rest, answers),
+    }
+}
+
+/// What comes of a row.
+fn put_row(line: &mut Line, alloc: Global, design: &Design, row: &Row<'_>) {
+    let Some(own) = begun(alloc, design, row.1) else {
+        return line.put("no store");
+    };
+    let Some(other) = begun(alloc, design, row.2) else {
+        return line.put("no store");
+    };
+    put_handed::<Brand>(line, alloc, own, other, row.3);
+}
+
+/// What comes of it where all are executed in the store.
+fn put_executed(line: &mut Line, alloc: Global, design: &Design, phases: usize) {
+    let Some(store) = begun(alloc, design, phases) else {
+        return line.put("no store");
+    };
+    match store.execute_due(alloc) {
+        Ok(store) => put_next(line, alloc, store),
+        Err(_refused) => line.put("no memory"),
+    }
+}
+
+/// Puts what is wanted of a row.
+fn put_wanted(line: &mut Line, alloc: Global, design: &Design, row: &Row<'_>) {
+    if row.4.is_empty() {
+        put_executed(line, alloc, design, row.1);
+    } else {
+        line.put(row.4);
+    }
+}
+
+/// What comes of the rows, and what is wanted.
+fn handed_out(alloc: Global) -> (Line, Line) {
+    let mut found = Line::new(alloc);
+    let mut wanted = Line::new(alloc);
+    for row in ROWS.iter() {
+        match flat(alloc, row.0) {
+            None => found.put("no design"),
+            Some(design) => {
+                put_row(&mut found, alloc, &design, row);
+                put_wanted(&mut wanted, alloc, &design, row);
+            }
+        }
+        found.put("\n");
+        wanted.put("\n");
+    }
+    (found, wanted)
+}
+
+#[test]
+fn phases_are_handed_out_and_taken_back(rt: HostRuntime) -> Result<(), Fail> {
+    let (found, wanted) = handed_out(rt.alloc());
+    assert_eq!(rt; found.whole()?.as_str(), wanted.whole()?.as_str());
+    Ok(())
+}
