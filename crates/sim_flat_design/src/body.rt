@@ -22,9 +22,16 @@ struct Parts {
 ///
 /// Its ports and signals are those of its architecture, by place; its drivers and variables are its
 /// own, by place. All of them are there, and each variable is of the type that its use asks for.
-#[derive(Drop)]
 pub struct Body {
     parts: Arc<Parts, Global>,
+}
+
+/// By hand, so that crates which drop one need no proof of what is in it.
+impl Drop for Body {
+    fn drop(self) {
+        let Body { parts } = self;
+        drop(parts);
+    }
 }
 
 impl Model for Body {

@@ -161,9 +161,16 @@ struct Parts {
 }
 
 /// A flat design. Its copies share it.
-#[derive(Drop)]
 pub struct Design {
     parts: Arc<Parts, Global>,
+}
+
+/// By hand, so that crates which drop one need no proof of what is in it.
+impl Drop for Design {
+    fn drop(self) {
+        let Design { parts } = self;
+        drop(parts);
+    }
 }
 
 impl Model for Design {

@@ -59,9 +59,16 @@ struct Parts {
 }
 
 /// A process: what it is sensitive to, what it reads, and what it executes. Its copies share it.
-#[derive(Drop)]
 pub struct Process {
     parts: Arc<Parts, Global>,
+}
+
+/// By hand, so that crates which drop one need no proof of what is in it.
+impl Drop for Process {
+    fn drop(self) {
+        let Process { parts } = self;
+        drop(parts);
+    }
 }
 
 impl Model for Process {

@@ -7,9 +7,16 @@ use std::marker::Model;
 /// A design file: its design units in order. It is written with some tokens, within the limits: no
 /// time is larger than the largest, no expression has more than 64 parentheses open and no process
 /// more than 64 ifs, and what the grammar asks for is there.
-#[derive(Drop)]
 pub struct DesignFile {
     units: Several<DesignUnit>,
+}
+
+/// By hand, so that crates which drop one need no proof of what is in it.
+impl Drop for DesignFile {
+    fn drop(self) {
+        let DesignFile { units } = self;
+        drop(units);
+    }
 }
 
 impl Model for DesignFile {

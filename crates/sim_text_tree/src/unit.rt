@@ -130,8 +130,19 @@ pub enum LibraryUnit {
 }
 
 /// A design unit (13.1).
-#[derive(Drop)]
 pub struct DesignUnit {
     pub context: Items<ContextItem>,
     pub library_unit: LibraryUnit,
+}
+
+/// By hand, so that crates which drop one need no proof of what is in it.
+impl Drop for DesignUnit {
+    fn drop(self) {
+        let DesignUnit {
+            context,
+            library_unit,
+        } = self;
+        drop(context);
+        drop(library_unit);
+    }
 }
