@@ -20,10 +20,18 @@ use std::marker::Model;
 
 /// Which processes the last cycle resumed, as a set and by their numbers. The contracts see for
 /// each process whether it is one.
-#[derive(Drop)]
 pub struct Due {
     set: NumberSet,
     numbers: Vec<usize>,
+}
+
+/// By hand, so that crates which drop one need no proof of what is in it.
+impl Drop for Due {
+    fn drop(self) {
+        let Due { set, numbers } = self;
+        drop(set);
+        drop(numbers);
+    }
 }
 
 impl Model for Due {

@@ -12,10 +12,18 @@ use std::marker::Model;
 
 /// Which processes of a design are postponed, and which of these have been resumed and have not been
 /// executed since.
-#[derive(Drop)]
 pub struct Waiting {
     postponed: NumberSet,
     waiting: NumberSet,
+}
+
+/// By hand, so that crates which drop one need no proof of what is in it.
+impl Drop for Waiting {
+    fn drop(self) {
+        let Waiting { postponed, waiting } = self;
+        drop(postponed);
+        drop(waiting);
+    }
 }
 
 impl Model for Waiting {

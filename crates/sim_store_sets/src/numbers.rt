@@ -13,13 +13,26 @@ use std::marker::Model;
 /// A set of numbers below a bound; its contracts see for each of these whether it is a member. It
 /// is held as bits in words, beside which `tops` has a bit for each word, set where the word is not
 /// 0, so that a walk over the members passes over all others at once.
-#[derive(Drop)]
 pub struct NumberSet {
     words: Vec<u64>,
     tops: Vec<u64>,
     count: usize,
     /// No number from this one on is a member, so that a walk ends after the last one at once.
     end: usize,
+}
+
+/// By hand, so that crates which drop one need no proof of what is in it.
+impl Drop for NumberSet {
+    fn drop(self) {
+        let NumberSet {
+            words,
+            tops,
+            count: _,
+            end: _,
+        } = self;
+        drop(words);
+        drop(tops);
+    }
 }
 
 impl Model for NumberSet {

@@ -14,12 +14,26 @@ use std::mem;
 
 /// For each driver a time or none. The drivers whose time is `front_time` are the set `front`, so
 /// that the next delta cycle costs little; for all other times the heap has entries.
-#[derive(Drop)]
 pub struct TimeQueue {
     times: Vec<Option<u64>>,
     front_time: u64,
     front: NumberSet,
     heap: Heap,
+}
+
+/// By hand, so that crates which drop one need no proof of what is in it.
+impl Drop for TimeQueue {
+    fn drop(self) {
+        let TimeQueue {
+            times,
+            front_time: _,
+            front,
+            heap,
+        } = self;
+        drop(times);
+        drop(front);
+        drop(heap);
+    }
 }
 
 impl Model for TimeQueue {

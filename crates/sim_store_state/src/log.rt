@@ -88,10 +88,18 @@ fn between(changes: &[(u32, Logic)], start: usize, end: usize) -> &[(u32, Logic)
 }
 
 /// The records of a run: a mark for each, and one list of changes.
-#[derive(Drop)]
 pub struct Log {
     marks: Vec<Mark>,
     changes: Vec<(u32, Logic)>,
+}
+
+/// By hand, so that crates which drop one need no proof of what is in it.
+impl Drop for Log {
+    fn drop(self) {
+        let Log { marks, changes } = self;
+        drop(marks);
+        drop(changes);
+    }
 }
 
 impl Model for Log {

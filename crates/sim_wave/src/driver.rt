@@ -19,11 +19,22 @@ pub type Transaction = (u64, Logic);
 pub const IN_PLACE: usize = 2;
 
 /// A driver: its current value and its pending transactions, whose times rise strictly.
-#[derive(Drop)]
 pub struct Driver {
     value: Logic,
     alloc: Global,
     pending: Pending,
+}
+
+/// By hand, so that crates which drop one need no proof of what is in it.
+impl Drop for Driver {
+    fn drop(self) {
+        let Driver {
+            value: _,
+            alloc: _,
+            pending,
+        } = self;
+        drop(pending);
+    }
 }
 
 impl Model for Driver {
