@@ -4,6 +4,7 @@
 
 mod bell;
 mod message;
+mod pace;
 mod run;
 mod team;
 

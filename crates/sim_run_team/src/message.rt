@@ -5,13 +5,9 @@ use rtrb::Consumer;
 use std::hint::spin_loop;
 use std::sync::Wait;
 
-/// How often is looked before a thread sleeps: for some microseconds, which is about what it costs
-/// to wake one. Beside other load a longer wait takes time from those who work.
-const LOOKS: u32 = 1_000;
-
 /// The message, if it comes within so many looks.
-fn seen<T: Drop>(from: &mut Consumer<T>) -> Option<T> {
-    for _ in 0..LOOKS {
+fn seen<T: Drop>(from: &mut Consumer<T>, looks: u32) -> Option<T> {
+    for _ in 0..looks {
         match from.pop() {
             Ok(message) => return Some(message),
             Err(_) => spin_loop(),
@@ -37,12 +33,9 @@ fn look_or_sleep<R: Wait, T: Drop>(rt: &R, from: &mut Consumer<T>, bell: &Bell) 
     }
 }
 
-/// The next message; none where the other end is gone.
-pub fn next<R: Wait, T: Drop>(rt: &R, from: &mut Consumer<T>, bell: &Bell) -> Option<T> {
+/// The next message, asleep until it comes; none where the other end is gone.
+fn awaited<R: Wait, T: Drop>(rt: &R, from: &mut Consumer<T>, bell: &Bell) -> Option<T> {
     for _ in rt.forever() {
-        if let Some(message) = seen(from) {
-            return Some(message);
-        }
         if from.is_abandoned() {
             // what was sent before the other end went
             return from.pop().ok();
@@ -52,4 +45,19 @@ pub fn next<R: Wait, T: Drop>(rt: &R, from: &mut Consumer<T>, bell: &Bell) -> Op
         }
     }
     None
+}
+
+/// The next message, and whether it came later than within so many looks; none where the other end
+/// is gone. Who has looked so often sleeps, so that another thread may have the processor.
+pub fn next<R: Wait, T: Drop>(
+    rt: &R,
+    from: &mut Consumer<T>,
+    bell: &Bell,
+    looks: u32,
+) -> Option<(T, bool)> {
+    if let Some(message) = seen(from, looks) {
+        return Some((message, false));
+    }
+    let message = awaited(rt, from, bell)?;
+    Some((message, true))
 }

@@ -1,6 +1,7 @@
 //! From where a store stands to the end of its run.
 
 ghost use Rattle.std.specs.Prelude.{◌≡◌, ◌≢◌, None, IfOk};
+ghost use Rattle.sim_store.specs.Handing as hands;
 ghost use Rattle.sim_store.specs.Simulation as simulations;
 ghost use Rattle.sim_store.specs.WaveStore as store;
 ghost use Rattle.sim_run_team.specs.Runs.{IsCarriedOn};
@@ -14,9 +15,9 @@ use std::sync::Wait;
 use std::thread;
 use std::thread::Threads;
 
-/// How many processes have to be due for shares to be handed out at all: with fewer a cycle is over
-/// before another thread has its share.
-const LEAST: usize = 64;
+/// How many steps the execution of all that are due has to take for shares to be handed out at all:
+/// with fewer, some tens of microseconds, a cycle is over before another thread has its share.
+const LEAST: usize = 10_000;
 
 impl<J: Naming> Order for Share<J> {
     type Answer = Answer<J>;
@@ -26,7 +27,7 @@ impl<J: Naming> Order for Share<J> {
     }
 
     fn carry_out(self, alloc: Global) -> Option<Answer<J>> {
-        self.execute(alloc)
+        self.execute(alloc).ok()
     }
 }
 
@@ -39,27 +40,44 @@ fn execute_alone(alloc: Global, run: WaveStore) -> Result<WaveStore, Fault>
     Ok(run)
 }
 
-/// Executes all that are due, each share by a worker where it is large.
+/// Executes all that are due, which take so many steps, each share by a worker where it is large.
+fn execute_in_shares<J: Naming, R: Wait>(
+    rt: &R,
+    alloc: Global,
+    run: WaveStore,
+    team: &mut Team<'_, Share<J>>,
+    steps: usize,
+) -> Result<WaveStore, Fault>
+    requires design { run.simulation.design ≡ J.design }
+    requires untouched { hands.IsUntouched run }
+    ensures same { IfOk result (λ s. s ≡ store.with_deposited run s.simulation.deposited) }
+    ensures complete { IfOk result (λ s. simulations.IsComplete s.simulation) }
+{
+    let (rest, shares) = run.hand_out::<J>(alloc)?;
+    let answers = team.carry_out(rt, alloc, shares, steps)?;
+    let run = rest.take_back(alloc, answers)?;
+    Ok(run)
+}
+
+/// Executes all that are due, by the team where there is work enough and it is free. A process takes
+/// so many steps.
 fn execute<J: Naming, R: Wait>(
     rt: &R,
     alloc: Global,
     run: WaveStore,
     team: &mut Team<'_, Share<J>>,
+    length: usize,
 ) -> Result<WaveStore, Fault>
     requires { run.simulation.design ≡ J.design }
     ensures same { IfOk result (λ s. s ≡ store.with_deposited run s.simulation.deposited) }
     ensures complete { IfOk result (λ s. simulations.IsComplete s.simulation) }
 {
-    if run.due().len() < LEAST {
+    let steps = run.due().len().saturating_mul(length);
+    if steps < LEAST || !team.is_free() || !run.is_untouched() {
+        team.pay(steps);
         return execute_alone(alloc, run);
     }
-    if !run.is_untouched() {
-        return execute_alone(alloc, run);
-    }
-    let (rest, shares) = run.hand_out::<J>(alloc)?;
-    let answers = team.carry_out(rt, alloc, shares)?;
-    let run = rest.take_back(alloc, answers)?;
-    Ok(run)
+    execute_in_shares(rt, alloc, run, team, steps)
 }
 
 /// Carries out one phase of a cycle, and goes on.
@@ -68,12 +86,13 @@ fn go_on<J: Naming, R: Wait>(
     alloc: Global,
     run: WaveStore,
     team: &mut Team<'_, Share<J>>,
+    length: usize,
 ) -> Result<WaveStore, Fault>
     requires design { run.simulation.design ≡ J.design }
     requires open { store.IsOpen run }
     ensures { IfOk result (IsCarriedOn run) }
 {
-    let mut run = execute(rt, alloc, run, team)?;
+    let mut run = execute(rt, alloc, run, team, length)?;
     match run.advance(alloc) {
         Ok(_step) => Ok(run),
         // All that are due have been executed and the run has not ended, so only memory was short.
@@ -91,12 +110,13 @@ fn lead<J: Naming, R: Wait>(
     requires { run.simulation.design ≡ J.design }
     ensures { IfOk result (λ r. IsCarriedOn run r × (r.ended ≢ None)) }
 {
+    let length = run.mean_length().saturating_add(1);
     let mut run = run;
     for _turn in rt.forever() {
         if run.ended().is_some() {
             return Ok(run);
         }
-        run = go_on(rt, alloc, run, team)?;
+        run = go_on(rt, alloc, run, team, length)?;
     }
     Err(Fault::Gone)
 }
@@ -137,7 +157,10 @@ fn run_by<J: Naming + Send + Sync, R: Threads + Wait + Sync>(
             let mut team = Team::new(alloc, main);
             for bell in bells {
                 let (line, worker) = pair::<Share<J>>(alloc, bell)?;
-                if scope.spawn(move || worker.work(rt, alloc, bell, main)).is_ok() {
+                if scope
+                    .spawn(move || worker.work(rt, alloc, bell, main))
+                    .is_ok()
+                {
                     team.add(line)?;
                 }
             }

@@ -2,6 +2,7 @@
 
 use crate::bell::Bell;
 use crate::message::next;
+use crate::pace::{Pace, patience};
 use rtrb::{Consumer, Producer, PushError, RingBuffer};
 use sim_store::HandOutError;
 use std::alloc::{AllocError, Global};
@@ -38,21 +39,28 @@ impl From<HandOutError> for Fault {
     fn from(error: HandOutError) -> Fault {
         match error {
             HandOutError::Memory => Fault::Memory,
-            HandOutError::Stranger => Fault::Gone,
+            HandOutError::Stranger | HandOutError::OrderLeft => Fault::Gone,
         }
     }
+}
+
+/// An order for a worker, and how often it is to look for the next one before it sleeps.
+#[derive(Drop)]
+struct Errand<O> {
+    order: O,
+    looks: u32,
 }
 
 /// The ends of a worker: it takes orders and hands in answers, one at a time.
 #[derive(Drop)]
 pub struct Worker<O: Order> {
-    orders: Consumer<O>,
+    orders: Consumer<Errand<O>>,
     answers: Producer<Option<O::Answer>>,
 }
 
 /// The other ends, which the main thread has. Where they are dropped the worker is woken and ends.
 pub struct Line<'a, O: Order> {
-    orders: Producer<O>,
+    orders: Producer<Errand<O>>,
     answers: Consumer<Option<O::Answer>>,
     bell: &'a Bell,
 }
@@ -71,10 +79,7 @@ impl<O: Order> Drop for Line<'_, O> {
 }
 
 /// The ends of the main thread and of a worker, who sleeps until this bell rings.
-pub fn pair<O: Order>(
-    alloc: Global,
-    bell: &Bell,
-) -> Result<(Line<'_, O>, Worker<O>), AllocError> {
+pub fn pair<O: Order>(alloc: Global, bell: &Bell) -> Result<(Line<'_, O>, Worker<O>), AllocError> {
     let (orders, their_orders) = RingBuffer::new(alloc, 1)?;
     let (their_answers, answers) = RingBuffer::new(alloc, 1)?;
     Ok((
@@ -96,12 +101,15 @@ impl<O: Order> Worker<O> {
         let Worker { orders, answers } = self;
         let mut orders = orders;
         let mut answers = answers;
+        let mut often = 0;
         for _ in rt.forever() {
-            let Some(order) = next(rt, &mut orders, mine) else {
+            let Some((errand, _is_late)) = next(rt, &mut orders, mine, often) else {
                 return;
             };
+            let Errand { order, looks } = errand;
             let _ = answers.push(order.carry_out(alloc));
             main.ring();
+            often = looks;
         }
     }
 }
@@ -118,6 +126,7 @@ enum Begun<A> {
 pub struct Team<'a, O: Order> {
     lines: Vec<Line<'a, O>>,
     bell: &'a Bell,
+    pace: Pace,
 }
 
 impl<'a, O: Order> Team<'a, O> {
@@ -126,6 +135,7 @@ impl<'a, O: Order> Team<'a, O> {
         Team {
             lines: Vec::new(alloc),
             bell,
+            pace: Pace::new(),
         }
     }
 
@@ -137,35 +147,58 @@ impl<'a, O: Order> Team<'a, O> {
         }
     }
 
+    /// Whether orders may be given: there are workers, and their answers come in time.
+    pub fn is_free(&self) -> bool {
+        !self.lines.is_empty() && self.pace.is_free()
+    }
+
+    /// So many steps were executed without the team.
+    pub fn pay(&mut self, steps: usize) {
+        self.pace.pay(steps);
+    }
+
     /// Gives an order to the worker with a number, or carries it out here where it is small or
     /// there is no such worker.
     fn begin(&mut self, alloc: Global, order: O, number: usize) -> Begun<O::Answer> {
         if !order.is_large() || number >= self.lines.len() {
             return Begun::Done(order.carry_out(alloc));
         }
+        let looks = self.pace.looks();
         let line = &mut self.lines[number];
-        match line.orders.push(order) {
+        match line.orders.push(Errand { order, looks }) {
             Ok(()) => {
                 line.bell.ring();
                 Begun::Given(number)
             }
-            Err(PushError::Full(order)) => Begun::Done(order.carry_out(alloc)),
+            Err(PushError::Full(errand)) => Begun::Done(errand.order.carry_out(alloc)),
         }
     }
 
-    /// The answer of an order that was begun.
-    fn answer<R: Wait>(&mut self, rt: &R, begun: Begun<O::Answer>) -> Result<O::Answer, Fault> {
+    /// The answer of an order that was begun, and whether it came late.
+    fn answer<R: Wait>(
+        &mut self,
+        rt: &R,
+        begun: Begun<O::Answer>,
+        looks: u32,
+    ) -> Result<(O::Answer, bool), Fault> {
         match begun {
-            Begun::Done(Some(answer)) => Ok(answer),
+            Begun::Done(Some(answer)) => Ok((answer, false)),
             Begun::Done(None) => Err(Fault::Memory),
             Begun::Given(number) => {
                 if number >= self.lines.len() {
                     return Err(Fault::Gone);
                 }
-                match next(rt, &mut self.lines[number].answers, self.bell) {
-                    Some(Some(answer)) => Ok(answer),
-                    Some(None) => Err(Fault::Memory),
-                    None => Err(Fault::Gone),
+                let Some((message, is_late)) = next(
+                    rt,
+                    &mut self.lines[number].answers,
+                    self.bell,
+                    looks,
+                ) else {
+                    return Err(Fault::Gone);
+                };
+                match message {
+                    Some(answer) => Ok((answer, is_late)),
+                    None => Err(Fault::Memory),
                 }
             }
         }
@@ -184,39 +217,45 @@ impl<'a, O: Order> Team<'a, O> {
         Ok(begun)
     }
 
-    /// The answers of orders, in their order. All that were given away are waited for; then a fault
-    /// is told.
+    /// The answers of orders, in their order, and whether one came late. All that were given away
+    /// are waited for; then a fault is told.
     fn answers<R: Wait>(
         &mut self,
         rt: &R,
         begun: Vec<Begun<O::Answer>>,
+        looks: u32,
         answers: &mut Vec<O::Answer>,
-    ) -> Result<(), Fault> {
-        let mut fault = Ok(());
+    ) -> Result<bool, Fault> {
+        let mut late = Ok(false);
         for one in begun {
-            match self.answer(rt, one) {
-                Ok(answer) => {
+            match self.answer(rt, one, looks) {
+                Ok((answer, is_late)) => {
                     if answers.push(answer).is_err() {
-                        fault = Err(Fault::Memory);
+                        late = Err(Fault::Memory);
+                    }
+                    if is_late && late == Ok(false) {
+                        late = Ok(true);
                     }
                 }
-                Err(error) => fault = Err(error),
+                Err(error) => late = Err(error),
             }
         }
-        fault
+        late
     }
 
-    /// Has orders carried out by the workers and this thread, and gives their answers in the same
-    /// order.
+    /// Has orders of so many steps in all carried out by the workers and this thread, and gives
+    /// their answers in the same order.
     pub fn carry_out<R: Wait>(
         &mut self,
         rt: &R,
         alloc: Global,
         orders: Vec<O>,
+        steps: usize,
     ) -> Result<Vec<O::Answer>, Fault> {
         let mut answers = Vec::with_capacity(alloc, orders.len())?;
         let begun = self.begin_all(alloc, orders)?;
-        self.answers(rt, begun, &mut answers)?;
+        let is_late = self.answers(rt, begun, patience(steps), &mut answers)?;
+        self.pace.came(is_late);
         Ok(answers)
     }
 }

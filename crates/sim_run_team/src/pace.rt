@@ -1,0 +1,81 @@
+//! Whether the machine has processors left for a team.
+//!
+//! Beside other load a worker may be without a processor for milliseconds, while its order waits.
+//! So an answer that comes late has its price: so much work is executed on the main thread alone
+//! before anything is handed out again, twice as much each time in a row. It bounds what a run
+//! loses by its workers to a part of what it takes on one thread.
+
+/// How many steps are executed alone after a first late answer: some tenths of a millisecond.
+const PRICE: usize = 50_000;
+
+/// How often the price is doubled at the most.
+const MOST: u32 = 8;
+
+/// After how many phases whose answers all came in time the price is halved.
+const CALM: u32 = 16;
+
+/// How often a worker looks for its next order before it sleeps: about as long as the main thread
+/// needs between two phases of a wide design.
+const LOOKS: u32 = 16_000;
+
+/// How often the main thread looks for an answer at the least before it counts as late.
+const PATIENCE: usize = 4_000;
+
+/// How many steps of a phase pass while there is one look.
+const STEPS_OF_A_LOOK: usize = 4;
+
+/// How answers came so far.
+#[derive(Drop)]
+pub struct Pace {
+    /// How often the price was doubled.
+    doubled: u32,
+    /// How many steps are still to be executed alone.
+    owed: usize,
+    /// How many phases in a row had all answers in time.
+    calm: u32,
+}
+
+impl Pace {
+    /// No answer came late.
+    pub fn new() -> Pace {
+        Pace {
+            doubled: 0,
+            owed: 0,
+            calm: 0,
+        }
+    }
+
+    /// Whether work may be handed out.
+    pub fn is_free(&self) -> bool {
+        self.owed == 0
+    }
+
+    /// So many steps were executed alone.
+    pub fn pay(&mut self, steps: usize) {
+        self.owed = self.owed.saturating_sub(steps);
+    }
+
+    /// The answers of a phase came, one of them late or all in time.
+    pub fn came(&mut self, is_late: bool) {
+        if is_late {
+            self.owed = PRICE << self.doubled.min(MOST);
+            self.doubled = self.doubled.min(MOST - 1) + 1;
+            self.calm = 0;
+            return;
+        }
+        self.calm = (self.calm + 1) % CALM;
+        if self.calm == 0 {
+            self.doubled = self.doubled.saturating_sub(1);
+        }
+    }
+
+    /// How often a worker looks for its next order before it sleeps.
+    pub fn looks(&self) -> u32 {
+        LOOKS >> self.doubled.min(MOST)
+    }
+}
+
+/// How often is looked for the answers of a phase with so many steps before they count as late.
+pub fn patience(steps: usize) -> u32 {
+    (PATIENCE + steps / STEPS_OF_A_LOOK).min(1_000_000) as u32
+}
