@@ -63,10 +63,12 @@ impl Pace {
             self.calm = 0;
             return;
         }
-        self.calm = (self.calm + 1) % CALM;
-        if self.calm == 0 {
-            self.doubled = self.doubled.saturating_sub(1);
+        if self.calm < CALM {
+            self.calm += 1;
+            return;
         }
+        self.calm = 0;
+        self.doubled = self.doubled.saturating_sub(1);
     }
 
     /// How often a worker looks for its next order before it sleeps.
