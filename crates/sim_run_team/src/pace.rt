@@ -5,8 +5,8 @@
 //! before anything is handed out again, twice as much each time in a row. It bounds what a run
 //! loses by its workers to a part of what it takes on one thread.
 
-/// How many steps are executed alone after a first late answer: some tenths of a millisecond.
-const PRICE: usize = 50_000;
+/// How many steps are executed alone after a first late answer: about a millisecond.
+const PRICE: usize = 100_000;
 
 /// How often the price is doubled at the most.
 const MOST: u32 = 8;
@@ -14,15 +14,13 @@ const MOST: u32 = 8;
 /// After how many phases whose answers all came in time the price is halved.
 const CALM: u32 = 16;
 
-/// How often a worker looks for its next order before it sleeps: about as long as the main thread
-/// needs between two phases of a wide design.
-const LOOKS: u32 = 16_000;
+/// How often a worker looks for its next order before it sleeps: about a millisecond, in which the
+/// main thread goes from one phase to the next.
+const LOOKS: u32 = 128_000;
 
-/// How often the main thread looks for an answer at the least before it counts as late.
-const PATIENCE: usize = 4_000;
-
-/// How many steps of a phase pass while there is one look.
-const STEPS_OF_A_LOOK: usize = 4;
+/// How often the main thread looks for an answer at the least before it counts as late: longer than it
+/// takes to wake a worker that sleeps.
+const PATIENCE: usize = 100_000;
 
 /// How answers came so far.
 #[derive(Drop)]
@@ -79,5 +77,5 @@ impl Pace {
 
 /// How often is looked for the answers of a phase with so many steps before they count as late.
 pub fn patience(steps: usize) -> u32 {
-    (PATIENCE + steps / STEPS_OF_A_LOOK).min(1_000_000) as u32
+    PATIENCE.saturating_add(steps).min(10_000_000) as u32
 }

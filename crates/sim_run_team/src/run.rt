@@ -19,6 +19,9 @@ use std::thread::Threads;
 /// with fewer, some tens of microseconds, a cycle is over before another thread has its share.
 const LEAST: usize = 10_000;
 
+/// How many steps a body has to have, by the mean of all processes.
+const SHORT: usize = 16;
+
 impl<J: Naming> Order for Share<J> {
     type Answer = Answer<J>;
 
@@ -169,6 +172,19 @@ fn run_by<J: Naming + Send + Sync, R: Threads + Wait + Sync>(
     )
 }
 
+/// How many threads a run is carried on by, of so many that it may have: one where bodies are short,
+/// or all processes together have too little work. Then what a thread saves is less than what it
+/// costs to hand out and take back what the processes own.
+fn useful(run: &WaveStore, workers: usize) -> usize {
+    let length = run.mean_length();
+    let all = run.design().processes().len().saturating_mul(length);
+    if length < SHORT || all < LEAST {
+        1
+    } else {
+        workers
+    }
+}
+
 /// Carries a run on from where its store stands until it has ended, by at most so many threads. In
 /// each cycle with enough processes that are due, each thread gets a share of them by value. What
 /// can't be told apart by a caller: which thread executes which process.
@@ -180,6 +196,7 @@ pub fn carry_to_end<R: Threads + Wait + Sync>(
 ) -> Result<WaveStore, Fault>
     ensures { IfOk result (λ r. IsCarriedOn run r × (r.ended ≢ None)) }
 {
+    let workers = useful(&run, workers);
     let run = run.divide(alloc, workers)?;
     run_by::<Brand, R>(rt, alloc, run, workers)
 }
