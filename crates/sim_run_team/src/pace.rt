@@ -2,16 +2,16 @@
 //!
 //! Beside other load a worker may be without a processor for milliseconds, while its order waits.
 //! So an answer that comes late has its price: so much work is executed on the main thread alone
-//! before anything is handed out again, twice as much each time in a row. It bounds what a run
+//! before anything is handed out again, four times as much each time in a row. It bounds what a run
 //! loses by its workers to a part of what it takes on one thread.
 
 /// How many steps are executed alone after a first late answer: about a millisecond.
 const PRICE: usize = 100_000;
 
-/// How often the price is doubled at the most.
-const MOST: u32 = 8;
+/// How often the price is raised at the most, to about a second.
+const MOST: u32 = 5;
 
-/// After how many phases whose answers all came in time the price is halved.
+/// After how many phases whose answers all came in time the price is lowered.
 const CALM: u32 = 16;
 
 /// How often a worker looks for its next order before it sleeps: about a millisecond, in which the
@@ -25,8 +25,8 @@ const PATIENCE: usize = 100_000;
 /// How answers came so far.
 #[derive(Drop)]
 pub struct Pace {
-    /// How often the price was doubled.
-    doubled: u32,
+    /// How often the price was raised, four times each.
+    raised: u32,
     /// How many steps are still to be executed alone.
     owed: usize,
     /// How many phases in a row had all answers in time.
@@ -37,7 +37,7 @@ impl Pace {
     /// No answer came late.
     pub fn new() -> Pace {
         Pace {
-            doubled: 0,
+            raised: 0,
             owed: 0,
             calm: 0,
         }
@@ -56,8 +56,8 @@ impl Pace {
     /// The answers of a phase came, one of them late or all in time.
     pub fn came(&mut self, is_late: bool) {
         if is_late {
-            self.owed = PRICE << self.doubled.min(MOST);
-            self.doubled = self.doubled.min(MOST - 1) + 1;
+            self.owed = PRICE << (2 * self.raised.min(MOST));
+            self.raised = self.raised.min(MOST - 1) + 1;
             self.calm = 0;
             return;
         }
@@ -66,12 +66,12 @@ impl Pace {
             return;
         }
         self.calm = 0;
-        self.doubled = self.doubled.saturating_sub(1);
+        self.raised = self.raised.saturating_sub(1);
     }
 
     /// How often a worker looks for its next order before it sleeps.
     pub fn looks(&self) -> u32 {
-        LOOKS >> self.doubled.min(MOST)
+        LOOKS >> (2 * self.raised.min(MOST))
     }
 }
 
