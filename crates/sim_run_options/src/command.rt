@@ -101,9 +101,7 @@ fn workers_argument<'a>(alloc: Global) -> Arg<'a>
         .value_parser(value_parser!(usize))
         .default_value("1")
         .value_name("N")
-        .help(
-            "How many threads execute processes, 1 to 16; one is fastest, two took 37 times as long",
-        )
+        .help("How many threads execute processes, 1 to 16; four halve a run of long bodies")
 }
 
 /// The command line of the program, whose words come without its name.
