@@ -3,4 +3,4 @@ use Rattle.sim_store.specs.Simulation.{IsComplete}
 use Rattle.sim_store.proofs.rest.simulation_of.Goals as goal
 
 pub returns-clause-complete : goal.returns-clause-complete
-returns-clause-complete g c = subst IsComplete (sym c.in_ok-simulation.ensures) c.in-Some.ensures.complete
+returns-clause-complete g c = subst IsComplete (sym c.in_ok-simulation.ensures) c.made_whole-design.ensures.complete

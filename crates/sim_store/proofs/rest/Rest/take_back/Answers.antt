@@ -1,8 +1,29 @@
-use Rattle.std.proofs.Common.{sum, ap, sym, ◌∙◌}
+use Rattle.std.proofs.Common.{◌≡◌, None, refl, sum, ap, sym, ◌∙◌, subst}
+use Rattle.std.specs.Arc.{arc_value}
+use Rattle.sim_store.specs.Handing.{Front}
+use Rattle.sim_store.specs.Keeping.{kept_of}
+use Rattle.sim_store.specs.Simulation.{Simulation, IsComplete, with_marks}
+use Rattle.sim_store.specs.WaveStore.{WaveStore, IsStore}
 use Rattle.sim_store.proofs.Orders.{sum-counts}
+use Rattle.sim_store.proofs.Stores.{store-executed}
 use Rattle.sim_store.proofs.rest.Rest.take_back.Goals as goal
 
 pub simulation_of-requires-clause-all : goal.simulation_of-requires-clause-all
 simulation_of-requires-clause-all g c =
     sym (sum-counts c.in_ok-shares.shares)
     ∙ (ap sum (c.in_ok-shares.ensures.counts ∙ c.as_slice.ensures.value) ∙ c.self.invariant.3)
+
+pub open-requires : goal.open-requires
+open-requires g c =
+    let d = g.J.Naming.design in
+    let s = c.self.inside in
+    let m = c.in_ok-simulation.simulation in
+    let before = kept_of d (arc_value s.front) s.kept in
+    let same : m ≡ with_marks before m.deposited = c.in_ok-simulation.ensures.same
+    ∙ ap (λ (f : Front). with_marks (kept_of d f s.kept) m.deposited) c.in-Ok.ensures.ok in
+    subst (λ (h : Simulation). IsStore (record { simulation = h; stop = s.stop; limit = s.limit; ended = None })) (sym same)
+    (store-executed (record { simulation = before; stop = s.stop; limit = s.limit; ended = None }) m.deposited c.self.invariant.1 refl)
+
+pub returns-clause-complete : goal.returns-clause-complete
+returns-clause-complete g c =
+    subst (λ (w : WaveStore). IsComplete w.simulation) (sym c.open.ensures) c.in_ok-simulation.ensures.complete
