@@ -3,8 +3,8 @@ use Rattle.sim_run.proofs.simulation.run_text.Goals as goal
 
 pub returns-then-options-gt1 : goal.returns-then-options-gt1
 returns-then-options-gt1 g c =
-    text_run_among c.args.source.now c.args.options.now c.in_ok-design.design c.run_by_workers.result c.in_ok-design.ensures.value c.if-options-gt1.true
-    c.run_by_workers.ensures.finished c.run_by_workers.ensures.refused
+    text_run_among c.args.source.now c.args.options.now c.in_ok-design.design c.run_by_team.result c.in_ok-design.ensures.value c.if-options-gt1.true
+    c.run_by_team.ensures.finished c.run_by_team.ensures.refused
 
 pub returns-else-options-gt1 : goal.returns-else-options-gt1
 returns-else-options-gt1 g c =
