@@ -196,12 +196,3 @@ impl<J: Naming> Answer<J> {
         self.share
     }
 }
-
-/// What may go to another thread.
-fn may_cross<T: Send>() {}
-
-/// Orders and answers may, where the name of the design may.
-pub fn may_go<J: Naming + Send + Sync>() {
-    may_cross::<Order<J>>();
-    may_cross::<Answer<J>>();
-}
