@@ -61,7 +61,7 @@ refusal_of source text options (refusal.Text (fault.TimeRange at)) long longer p
 refusal_of source text options (refusal.Flat f) long longer p = absurd (too_much source long p.is_text.short)
 refusal_of source text options (refusal.CycleLimit l) long longer p = absurd (too_much source long p.1.is_design.is_text.short)
 refusal_of source text options refusal.PostponedDelta long longer p = absurd (too_much source long p.is_design.is_text.short)
-refusal_of source text options refusal.Stranger long longer p = absurd (too_much source long p.is_design.is_text.short)
+refusal_of source text options refusal.Stranger long longer p = absurd p
 refusal_of source text options refusal.Memory long longer p = absurd (too_much source long p.is_design.is_text.short)
 refusal_of source text options refusal.Write long longer p = absurd p
 
@@ -193,11 +193,8 @@ module _ (words : List (List ℕ)) (unread : Option (List ℕ)) (options : Optio
   status_3 (failure.Run refusal.PostponedDelta) e p =
       let d = p.holds in
       has_run (λ text o. HasDesign text o (λ design. IsCutShort design o))
-      (record { text = p.text; whole = p.whole; holds = record { design = d.design; is_design = d.is_design; holds = inr (inl d.holds) } })
-  status_3 (failure.Run refusal.Stranger) e p =
-      let d = p.holds in
-      has_run (λ text o. HasDesign text o (λ design. IsCutShort design o))
-      (record { text = p.text; whole = p.whole; holds = record { design = d.design; is_design = d.is_design; holds = inr (inr d.holds) } })
+      (record { text = p.text; whole = p.whole; holds = record { design = d.design; is_design = d.is_design; holds = inr d.holds } })
+  status_3 (failure.Run refusal.Stranger) e p = absurd p.holds
   status_3 (failure.Run refusal.Write) e p = absurd (omega arith)
   status_3 (failure.Run refusal.Memory) e p = absurd (omega arith)
 

@@ -56,10 +56,9 @@ pub record IsAnswer (design : Behaviour) (options : Options) (answer : Result Hi
   pub answered : MatchResult answer (λ history. Finishes design options history) (λ e. IsRunRefusal design options e)
   pub ranges : (answer ≡ Err refusal.Options) ↔ (are_in_range options.stop options.limit options.workers ≡ false)
 
--- The run needs more cycles than the limit; or a postponed process makes a delta cycle follow; or threads share its store, of which a lock tells no
--- more than its type, so that it may be a stranger's.
+-- The run needs more cycles than the limit; or a postponed process makes a delta cycle follow.
 abbrev pub IsCutShort : Behaviour → Options → Type 0
-IsCutShort design options = ReachesLimit design options ⊎ MakesPostponedDelta design options ⊎ (1 < options.workers)
+IsCutShort design options = ReachesLimit design options ⊎ MakesPostponedDelta design options
 
 -- The run is finished, and its listing was written.
 pub record Lists (design : Behaviour) (options : Options) (old new : Option (List ℕ)) : Type 0 where

@@ -1,5 +1,5 @@
 -- What is simulated of a text, and why a text is not.
-use Rattle.std.specs.Prelude.{◌≡◌, ◌≢◌, ◌⊎◌, ◌<◌, ℕ, List, false}
+use Rattle.std.specs.Prelude.{◌≡◌, ◌≢◌, ◌⊎◌, ℕ, List, false}
 use Rattle.std.specs.String.{string_bytes}
 use Rattle.sim_text_tree.specs.DesignFile.{DesignFile}
 use Rattle.sim_text.specs.Texts.{IsText, IsFault, IsFaulty}
@@ -50,7 +50,7 @@ IsRefusal text options (refusal.Text fault) = IsFault text fault
 IsRefusal text options (refusal.Flat fault) = HasNoDesign text options fault
 IsRefusal text options (refusal.CycleLimit limit) = (limit ≡ options.limit) × HasDesign text options (λ design. ReachesLimit design options)
 IsRefusal text options refusal.PostponedDelta = HasDesign text options (λ design. MakesPostponedDelta design options)
-IsRefusal text options refusal.Stranger = HasDesign text options (λ design. 1 < options.workers)
+IsRefusal text options refusal.Stranger = ⊥
 IsRefusal text options refusal.Memory = HasDesign text options (λ design. Unit {0})
 IsRefusal text options refusal.Write = ⊥
 

@@ -152,9 +152,9 @@ fn explain<W: Write, E: Write>(fault: &CliFault, out: &mut W, err: &mut E) -> u8
 /// The whole program: it takes its words, without its own name; reads the source from `input`;
 /// writes the listing to `out`, or a line `vsim: ` with the refusal's text to `err`; and answers
 /// its status. That is 0 where the listing was written, 1 where the text was refused, 2 where the
-/// words or the options were, 3 where the run needs more cycles than the limit (or where threads
-/// found a stranger's store), and 4 where memory was short, or reading or writing failed. It reads
-/// at most 1,048,577 bytes, by at most 2,097,154 reads.
+/// words or the options were, 3 where the run needs more cycles than the limit or a postponed process
+/// makes a delta cycle follow, and 4 where memory was short, or reading or writing failed; with any
+/// number of workers. It reads at most 1,048,577 bytes, by at most 2,097,154 reads.
 ///
 /// Where the words ask for help, its text goes to `out`, with status 0; where they are refused, the
 /// lines of `clap` that say why go to `err`. Then nothing is read.

@@ -14,7 +14,7 @@ use crate::finished::Finished;
 use sim_flat_design::Design;
 use sim_run_listing::write_listing;
 use sim_run_options::Options;
-use sim_run_team::carry_to_end;
+use sim_run_team::{Fault, carry_to_end};
 use sim_run_workers::{Gate, run_to_end};
 use sim_store::{Step, WaveStore};
 use std::alloc::Global;
@@ -170,39 +170,44 @@ pub fn run_by_workers<R: Threads + Wait + Sync, G: Gate + Sync>(
 }
 
 /// The store of a run that has ended, by a team of threads, each of which executes a share of what a
-/// cycle resumes.
+/// cycle resumes; none where a thread is gone, and with it what its processes own.
 fn run_in_shares<R: Threads + Wait + Sync>(
     rt: &R,
     alloc: Global,
     design: Design,
     options: &Options,
-) -> Result<WaveStore, RunError>
+) -> Result<Option<WaveStore>, RunError>
     requires { options.now.stop ≤ largest_time }
-    ensures ok { IfOk result (λ run. IsRunOf design options.now run × (run.ended ≢ None)) }
-    ensures err { IfErr result (λ e. (e ≡ refusal.Stranger) ⊎ (e ≡ refusal.Memory)) }
+    ensures ok { IfOk result (λ found. IfSome found (λ run. IsRunOf design options.now run × (run.ended ≢ None))) }
+    ensures err { IfErr result (λ e. e ≡ refusal.Memory) }
 {
     let run = begun_run(alloc, design, options)?;
     match carry_to_end(rt, alloc, run, options.workers) {
-        Ok(run) => Ok(run),
-        Err(sim_run_team::Fault::Memory) => Err(RunError::Memory),
-        Err(sim_run_team::Fault::Gone) => Err(RunError::Stranger),
+        Ok(run) => Ok(Some(run)),
+        Err(Fault::Memory) => Err(RunError::Memory),
+        Err(Fault::Gone) => Ok(None),
     }
 }
 
 /// The run of a design by a team of threads, of which nobody is told, up to the stop time and within
-/// the limit: its store, once it is finished.
+/// the limit: its store, once it is finished; none where a thread is gone. Then the run is to begin
+/// again on the calling thread.
 pub fn run_by_team<R: Threads + Wait + Sync>(
     rt: &R,
     alloc: Global,
     design: Design,
     options: &Options,
-) -> Result<WaveStore, RunError>
+) -> Result<Option<WaveStore>, RunError>
     requires { options.now.stop ≤ largest_time }
-    ensures finished { IfOk result (λ run. Finishes (behaviour_of design) options.now (history_of run)) }
-    ensures refused { IfErr result (λ e. (e ≡ refusal.Stranger) ⊎ IsRefusalAlone (behaviour_of design) options.now e) }
+    ensures finished { IfOk result (λ found. IfSome found (λ run. Finishes (behaviour_of design) options.now (history_of run))) }
+    ensures refused { IfErr result (IsRefusalAlone (behaviour_of design) options.now) }
 {
-    let run = run_in_shares(rt, alloc, design, options)?;
-    finished_run(run)
+    let found = run_in_shares(rt, alloc, design, options)?;
+    let Some(run) = found else {
+        return Ok(None);
+    };
+    let run = finished_run(run)?;
+    Ok(Some(run))
 }
 
 /// The history of a store under a lock, if its run has ended; none where it goes on. It is compared
@@ -243,6 +248,45 @@ pub fn write_run<W: Write>(run: &WaveStore, out: &mut W) -> Result<(), RunError>
     Ok(())
 }
 
+/// The run of a copy of a design by a team of threads: its store, once it is finished; none where a
+/// thread is gone.
+fn run_copy_by_team<R: Threads + Wait + Sync>(
+    rt: &R,
+    alloc: Global,
+    design: &Design,
+    options: &Options,
+) -> Result<Option<WaveStore>, RunError>
+    requires { options.now.stop ≤ largest_time }
+    ensures finished { IfOk result (λ found. IfSome found (λ run. Finishes (behaviour_of design.now) options.now (history_of run))) }
+    ensures refused { IfErr result (IsRefusalAlone (behaviour_of design.now) options.now) }
+{
+    let copy = design.try_copy()?;
+    run_by_team(rt, alloc, copy, options)
+}
+
+/// The run of a design where the gate does not watch: by a team where there are several workers;
+/// else, or where a thread of the team is gone, on the calling thread: its store, once it is
+/// finished.
+fn run_unwatched<R: Threads + Wait + Sync>(
+    rt: &R,
+    alloc: Global,
+    design: &Design,
+    options: &Options,
+) -> Result<WaveStore, RunError>
+    requires { options.now.stop ≤ largest_time }
+    ensures finished { IfOk result (λ run. Finishes (behaviour_of design.now) options.now (history_of run)) }
+    ensures refused { IfErr result (IsRefusalAlone (behaviour_of design.now) options.now) }
+{
+    if options.workers > 1 {
+        let found = run_copy_by_team(rt, alloc, design, options)?;
+        if let Some(run) = found {
+            return Ok(run);
+        }
+    }
+    let copy = design.try_copy()?;
+    run_alone(alloc, copy, options)
+}
+
 /// The run of a design: by workers who share its store where the gate watches, else by a team where
 /// there are several workers, else on the calling thread: its store, once it is finished.
 fn run_either<R: Threads + Wait + Sync, G: Gate + Sync>(
@@ -256,15 +300,11 @@ fn run_either<R: Threads + Wait + Sync, G: Gate + Sync>(
     ensures finished { IfOk result (λ run. Finishes (behaviour_of design.now) options.now (history_of run)) }
     ensures refused { IfErr result (λ e. (e ≢ refusal.Options) × IsRunRefusal (behaviour_of design.now) options.now e) }
 {
+    if !gate.watches() {
+        return run_unwatched(rt, alloc, design, options);
+    }
     let copy = design.try_copy()?;
-    if gate.watches() {
-        return run_by_workers(rt, alloc, copy, options, gate);
-    }
-    if options.workers > 1 {
-        run_by_team(rt, alloc, copy, options)
-    } else {
-        run_alone(alloc, copy, options)
-    }
+    run_by_workers(rt, alloc, copy, options, gate)
 }
 
 /// Runs a design from its initialization to the end of its run, and answers its history. Its

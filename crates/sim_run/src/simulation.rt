@@ -1,5 +1,5 @@
 //! From the text of a design to its listing.
-ghost use Rattle.std.specs.Prelude.{◌≡◌, ◌≢◌, ◌↔◌, true, false, Err, OnOk, IfErr, MatchResult};
+ghost use Rattle.std.specs.Prelude.{◌≡◌, ◌≢◌, ◌↔◌, true, false, Err, OnOk, IfErr, IfSome, MatchResult};
 ghost use Rattle.std.specs.Io.KnownBytes.{Keeps};
 ghost use Rattle.sim_run_options.specs.Options.{are_in_range};
 ghost use Rattle.sim_run.specs.Run.{Finishes, Lists, ListsPart, history_of};
@@ -28,7 +28,34 @@ pub fn elaborate(alloc: Global, source: &[u8], options: &Options) -> Result<Desi
     Ok(design)
 }
 
-/// The run of a text: its store, once it is finished.
+/// The run of a text by a team of threads: its store, once it is finished; none where a thread is
+/// gone.
+fn run_text_by_team<R: Threads + Wait + Sync>(
+    rt: &R,
+    alloc: Global,
+    source: &[u8],
+    options: &Options,
+) -> Result<Option<WaveStore>, RunError>
+    requires { are_in_range options.now.stop options.now.limit options.now.workers ≡ true }
+    ensures { MatchResult result (λ found. IfSome found (λ run. HasDesign source.now options.now (λ design. Finishes design options.now (history_of run))))
+        (λ e. IsRefusal source.now options.now e) }
+{
+    let design = elaborate(alloc, source, options)?;
+    run_by_team(rt, alloc, design, options)
+}
+
+/// The run of a text on the calling thread: its store, once it is finished.
+fn run_text_alone(alloc: Global, source: &[u8], options: &Options) -> Result<WaveStore, RunError>
+    requires { are_in_range options.now.stop options.now.limit options.now.workers ≡ true }
+    ensures { MatchResult result (λ run. HasDesign source.now options.now (λ design. Finishes design options.now (history_of run)))
+        (λ e. IsRefusal source.now options.now e) }
+{
+    let design = elaborate(alloc, source, options)?;
+    run_alone(alloc, design, options)
+}
+
+/// The run of a text: its store, once it is finished. Where a thread of the team is gone, and with it
+/// what its processes own, the run begins again on the calling thread.
 fn run_text<R: Threads + Wait + Sync>(
     rt: &R,
     alloc: Global,
@@ -39,12 +66,13 @@ fn run_text<R: Threads + Wait + Sync>(
     ensures { MatchResult result (λ run. HasDesign source.now options.now (λ design. Finishes design options.now (history_of run)))
         (λ e. IsRefusal source.now options.now e) }
 {
-    let design = elaborate(alloc, source, options)?;
     if options.workers > 1 {
-        run_by_team(rt, alloc, design, options)
-    } else {
-        run_alone(alloc, design, options)
+        let found = run_text_by_team(rt, alloc, source, options)?;
+        if let Some(run) = found {
+            return Ok(run);
+        }
     }
+    run_text_alone(alloc, source, options)
 }
 
 /// Simulates the design in a text and writes its listing. The refusals, in the order in which they
