@@ -29,7 +29,8 @@ Status:
   0  the run is finished, or help was asked for
   1  the text or its design is refused
   2  the command line is refused, or an option is out of its range
-  3  the run needs more simulation cycles than the limit
+  3  the run needs more simulation cycles than the limit, or a postponed process
+     makes a delta cycle follow
   4  no memory, or reading or writing failed
   A refusal is reported on standard error, as in 'vsim: Syntax at 77': the number is
   a place in the input, in bytes from its start.
