@@ -1,11 +1,11 @@
 #!/usr/bin/env python3
 """Measures what threads gain: whole runs of vsim by one worker and by several, whose listing is thrown away.
 
-    workers.py PROGRAM [--workers N ..] [--repeat N] [SHAPE ..]
+    workers.py PROGRAM [--workers N ..] [--repeat N] [--load N] [SHAPE ..]
 
 The shapes are those of shapes.py, and `wide`: a shift register of 60,000 flip-flops on one clock. Of each shape and number of
 workers (1, 2, 3 and 4) the least wall seconds of N runs (3), and the processor seconds of that run. The listing of each has to be
-the same, byte for byte.
+the same, byte for byte. With --load so many processes that never wait run beside them.
 """
 import argparse
 import hashlib
@@ -44,8 +44,18 @@ def main():
     given.add_argument("shapes", nargs="*", default=[*SHAPES, "wide"])
     given.add_argument("--workers", type=int, nargs="+", default=[1, 2, 3, 4])
     given.add_argument("--repeat", type=int, default=3)
+    given.add_argument("--load", type=int, default=0)
     given = given.parse_intermixed_args()
-    program = os.path.abspath(given.program)
+    busy = [subprocess.Popen([sys.executable, "-c", "while True: pass"]) for _ in range(given.load)]
+    try:
+        measure(os.path.abspath(given.program), given)
+    finally:
+        for it in busy:
+            it.kill()
+
+
+def measure(program, given):
+    """Writes the table."""
     print("| Shape |" + "".join(f" {count}: wall | {count}: processor |" for count in given.workers))
     print("|---|" + "--:|--:|" * len(given.workers))
     for name in given.shapes:

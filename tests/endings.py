@@ -1,0 +1,65 @@
+#!/usr/bin/env python3
+"""Runs small designs by several workers very often, beside processes that never wait: each run has to end.
+
+    endings.py PROGRAM [--runs N] [--workers N] [--load N]
+
+The designs of examples/ are run in turn, 10,000 times in all, with 3 workers, beside 8 busy processes. Each run has to end within a
+minute, with the status and the listing that it has by one worker. A worker gets an order only where there is work enough for it, so
+to try the threads themselves take a program in which each phase is handed out: LEAST and WORTH 1, SHORT and PRICE 0 (sim_run_team,
+and order.rt of sim_store).
+"""
+import argparse
+import glob
+import os
+import subprocess
+import sys
+import time
+
+HERE = os.path.dirname(os.path.abspath(__file__))
+LONGEST = 60
+BUSY = [sys.executable, "-c", "while True: pass"]
+
+
+def answer(program, workers, text):
+    """The status of a run and its standard output, or None where it does not end."""
+    words = [program, "--top", "t", "--workers", str(workers)]
+    try:
+        ran = subprocess.run(words, input=text, capture_output=True, timeout=LONGEST)
+    except subprocess.TimeoutExpired:
+        return None
+    return ran.returncode, ran.stdout
+
+
+def main():
+    given = argparse.ArgumentParser()
+    given.add_argument("program")
+    given.add_argument("--runs", type=int, default=10_000)
+    given.add_argument("--workers", type=int, default=3)
+    given.add_argument("--load", type=int, default=8)
+    given = given.parse_args()
+    program = os.path.abspath(given.program)
+    texts = []
+    for name in sorted(glob.glob(f"{HERE}/../examples/*.vhd")):
+        with open(name, "rb") as file:
+            texts.append((os.path.basename(name), file.read()))
+    wanted = [answer(program, 1, text) for _, text in texts]
+    busy = [subprocess.Popen(BUSY) for _ in range(given.load)]
+    wrong, longest = 0, 0.0
+    try:
+        for number in range(given.runs):
+            place = number % len(texts)
+            start = time.monotonic()
+            found = answer(program, given.workers, texts[place][1])
+            longest = max(longest, time.monotonic() - start)
+            if found != wanted[place]:
+                wrong += 1
+                print(f"endings: run {number}, {texts[place][0]}: {'no end' if found is None else 'another answer'}", flush=True)
+    finally:
+        for it in busy:
+            it.kill()
+    print(f"{given.runs} runs, {wrong} with another answer than they should have; the longest took {longest:.2f} s")
+    return 1 if wrong else 0
+
+
+if __name__ == "__main__":
+    sys.exit(main())
