@@ -4,11 +4,11 @@
     fuzz.py PROGRAM [--seed N] [--seconds N] [--workers N ..] [--ghdl COMMAND]
 
 In turn, until the time is over (60 s):
-- a lawful design is run with one worker and with 2, 7 and 16, or as many as are given: the same bytes each time. A third of the designs are wide: hundreds of
-  instances read the same few signals, so that a cycle resumes hundreds of processes and their shares go to other threads. Where
-  GHDL is installed (ghdl-mcode), it runs the designs that are not wide too, and each net has the same value at the end of each
-  time. It is not asked where no statement drives the port q: GHDL 2.0.0 does not count such a port among the sources of its
-  signal, and the standard does (IEEE 1076-2008, 14.7.3.2).
+- a lawful design is run with one worker and with 2, 7 and 16, or as many as are given: the same bytes each time. A third of the
+  designs are wide: hundreds of instances read the same few signals, so that a cycle resumes hundreds of processes. Where GHDL is
+  installed (ghdl-mcode), it runs the designs that are not wide too, and each net has the same value at the end of each time. It is
+  not asked where no statement drives the port q: GHDL 2.0.0 does not count such a port among the sources of its signal, and the
+  standard does (IEEE 1076-2008, 14.7.3.2).
 - its text is damaged: the program ends by itself with a status of 0 to 4, with 1 and with 7 workers it says the same, and with
   a refusal it writes one line to standard error and nothing to standard output.
 
