@@ -96,8 +96,8 @@ fn conditional(
     ensures value { IfOk result (λ r. r ≡ spec.conditional_of (means names.now.process.now names.now.architecture.now) each.now) }
     ensures fits { IfOk result (λ r. conditional_fits names.now.objects names.now.variables.now (spec.delay_of mechanism.now) r ≡ true) }
 {
-    let condition = condition(alloc, names, &each.condition)?;
     let waveform = waveform(alloc, names, mechanism, &each.waveform)?;
+    let condition = condition(alloc, names, &each.condition)?;
     Ok(ConditionalWaveform {
         waveform,
         condition,
