@@ -11,12 +11,25 @@ use std::alloc::{AllocError, Global};
 use std::marker::Model;
 
 /// The ports of an entity. Their region is made once, however many architectures there are.
-#[derive(Drop)]
 pub struct EntityPorts<'a> {
     declarations: &'a [PortDeclaration],
     labels: DeclarativeRegion<'a>,
     region: DeclarativeRegion<'a>,
     count: usize,
+}
+
+/// By hand, so that what drops one needs no proof of what is in it.
+impl<'a> Drop for EntityPorts<'a> {
+    fn drop(self) {
+        let EntityPorts {
+            declarations: _,
+            labels,
+            region,
+            count: _,
+        } = self;
+        drop(labels);
+        drop(region);
+    }
 }
 
 impl<'a> Model for EntityPorts<'a> {

@@ -11,9 +11,16 @@ use std::alloc::{AllocError, Global};
 use std::marker::Model;
 
 /// A list of names of a tree.
-#[derive(Drop)]
 pub struct Names<'a> {
     names: Vec<&'a Name>,
+}
+
+/// By hand, so that what drops one needs no proof of the list that is in it.
+impl<'a> Drop for Names<'a> {
+    fn drop(self) {
+        let Names { names } = self;
+        drop(names);
+    }
 }
 
 impl<'a> Model for Names<'a> {

@@ -69,9 +69,16 @@ pub trait Declare<'a> {
 
 /// A part of a declarative region by itself: the ports of an entity, which go on in each of its
 /// architectures.
-#[derive(Drop)]
 pub struct DeclarativeRegion<'a> {
     meanings: IndexMap<&'a [u8], Meaning>,
+}
+
+/// By hand, so that what drops one needs no proof of the map that is in it.
+impl<'a> Drop for DeclarativeRegion<'a> {
+    fn drop(self) {
+        let DeclarativeRegion { meanings } = self;
+        drop(meanings);
+    }
 }
 
 impl<'a> Model for DeclarativeRegion<'a> {
@@ -128,10 +135,17 @@ fn found_in(part: Option<&DeclarativeRegion<'_>>, name: &[u8]) -> Option<Meaning
 
 /// The names of a declarative region, each with what its first declaration says. Where it goes on
 /// from another part, as an architecture does from its entity, that part is shared.
-#[derive(Drop)]
 pub struct Scope<'a> {
     first: Option<&'a DeclarativeRegion<'a>>,
     own: DeclarativeRegion<'a>,
+}
+
+/// By hand, so that what drops one needs no proof of what is in it.
+impl<'a> Drop for Scope<'a> {
+    fn drop(self) {
+        let Scope { first: _, own } = self;
+        drop(own);
+    }
 }
 
 impl<'a> Model for Scope<'a> {
