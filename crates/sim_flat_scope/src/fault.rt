@@ -4,7 +4,7 @@ ghost use Rattle.std.specs.Prelude.{◌≡◌};
 ghost use Rattle.sim_flat_scope.specs.Faults.{number_of, sooner};
 
 /// What is wrong. Of two faults at one place the one that comes first here is reported.
-#[derive(Clone, Copy, Debug, PartialEq, Eq)]
+#[derive(Clone, Copy, PartialEq, Eq)]
 pub enum Kind {
     /// A name is declared twice.
     Duplicate,
@@ -47,7 +47,7 @@ pub enum Kind {
 }
 
 /// A fault, and the place of the first byte of the token at which it stands.
-#[derive(Clone, Copy, Debug, PartialEq, Eq)]
+#[derive(Clone, Copy, PartialEq, Eq)]
 pub struct Fault {
     pub kind: Kind,
     pub at: usize,

@@ -17,7 +17,7 @@ pub enum Type {
 }
 
 /// What a name means. A type is absent where the type mark is at fault.
-#[derive(Clone, Copy, Debug)]
+#[derive(Clone, Copy)]
 pub enum Meaning {
     /// A port, with its place among the ports and signals of its architecture, the ports first.
     Port {
