@@ -79,8 +79,7 @@ pub fn check_names<'a>(
 ) -> Result<(), AllocError>
     ensures { OnOk result (first.new ≡ earliest first.old (spec.names_faults known.old names.now)) }
 {
-    check_each(known, names.as_slice(), first)?;
-    Ok(())
+    check_each(known, names.as_slice(), first)
 }
 
 /// Notes the faults of the marks and first values of ports.
@@ -161,8 +160,7 @@ fn check_component(
     ensures { OnOk result (first.new ≡ earliest first.old (spec.ports_faults (ports_region scope.now ports.now) scope.now ports.now)) }
 {
     let own = Scope::of(region::ports(alloc, ports, scope)?);
-    check_ports(alloc, &own, scope, ports, first)?;
-    Ok(())
+    check_ports(alloc, &own, scope, ports, first)
 }
 
 /// Notes the faults of a declaration of an architecture, but those of its names.
@@ -188,8 +186,7 @@ fn check_declaration(
             Ok(())
         }
         Declaration::Component(component) => {
-            check_component(alloc, scope, component.ports.as_slice(), first)?;
-            Ok(())
+            check_component(alloc, scope, component.ports.as_slice(), first)
         }
     }
 }
@@ -223,8 +220,7 @@ fn check_body_names<'a>(
 {
     let names = Names::of_body(alloc, declarations, statements)?;
     let mut known = Scope::after(alloc, entity.labels());
-    check_names(&mut known, &names, first)?;
-    Ok(())
+    check_names(&mut known, &names, first)
 }
 
 /// Notes the faults of the names of an architecture and of its declarations, by its region and the
@@ -241,6 +237,5 @@ pub fn check_architecture<'a>(
     ensures { OnOk result (first.new ≡ earliest first.old (spec.architecture_faults scope.now entity.now declarations.now statements.now)) }
 {
     check_body_names(alloc, entity, declarations, statements, first)?;
-    check_declarations(alloc, scope, declarations, first)?;
-    Ok(())
+    check_declarations(alloc, scope, declarations, first)
 }

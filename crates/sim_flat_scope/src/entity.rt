@@ -55,8 +55,7 @@ fn region_of<'a>(
     ensures { IfOk result (λ part. part ≡ spec.ports_region [] declarations.now) }
 {
     let nothing = Scope::new(alloc);
-    let part = region::ports(alloc, declarations, &nothing)?;
-    Ok(part)
+    region::ports(alloc, declarations, &nothing)
 }
 
 impl<'a> EntityPorts<'a> {

@@ -235,11 +235,10 @@ impl<'a> Names<'a> {
                 ..
             } => {
                 self.push_branches(branches.as_slice())?;
-                let Some(statements) = otherwise else {
-                    return Ok(());
-                };
-                self.push_statements(statements.as_slice())?;
-                Ok(())
+                match otherwise {
+                    Some(statements) => self.push_statements(statements.as_slice()),
+                    None => Ok(()),
+                }
             }
             Statement::Signal(_) | Statement::Variable(_) | Statement::Null => Ok(()),
         }
@@ -251,8 +250,7 @@ impl<'a> Names<'a> {
     fn push_branch(&mut self, branch: &'a Branch) -> Result<(), AllocError>
         ensures { OnOk result (self.new ≡ self.old ++ spec.branch_labels branch.now) }
     {
-        self.push_statements(branch.statements.as_slice())?;
-        Ok(())
+        self.push_statements(branch.statements.as_slice())
     }
 
     /// Puts the labels in the branches of an if at the end.

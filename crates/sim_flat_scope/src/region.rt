@@ -66,8 +66,7 @@ pub fn type_marked(may_be_boolean: bool, meaning: Option<Meaning>) -> Option<Typ
 fn next(place: usize) -> Result<usize, AllocError>
     ensures { IfOk result (λ n. n ≡ place + 1) }
 {
-    let next = place.checked_add(1).ok_or(AllocError)?;
-    Ok(next)
+    place.checked_add(1).ok_or(AllocError)
 }
 
 /// Declares names of which nothing else is known.
@@ -85,8 +84,7 @@ fn declare_each<'a, D: Declare<'a>>(region: &mut D, names: &[&'a Name]) -> Resul
 fn declare_labels<'a, D: Declare<'a>>(region: &mut D, names: &Names<'a>) -> Result<(), AllocError>
     ensures { OnOk result (D.declared region.new ≡ spec.naming (D.declared region.old) names.now) }
 {
-    declare_each(region, names.as_slice())?;
-    Ok(())
+    declare_each(region, names.as_slice())
 }
 
 /// Declares objects in a row, the first at this place, and gives the place after the last.
@@ -263,8 +261,7 @@ pub fn ports<'a>(
     ensures { IfOk result (λ part. part ≡ spec.ports_region outer.now ports.now) }
 {
     let own = port_labels(alloc, ports)?;
-    let part = declared_ports(alloc, &own, outer, ports)?;
-    Ok(part)
+    declared_ports(alloc, &own, outer, ports)
 }
 
 /// The names that an architecture of an entity sees, of which nothing else is known.
@@ -294,8 +291,7 @@ fn declare_own<'a>(
     ensures { OnOk result (scope.new ≡ declaring scope.old (spec.declarations (means own.now []) signal 0 declarations.now)) }
 {
     let nothing = Scope::new(alloc);
-    declare_declarations(scope, own, &nothing, signal, declarations)?;
-    Ok(())
+    declare_declarations(scope, own, &nothing, signal, declarations)
 }
 
 /// The region of an architecture without its labels.
@@ -323,8 +319,7 @@ fn declare_concurrents<'a>(
     ensures { OnOk result (scope.new ≡ spec.naming scope.old (concurrent_labels statements.now)) }
 {
     let labels = Names::of_concurrents(alloc, statements)?;
-    declare_labels(scope, &labels)?;
-    Ok(())
+    declare_labels(scope, &labels)
 }
 
 /// The region of an architecture: it goes on from that of the ports of its entity with its
@@ -376,8 +371,7 @@ fn declare_statements<'a>(
     ensures { OnOk result (part.new ≡ spec.naming part.old (statement_labels statements.now)) }
 {
     let labels = Names::of_statements(alloc, statements)?;
-    declare_labels(part, &labels)?;
-    Ok(())
+    declare_labels(part, &labels)
 }
 
 /// The region of a process, which stands in that of its architecture.
