@@ -12,7 +12,7 @@ use std::alloc::{AllocError, Global};
 
 /// What is known of a component of an architecture. An instance of it stands for one of the entity
 /// of its name (7.3.3).
-#[derive(Clone, Copy, Debug)]
+#[derive(Clone, Copy)]
 pub struct Component {
     /// Whether the entity of its name is there and has the same ports in name, mode and type mark.
     pub is_like_entity: bool,

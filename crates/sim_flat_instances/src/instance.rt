@@ -204,9 +204,6 @@ pub fn check_instance(
             note(first, fault.kind, fault.at);
             Ok(())
         }
-        None => {
-            check_port_map(alloc, library, inner, outer, instance, first)?;
-            Ok(())
-        }
+        None => check_port_map(alloc, library, inner, outer, instance, first),
     }
 }

@@ -15,11 +15,24 @@ use std::alloc::{AllocError, Global};
 use std::marker::Model;
 
 /// The ports of an entity or a component.
-#[derive(Drop)]
 pub struct Interface<'a> {
     ports: Vec<Port<'a>>,
     places: Places<'a>,
     required: Vec<usize>,
+}
+
+/// By hand, so that what drops one needs no proof of what is in it.
+impl<'a> Drop for Interface<'a> {
+    fn drop(self) {
+        let Interface {
+            ports,
+            places,
+            required,
+        } = self;
+        drop(ports);
+        drop(places);
+        drop(required);
+    }
 }
 
 impl<'a> Model for Interface<'a> {

@@ -20,26 +20,59 @@ struct EntityInterfaces<'a> {
 }
 
 /// The entities of a file, with the place of the first of each name.
-#[derive(Drop)]
 struct EntityList<'a> {
     list: Vec<&'a Entity>,
     declared: EntityInterfaces<'a>,
     first: Places<'a>,
 }
 
+/// By hand, so that what drops one needs no proof of what is in it.
+impl<'a> Drop for EntityList<'a> {
+    fn drop(self) {
+        let EntityList {
+            list,
+            declared,
+            first,
+        } = self;
+        drop(list);
+        drop(declared);
+        drop(first);
+    }
+}
+
 /// The architectures of a file, with the place of the last of each entity, and of each name.
-#[derive(Drop)]
 struct ArchitectureList<'a> {
     list: Vec<&'a Architecture>,
     last: Places<'a>,
     named: PairPlaces<'a>,
 }
 
+/// By hand, so that what drops one needs no proof of what is in it.
+impl<'a> Drop for ArchitectureList<'a> {
+    fn drop(self) {
+        let ArchitectureList { list, last, named } = self;
+        drop(list);
+        drop(last);
+        drop(named);
+    }
+}
+
 /// The entities and the architectures of a file, each in the order of the file.
-#[derive(Drop)]
 pub struct Library<'a> {
     entities: EntityList<'a>,
     architectures: ArchitectureList<'a>,
+}
+
+/// By hand, so that what drops one needs no proof of what is in it.
+impl<'a> Drop for Library<'a> {
+    fn drop(self) {
+        let Library {
+            entities,
+            architectures,
+        } = self;
+        drop(entities);
+        drop(architectures);
+    }
 }
 
 impl<'a> Model for Library<'a> {

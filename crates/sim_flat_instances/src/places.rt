@@ -10,9 +10,16 @@ use std::alloc::{AllocError, Global};
 use std::marker::Model;
 
 /// The place for which each name stands.
-#[derive(Drop)]
 pub struct Places<'a> {
     places: IndexMap<&'a [u8], usize>,
+}
+
+/// By hand, so that what drops one needs no proof of what is in it.
+impl<'a> Drop for Places<'a> {
+    fn drop(self) {
+        let Places { places } = self;
+        drop(places);
+    }
 }
 
 impl<'a> Model for Places<'a> {
@@ -52,17 +59,24 @@ impl<'a> Places<'a> {
     pub fn put_first(&mut self, name: &'a [u8], place: usize) -> Result<(), AllocError>
         ensures { OnOk result ((n : List ℕ) → spec.place_of self.new n ≡ option_or (spec.place_of self.old n) (spec.where_at (bytes_eq n name.now) place)) }
     {
-        if self.find(name).is_none() {
-            self.put(name, place)?;
+        if self.find(name).is_some() {
+            return Ok(());
         }
-        Ok(())
+        self.put(name, place)
     }
 }
 
 /// The place for which each two names stand.
-#[derive(Drop)]
 pub struct PairPlaces<'a> {
     places: IndexMap<(&'a [u8], &'a [u8]), usize>,
+}
+
+/// By hand, so that what drops one needs no proof of what is in it.
+impl<'a> Drop for PairPlaces<'a> {
+    fn drop(self) {
+        let PairPlaces { places } = self;
+        drop(places);
+    }
 }
 
 impl<'a> Model for PairPlaces<'a> {
@@ -101,9 +115,16 @@ impl<'a> PairPlaces<'a> {
 }
 
 /// The place for which each number stands.
-#[derive(Drop)]
 pub struct NumberPlaces {
     places: IndexMap<usize, usize>,
+}
+
+/// By hand, so that what drops one needs no proof of what is in it.
+impl Drop for NumberPlaces {
+    fn drop(self) {
+        let NumberPlaces { places } = self;
+        drop(places);
+    }
 }
 
 impl Model for NumberPlaces {
@@ -145,9 +166,9 @@ impl NumberPlaces {
         ensures { OnOk result ((n : ℕ) → spec.place_of_number self.new n
             ≡ option_or (spec.place_of_number self.old n) (spec.where_at (number == n) place)) }
     {
-        if self.find(number).is_none() {
-            self.put(number, place)?;
+        if self.find(number).is_some() {
+            return Ok(());
         }
-        Ok(())
+        self.put(number, place)
     }
 }

@@ -42,10 +42,10 @@ pub fn port_of(ports: &Interface<'_>, at: usize, formal: &Option<Name>) -> Optio
 fn note_first(firsts: &mut NumberPlaces, port: Option<usize>, at: usize) -> Result<(), AllocError>
     ensures { OnOk result ((p : ℕ) → place_of_number firsts.new p ≡ option_or (place_of_number firsts.old p) (where_at (spec.is_port port p) at)) }
 {
-    if let Some(place) = port {
-        firsts.put_first(place, at)?;
+    match port {
+        Some(place) => firsts.put_first(place, at),
+        None => Ok(()),
     }
-    Ok(())
 }
 
 /// The place in the map of the first association of each port that has one.
@@ -74,11 +74,22 @@ fn actual_at(associations: &[Association], at: usize) -> Option<&Actual>
 }
 
 /// The associations of the ports of an entity.
-#[derive(Drop)]
 pub struct PortMap<'m, 'a> {
     ports: &'m Interface<'a>,
     associations: &'m [Association],
     firsts: NumberPlaces,
+}
+
+/// By hand, so that what drops one needs no proof of what is in it.
+impl<'m, 'a> Drop for PortMap<'m, 'a> {
+    fn drop(self) {
+        let PortMap {
+            ports: _,
+            associations: _,
+            firsts,
+        } = self;
+        drop(firsts);
+    }
 }
 
 impl<'m, 'a> Model for PortMap<'m, 'a> {
