@@ -89,8 +89,7 @@ fn check_concurrents(
 {
     let components = components(alloc, library, declarations)?;
     let known = components.as_slice();
-    check_statements(alloc, library, region, known, statements, first)?;
-    Ok(())
+    check_statements(alloc, library, region, known, statements, first)
 }
 
 /// Notes the faults of the declarations and statements of an architecture of an entity with these
@@ -109,8 +108,7 @@ fn check_body<'a>(
     let statements = architecture.statements.as_slice();
     let region = region::architecture(alloc, ports, declarations, statements)?;
     check_architecture(alloc, &region, ports, declarations, statements, first)?;
-    check_concurrents(alloc, library, &region, declarations, statements, first)?;
-    Ok(())
+    check_concurrents(alloc, library, &region, declarations, statements, first)
 }
 
 /// Notes the faults of the declarations and statements of an architecture, where its entity is
@@ -127,8 +125,7 @@ fn check_known<'a>(
     match library.entity_ports(architecture.entity.text()) {
         None => Ok(()),
         Some(ports) => {
-            check_body(alloc, library, ports, architecture, first)?;
-            Ok(())
+            check_body(alloc, library, ports, architecture, first)
         }
     }
 }
@@ -160,6 +157,5 @@ pub fn check_architectures<'a>(
     ensures { OnOk result (first.new ≡ earliest first.old (spec.architectures_faults library.now (bodies_at architectures.now))) }
 {
     check_names(alloc, library, architectures, first)?;
-    check_bodies(alloc, library, architectures, first)?;
-    Ok(())
+    check_bodies(alloc, library, architectures, first)
 }

@@ -61,14 +61,12 @@ fn check_statement(
             Ok(())
         }
         Concurrent::Process(process) => {
-            check_process_statement(alloc, region, process, first)?;
-            Ok(())
+            check_process_statement(alloc, region, process, first)
         }
         Concurrent::Instance(instance) => {
             check_instance(
                 alloc, library, region, &nothing, components, instance, first,
-            )?;
-            Ok(())
+            )
         }
     }
 }

@@ -32,8 +32,7 @@ fn check_entity_names(
 {
     let names = names_of(alloc, entities)?;
     let mut known = Scope::new(alloc);
-    check_names(&mut known, &names, first)?;
-    Ok(())
+    check_names(&mut known, &names, first)
 }
 
 /// Notes the faults of the ports of an entity.
@@ -42,8 +41,7 @@ fn check_entity(alloc: Global, entity: &Entity, first: &mut Option<Fault>) -> Re
 {
     let nothing = Scope::new(alloc);
     let own = Scope::of(region::ports(alloc, entity.ports.as_slice(), &nothing)?);
-    check_ports(alloc, &own, &nothing, entity.ports.as_slice(), first)?;
-    Ok(())
+    check_ports(alloc, &own, &nothing, entity.ports.as_slice(), first)
 }
 
 /// Notes the faults of the ports of each entity.
@@ -71,6 +69,5 @@ pub fn check_entities(
     ensures { OnOk result (first.new ≡ earliest first.old (spec.entities_faults (entities_at entities.now))) }
 {
     check_entity_names(alloc, entities, first)?;
-    check_each(alloc, entities, first)?;
-    Ok(())
+    check_each(alloc, entities, first)
 }
