@@ -1,6 +1,6 @@
 //! A cursor over the tokens of a text.
 
-ghost use Rattle.std.specs.Prelude.{◌≡◌, Ok, List, [], ◌∷◌, ◌↔◌, true, false, IsTrue, IfNone, IfSome};
+ghost use Rattle.std.specs.Prelude.{◌≡◌, Ok, Err, List, [], ◌∷◌, ◌↔◌, true, false, IsTrue, IfNone, IfSome, IfOk, IfErr};
 ghost use Rattle.sim_text_tokens.specs.Token.{Token};
 ghost use Rattle.sim_text_tree.specs.Input as input;
 ghost use Rattle.sim_text_grammar.specs.Readers as spec;
@@ -109,6 +109,15 @@ impl Cursor {
     {
         self.expect(first)?;
         self.expect(second)
+    }
+
+    /// Goes past a token of this kind, and hands back what was read before it. `Syntax` comes where
+    /// another is next.
+    pub fn past<T: Drop>(&mut self, kind: Kind, found: T) -> Result<T, ParseError>
+        ensures { Reads (spec.and_then (spec.expect kind (view self.old)) (λ _. spec.pure found)) result (view self.new) }
+    {
+        self.expect(kind)?;
+        Ok(found)
     }
 
     /// Goes past a token of this kind, and reads the name after it. `Syntax` comes where another
@@ -221,6 +230,17 @@ impl Cursor {
         ensures { Reads (spec.event (view self.old)) result (view self.new) }
     {
         self.repeat(b"event".as_slice())
+    }
+}
+
+/// What was read first, with what was read after it; where that is a fault, the fault.
+pub fn both<A: Drop, B: Drop>(first: A, second: Result<B, ParseError>) -> Result<(A, B), ParseError>
+    ensures ok { IfOk result (λ found. (found.0 ≡ first) × (second ≡ Ok found.1)) }
+    ensures err { IfErr result (λ e. second ≡ Err e) }
+{
+    match second {
+        Ok(second) => Ok((first, second)),
+        Err(error) => Err(error),
     }
 }
 

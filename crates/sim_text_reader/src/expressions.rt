@@ -24,8 +24,7 @@ fn argument(tokens: &mut Cursor) -> Result<Name, ParseError>
     ensures { Reads (and_then (word (view tokens.old)) (λ name i. and_then (expect k.RightParen i) (λ _. pure name))) result (view tokens.new) }
 {
     let name = tokens.word()?;
-    tokens.expect(Kind::RightParen)?;
-    Ok(name)
+    tokens.past(Kind::RightParen, name)
 }
 
 /// `id | id ' event | id ( id )`

@@ -9,6 +9,7 @@ ghost use Rattle.sim_text_grammar.specs.Readers.{Reads, ReadsAs, and_then, pure,
 ghost use Rattle.sim_text_reader.specs.Cursors.{view};
 
 use crate::Cursor;
+use crate::cursor::both;
 use crate::expressions::expression;
 use crate::waveforms::{delay, waveform};
 use sim_text_grammar::ParseError;
@@ -51,8 +52,7 @@ pub fn label_ended(tokens: &mut Cursor, label: &Option<Name>) -> Result<bool, Pa
         result (view tokens.new) }
 {
     let label_repeated = label_again(tokens, label)?;
-    tokens.expect(Kind::Semicolon)?;
-    Ok(label_repeated)
+    tokens.past(Kind::Semicolon, label_repeated)
 }
 
 /// `:= expr ;`, after the target.
@@ -66,7 +66,7 @@ fn variable_assigned(
 {
     tokens.take();
     let value = expression(alloc, tokens)?;
-    tokens.expect(Kind::Semicolon)?;
+    let value = tokens.past(Kind::Semicolon, value)?;
     Ok(Statement::Variable(VariableAssignment { target, value }))
 }
 
@@ -75,8 +75,7 @@ fn waveform_ended(alloc: Global, tokens: &mut Cursor) -> Result<Waveform, ParseE
     ensures { Reads (and_then (waveform (view tokens.old)) (λ found i. and_then (expect k.Semicolon i) (λ _. pure found))) result (view tokens.new) }
 {
     let waveform = waveform(alloc, tokens)?;
-    tokens.expect(Kind::Semicolon)?;
-    Ok(waveform)
+    tokens.past(Kind::Semicolon, waveform)
 }
 
 /// `<= [delay] wave ;`, after the target.
@@ -224,8 +223,7 @@ fn condition(alloc: Global, tokens: &mut Cursor) -> Result<Expression, ParseErro
     ensures { Reads (condition (view tokens.old)) result (view tokens.new) }
 {
     let condition = expression(alloc, tokens)?;
-    tokens.expect(Kind::Then)?;
-    Ok(condition)
+    tokens.past(Kind::Then, condition)
 }
 
 /// `expr then {seq}`
@@ -235,7 +233,7 @@ fn branch(alloc: Global, tokens: &mut Cursor, depth: usize) -> Result<Branch, Pa
     ensures { Reads (spec.branch (spec.if_statement depth) (view tokens.old)) result (view tokens.new) }
 {
     let condition = condition(alloc, tokens)?;
-    let statements = sequence(alloc, tokens, depth)?;
+    let (condition, statements) = both(condition, sequence(alloc, tokens, depth))?;
     Ok(Branch {
         condition,
         statements,

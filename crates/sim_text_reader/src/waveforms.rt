@@ -6,7 +6,7 @@ ghost use Rattle.sim_text_tokens.specs.declared.kind.Kind.TheVariants as k;
 ghost use Rattle.sim_text_grammar.specs.Readers.{Reads, and_then, pure, expect};
 ghost use Rattle.sim_text_reader.specs.Cursors.{view};
 
-use crate::cursor::Cursor;
+use crate::cursor::{Cursor, both};
 use crate::expressions::expression;
 use sim_text_grammar::ParseError;
 use sim_text_tokens::Kind;
@@ -49,7 +49,7 @@ fn element(alloc: Global, tokens: &mut Cursor) -> Result<Element, ParseError>
 {
     let value = expression(alloc, tokens)?;
     if tokens.eat(Kind::After) {
-        let after = time(tokens)?;
+        let (value, after) = both(value, time(tokens))?;
         Ok(Element {
             value,
             after: Some(after),
