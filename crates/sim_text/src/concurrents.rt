@@ -11,7 +11,7 @@ ghost use Rattle.sim_text_reader.specs.Cursors.{view};
 
 use crate::declarations::{names, variables};
 use sim_text_grammar::ParseError;
-use sim_text_reader::Cursor;
+use sim_text_reader::cursor::{Cursor, both};
 use sim_text_reader::statements::{label_ended, statements};
 use sim_text_reader::waveforms::assigned;
 use sim_text_tokens::Kind;
@@ -62,8 +62,7 @@ fn process_ended(tokens: &mut Cursor, postponed: bool) -> Result<bool, ParseErro
 {
     tokens.expect(Kind::End)?;
     let again = postponed_again(tokens, postponed);
-    tokens.expect(Kind::Process)?;
-    Ok(again)
+    tokens.past(Kind::Process, again)
 }
 
 /// `begin {seq} end [postponed] process [NAME] ;`
@@ -99,8 +98,7 @@ fn sensitivity_closed(alloc: Global, tokens: &mut Cursor) -> Result<Sensitivity,
     ensures { Reads (and_then (spec.sensitivity (view tokens.old)) (λ found i. and_then (expect k.RightParen i) (λ _. pure found))) result (view tokens.new) }
 {
     let sensitivity = sensitivity(alloc, tokens)?;
-    tokens.expect(Kind::RightParen)?;
-    Ok(sensitivity)
+    tokens.past(Kind::RightParen, sensitivity)
 }
 
 /// `process ( sens ) [is] {var} begin {seq} end [postponed] process [NAME] ;`
@@ -234,8 +232,7 @@ fn port_map(alloc: Global, tokens: &mut Cursor) -> Result<Items<Association>, Pa
     }
     tokens.expect_both(Kind::Map, Kind::LeftParen)?;
     let found = associations(alloc, tokens)?;
-    tokens.expect(Kind::RightParen)?;
-    Ok(found)
+    tokens.past(Kind::RightParen, found)
 }
 
 /// Reads a port map, where one is written, and the semicolon after it.
@@ -243,8 +240,7 @@ fn port_map_ended(alloc: Global, tokens: &mut Cursor) -> Result<Items<Associatio
     ensures { Reads (and_then (spec.port_map (view tokens.old)) (λ found i. and_then (expect k.Semicolon i) (λ _. pure found))) result (view tokens.new) }
 {
     let associations = port_map(alloc, tokens)?;
-    tokens.expect(Kind::Semicolon)?;
-    Ok(associations)
+    tokens.past(Kind::Semicolon, associations)
 }
 
 /// `[pmap] ;`, after the label and the unit.
@@ -257,7 +253,7 @@ fn instance(
 ) -> Result<Concurrent, ParseError>
     ensures { Reads (spec.instance label unit (view tokens.old)) result (view tokens.new) }
 {
-    let associations = port_map_ended(alloc, tokens)?;
+    let (unit, associations) = both(unit, port_map_ended(alloc, tokens))?;
     Ok(Concurrent::Instance(Instance {
         label,
         unit,

@@ -172,8 +172,7 @@ fn initial_ended(tokens: &mut Cursor) -> Result<Option<Initial>, ParseError>
     ensures { Reads (and_then (spec.initial (view tokens.old)) (λ first i. and_then (expect k.Semicolon i) (λ _. pure first))) result (view tokens.new) }
 {
     let initial = initial(tokens)?;
-    tokens.expect(Kind::Semicolon)?;
-    Ok(initial)
+    tokens.past(Kind::Semicolon, initial)
 }
 
 /// `id {, id} : id [init] ;`, after `signal` or `variable`.
@@ -214,8 +213,7 @@ fn name_ended(tokens: &mut Cursor, text: &[u8]) -> Result<bool, ParseError>
         result (view tokens.new) }
 {
     let name_repeated = repeated(tokens, text)?;
-    tokens.expect(Kind::Semicolon)?;
-    Ok(name_repeated)
+    tokens.past(Kind::Semicolon, name_repeated)
 }
 
 /// `end component [NAME] ;`

@@ -86,8 +86,7 @@ fn library_names(alloc: Global, tokens: &mut Cursor) -> Result<Several<Name>, Pa
     ensures { Reads (and_then (names (view tokens.old)) (λ found i. and_then (expect k.Semicolon i) (λ _. pure found))) result (view tokens.new) }
 {
     let names = names(alloc, tokens)?;
-    tokens.expect(Kind::Semicolon)?;
-    Ok(names)
+    tokens.past(Kind::Semicolon, names)
 }
 
 /// Reads the names of a use clause, and the semicolon after them.
@@ -95,8 +94,7 @@ fn used_names(alloc: Global, tokens: &mut Cursor) -> Result<Several<SelectedName
     ensures { Reads (and_then (spec.selected_names (view tokens.old)) (λ found i. and_then (expect k.Semicolon i) (λ _. pure found))) result (view tokens.new) }
 {
     let names = selected_names(alloc, tokens)?;
-    tokens.expect(Kind::Semicolon)?;
-    Ok(names)
+    tokens.past(Kind::Semicolon, names)
 }
 
 /// `context = library id {, id} ; | use sel {, sel} ;`
