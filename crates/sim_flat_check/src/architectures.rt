@@ -124,9 +124,7 @@ fn check_known<'a>(
 {
     match library.entity_ports(architecture.entity.text()) {
         None => Ok(()),
-        Some(ports) => {
-            check_body(alloc, library, ports, architecture, first)
-        }
+        Some(ports) => { check_body(alloc, library, ports, architecture, first) }
     }
 }
 

@@ -60,9 +60,7 @@ fn check_statement(
             concurrent_assignment(region, &nothing, assignment, first);
             Ok(())
         }
-        Concurrent::Process(process) => {
-            check_process_statement(alloc, region, process, first)
-        }
+        Concurrent::Process(process) => { check_process_statement(alloc, region, process, first) }
         Concurrent::Instance(instance) => {
             check_instance(
                 alloc, library, region, &nothing, components, instance, first,
