@@ -170,7 +170,7 @@ module _ (d : Design) (f : Front) (k : Kept) (is : IsKept d f k) (owned' : List 
         k.waiting.waiting k.totals.items) (sym whole-same)
         (subst (λ (w : FlatState). IsSimulation (with_marks (kept_of d f k) marks) k.sensitive f.codes k.frame f.time k.delta w k.log.records f.due
         k.waiting.postponed k.waiting.waiting k.totals.items) (sym es) (record {
-          made = is.holds.made;
+          compiled = is.holds.compiled;
           marked = is.holds.marked;
           state = back-keeps i is.fresh owned' marks range all sized same;
           counts = is.holds.counts;

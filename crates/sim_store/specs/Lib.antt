@@ -1,5 +1,5 @@
 pub mod Waiting
-pub mod Made
+pub mod Contents
 pub mod Simulation
 pub mod WaveStore
 pub mod Handing

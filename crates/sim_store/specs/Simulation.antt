@@ -155,8 +155,8 @@ pub record IsResult (h : Simulation) (p : ℕ) (own : Owned) : Type 0 where
   pub resumed : is_due h p ≡ true
   pub result : own ≡ outcome (process_at h.design.processes p) (part (process_at h.design.processes p) p (reached h))
 
--- The lists that are made once are those of the design: for each net the processes that are sensitive to it, and for each process its code.
-pub record AreMade (design : Design) (sensitive : List (List ℕ)) (codes : Coded) (frame : ℕ) : Type 0 where
+-- What is compiled is of the design: for each net the processes that are sensitive to it, and for each process its code.
+pub record AreCompiled (design : Design) (sensitive : List (List ℕ)) (codes : Coded) (frame : ℕ) : Type 0 where
   pub sensitive_sized : length sensitive ≡ length design.nets
   pub sensitive_are : AreSensitive design.processes sensitive
   pub codes_are : AreCodesOf design.processes codes
@@ -179,11 +179,11 @@ pub record AreParted (design : Design) (due waiting : List Bool) : Type 0 where
   pub due_are : (p : ℕ) → p < length design.processes → those_in due p ≡ not (is_postponed design p)
   pub waiting_are : (p : ℕ) → p < length design.processes → those_in waiting p ≡ is_postponed design p
 
--- What is made of a design at first: those lists, its first state with its record, that each process is due or waits and none has been executed, and that
+-- What a simulation holds at first: what is compiled, its first state with its record, that each process is due or waits and none has been executed, and that
 -- no net had an event.
-pub record IsMade (design : Design) (sensitive : List (List ℕ)) (codes : Coded) (frame : ℕ) (held : FlatState) (records : List Record)
+pub record IsPrepared (design : Design) (sensitive : List (List ℕ)) (codes : Coded) (frame : ℕ) (held : FlatState) (records : List Record)
     (due deposited : List Bool) (postponed waiting : List Bool) (totals : List ℕ) : Type 0 where
-  pub lists : AreMade design sensitive codes frame
+  pub compiled : AreCompiled design sensitive codes frame
   pub marked : ArePostponed design postponed
   pub held_is : held ≡ flat_state_of design (first_state design)
   pub records_is : records ≡ first_record (first_state design) ∷ []
@@ -191,10 +191,10 @@ pub record IsMade (design : Design) (sensitive : List (List ℕ)) (codes : Coded
   pub deposited_is : deposited ≡ replicate (length design.processes) false
   pub totals_is : totals ≡ replicate (length design.nets) 0
 
--- What a simulation holds: the lists that were made once, the state, records and marks, and the totals of its nets.
+-- What a simulation holds: what was compiled, the state, records and marks, and the totals of its nets.
 pub record IsSimulation (h : Simulation) (sensitive : List (List ℕ)) (codes : Coded) (frame : ℕ) (time delta : ℕ) (held : FlatState)
     (records : List Record) (due postponed waiting : List Bool) (totals : List ℕ) : Type 0 where
-  pub made : AreMade h.design sensitive codes frame
+  pub compiled : AreCompiled h.design sensitive codes frame
   pub marked : ArePostponed h.design postponed
   pub state : IsStateOf h time delta held records due waiting
   pub counts : AreTotals (length h.design.nets) records totals

@@ -3,14 +3,14 @@
 ghost use Rattle.std.specs.Prelude.{ℕ, ◌≡◌, false, length, IfOk};
 ghost use Rattle.sim_store.specs.Handing as spec;
 ghost use Rattle.sim_store.specs.Keeping.{IsKept, kept_of};
-ghost use Rattle.sim_store.specs.Made.{IsOf, simulation_of};
+ghost use Rattle.sim_store.specs.Contents.{IsOf, simulation_of};
 ghost use Rattle.sim_store.specs.Simulation as simulations;
 ghost use Rattle.sim_store_sets.specs.RowArray.{joined};
 ghost use Rattle.sim_store_state.specs.Lending.{AreShares, counts};
 
 use crate::front::{Front, Scene};
 use crate::naming::Naming;
-use crate::simulation::{Lists, Made};
+use crate::simulation::{Compiled, Contents};
 use crate::waiting::Waiting;
 use sim_exec_code::Frame;
 use sim_flat_design::Design;
@@ -38,58 +38,58 @@ pub struct Kept {
 pub fn taken_apart<J: Naming>(
     alloc: Global,
     design: Design,
-    made: Made,
+    contents: Contents,
 ) -> Result<(Front<J>, Shares, Kept), AllocError>
     requires design { design ≡ J.design }
-    requires of { IsOf design made }
-    requires fresh { (p : ℕ) → simulations.those_in made.deposited p ≡ false }
-    ensures same { IfOk result (λ r. kept_of J.design r.0 r.2 ≡ simulation_of design made) }
+    requires of { IsOf design contents }
+    requires fresh { (p : ℕ) → simulations.those_in contents.deposited p ≡ false }
+    ensures same { IfOk result (λ r. kept_of J.design r.0 r.2 ≡ simulation_of design contents) }
     ensures range { IfOk result (λ r. spec.IsRange (spec.front_of J.design r.0) (simulations.reached (spec.front_of J.design r.0)).owned 0 (joined r.1)) }
     ensures all { IfOk result (λ r. length (joined r.1) ≡ length J.design.processes) }
     ensures shares { IfOk result (λ r. AreShares r.2.remains.each (counts r.1)) }
     ensures kept { IfOk result (λ r. IsKept J.design r.0 r.2) }
 {
     let _processes = design.processes();
-    let Lists {
-        sensitive,
-        codes,
-        frame,
-    } = made.lists;
     let Apart {
         values,
         last_values,
         shares,
         remains,
-    } = take_apart(alloc, made.state)?;
+    } = take_apart(alloc, contents.state)?;
+    let Compiled {
+        sensitive,
+        codes,
+        frame,
+    } = contents.compiled;
     let scene = Scene {
-        cycles: made.log.len() - 1,
-        phase: made.phase,
-        time: made.time,
+        cycles: contents.log.len() - 1,
+        phase: contents.phase,
+        time: contents.time,
         design,
         codes,
         values,
         last_values,
-        due: made.due,
+        due: contents.due,
     };
     let front = Front {
         scene,
         of: PhantomData,
     };
     let kept = Kept {
-        delta: made.delta,
+        delta: contents.delta,
         sensitive,
         frame,
         remains,
-        log: made.log,
-        waiting: made.waiting,
-        deposited: made.deposited,
-        totals: made.totals,
+        log: contents.log,
+        waiting: contents.waiting,
+        deposited: contents.deposited,
+        totals: contents.totals,
     };
     Ok((front, shares, kept))
 }
 
 /// Makes it whole again, once all that are due have been executed, by the shares that it was in.
-pub fn made_whole<J: Naming>(front: Front<J>, shares: Shares, kept: Kept) -> (Design, Made)
+pub fn made_whole<J: Naming>(front: Front<J>, shares: Shares, kept: Kept) -> (Design, Contents)
     requires kept { IsKept J.design front kept }
     requires range { spec.IsRange (spec.front_of J.design front) (spec.completed (spec.front_of J.design front)).owned 0 (joined shares) }
     requires all { length (joined shares) ≡ length J.design.processes }
@@ -118,10 +118,10 @@ pub fn made_whole<J: Naming>(front: Front<J>, shares: Shares, kept: Kept) -> (De
         remains: kept.remains,
     };
     let state = put_together(apart, &deposited);
-    let made = Made {
+    let contents = Contents {
         time,
         delta: kept.delta,
-        lists: Lists {
+        compiled: Compiled {
             sensitive: kept.sensitive,
             codes,
             frame: kept.frame,
@@ -134,5 +134,5 @@ pub fn made_whole<J: Naming>(front: Front<J>, shares: Shares, kept: Kept) -> (De
         deposited,
         totals: kept.totals,
     };
-    (design, made)
+    (design, contents)
 }

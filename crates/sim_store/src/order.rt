@@ -101,6 +101,20 @@ fn executed<J: Naming>(
     Ok(share)
 }
 
+/// The answer to an order of these processes.
+fn answered<J: Naming>(
+    alloc: Global,
+    front: &Front<J>,
+    from: usize,
+    share: Share,
+) -> Result<Answer<J>, AllocError>
+    requires range { spec.IsRange (spec.front_of J.design front.now) (reached (spec.front_of J.design front.now)).owned from share }
+    ensures { IfOk result (spec.IsAnswer (record { cycles = front.now.cycles; phase = front.now.phase; from = from; owned = share })) }
+{
+    let share = executed(alloc, front, from, share)?;
+    Ok(Answer::new(front.cycles(), front.phase(), from, share))
+}
+
 impl<J: Naming> Order<J> {
     /// What these processes own, of what all own as the phase begins.
     pub fn new(from: usize, share: Share, front: Arc<Front<J>, Global>) -> Order<J>
@@ -137,10 +151,7 @@ impl<J: Naming> Order<J> {
         ensures { IfOk result (spec.IsAnswer self) }
     {
         let Order { from, share, front } = self;
-        let cycles = front.cycles();
-        let phase = front.phase();
-        let share = executed(alloc, &front, from, share)?;
-        Ok(Answer::new(cycles, phase, from, share))
+        answered(alloc, &front, from, share)
     }
 }
 

@@ -1,7 +1,7 @@
 //! The two phases in which a cycle executes processes (IEEE 1076-2008, 14.7.5.3 f, h).
 
 /// Which processes are executed.
-#[derive(Clone, Copy, Debug, PartialEq, Eq)]
+#[derive(Clone, Copy, PartialEq, Eq)]
 pub enum Phase {
     /// Those that are resumed and not postponed.
     AtOnce,
@@ -10,7 +10,7 @@ pub enum Phase {
 }
 
 /// What comes once all processes of a phase have been executed.
-#[derive(Clone, Copy, Debug, PartialEq, Eq)]
+#[derive(Clone, Copy)]
 pub enum Upcoming {
     /// The phase of postponed processes.
     Postponed,

@@ -77,6 +77,24 @@ fn orders_and_lengths<J: Naming>(
     Ok((orders, lengths))
 }
 
+/// What is read, where all threads find it, with the orders for all processes, and of how many each
+/// is.
+fn fronted<J: Naming>(
+    alloc: Global,
+    front: Front<J>,
+    shares: Shares,
+) -> Result<(Arc<Front<J>, Global>, Vec<Order<J>>, Vec<usize>), AllocError>
+    requires range { spec.IsRange (spec.front_of J.design front) (simulations.reached (spec.front_of J.design front)).owned 0 (joined shares) }
+    requires all { length (joined shares) ≡ length J.design.processes }
+    ensures front { IfOk result (λ r. arc_value r.0 ≡ front) }
+    ensures orders { IfOk result (λ r. spec.AreParts front.cycles front.phase r.2.items r.1.items) }
+    ensures lengths { IfOk result (λ r. r.2.items ≡ counts shares) }
+{
+    let front = Arc::new(alloc, front)?;
+    let (orders, parts) = orders_and_lengths(alloc, shares, &front)?;
+    Ok((front, orders, parts))
+}
+
 /// Hands out a phase of a simulation that may go on to these bounds.
 pub fn handed_out<J: Naming>(
     alloc: Global,
@@ -90,10 +108,9 @@ pub fn handed_out<J: Naming>(
     ensures store { IfOk result (λ r. r.0.store ≡ record { simulation = simulation; stop = stop; limit = limit; ended = None }) }
     ensures orders { IfOk result (λ r. spec.AreAll r.0 r.1.items) }
 {
-    let (design, made) = simulation.into_made();
-    let (front, shares, kept) = taken_apart::<J>(alloc, design, made)?;
-    let front = Arc::new(alloc, front)?;
-    let (orders, parts) = orders_and_lengths(alloc, shares, &front)?;
+    let (design, contents) = simulation.into_contents();
+    let (front, shares, kept) = taken_apart::<J>(alloc, design, contents)?;
+    let (front, orders, parts) = fronted(alloc, front, shares)?;
     let rest = Rest {
         front,
         kept,
@@ -102,6 +119,28 @@ pub fn handed_out<J: Naming>(
         limit,
     };
     Ok((rest, orders))
+}
+
+/// What was read, and what all processes own, by the answers to all orders, which were of so many
+/// processes each.
+fn brought_back<J: Naming>(
+    alloc: Global,
+    front: Arc<Front<J>, Global>,
+    parts: Vec<usize>,
+    answers: Vec<Answer<J>>,
+) -> Result<(Front<J>, Shares), HandOutError>
+    ensures front { IfOk result (λ r. r.0 ≡ arc_value front) }
+    ensures range { IfOk result (λ r. spec.IsRange (spec.front_of J.design (arc_value front))
+        (spec.completed (spec.front_of J.design (arc_value front))).owned 0 (joined r.1)) }
+    ensures counts { IfOk result (λ r. counts r.1 ≡ parts.items) }
+    ensures err { IfErr result (λ e. e ≡ reason.Stranger
+        → spec.AreParts (arc_value front).cycles (arc_value front).phase parts.items answers.items → ⊥) }
+{
+    let shares = shares_of(alloc, &front, parts.as_slice(), answers)?;
+    match Arc::try_unwrap(front) {
+        Ok(front) => Ok((front, shares)),
+        Err(_front) => Err(HandOutError::OrderLeft),
+    }
 }
 
 /// The simulation again, once all that are due have been executed.
@@ -118,8 +157,8 @@ fn simulation_of<J: Naming>(
     ensures same { IfOk result (λ s. s ≡ simulations.with_marks (kept_of J.design front kept) s.deposited) }
     ensures complete { IfOk result simulations.IsComplete }
 {
-    let (design, made) = made_whole(front, shares, kept);
-    let simulation = Simulation::of_made(alloc, design, made)?;
+    let (design, contents) = made_whole(front, shares, kept);
+    let simulation = Simulation::of_contents(alloc, design, contents)?;
     Ok(simulation)
 }
 
@@ -143,10 +182,7 @@ impl<J: Naming> Rest<J> {
             stop,
             limit,
         } = self;
-        let shares = shares_of(alloc, &front, parts.as_slice(), answers)?;
-        let Ok(front) = Arc::try_unwrap(front) else {
-            return Err(HandOutError::OrderLeft);
-        };
+        let (front, shares) = brought_back(alloc, front, parts, answers)?;
         let simulation = simulation_of(alloc, front, shares, kept)?;
         Ok(WaveStore::open(simulation, stop, limit))
     }

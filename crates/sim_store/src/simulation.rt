@@ -13,7 +13,7 @@ ghost use Rattle.sim_standard.specs.State.{driver_values, net_at, owned_at};
 ghost use Rattle.sim_logic.specs.Time.{largest_time};
 ghost use Rattle.sim_standard.specs.Agreement.{total_of, value_by};
 ghost use Rattle.sim_standard.specs.Histories.{IsNamed, event_count, records_to};
-ghost use Rattle.sim_store.specs.Made.{AreFirst, IsOf, simulation_of};
+ghost use Rattle.sim_store.specs.Contents.{AreFirst, IsOf, simulation_of};
 ghost use Rattle.sim_store.specs.Simulation as spec;
 ghost use Rattle.sim_standard.specs.Cycle.{CycleAt, standard};
 ghost use Rattle.sim_store.specs.declared.phase.Phase.TheVariants as phase;
@@ -101,22 +101,23 @@ fn leave(waiting: &mut Waiting, phase: Phase)
     }
 }
 
-/// What is made of a design once: for each net the processes that are sensitive to it, for each
+/// What is compiled of a design once: for each net the processes that are sensitive to it, for each
 /// process its code, and a frame on which codes are executed.
 #[derive(Drop)]
-pub struct Lists {
+pub struct Compiled {
     pub sensitive: RowArray<usize>,
     pub codes: Codes,
     pub frame: Frame,
 }
 
-/// What is made of a design, and carried on from cycle to cycle: the time and the delta number of
-/// the last cycle, and the lists.
+/// What a simulation holds beside its design, without the simulation's invariant, which need not hold
+/// while processes are being executed: the time and the delta number of the last cycle, what was
+/// compiled, the state, the log, and marks of processes and nets.
 #[derive(Drop)]
-pub struct Made {
+pub struct Contents {
     pub time: u64,
     pub delta: u64,
-    pub lists: Lists,
+    pub compiled: Compiled,
     pub state: FlatState,
     pub log: Log,
     /// Which processes are executed now.
@@ -139,14 +140,21 @@ fn first_log(alloc: Global, state: &FlatState, nets: usize) -> Result<Log, Alloc
     Ok(log)
 }
 
-/// The first state of a design, and a log that holds its record.
-fn started(alloc: Global, design: &Design) -> Result<(FlatState, Log), AllocError>
-    ensures state { IfOk result (λ s. s.0 ≡ flat_state_of design.now (first_state design.now)) }
-    ensures log { IfOk result (λ s. s.1.records ≡ record { time = 0; delta = 0; changes = values_of s.0.nets } ∷ []) }
+/// The state and the log with which a run starts.
+#[derive(Drop)]
+struct Start {
+    state: FlatState,
+    log: Log,
+}
+
+/// The first state of a design with its record.
+fn started(alloc: Global, design: &Design) -> Result<Start, AllocError>
+    ensures state { IfOk result (λ s. s.state ≡ flat_state_of design.now (first_state design.now)) }
+    ensures log { IfOk result (λ s. s.log.records ≡ record { time = 0; delta = 0; changes = values_of s.state.nets } ∷ []) }
 {
     let state = FlatState::first(alloc, design)?;
     let log = first_log(alloc, &state, design.nets().len())?;
-    Ok((state, log))
+    Ok(Start { state, log })
 }
 
 /// Which processes of a design are to be executed first, and which postponed ones wait.
@@ -160,50 +168,28 @@ fn parted(alloc: Global, design: &Design) -> Result<(Due, Waiting), AllocError>
     Ok((due, waiting))
 }
 
+/// Which processes are executed and which wait, which have been executed, and how many events each
+/// net had.
+#[derive(Drop)]
+struct FirstMarks {
+    due: Due,
+    waiting: Waiting,
+    deposited: NumberSet,
+    totals: Vec<u64>,
+}
+
 /// Of a design: which processes are to be executed first and which wait, that none has been
 /// executed, and that no net had an event.
-fn marks(alloc: Global, design: &Design) -> Result<(Due, Waiting, NumberSet, Vec<u64>), AllocError>
-    ensures parted { IfOk result (λ m. spec.AreParted design.now m.0 m.1.waiting) }
-    ensures postponed { IfOk result (λ m. spec.ArePostponed design.now m.1.postponed) }
-    ensures deposited { IfOk result (λ m. m.2 ≡ replicate (length design.now.processes) false) }
-    ensures totals { IfOk result (λ m. m.3.items ≡ replicate (length design.now.nets) 0) }
+fn marks(alloc: Global, design: &Design) -> Result<FirstMarks, AllocError>
+    ensures parted { IfOk result (λ m. spec.AreParted design.now m.due m.waiting.waiting) }
+    ensures postponed { IfOk result (λ m. spec.ArePostponed design.now m.waiting.postponed) }
+    ensures deposited { IfOk result (λ m. m.deposited ≡ replicate (length design.now.processes) false) }
+    ensures totals { IfOk result (λ m. m.totals.items ≡ replicate (length design.now.nets) 0) }
 {
     let (due, waiting) = parted(alloc, design)?;
     let deposited = NumberSet::new(alloc, design.processes().len())?;
     let totals = none(alloc, design.nets().len())?;
-    Ok((due, waiting, deposited, totals))
-}
-
-/// What is made of a design once.
-fn made_once(alloc: Global, design: &Design) -> Result<Lists, AllocError>
-    ensures { IfOk result (λ l. spec.AreMade design.now l.sensitive l.codes l.frame) }
-{
-    let sensitive = sensitive(alloc, design)?;
-    let codes = Codes::of(alloc, design.processes())?;
-    let frame = codes.frame(alloc)?;
-    Ok(Lists {
-        sensitive,
-        codes,
-        frame,
-    })
-}
-
-/// What is made of a design: the flat lists of its nets, the codes of its processes, its first state
-/// with its record, which processes are to be executed, and that no net had an event.
-fn prepared(alloc: Global, design: &Design) -> Result<Made, AllocError>
-    ensures start { IfOk result (λ m. (m.time ≡ 0) × (m.delta ≡ 0) × (m.phase ≡ phase.AtOnce)) }
-    ensures lists { IfOk result (λ m. AreFirst design.now m) }
-{
-    let (due, waiting, deposited, totals) = marks(alloc, design)?;
-    let lists = made_once(alloc, design)?;
-    let (state, log) = started(alloc, design)?;
-    Ok(Made {
-        time: 0,
-        delta: 0,
-        lists,
-        state,
-        log,
-        phase: Phase::AtOnce,
+    Ok(FirstMarks {
         due,
         waiting,
         deposited,
@@ -211,91 +197,167 @@ fn prepared(alloc: Global, design: &Design) -> Result<Made, AllocError>
     })
 }
 
-/// The same in a box, so that it stays where it is when the simulation is handed on.
-fn boxed(alloc: Global, design: &Design) -> Result<Box<Made>, AllocError>
-    ensures start { IfOk result (λ m. (m.value.time ≡ 0) × (m.value.delta ≡ 0) × (m.value.phase ≡ phase.AtOnce)) }
-    ensures lists { IfOk result (λ m. AreFirst design.now m.value) }
+/// Compiles a design.
+fn compile(alloc: Global, design: &Design) -> Result<Compiled, AllocError>
+    ensures { IfOk result (λ l. spec.AreCompiled design.now l.sensitive l.codes l.frame) }
 {
-    let made = prepared(alloc, design)?;
-    let made = Box::new(alloc, made)?;
-    Ok(made)
+    let sensitive = sensitive(alloc, design)?;
+    let codes = Codes::of(alloc, design.processes())?;
+    let frame = codes.frame(alloc)?;
+    Ok(Compiled {
+        sensitive,
+        codes,
+        frame,
+    })
+}
+
+/// All of these, at time 0.
+fn joined(marks: FirstMarks, compiled: Compiled, start: Start) -> Contents
+    ensures start { (result.time ≡ 0) × (result.delta ≡ 0) × (result.phase ≡ phase.AtOnce) }
+    ensures compiled { result.compiled ≡ compiled }
+    ensures state { (result.state ≡ start.state) × (result.log ≡ start.log) }
+    ensures marks { (result.due ≡ marks.due) × (result.waiting ≡ marks.waiting) }
+    ensures none { (result.deposited ≡ marks.deposited) × (result.totals ≡ marks.totals) }
+{
+    Contents {
+        time: 0,
+        delta: 0,
+        compiled,
+        state: start.state,
+        log: start.log,
+        phase: Phase::AtOnce,
+        due: marks.due,
+        waiting: marks.waiting,
+        deposited: marks.deposited,
+        totals: marks.totals,
+    }
+}
+
+/// What the simulation of a design holds at first: what is compiled, the first state with its record,
+/// which processes are to be executed, and that no net had an event.
+fn prepared(alloc: Global, design: &Design) -> Result<Contents, AllocError>
+    ensures start { IfOk result (λ m. (m.time ≡ 0) × (m.delta ≡ 0) × (m.phase ≡ phase.AtOnce)) }
+    ensures contents { IfOk result (λ m. AreFirst design.now m) }
+{
+    let marks = marks(alloc, design)?;
+    let compiled = compile(alloc, design)?;
+    let start = started(alloc, design)?;
+    Ok(joined(marks, compiled, start))
+}
+
+/// The same in a box, so that it stays where it is when the simulation is handed on.
+fn boxed(alloc: Global, design: &Design) -> Result<Box<Contents>, AllocError>
+    ensures start { IfOk result (λ m. (m.value.time ≡ 0) × (m.value.delta ≡ 0) × (m.value.phase ≡ phase.AtOnce)) }
+    ensures contents { IfOk result (λ m. AreFirst design.now m.value) }
+{
+    let contents = prepared(alloc, design)?;
+    let contents = Box::new(alloc, contents)?;
+    Ok(contents)
 }
 
 /// The same, with what the processes own in about so many shares.
-fn divided(alloc: Global, made: Made, shares: usize) -> Result<Made, AllocError>
-    ensures { IfOk result (λ m. m ≡ made) }
+fn divided(alloc: Global, contents: Contents, shares: usize) -> Result<Contents, AllocError>
+    ensures { IfOk result (λ m. m ≡ contents) }
 {
-    let state = made.state.divide(alloc, shares)?;
-    Ok(Made {
-        time: made.time,
-        delta: made.delta,
-        lists: made.lists,
+    let state = contents.state.divide(alloc, shares)?;
+    Ok(Contents {
+        time: contents.time,
+        delta: contents.delta,
+        compiled: contents.compiled,
         state,
-        log: made.log,
-        phase: made.phase,
-        due: made.due,
-        waiting: made.waiting,
-        deposited: made.deposited,
-        totals: made.totals,
+        log: contents.log,
+        phase: contents.phase,
+        due: contents.due,
+        waiting: contents.waiting,
+        deposited: contents.deposited,
+        totals: contents.totals,
     })
 }
 
 /// Executes a process in place that is due and has not been executed since the last cycle.
-fn execute(alloc: Global, design: &Design, made: &mut Made, number: usize) -> Result<(), AllocError>
-    requires of { IsOf design.now made.old }
+fn execute(
+    alloc: Global,
+    design: &Design,
+    contents: &mut Contents,
+    number: usize,
+) -> Result<(), AllocError>
+    requires of { IsOf design.now contents.old }
     requires at { number < length design.now.processes }
-    requires due { spec.those_in made.old.due number ≡ true }
-    requires fresh { spec.those_in made.old.deposited number ≡ false }
-    ensures of { OnOk result (IsOf design.now made.new) }
-    ensures same { OnOk result (simulation_of design.now made.new ≡ spec.with_marks (simulation_of design.now made.old) made.new.deposited) }
-    ensures gone { OnOk result (spec.IsMissing (simulation_of design.now made.new) number → ⊥) }
-    ensures others { OnOk result ((p : ℕ) → spec.IsMissing (simulation_of design.now made.new) p → spec.IsMissing (simulation_of design.now made.old) p) }
-    ensures due { made.new.due ≡ made.old.due }
-    ensures marks { OnOk result (made.new.deposited ≡ slice_set made.old.deposited number true) }
+    requires due { spec.those_in contents.old.due number ≡ true }
+    requires fresh { spec.those_in contents.old.deposited number ≡ false }
+    ensures of { OnOk result (IsOf design.now contents.new) }
+    ensures same { OnOk result (simulation_of design.now contents.new ≡ spec.with_marks (simulation_of design.now contents.old) contents.new.deposited) }
+    ensures gone { OnOk result (spec.IsMissing (simulation_of design.now contents.new) number → ⊥) }
+    ensures others { OnOk result ((p : ℕ) → spec.IsMissing (simulation_of design.now contents.new) p
+        → spec.IsMissing (simulation_of design.now contents.old) p) }
+    ensures due { contents.new.due ≡ contents.old.due }
+    ensures marks { OnOk result (contents.new.deposited ≡ slice_set contents.old.deposited number true) }
 {
     let process = &design.processes()[number];
-    let lists = &mut made.lists;
-    let frame = &mut lists.frame;
-    made.state
-        .resume(alloc, number, process, made.time, &lists.codes, frame)?;
-    made.deposited.insert(number);
+    let compiled = &mut contents.compiled;
+    let frame = &mut compiled.frame;
+    contents.state.resume(
+        alloc,
+        number,
+        process,
+        contents.time,
+        &compiled.codes,
+        frame,
+    )?;
+    contents.deposited.insert(number);
     Ok(())
 }
 
 /// Executes all that are due, none of which has been executed since the last cycle, in place and in
 /// rising order.
-fn execute_listed(alloc: Global, design: &Design, made: &mut Made) -> Result<(), AllocError>
-    requires of { IsOf design.now made.old }
-    requires fresh { (p : ℕ) → spec.those_in made.old.deposited p ≡ false }
-    ensures of { OnOk result (IsOf design.now made.new) }
-    ensures same { OnOk result (simulation_of design.now made.new ≡ spec.with_marks (simulation_of design.now made.old) made.new.deposited) }
-    ensures complete { OnOk result (spec.IsComplete (simulation_of design.now made.new)) }
+fn execute_listed(alloc: Global, design: &Design, contents: &mut Contents) -> Result<(), AllocError>
+    requires of { IsOf design.now contents.old }
+    requires fresh { (p : ℕ) → spec.those_in contents.old.deposited p ≡ false }
+    ensures of { OnOk result (IsOf design.now contents.new) }
+    ensures same { OnOk result (simulation_of design.now contents.new ≡ spec.with_marks (simulation_of design.now contents.old) contents.new.deposited) }
+    ensures complete { OnOk result (spec.IsComplete (simulation_of design.now contents.new)) }
 {
-    let count = made.due.numbers().len();
+    let count = contents.due.numbers().len();
     for place in 0..count {
-        let number = made.due.numbers()[place];
-        execute(alloc, design, made, number)?;
+        let number = contents.due.numbers()[place];
+        execute(alloc, design, contents, number)?;
+    }
+    Ok(())
+}
+
+/// Executes all that are due and have not been executed since the last cycle, in place and in
+/// rising order, where some may have been.
+fn execute_missing(
+    alloc: Global,
+    design: &Design,
+    contents: &mut Contents,
+) -> Result<(), AllocError>
+    requires { IsOf design.now contents.old }
+    ensures of { OnOk result (IsOf design.now contents.new) }
+    ensures same { OnOk result (simulation_of design.now contents.new ≡ spec.with_marks (simulation_of design.now contents.old) contents.new.deposited) }
+    ensures complete { OnOk result (spec.IsComplete (simulation_of design.now contents.new)) }
+{
+    let mut from = 0;
+    while let Some(number) = contents.due.next_beside(&contents.deposited, from) {
+        execute(alloc, design, contents, number)?;
+        from = number + 1;
     }
     Ok(())
 }
 
 /// Executes all that are due and have not been executed since the last cycle, in place and in
 /// rising order.
-fn execute_all(alloc: Global, design: &Design, made: &mut Made) -> Result<(), AllocError>
-    requires { IsOf design.now made.old }
-    ensures of { OnOk result (IsOf design.now made.new) }
-    ensures same { OnOk result (simulation_of design.now made.new ≡ spec.with_marks (simulation_of design.now made.old) made.new.deposited) }
-    ensures complete { OnOk result (spec.IsComplete (simulation_of design.now made.new)) }
+fn execute_all(alloc: Global, design: &Design, contents: &mut Contents) -> Result<(), AllocError>
+    requires { IsOf design.now contents.old }
+    ensures of { OnOk result (IsOf design.now contents.new) }
+    ensures same { OnOk result (simulation_of design.now contents.new ≡ spec.with_marks (simulation_of design.now contents.old) contents.new.deposited) }
+    ensures complete { OnOk result (spec.IsComplete (simulation_of design.now contents.new)) }
 {
-    if made.deposited.is_empty() {
-        return execute_listed(alloc, design, made);
+    if contents.deposited.is_empty() {
+        execute_listed(alloc, design, contents)
+    } else {
+        execute_missing(alloc, design, contents)
     }
-    let mut from = 0;
-    while let Some(number) = made.due.next_beside(&made.deposited, from) {
-        execute(alloc, design, made, number)?;
-        from = number + 1;
-    }
-    Ok(())
 }
 
 /// A simulation of a design, as far as it has come. By its type, what it holds is what the cycle
@@ -304,7 +366,7 @@ fn execute_all(alloc: Global, design: &Design, made: &mut Made) -> Result<(), Al
 pub struct Simulation {
     design: Design,
     /// In a box, so that little is moved where a simulation is handed on.
-    made: Box<Made>,
+    contents: Box<Contents>,
 }
 
 impl Model for Simulation {
@@ -313,15 +375,15 @@ impl Model for Simulation {
     ghost use Rattle.sim_flat_design.specs.contracts.expression.BooleanExpression as boolean;
     ghost use Rattle.sim_flat_design.specs.contracts.statement.Statement as statement;
     ghost use Rattle.sim_store.specs.Simulation.{Simulation};
-    ghost use Rattle.sim_store.specs.Made.{IsOf, simulation_of};
+    ghost use Rattle.sim_store.specs.Contents.{IsOf, simulation_of};
 
     ghost Value = { Simulation };
 
     ghost coded = { Prim.hlevel (codes, logic.the_row.coded, boolean.the_row.coded, statement.the_row.coded) };
 
-    ghost view = { λ s. simulation_of s.design s.made.value };
+    ghost view = { λ s. simulation_of s.design s.contents.value };
 
-    ghost invariant = { λ s. IsOf s.design s.made.value };
+    ghost invariant = { λ s. IsOf s.design s.contents.value };
 }
 
 impl Simulation {
@@ -344,7 +406,7 @@ impl Simulation {
         are_processes(design.processes());
         match boxed(alloc, &design) {
             Err(error) => Err((error, design)),
-            Ok(made) => Ok(Simulation { design, made }),
+            Ok(contents) => Ok(Simulation { design, contents }),
         }
     }
 
@@ -354,13 +416,13 @@ impl Simulation {
         ensures { IfOk result (λ job. spec.IsJobOf self.now number job) }
     {
         let process = &self.design.processes()[number];
-        let made = &*self.made;
-        let part = made.state.part(alloc, number, process.reads())?;
+        let contents = &*self.contents;
+        let part = contents.state.part(alloc, number, process.reads())?;
         let process = process.try_copy()?;
         Ok(Job::new(
-            made.log.len() - 1,
+            contents.log.len() - 1,
             number,
-            made.time,
+            contents.time,
             process,
             part.views,
             part.variables,
@@ -373,7 +435,7 @@ impl Simulation {
     fn is_delta(&self, next: Option<u64>) -> bool
         ensures { result ≡ (not (self.now.cycles == 0) && cycles.is_time_of (spec.updated_last self.now) next) }
     {
-        self.cycles() != 0 && next == Some(self.made.time)
+        self.cycles() != 0 && next == Some(self.contents.time)
     }
 
     /// What comes once all that are due have been executed (14.7.5.3 g, h): the phase of postponed
@@ -383,10 +445,10 @@ impl Simulation {
         ensures same { self.new ≡ self.old }
         ensures value { IfOk result (spec.IsUpcoming self.old) }
     {
-        let made = &mut *self.made;
-        let next = made.state.next()?;
-        let is_waited = !made.waiting.is_empty();
-        let phase = made.phase;
+        let contents = &mut *self.contents;
+        let next = contents.state.next()?;
+        let is_waited = !contents.waiting.is_empty();
+        let phase = contents.phase;
         Ok(upcoming(phase, self.is_delta(next), is_waited, next))
     }
 
@@ -397,38 +459,38 @@ impl Simulation {
         requires next { spec.ArePostponedNext self.old.design self.old.cycles (spec.updated_last self.old) }
         ensures { self.new ≡ spec.in_postponed_phase self.old }
     {
-        let made = &mut *self.made;
-        made.phase = Phase::Postponed;
-        made.due.take(&made.waiting);
-        made.deposited.clear();
+        let contents = &mut *self.contents;
+        contents.phase = Phase::Postponed;
+        contents.due.take(&contents.waiting);
+        contents.deposited.clear();
     }
 
     /// How many cycles there were.
     pub fn cycles(&self) -> usize
         ensures { result ≡ self.now.cycles }
     {
-        self.made.log.len() - 1
+        self.contents.log.len() - 1
     }
 
     /// How many records there are: that of the initialization, and one for each cycle.
     pub fn records(&self) -> usize
         ensures { result ≡ suc self.now.cycles }
     {
-        self.made.log.len()
+        self.contents.log.len()
     }
 
     /// Whether this phase executes the process with a number.
     pub fn is_due(&self, number: usize) -> bool
         ensures { IsTrue result ↔ spec.IsDue self.now number }
     {
-        self.made.due.has(number)
+        self.contents.due.has(number)
     }
 
     /// Whether the process with a number has been executed in this phase.
     pub fn is_deposited(&self, number: usize) -> bool
         ensures { result ≡ spec.those_in self.now.deposited number }
     {
-        self.made.deposited.contains(number)
+        self.contents.deposited.contains(number)
     }
 
     /// Whether a job is what its process would be handed out now, but for its cycle. It takes no
@@ -439,14 +501,14 @@ impl Simulation {
         ensures { IsTrue result ↔ spec.IsOwn self.now job.now }
     {
         let process = &self.design.processes()[job.number()];
-        let made = &*self.made;
-        if job.time() != made.time {
+        let contents = &*self.contents;
+        if job.time() != contents.time {
             return false;
         }
         if !process.same(job.process()) {
             return false;
         }
-        made.state.is_part(
+        contents.state.is_part(
             job.number(),
             process.reads(),
             job.views(),
@@ -465,9 +527,9 @@ impl Simulation {
     {
         let (job, results) = done.into_parts();
         let number = job.number();
-        let made = &mut *self.made;
-        put_results(&mut made.state, number, results);
-        made.deposited.insert(number);
+        let contents = &mut *self.contents;
+        put_results(&mut contents.state, number, results);
+        contents.deposited.insert(number);
     }
 
     /// Carries out the cycle at the time of the next, once all of the last one have been executed
@@ -482,18 +544,23 @@ impl Simulation {
         ensures err { OnErr result (self.new ≡ self.old) }
     {
         let nets = self.design.nets().len();
-        let made = &mut *self.made;
-        made.log.reserve(nets)?;
-        made.state.update(time)?;
-        made.delta = next_delta(time, made.time, made.delta);
-        made.time = time;
-        made.state.record(&mut made.log, time, made.delta);
-        count_last(made.totals.as_mut_slice(), &made.log);
-        leave(&mut made.waiting, made.phase);
-        made.phase = Phase::AtOnce;
-        made.due
-            .find(&made.log, &made.lists.sensitive, &mut made.waiting);
-        made.deposited.clear();
+        let contents = &mut *self.contents;
+        contents.log.reserve(nets)?;
+        contents.state.update(time)?;
+        contents.delta = next_delta(time, contents.time, contents.delta);
+        contents.time = time;
+        contents
+            .state
+            .record(&mut contents.log, time, contents.delta);
+        count_last(contents.totals.as_mut_slice(), &contents.log);
+        leave(&mut contents.waiting, contents.phase);
+        contents.phase = Phase::AtOnce;
+        contents.due.find(
+            &contents.log,
+            &contents.compiled.sensitive,
+            &mut contents.waiting,
+        );
+        contents.deposited.clear();
         Ok(())
     }
 
@@ -521,8 +588,8 @@ impl Simulation {
     pub fn missing(&self) -> Option<usize>
         ensures { MatchOption result (spec.IsComplete self.now) (spec.IsLeastMissing self.now) }
     {
-        let made = &*self.made;
-        made.due.next_beside(&made.deposited, 0)
+        let contents = &*self.contents;
+        contents.due.next_beside(&contents.deposited, 0)
     }
 
     /// Executes all that are due and have not been executed since the last cycle, in place and in
@@ -532,29 +599,33 @@ impl Simulation {
         ensures same { IfOk result (λ s. s ≡ spec.with_marks self s.deposited) }
         ensures complete { IfOk result spec.IsComplete }
     {
-        let Simulation { design, made } = self;
-        let mut made = made;
-        execute_all(alloc, &design, &mut made)?;
-        Ok(Simulation { design, made })
+        let Simulation { design, contents } = self;
+        let mut contents = contents;
+        execute_all(alloc, &design, &mut contents)?;
+        Ok(Simulation { design, contents })
     }
 
-    /// Its design, and what it holds.
-    pub fn into_made(self) -> (Design, Made)
+    /// Its design, and what it holds beside that.
+    pub fn into_contents(self) -> (Design, Contents)
         ensures of { IsOf result.0 result.1 }
         ensures same { simulation_of result.0 result.1 ≡ self }
     {
-        let Simulation { design, made } = self;
-        let made = Box::into_inner(made);
-        (design, made)
+        let Simulation { design, contents } = self;
+        let contents = Box::into_inner(contents);
+        (design, contents)
     }
 
     /// The simulation that holds this.
-    pub fn of_made(alloc: Global, design: Design, made: Made) -> Result<Simulation, AllocError>
-        requires { IsOf design made }
-        ensures { IfOk result (λ s. s ≡ simulation_of design made) }
+    pub fn of_contents(
+        alloc: Global,
+        design: Design,
+        contents: Contents,
+    ) -> Result<Simulation, AllocError>
+        requires { IsOf design contents }
+        ensures { IfOk result (λ s. s ≡ simulation_of design contents) }
     {
-        let made = Box::new(alloc, made)?;
-        Ok(Simulation { design, made })
+        let contents = Box::new(alloc, contents)?;
+        Ok(Simulation { design, contents })
     }
 
     /// The same simulation, with what its processes own in about so many shares, which can be handed
@@ -562,9 +633,9 @@ impl Simulation {
     pub fn divide(self, alloc: Global, shares: usize) -> Result<Simulation, AllocError>
         ensures { IfOk result (λ s. s ≡ self) }
     {
-        let (design, made) = self.into_made();
-        let made = divided(alloc, made, shares)?;
-        let simulation = Simulation::of_made(alloc, design, made)?;
+        let (design, contents) = self.into_contents();
+        let contents = divided(alloc, contents, shares)?;
+        let simulation = Simulation::of_contents(alloc, design, contents)?;
         Ok(simulation)
     }
 
@@ -572,13 +643,13 @@ impl Simulation {
     pub fn is_untouched(&self) -> bool
         ensures { result ≡ true → (p : ℕ) → spec.those_in self.now.deposited p ≡ false }
     {
-        self.made.deposited.is_empty()
+        self.contents.deposited.is_empty()
     }
 
     /// About how many steps the execution of a process takes. It is a hint by which work is divided
     /// among threads, so nothing is promised of it.
     pub fn mean_length(&self) -> usize {
-        self.made.lists.codes.mean_length()
+        self.contents.compiled.codes.mean_length()
     }
 
     /// The numbers of the processes that this phase executes, rising.
@@ -587,7 +658,7 @@ impl Simulation {
         ensures few { length result.now ≤ most }
     {
         let _processes = self.design.processes();
-        self.made.due.numbers()
+        self.contents.due.numbers()
     }
 
     /// The time and the delta number of the last cycle.
@@ -596,8 +667,8 @@ impl Simulation {
         ensures there { standard self.now.design self.now.cycles ≡ Some (spec.updated_last self.now) }
         ensures rising { spec.AreRising self.now }
     {
-        let made = &*self.made;
-        (made.time, made.delta)
+        let contents = &*self.contents;
+        (contents.time, contents.delta)
     }
 
     /// The value of the net with a number; `None` if out of range. It is also that of its last
@@ -607,7 +678,7 @@ impl Simulation {
             (λ v. (net < length self.now.design.nets) × (v ≡ (net_at (spec.reached self.now).nets net).value)) }
         ensures records { IfSome result (λ v. value_by (records_to self.now.design self.now.cycles) net ≡ Some v) }
     {
-        self.made.state.value(net)
+        self.contents.state.value(net)
     }
 
     /// How many events the net with a number had after the initialization; `None` if out of range.
@@ -615,14 +686,14 @@ impl Simulation {
         ensures { MatchOption result (length self.now.design.nets ≤ net)
             (λ t. (net < length self.now.design.nets) × (t ≡ total_of (records_to self.now.design self.now.cycles) net)) }
     {
-        self.made.totals.get(net).copied()
+        self.contents.totals.get(net).copied()
     }
 
     /// How many events the cycles after the initialization had.
     pub fn events(&self) -> u64
         ensures { result ≡ event_count (records_to self.now.design self.now.cycles) }
     {
-        (self.made.log.count() - self.design.nets().len()) as u64
+        (self.contents.log.count() - self.design.nets().len()) as u64
     }
 
     /// The log of all records.
@@ -630,7 +701,7 @@ impl Simulation {
         ensures records { result.now.records ≡ records_to self.now.design self.now.cycles }
         ensures named { All (IsNamed (length self.now.design.nets)) result.now.records }
     {
-        &self.made.log
+        &self.contents.log
     }
 
     /// The records from a number on.
@@ -639,7 +710,7 @@ impl Simulation {
         ensures records { IfOk result (λ v. v.items ≡ drop number (records_to self.now.design self.now.cycles)) }
         ensures named { IfOk result (λ v. All (IsNamed (length self.now.design.nets)) v.items) }
     {
-        let found = records_from(alloc, &self.made.log, number)?;
+        let found = records_from(alloc, &self.contents.log, number)?;
         Ok(found)
     }
 }

@@ -23,15 +23,15 @@ pub invariant_of-front : goal.invariant_of-front
 invariant_of-front g c =
     let a = c.in_ok-values.field-0 in
     let e = c.in_ok-values.ensures in
-    let n : c.len.result - 1 ≡ length c.args.made.log.records - 1 = ap (λ (k : ℕ). k - 1) c.len.ensures in
-    first-front c.requires.of.state c.requires.fresh g.J.Naming.design (c.len.result - 1) c.requires.design n c.args.made.lists.codes
-    a.values.items a.last_values.items c.requires.of.made.codes_are e.nets
+    let n : c.len.result - 1 ≡ length c.args.contents.log.records - 1 = ap (λ (k : ℕ). k - 1) c.len.ensures in
+    first-front c.requires.of.state c.requires.fresh g.J.Naming.design (c.len.result - 1) c.requires.design n c.args.contents.compiled.codes
+    a.values.items a.last_values.items c.requires.of.compiled.codes_are e.nets
 
 pub returns-clause-range : goal.returns-clause-range
 returns-clause-range g c =
     let a = c.in_ok-values.field-0 in
     let e = c.in_ok-values.ensures in
-    let n : c.len.result - 1 ≡ length c.args.made.log.records - 1 = ap (λ (k : ℕ). k - 1) c.len.ensures in
+    let n : c.len.result - 1 ≡ length c.args.contents.log.records - 1 = ap (λ (k : ℕ). k - 1) c.len.ensures in
     first-range c.requires.of.state c.requires.fresh g.J.Naming.design (c.len.result - 1) c.requires.design n (joined a.shares) e.owned
 
 pub returns-clause-all : goal.returns-clause-all
@@ -43,22 +43,22 @@ pub returns-clause-kept : goal.returns-clause-kept
 returns-clause-kept g c =
     let a = c.in_ok-values.field-0 in
     let e = c.in_ok-values.ensures in
-    let m = c.args.made in
+    let m = c.args.contents in
     let i = c.requires.of.state in
     let n : c.len.result - 1 ≡ length m.log.records - 1 = ap (λ (k : ℕ). k - 1) c.len.ensures in
     let f : Front = record {
       cycles = length m.log.records - 1;
       phase = m.phase;
       time = m.time;
-      codes = m.lists.codes;
+      codes = m.compiled.codes;
       values = a.values.items;
       last_values = a.last_values.items;
       due = m.due;
     } in
     let k : Kept = record {
       delta = m.delta;
-      sensitive = m.lists.sensitive;
-      frame = m.lists.frame;
+      sensitive = m.compiled.sensitive;
+      frame = m.compiled.frame;
       remains = a.remains;
       log = m.log;
       waiting = m.waiting;
@@ -70,7 +70,7 @@ returns-clause-kept g c =
       apart = subst (λ (w : List Owned). AreApart a.values.items a.last_values.items w a.remains) (fresh-owned i c.requires.fresh)
           e.held;
       holds = record {
-        made = c.requires.of.made;
+        compiled = c.requires.of.compiled;
         marked = c.requires.of.marked;
         state = first-state i c.requires.fresh a.remains.sources _ e.sources e.nets;
         counts = c.requires.of.counts;

@@ -5,8 +5,8 @@ use Rattle.sim_exec.specs.Jobs.{IsReady}
 use Rattle.sim_exec_code.specs.Codes.{IsCodeOf, code_at, gathered_nets}
 use Rattle.sim_standard.specs.State.{owned_at}
 use Rattle.sim_standard.specs.Processes.{no_process, process_at}
-use Rattle.sim_store.specs.Made.{simulation_of}
-use Rattle.sim_store.specs.Simulation.{AreMade, IsStateOf, with_marks}
+use Rattle.sim_store.specs.Contents.{simulation_of}
+use Rattle.sim_store.specs.Simulation.{AreCompiled, IsStateOf, with_marks}
 use Rattle.sim_store.proofs.Going.{executed-keeps, held-count, ready-here}
 use Rattle.sim_store.proofs.simulation.execute.Goals as goal
 
@@ -19,8 +19,8 @@ resume-requires-clause-code c =
     c.index-processes-number.is ∙ (get_or_default c.processes.result.now c.args.number _ no_process
     (omega (arith, c.requires.at, ap length c.processes.ensures.value))
     ∙ ap (λ (ps : List Process). process_at ps c.args.number) c.processes.ensures.value) in
-    subst (λ (q : Process). IsCodeOf q.body (code_at c.args.made.now.lists.codes.codes c.args.number)) (sym is)
-    (c.requires.of.made.codes_are.codes_are c.args.number)
+    subst (λ (q : Process). IsCodeOf q.body (code_at c.args.contents.now.compiled.codes.codes c.args.number)) (sym is)
+    (c.requires.of.compiled.codes_are.codes_are c.args.number)
 
 pub resume-requires-clause-nets : goal.resume-requires-clause-nets
 resume-requires-clause-nets c =
@@ -29,11 +29,11 @@ resume-requires-clause-nets c =
     c.index-processes-number.is ∙ (get_or_default c.processes.result.now c.args.number _ no_process
     (omega (arith, c.requires.at, ap length c.processes.ensures.value))
     ∙ ap (λ (qs : List Process). process_at qs c.args.number) c.processes.ensures.value) in
-    c.requires.of.made.codes_are.nets_are c.args.number c.requires.at
-    ∙ ap (λ (q : Process). gathered_nets q.nets (code_at c.args.made.now.lists.codes.codes c.args.number)) (sym is)
+    c.requires.of.compiled.codes_are.nets_are c.args.number c.requires.at
+    ∙ ap (λ (q : Process). gathered_nets q.nets (code_at c.args.contents.now.compiled.codes.codes c.args.number)) (sym is)
 
 pub resume-requires-clause-frame : goal.resume-requires-clause-frame
-resume-requires-clause-frame c = c.requires.of.made.frame_fits c.args.number
+resume-requires-clause-frame c = c.requires.of.compiled.frame_fits c.args.number
 
 pub resume-requires-clause-ready : goal.resume-requires-clause-ready
 resume-requires-clause-ready c =
@@ -41,7 +41,7 @@ resume-requires-clause-ready c =
     c.index-processes-number.is ∙ (get_or_default c.processes.result.now c.args.number _ no_process
     (omega (arith, c.requires.at, ap length c.processes.ensures.value))
     ∙ ap (λ (ps : List Process). process_at ps c.args.number) c.processes.ensures.value) in
-    subst (λ (q : Process). IsReady q.body c.args.made.now.time (owned_at c.args.made.now.state.owned c.args.number)) (sym is)
+    subst (λ (q : Process). IsReady q.body c.args.contents.now.time (owned_at c.args.contents.now.state.owned c.args.number)) (sym is)
     (ready-here c.requires.of.state c.args.number c.requires.at c.requires.fresh)
 
 pub returns-clause-of : goal.returns-clause-of
@@ -52,11 +52,11 @@ returns-clause-of c =
     (omega (arith, c.requires.at, ap length c.processes.ensures.value))
     ∙ ap (λ (ps : List Process). process_at ps c.args.number) c.processes.ensures.value) in
     record {
-      made = subst (AreMade c.args.design.now c.args.made.now.lists.sensitive c.args.made.now.lists.codes) (sym c.in_ok-resume.ensures.frame)
-          c.requires.of.made;
+      compiled = subst (AreCompiled c.args.design.now c.args.contents.now.compiled.sensitive c.args.contents.now.compiled.codes)
+          (sym c.in_ok-resume.ensures.frame) c.requires.of.compiled;
       marked = c.requires.of.marked;
-      state = subst (λ (marks : List Bool). IsStateOf (with_marks (simulation_of c.args.design.now c.args.made.now) marks) c.args.made.now.time
-          c.args.made.now.delta c.resume.new.self c.args.made.now.log.records c.args.made.now.due c.args.made.now.waiting.waiting)
+      state = subst (λ (marks : List Bool). IsStateOf (with_marks (simulation_of c.args.design.now c.args.contents.now) marks) c.args.contents.now.time
+          c.args.contents.now.delta c.resume.new.self c.args.contents.now.log.records c.args.contents.now.due c.args.contents.now.waiting.waiting)
           (sym c.insert.ensures)
           (executed-keeps i c.args.number c.requires.at c.requires.fresh c.index-processes-number.result c.resume.new.self is
           (sym (i.due_are c.args.number c.requires.at) ∙ c.requires.due) c.in_ok-resume.ensures.ok c.in_ok-resume.ensures.ready);

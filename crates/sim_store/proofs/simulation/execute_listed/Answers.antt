@@ -1,5 +1,5 @@
 use Rattle.std.proofs.Common.{ℕ, ◌+◌, ◌<◌, ◌≡◌, Bool, List, length, get_or, set, true, ap, sym, ◌∙◌, subst, arith}
-use Rattle.sim_store.specs.Made.{simulation_of}
+use Rattle.sim_store.specs.Contents.{simulation_of}
 use Rattle.sim_store.specs.Simulation.{Simulation, IsMissing, listed, those_in, with_marks}
 use Rattle.sim_store.proofs.Along.{IsAlong, along-last, along-more, along-next}
 use Rattle.sim_store.proofs.Walks.{due-within}
@@ -8,7 +8,7 @@ use Rattle.sim_store.proofs.simulation.execute_listed.Goals as goal
 pub execute-requires-clause-at : goal.execute-requires-clause-at
 execute-requires-clause-at c =
     let i = c.loop-place.invariant in
-    let due = c.loop-place.made.due in
+    let due = c.loop-place.contents.due in
     let lt : c.loop-place.place < length (listed due) =
     omega (arith, c.loop-place-test.true, ap length c.numbers-count.ensures, ap (λ (d : List Bool). length (listed d)) i.due) in
     let w = along-next i.along lt in
@@ -18,7 +18,7 @@ execute-requires-clause-at c =
 pub execute-requires-clause-due : goal.execute-requires-clause-due
 execute-requires-clause-due c =
     let i = c.loop-place.invariant in
-    let due = c.loop-place.made.due in
+    let due = c.loop-place.contents.due in
     let lt : c.loop-place.place < length (listed due) =
     omega (arith, c.loop-place-test.true, ap length c.numbers-count.ensures, ap (λ (d : List Bool). length (listed d)) i.due) in
     let w = along-next i.along lt in
@@ -27,30 +27,30 @@ execute-requires-clause-due c =
 pub execute-requires-clause-fresh : goal.execute-requires-clause-fresh
 execute-requires-clause-fresh c =
     let i = c.loop-place.invariant in
-    let due = c.loop-place.made.due in
+    let due = c.loop-place.contents.due in
     let lt : c.loop-place.place < length (listed due) =
     omega (arith, c.loop-place-test.true, ap length c.numbers-count.ensures, ap (λ (d : List Bool). length (listed d)) i.due) in
     let w = along-next i.along lt in
-    ap (λ (l : List ℕ). those_in c.loop-place.made.deposited (get_or l c.loop-place.place 0)) c.numbers.ensures
+    ap (λ (l : List ℕ). those_in c.loop-place.contents.deposited (get_or l c.loop-place.place 0)) c.numbers.ensures
     ∙ i.along.fresh (get_or (listed due) c.loop-place.place 0) w.next.further
 
 pub loop-place-preserved : goal.loop-place-preserved
 loop-place-preserved c =
     let i = c.loop-place.invariant in
-    let made = c.loop-place.made in
-    let new = c.execute.new.made in
+    let contents = c.loop-place.contents in
+    let new = c.execute.new.contents in
     let h' = simulation_of c.args.design.now new in
     let place = c.loop-place.place in
-    let lt : place < length (listed made.due) =
+    let lt : place < length (listed contents.due) =
     omega (arith, c.loop-place-test.true, ap length c.numbers-count.ensures, ap (λ (d : List Bool). length (listed d)) i.due) in
-    let at : get_or c.numbers.result.now place 0 ≡ get_or (listed made.due) place 0 = ap (λ (l : List ℕ). get_or l place 0) c.numbers.ensures in
+    let at : get_or c.numbers.result.now place 0 ≡ get_or (listed contents.due) place 0 = ap (λ (l : List ℕ). get_or l place 0) c.numbers.ensures in
     let e = c.in_ok-execute.ensures in
     record {
       of = e.of;
       same = e.same ∙ ap (λ (h : Simulation). with_marks h new.deposited) i.same;
       due = e.due ∙ i.due;
       along = subst (λ (d : List Bool). IsAlong d h' (place + 1)) (sym e.due)
-          (along-more i.of.state i.along lt h' (e.marks ∙ ap (λ (k : ℕ). set made.deposited k true) at) e.others
+          (along-more i.of.state i.along lt h' (e.marks ∙ ap (λ (k : ℕ). set contents.deposited k true) at) e.others
           (subst (λ (k : ℕ). IsMissing h' k → ⊥) at e.gone));
     }
 

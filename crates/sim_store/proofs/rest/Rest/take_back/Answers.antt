@@ -10,8 +10,7 @@ use Rattle.sim_store.proofs.rest.Rest.take_back.Goals as goal
 
 pub simulation_of-requires-clause-all : goal.simulation_of-requires-clause-all
 simulation_of-requires-clause-all g c =
-    sym (sum-counts c.in_ok-shares.shares)
-    ∙ (ap sum (c.in_ok-shares.ensures.counts ∙ c.as_slice.ensures.value) ∙ c.self.invariant.3)
+    sym (sum-counts c.in_ok-front.shares) ∙ (ap sum c.in_ok-front.ensures.counts ∙ c.self.invariant.3)
 
 pub open-requires : goal.open-requires
 open-requires g c =
@@ -20,7 +19,7 @@ open-requires g c =
     let m = c.in_ok-simulation.simulation in
     let before = kept_of d (arc_value s.front) s.kept in
     let same : m ≡ with_marks before m.deposited = c.in_ok-simulation.ensures.same
-    ∙ ap (λ (f : Front). with_marks (kept_of d f s.kept) m.deposited) c.in-Ok.ensures.ok in
+    ∙ ap (λ (f : Front). with_marks (kept_of d f s.kept) m.deposited) c.in_ok-front.ensures.front in
     subst (λ (h : Simulation). IsStore (record { simulation = h; stop = s.stop; limit = s.limit; ended = None })) (sym same)
     (store-executed (record { simulation = before; stop = s.stop; limit = s.limit; ended = None }) m.deposited c.self.invariant.1 refl)
 

@@ -3,14 +3,14 @@ use Rattle.sim_exec.specs.Jobs.{Job, result_of}
 use Rattle.sim_standard.specs.State.{Owned, driver_values, owned_at}
 use Rattle.sim_store.specs.Simulation.{Simulation, IsMissing, IsOwn, IsStateOf, kept_or}
 use Rattle.sim_store.proofs.Going.{deposited-keeps, held-count, kept-result, kept-values, kept-variables, own-ready, own-result}
-use Rattle.sim_store.specs.Made.{simulation_of}
+use Rattle.sim_store.specs.Contents.{simulation_of}
 use Rattle.sim_store.proofs.Boxes.{held, shown}
 use Rattle.sim_store.proofs.simulation.Simulation.deposit.Goals as goal
 
 pub put_results-requires-clause-at : goal.put_results-requires-clause-at
 put_results-requires-clause-at c =
-    let kept = held c.self.inside.design c.deref_mut-made.ensures.value c.self.invariant in
-    let view = shown c.self.inside.design c.deref_mut-made.ensures.value c.self.view_is in
+    let kept = held c.self.inside.design c.deref_mut-contents.ensures.value c.self.invariant in
+    let view = shown c.self.inside.design c.deref_mut-contents.ensures.value c.self.view_is in
     let n : c.number-number.result ≡ c.args.done.number = c.number-number.ensures ∙ ap (λ (j : Job). j.number) c.into_parts-job.ensures.job in
     let lt : c.args.done.number < length c.self.inside.design.processes =
     subst (λ (g : Simulation). c.args.done.number < length g.design.processes) (sym view) c.requires.missing.due.number in
@@ -18,9 +18,9 @@ put_results-requires-clause-at c =
 
 pub put_results-requires-clause-values : goal.put_results-requires-clause-values
 put_results-requires-clause-values c =
-    let m = c.deref_mut-made.result.now in
-    let kept = held c.self.inside.design c.deref_mut-made.ensures.value c.self.invariant in
-    let view = shown c.self.inside.design c.deref_mut-made.ensures.value c.self.view_is in
+    let m = c.deref_mut-contents.result.now in
+    let kept = held c.self.inside.design c.deref_mut-contents.ensures.value c.self.invariant in
+    let view = shown c.self.inside.design c.deref_mut-contents.ensures.value c.self.view_is in
     let s = c.self.inside in
     let job = c.args.done in
     let n : c.number-number.result ≡ job.number = c.number-number.ensures ∙ ap (λ (j : Job). j.number) c.into_parts-job.ensures.job in
@@ -32,9 +32,9 @@ put_results-requires-clause-values c =
 
 pub put_results-requires-clause-variables : goal.put_results-requires-clause-variables
 put_results-requires-clause-variables c =
-    let m = c.deref_mut-made.result.now in
-    let kept = held c.self.inside.design c.deref_mut-made.ensures.value c.self.invariant in
-    let view = shown c.self.inside.design c.deref_mut-made.ensures.value c.self.view_is in
+    let m = c.deref_mut-contents.result.now in
+    let kept = held c.self.inside.design c.deref_mut-contents.ensures.value c.self.invariant in
+    let view = shown c.self.inside.design c.deref_mut-contents.ensures.value c.self.view_is in
     let s = c.self.inside in
     let job = c.args.done in
     let n : c.number-number.result ≡ job.number = c.number-number.ensures ∙ ap (λ (j : Job). j.number) c.into_parts-job.ensures.job in
@@ -45,9 +45,9 @@ put_results-requires-clause-variables c =
 
 pub invariant_of-self : goal.invariant_of-self
 invariant_of-self c =
-    let m = c.deref_mut-made.result.now in
-    let kept = held c.self.inside.design c.deref_mut-made.ensures.value c.self.invariant in
-    let view = shown c.self.inside.design c.deref_mut-made.ensures.value c.self.view_is in
+    let m = c.deref_mut-contents.result.now in
+    let kept = held c.self.inside.design c.deref_mut-contents.ensures.value c.self.invariant in
+    let view = shown c.self.inside.design c.deref_mut-contents.ensures.value c.self.view_is in
     let s = c.self.inside in
     let h = simulation_of s.design m in
     let job = c.args.done in
@@ -71,7 +71,7 @@ invariant_of-self c =
     (kept-result i job own miss.fresh c.into_parts-job.result.1 c.into_parts-job.ensures.results) in
     let marks : c.insert.new.self ≡ set h.deposited job.number true = c.insert.ensures ∙ ap (λ (k : ℕ). set h.deposited k true) n in
     record {
-      made = kept.made;
+      compiled = kept.compiled;
       marked = kept.marked;
       state = subst (λ (w : List Bool). IsStateOf (record { design = h.design; cycles = h.cycles; phase = h.phase; deposited = w })
           m.time m.delta held'

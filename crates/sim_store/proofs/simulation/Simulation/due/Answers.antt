@@ -3,7 +3,7 @@ use Rattle.sim_flat_design.specs.Designs.{most}
 use Rattle.sim_store.specs.Simulation.{Simulation, due_numbers, is_due, those_in}
 use Rattle.sim_standard.specs.Cycle.{those}
 use Rattle.sim_store.proofs.Listing.{those-few, those-same}
-use Rattle.sim_store.specs.Made.{simulation_of}
+use Rattle.sim_store.specs.Contents.{simulation_of}
 use Rattle.sim_store.proofs.Boxes.{held, shown}
 use Rattle.sim_store.proofs.simulation.Simulation.due.Goals as goal
 

@@ -4,7 +4,7 @@ use Rattle.sim_standard.specs.Records.{all_changes}
 use Rattle.sim_standard.specs.Histories.{event_count, records_to}
 use Rattle.sim_store.specs.Simulation.{Simulation}
 use Rattle.sim_standard.proofs.Records.{change_count}
-use Rattle.sim_store.specs.Made.{simulation_of}
+use Rattle.sim_store.specs.Contents.{simulation_of}
 use Rattle.sim_store.proofs.Boxes.{held, shown}
 use Rattle.sim_store.proofs.simulation.Simulation.events.Goals as goal
 

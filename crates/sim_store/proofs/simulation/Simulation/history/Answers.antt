@@ -4,7 +4,7 @@ use Rattle.sim_standard.specs.declared.record.Record.{Record}
 use Rattle.sim_standard.specs.Histories.{IsNamed}
 use Rattle.sim_store.specs.Simulation.{Simulation}
 use Rattle.sim_standard.proofs.Records.{all_named}
-use Rattle.sim_store.specs.Made.{simulation_of}
+use Rattle.sim_store.specs.Contents.{simulation_of}
 use Rattle.sim_store.proofs.Boxes.{held, shown}
 use Rattle.sim_store.proofs.simulation.Simulation.history.Goals as goal
 

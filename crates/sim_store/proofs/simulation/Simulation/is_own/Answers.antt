@@ -5,23 +5,23 @@ use Rattle.sim_standard.specs.Processes.{no_process, process_at}
 use Rattle.sim_standard.specs.State.{net_at, owned_at}
 use Rattle.sim_store.specs.Simulation.{Simulation, IsOwn, those_in}
 use Rattle.sim_store.proofs.Going.{fits-own, held-count, own-owned, own-views}
-use Rattle.sim_store.specs.Made.{simulation_of}
+use Rattle.sim_store.specs.Contents.{simulation_of}
 use Rattle.sim_store.proofs.Boxes.{held, shown}
 use Rattle.sim_store.proofs.simulation.Simulation.is_own.Goals as goal
 
 pub is_part-requires : goal.is_part-requires
 is_part-requires c =
-    let kept = held c.self.inside.design c.deref-made.ensures c.self.invariant in
-    let view = shown c.self.inside.design c.deref-made.ensures c.self.view_is in
+    let kept = held c.self.inside.design c.deref-contents.ensures c.self.invariant in
+    let view = shown c.self.inside.design c.deref-contents.ensures c.self.view_is in
     let lt : c.args.job.now.number < length c.self.inside.design.processes =
     subst (λ (g : Simulation). c.args.job.now.number < length g.design.processes) (sym view) c.requires.at in
     omega (arith, lt, c.number-2.ensures, held-count kept.state)
 
 pub returns : goal.returns
 returns c =
-    let m = c.deref-made.result.now in
-    let kept = held c.self.inside.design c.deref-made.ensures c.self.invariant in
-    let view = shown c.self.inside.design c.deref-made.ensures c.self.view_is in
+    let m = c.deref-contents.result.now in
+    let kept = held c.self.inside.design c.deref-contents.ensures c.self.invariant in
+    let view = shown c.self.inside.design c.deref-contents.ensures c.self.view_is in
     let s = c.self.inside in
     let h = simulation_of s.design m in
     let i = kept.state in

@@ -6,20 +6,20 @@ use Rattle.sim_exec.specs.Jobs.{Job, IsJob}
 use Rattle.sim_standard.specs.State.{Owned, net_at}
 use Rattle.sim_store.specs.Simulation.{Simulation, IsJobOf, IsOwn, is_due, those_in}
 use Rattle.sim_store.proofs.Going.{held-count, job-fits, length-records_to, part-is}
-use Rattle.sim_store.specs.Made.{simulation_of}
+use Rattle.sim_store.specs.Contents.{simulation_of}
 use Rattle.sim_store.proofs.Boxes.{held, shown}
 use Rattle.sim_store.proofs.simulation.Simulation.job.Goals as goal
 
 pub part-requires : goal.part-requires
 part-requires c =
-    let kept = held c.self.inside.design c.deref-made.ensures c.self.invariant in
-    let view = shown c.self.inside.design c.deref-made.ensures c.self.view_is in
+    let kept = held c.self.inside.design c.deref-contents.ensures c.self.invariant in
+    let view = shown c.self.inside.design c.deref-contents.ensures c.self.view_is in
     omega (arith, c.requires.due.number, ap (λ (h : Simulation). length h.design.processes) view, held-count kept.state)
 
 pub overflow_sub-len : goal.overflow_sub-len
 overflow_sub-len c =
-    let m = c.deref-made.result.now in
-    let kept = held c.self.inside.design c.deref-made.ensures c.self.invariant in
+    let m = c.deref-contents.result.now in
+    let kept = held c.self.inside.design c.deref-contents.ensures c.self.invariant in
     omega (
       arith,
       c.len.ensures,
@@ -29,9 +29,9 @@ overflow_sub-len c =
 
 pub new-requires : goal.new-requires
 new-requires c =
-    let m = c.deref-made.result.now in
-    let kept = held c.self.inside.design c.deref-made.ensures c.self.invariant in
-    let view = shown c.self.inside.design c.deref-made.ensures c.self.view_is in
+    let m = c.deref-contents.result.now in
+    let kept = held c.self.inside.design c.deref-contents.ensures c.self.invariant in
+    let view = shown c.self.inside.design c.deref-contents.ensures c.self.view_is in
     let s = c.self.inside in
     let h = simulation_of s.design m in
     let lt : c.args.number < length s.design.processes = subst (λ (g : Simulation). c.args.number < length g.design.processes)
@@ -49,9 +49,9 @@ new-requires c =
 
 pub returns : goal.returns
 returns c =
-    let m = c.deref-made.result.now in
-    let kept = held c.self.inside.design c.deref-made.ensures c.self.invariant in
-    let view = shown c.self.inside.design c.deref-made.ensures c.self.view_is in
+    let m = c.deref-contents.result.now in
+    let kept = held c.self.inside.design c.deref-contents.ensures c.self.invariant in
+    let view = shown c.self.inside.design c.deref-contents.ensures c.self.view_is in
     let s = c.self.inside in
     let h = simulation_of s.design m in
     let lt : c.args.number < length s.design.processes = subst (λ (g : Simulation). c.args.number < length g.design.processes)

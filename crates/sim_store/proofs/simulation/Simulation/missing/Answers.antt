@@ -6,7 +6,7 @@ use Rattle.sim_store.proofs.simulation.Simulation.missing.Goals as goal
 
 pub returns : goal.returns
 returns c =
-    let kept = held c.self.inside.design c.deref-made.ensures c.self.invariant in
-    let view = shown c.self.inside.design c.deref-made.ensures c.self.view_is in
+    let kept = held c.self.inside.design c.deref-contents.ensures c.self.invariant in
+    let view = shown c.self.inside.design c.deref-contents.ensures c.self.view_is in
     subst (λ (h : Simulation). MatchOption c.next_beside.result (IsComplete h) (IsLeastMissing h)) view
     (least-missing kept.state c.next_beside.result c.next_beside.ensures.value)

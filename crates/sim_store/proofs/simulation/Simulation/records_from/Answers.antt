@@ -6,7 +6,7 @@ use Rattle.sim_standard.specs.Histories.{IsNamed}
 use Rattle.sim_store.specs.Simulation.{Simulation}
 use Rattle.sim_store.proofs.Going.{cycle-count}
 use Rattle.sim_standard.proofs.Records.{all_named}
-use Rattle.sim_store.specs.Made.{simulation_of}
+use Rattle.sim_store.specs.Contents.{simulation_of}
 use Rattle.sim_store.proofs.Boxes.{held, shown}
 use Rattle.sim_store.proofs.simulation.Simulation.records_from.Goals as goal
 

@@ -6,13 +6,13 @@ use Rattle.sim_store.proofs.simulation.Simulation.time.Goals as goal
 
 pub returns-clause-there : goal.returns-clause-there
 returns-clause-there c =
-    let kept = held c.self.inside.design c.deref-made.ensures c.self.invariant in
-    let view = shown c.self.inside.design c.deref-made.ensures c.self.view_is in
+    let kept = held c.self.inside.design c.deref-contents.ensures c.self.invariant in
+    let view = shown c.self.inside.design c.deref-contents.ensures c.self.view_is in
     subst (λ (g : Simulation). standard g.design g.cycles ≡ Some (updated_last g)) view kept.state.there
 
 pub returns-clause-rising : goal.returns-clause-rising
 returns-clause-rising c =
-    let kept = held c.self.inside.design c.deref-made.ensures c.self.invariant in
-    let view = shown c.self.inside.design c.deref-made.ensures c.self.view_is in
+    let kept = held c.self.inside.design c.deref-contents.ensures c.self.invariant in
+    let view = shown c.self.inside.design c.deref-contents.ensures c.self.view_is in
     let i = kept.state in
     subst (λ (g : Simulation). AreRising g) view (λ p lt. rw (i.time_is, i.owned_are) at (i.ready p lt))
