@@ -38,7 +38,7 @@ const CHUNK: usize = 16_384;
 const LONGEST_LINE: usize = 64;
 
 /// Why a run that the words ask for has no listing.
-#[derive(Clone, Copy, Debug, PartialEq, Eq, Error)]
+#[derive(Clone, Copy, Debug, Error)]
 pub enum Failure {
     /// A read failed, or there were too many of them.
     #[error("Read")]

@@ -21,7 +21,7 @@ pub trait Order: Drop {
 }
 
 /// Why orders have no answers.
-#[derive(Clone, Copy, Debug, PartialEq, Eq)]
+#[derive(Clone, Copy, PartialEq, Eq)]
 pub enum Fault {
     /// No memory.
     Memory,

@@ -12,7 +12,7 @@ use std::alloc::Global;
 use std::sync::{Mutex, Wait};
 
 /// Why workers gave up.
-#[derive(Clone, Copy, Debug, PartialEq, Eq)]
+#[derive(Clone, Copy)]
 pub enum Fault {
     /// The store under the lock is not the one that a job was taken from.
     Stranger,
