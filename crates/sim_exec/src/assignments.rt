@@ -150,8 +150,7 @@ pub(crate) fn assign_signal<N: Nets>(
         driver.edit(now, delay(mechanism, element.0), &[element])?;
         return Ok(());
     }
-    assign(alloc, nets, now, mechanism, elements, variables, driver)?;
-    Ok(())
+    assign(alloc, nets, now, mechanism, elements, variables, driver)
 }
 
 #[tactic(auto, using(crate::proofs::Fits::bit_kept))]
