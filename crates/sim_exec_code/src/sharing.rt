@@ -56,10 +56,7 @@ fn code_of(alloc: Global, processes: &[Process], number: usize) -> Result<Code, 
 {
     match processes.get(number) {
         None => Ok(Code { program: None }),
-        Some(process) => {
-            let code = Code::of(alloc, process)?;
-            Ok(code)
-        }
+        Some(process) => { Code::of(alloc, process) }
     }
 }
 
