@@ -90,10 +90,7 @@ fn sensitivity_of(
 {
     match listed {
         Some(places) => Ok(places),
-        None => {
-            let places = Items::from_slice(alloc, reads)?;
-            Ok(places)
-        }
+        None => { Items::from_slice(alloc, reads) }
     }
 }
 

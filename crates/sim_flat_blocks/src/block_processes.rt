@@ -65,13 +65,9 @@ fn add_block_process(
 {
     match statement {
         Concurrent::Assignment(assignment) => {
-            add_assignment(alloc, region, objects, assignment, found)?;
-            Ok(())
+            add_assignment(alloc, region, objects, assignment, found)
         }
-        Concurrent::Process(process) => {
-            add_process(alloc, region, objects, process, found)?;
-            Ok(())
-        }
+        Concurrent::Process(process) => { add_process(alloc, region, objects, process, found) }
         Concurrent::Instance(_) => Ok(()),
     }
 }

@@ -14,8 +14,7 @@ use std::alloc::AllocError;
 fn more(count: usize, names: usize) -> Result<usize, AllocError>
     ensures { IfOk result (λ n. n ≡ count + names) }
 {
-    let sum = count.checked_add(names).ok_or(AllocError)?;
-    Ok(sum)
+    count.checked_add(names).ok_or(AllocError)
 }
 
 /// How many signals a declaration declares.

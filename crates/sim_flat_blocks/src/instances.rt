@@ -88,10 +88,7 @@ fn links_at(
     }
     match library.interface(entity_name(&instance.unit).text()) {
         None => Links::open(alloc, 0, 0),
-        Some(ports) => {
-            let links = links(alloc, region, ports, instance.associations.as_slice())?;
-            Ok(links)
-        }
+        Some(ports) => { links(alloc, region, ports, instance.associations.as_slice()) }
     }
 }
 

@@ -10,7 +10,7 @@ use std::alloc::{AllocError, Global};
 use std::marker::Model;
 
 /// What a port of an instance is associated with (IEEE 1076-2008, 6.5.6.3).
-#[derive(Clone, Copy, Debug)]
+#[derive(Clone, Copy)]
 pub enum Link {
     /// A port or signal of the architecture in which the instance stands.
     To(usize),
@@ -21,13 +21,26 @@ pub enum Link {
 /// What each port of an instance is associated with, by place. It takes memory as its associations
 /// do: as many of the first ports stand in a list, and of the others those that an association
 /// names are kept by their places.
-#[derive(Drop)]
 pub struct Links {
     ports: usize,
     /// How many ports are associated with nothing that has a net.
     unlinked: usize,
     first: Vec<Link>,
     others: IndexMap<usize, Link>,
+}
+
+/// By hand, so that what drops one needs no proof of what is in it.
+impl Drop for Links {
+    fn drop(self) {
+        let Links {
+            ports: _,
+            unlinked: _,
+            first,
+            others,
+        } = self;
+        drop(first);
+        drop(others);
+    }
 }
 
 impl Model for Links {

@@ -99,8 +99,7 @@ pub fn ports(
     ensures { IfOk result (λ r. r ≡ map (spec.port (spec.seen region.now)) (ports_of declared.now)) }
 {
     let ports = ports_of(alloc, declared)?;
-    let found = each_port(alloc, region, ports.as_slice())?;
-    Ok(found)
+    each_port(alloc, region, ports.as_slice())
 }
 
 /// Adds the signals of one declaration.
@@ -133,8 +132,7 @@ fn add_declared(
     match declaration {
         Declaration::Signal(signals) => {
             let names = signals.names.as_slice();
-            add_signals(alloc, region, &signals.mark, &signals.initial, names, found)?;
-            Ok(())
+            add_signals(alloc, region, &signals.mark, &signals.initial, names, found)
         }
         Declaration::Component(_) => Ok(()),
     }

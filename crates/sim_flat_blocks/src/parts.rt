@@ -26,9 +26,16 @@ pub struct Port {
 }
 
 /// The ports of an entity, by place, which all of its architectures share.
-#[derive(Drop)]
 pub struct Ports {
     list: Arc<Items<Port>, Global>,
+}
+
+/// By hand, so that what drops one needs no proof of what is in it, as below.
+impl Drop for Ports {
+    fn drop(self) {
+        let Ports { list } = self;
+        drop(list);
+    }
 }
 
 impl Model for Ports {
@@ -69,7 +76,6 @@ impl Ports {
 }
 
 /// A process of an architecture.
-#[derive(Drop)]
 pub struct BlockProcess {
     pub sensitivity: Items<usize>,
     /// What its statements name, rising.
@@ -81,7 +87,22 @@ pub struct BlockProcess {
     pub body: Body,
 }
 
-#[derive(Drop)]
+impl Drop for BlockProcess {
+    fn drop(self) {
+        let BlockProcess {
+            sensitivity,
+            reads,
+            targets,
+            postponed: _,
+            body,
+        } = self;
+        drop(sensitivity);
+        drop(reads);
+        drop(targets);
+        drop(body);
+    }
+}
+
 pub struct Instance {
     pub label: Name,
     /// Where the entity or the component is named.
@@ -91,11 +112,38 @@ pub struct Instance {
     pub links: Links,
 }
 
+impl Drop for Instance {
+    fn drop(self) {
+        let Instance {
+            label,
+            at: _,
+            block: _,
+            links,
+        } = self;
+        drop(label);
+        drop(links);
+    }
+}
+
 /// An architecture with its entity.
-#[derive(Drop)]
 pub struct Block {
     pub ports: Ports,
     pub signals: Items<Object>,
     pub processes: Items<BlockProcess>,
     pub instances: Items<Instance>,
+}
+
+impl Drop for Block {
+    fn drop(self) {
+        let Block {
+            ports,
+            signals,
+            processes,
+            instances,
+        } = self;
+        drop(ports);
+        drop(signals);
+        drop(processes);
+        drop(instances);
+    }
 }

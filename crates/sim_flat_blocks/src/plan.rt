@@ -40,8 +40,7 @@ fn listed_ports(alloc: Global, declared: &EntityPorts<'_>) -> Result<Items<Port>
     ensures { IfOk result (λ r. r ≡ spec.block_ports declared.now) }
 {
     let region = Scope::after(alloc, declared.region());
-    let ports = ports(alloc, &region, declared.declarations())?;
-    Ok(ports)
+    ports(alloc, &region, declared.declarations())
 }
 
 /// The ports that an entity declares, as those of a block.
@@ -49,8 +48,7 @@ fn block_ports(alloc: Global, declared: &EntityPorts<'_>) -> Result<Ports, Alloc
     ensures { IfOk result (λ r. r ≡ spec.block_ports declared.now) }
 {
     let ports = listed_ports(alloc, declared)?;
-    let shared = Ports::new(alloc, ports)?;
-    Ok(shared)
+    Ports::new(alloc, ports)
 }
 
 /// The ports that each entity declares, as those of a block.
@@ -174,8 +172,7 @@ fn block<'l>(
     let statements = architecture.statements.as_slice();
     let objects = object_count(declared, declarations)?;
     let region = region::architecture(alloc, declared, declarations, statements)?;
-    let block = block_in(alloc, library, shared, &region, objects, architecture)?;
-    Ok(block)
+    block_in(alloc, library, shared, &region, objects, architecture)
 }
 
 /// The empty block.
@@ -220,8 +217,7 @@ fn architecture_blocks(alloc: Global, library: &Library<'_>) -> Result<Vec<Block
     let none = EntityPorts::of(alloc, &[])?;
     let shared = shared_ports(alloc, library.ports())?;
     let architectures = library.architectures();
-    let found = each_block(alloc, library, &none, shared.as_slice(), architectures)?;
-    Ok(found)
+    each_block(alloc, library, &none, shared.as_slice(), architectures)
 }
 
 /// The blocks of a library, one for each architecture by its place, and last an empty one. Each

@@ -124,8 +124,7 @@ fn add_conditional(
     ensures { OnOk result (found.new.items ≡ found.old.items ++ spec.conditional_objects conditional.now) }
 {
     add_boolean(&conditional.condition, found)?;
-    add_elements(conditional.waveform.elements(), found)?;
-    Ok(())
+    add_elements(conditional.waveform.elements(), found)
 }
 
 /// Adds those of waveforms and their conditions.
@@ -154,8 +153,7 @@ fn add_assignment(assignment: &SignalAssignment, found: &mut Vec<usize>) -> Resu
     ensures { OnOk result (found.new.items ≡ found.old.items ++ spec.assignment_objects assignment.now) }
 {
     add_conditionals(assignment.conditional.as_slice(), found)?;
-    add_last(&assignment.otherwise, found)?;
-    Ok(())
+    add_last(&assignment.otherwise, found)
 }
 
 /// Adds those of a statement.

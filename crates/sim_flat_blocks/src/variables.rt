@@ -86,8 +86,7 @@ fn add_declared(
 {
     let type_ = type_marked(true, look_up(inner, outer, variable.mark.text()));
     let value = first_value(inner, outer, type_, &variable.initial);
-    add_each(value, variable.names.as_slice(), found)?;
-    Ok(())
+    add_each(value, variable.names.as_slice(), found)
 }
 
 /// The first values of variables.
