@@ -174,8 +174,7 @@ fn boxed_logic(
     ensures fits { IfOk result (λ r. logic_fits names.now.objects names.now.variables.now r ≡ true) }
 {
     let made = logic(alloc, names, expression.get())?;
-    let boxed = Boxed::new(alloc, made)?;
-    Ok(boxed)
+    Boxed::new(alloc, made)
 }
 
 /// The operands after the first of a chain of type std_ulogic.
@@ -296,8 +295,7 @@ fn boxed_boolean(
     ensures fits { IfOk result (λ r. boolean_fits names.now.objects names.now.variables.now r ≡ true) }
 {
     let made = boolean(alloc, names, expression.get())?;
-    let boxed = Boxed::new(alloc, made)?;
-    Ok(boxed)
+    Boxed::new(alloc, made)
 }
 
 /// `=` or `/=` between operands of type boolean, of which the left one is translated (9.2.3).

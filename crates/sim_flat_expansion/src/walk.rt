@@ -42,7 +42,7 @@ fn block(
         return Ok(Items::new(alloc));
     }
     let object_nets = block_object_nets(alloc, outer, links, at, flat)?;
-    let nets = inside(
+    inside(
         alloc,
         blocks,
         levels - 1,
@@ -52,8 +52,7 @@ fn block(
         at,
         around,
         flat,
-    )?;
-    Ok(nets)
+    )
 }
 
 /// Expands what stands in a block whose ports and signals have these nets.

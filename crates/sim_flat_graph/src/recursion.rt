@@ -87,8 +87,7 @@ fn least_ahead(
     if !has_earlier(instances, known) {
         return Ok(known);
     }
-    let least = least_back(alloc, back, number, instances, known)?;
-    Ok(least)
+    least_back(alloc, back, number, instances, known)
 }
 
 /// The least place so far, with a block more: one that is not marked has none.
@@ -107,8 +106,7 @@ fn least_on(
     if !marked {
         return Ok(known);
     }
-    let least = least_ahead(alloc, back, number, instances, known)?;
-    Ok(least)
+    least_ahead(alloc, back, number, instances, known)
 }
 
 /// The place of the first recursive instance, where there may be one.
@@ -149,6 +147,5 @@ pub fn first_recursive(
         return Ok(None);
     }
     let graph = graph_of(alloc, blocks)?;
-    let least = least_recursive(alloc, blocks, graph.as_slice(), top)?;
-    Ok(least)
+    least_recursive(alloc, blocks, graph.as_slice(), top)
 }

@@ -195,8 +195,7 @@ fn least_on(
     if !marked {
         return Ok(known);
     }
-    let least = least_in(alloc, blocks, block, known)?;
-    Ok(least)
+    least_in(alloc, blocks, block, known)
 }
 
 /// Where the first port or signal is declared, in the blocks that the top reaches, that has more

@@ -202,10 +202,7 @@ fn add_source(fan_out: &mut [Items<usize>], net: usize, source: Source) -> Resul
         → is_among (slice_index_or fan_out.new d []) n ≡ (is_among (slice_index_or fan_out.old d []) n || (is_driver source d && (net == n)))) }
 {
     match source {
-        Source::Driver(number) => {
-            add(fan_out, number, net)?;
-            Ok(())
-        }
+        Source::Driver(number) => { add(fan_out, number, net) }
         Source::Constant(_) => Ok(()),
     }
 }
