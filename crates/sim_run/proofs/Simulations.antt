@@ -24,14 +24,16 @@ module _ (text : List ℕ) (options : Options) (design : Design) where
   text_run (Err e) d f why = stopped text options design e d why
 
   pub text_run_found : (r : Result (Option WaveStore) RunError) → IsDesignOf text options design
-      → IfOk r (λ found. IfSome found (λ run. Finishes (behaviour_of design) options (history_of run))) → IfErr r (IsRefusalAlone (behaviour_of design) options)
+      → IfOk r (λ found. IfSome found (λ run. Finishes (behaviour_of design) options (history_of run)))
+      → IfErr r (IsRefusalAlone (behaviour_of design) options)
       → MatchResult r (λ found. IfSome found (λ run. HasDesign text options (λ b. Finishes b options (history_of run)))) (λ e. IsRefusal text options e)
   text_run_found (Ok None) d f e = tt
   text_run_found (Ok (Some run)) d f e = record { design = design; is_design = d; holds = f }
   text_run_found (Err e) d f why = stopped text options design e d why
 
 -- A listing is refused for a failed write alone.
-pub write_failed : (r : Result (Unit {0}) RunError) (Why : RunError → Type 0) → IfErr r (λ e. e ≡ refusal.Write) → IfErr r (λ e. e ≢ refusal.Write → Why e)
+pub write_failed : (r : Result (Unit {0}) RunError) (Why : RunError → Type 0) → IfErr r (λ e. e ≡ refusal.Write)
+    → IfErr r (λ e. e ≢ refusal.Write → Why e)
 write_failed (Ok done) Why is = tt
 write_failed (Err e) Why is = λ other. absurd (other is)
 

@@ -2,8 +2,8 @@
 use Rattle.std.specs.Prelude.{◌≡◌, ◌↔◌, ◌⊎◌, ◌<◌, ◌+◌, ◌-◌, ◌*◌, ℕ, List, Option, Some, None, Result, Err, MatchResult, false}
 use Rattle.sim_flat_design.specs.Designs.{Design}
 use Rattle.sim_store.specs.WaveStore.{WaveStore}
-use Rattle.sim_store.specs.declared.phase.Phase.{Phase}
-use Rattle.sim_store.specs.declared.phase.Phase.TheVariants as phase
+use Rattle.sim_store_simulation.specs.declared.phase.Phase.{Phase}
+use Rattle.sim_store_simulation.specs.declared.phase.Phase.TheVariants as phase
 use Rattle.sim_store.specs.declared.store.Step.{Step}
 use Rattle.std.specs.Io.KnownBytes.{Appends}
 use Rattle.sim_standard.specs.Behaviour.{Behaviour, behaviour_of}

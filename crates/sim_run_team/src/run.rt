@@ -2,7 +2,7 @@
 
 ghost use Rattle.std.specs.Prelude.{◌≡◌, ◌≢◌, None, IfOk};
 ghost use Rattle.sim_store.specs.Handing as hands;
-ghost use Rattle.sim_store.specs.Simulation as simulations;
+ghost use Rattle.sim_store_simulation.specs.Simulation as simulations;
 ghost use Rattle.sim_store.specs.WaveStore as store;
 ghost use Rattle.sim_run_team.specs.Runs.{IsCarriedOn};
 

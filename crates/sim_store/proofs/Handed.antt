@@ -16,7 +16,7 @@ use Rattle.sim_standard.specs.Processes.{object_net, no_process, process_at}
 use Rattle.sim_standard.specs.Together.{merged}
 use Rattle.sim_standard.proofs.Frame.{same_outcome}
 use Rattle.sim_standard.proofs.Together.{merged-out}
-use Rattle.sim_store.specs.Simulation.{Simulation, is_due, reached, those_in}
+use Rattle.sim_store_simulation.specs.Simulation.{Simulation, is_due, reached, those_in}
 use Rattle.sim_store.specs.Handing.{Front, IsFront, IsNextBelow, IsRange, NoneBetween, completed, front_of, result_in}
 
 -- a process of the set owns its result

@@ -19,13 +19,13 @@ use Rattle.sim_standard.proofs.ValuesKept.{values_kept}
 use Rattle.sim_standard.specs.declared.record.Record.{Record}
 use Rattle.sim_store_state.specs.FlatState.{FlatState, views_of}
 use Rattle.sim_store_state.specs.Lending.{HaveValues}
-use Rattle.sim_store.specs.Simulation.{Simulation, IsComplete, IsSimulation, IsStateOf, is_due}
-use Rattle.sim_store.specs.Simulation.{reached, those_in, with_marks}
-use Rattle.sim_store.specs.declared.phase.Phase.{Phase}
+use Rattle.sim_store_simulation.specs.Simulation.{Simulation, IsComplete, IsSimulation, IsStateOf, is_due}
+use Rattle.sim_store_simulation.specs.Simulation.{reached, those_in, with_marks}
+use Rattle.sim_store_simulation.specs.declared.phase.Phase.{Phase}
 use Rattle.sim_store.specs.Handing.{Front, IsFront, IsRange, at_phase, completed, front_of, result_in}
 use Rattle.sim_store.specs.declared.kept.Kept.{Kept}
 use Rattle.sim_store.specs.Keeping.{IsKept, kept_of}
-use Rattle.sim_store.proofs.Going.{cycle-count, reached-all}
+use Rattle.sim_store_simulation.proofs.Going.{cycle-count, reached-all}
 use Rattle.sim_store.proofs.Handed.{completed-due, completed-other}
 use Rattle.sim_store.proofs.Returning.{back-complete, back-keeps, fresh-front, fresh-owned, fresh-range}
 

@@ -1,13 +1,4 @@
-pub mod Counting
-pub mod Members
-pub mod Phases
-pub mod Going
-pub mod Listing
-pub mod Readiness
-pub mod Boxes
 pub mod Stores
-pub mod Walks
-pub mod Along
 pub mod Handed
 pub mod Returning
 pub mod Keeping

@@ -8,8 +8,8 @@ use Rattle.sim_standard.specs.State.{Owned}
 use Rattle.sim_store_sets.specs.RowArray.{joined}
 use Rattle.sim_store_state.specs.Lending.{counts}
 use Rattle.sim_store_state.proofs.Sharing.{counts-more}
-use Rattle.sim_store.specs.declared.phase.Phase.{Phase}
-use Rattle.sim_store.specs.Simulation.{Simulation}
+use Rattle.sim_store_simulation.specs.declared.phase.Phase.{Phase}
+use Rattle.sim_store_simulation.specs.Simulation.{Simulation}
 use Rattle.sim_store.specs.Handing.{IsRange, Range, AreInOrder, AreParts, lengths}
 
 -- ---- handed out from the last one on

@@ -14,11 +14,11 @@ use Rattle.sim_standard.proofs.Together.{length-merged, merged-none}
 use Rattle.sim_standard.proofs.Parallel.{merged-below}
 use Rattle.sim_store_state.specs.FlatState.{FlatState, views_of}
 use Rattle.sim_store_state.proofs.Walks.{member_within}
-use Rattle.sim_store.specs.Simulation.{Simulation, IsComplete, IsStateOf, is_before, is_due}
-use Rattle.sim_store.specs.Simulation.{reached, those_in, updated_last, with_marks}
-use Rattle.sim_store.specs.declared.phase.Phase.{Phase}
+use Rattle.sim_store_simulation.specs.Simulation.{Simulation, IsComplete, IsStateOf, is_before, is_due}
+use Rattle.sim_store_simulation.specs.Simulation.{reached, those_in, updated_last, with_marks}
+use Rattle.sim_store_simulation.specs.declared.phase.Phase.{Phase}
 use Rattle.sim_store.specs.Handing.{IsFront, IsRange, at_phase, completed, result_in}
-use Rattle.sim_store.proofs.Going.{held-count, reached-all, ready-here}
+use Rattle.sim_store_simulation.proofs.Going.{held-count, reached-all, ready-here}
 use Rattle.sim_store.proofs.Handed.{completed-other}
 
 -- ---- ranges side by side

@@ -7,7 +7,7 @@ use Rattle.sim_standard.specs.Cycle.{CycleAt, Following, standard, state_of, nex
 use Rattle.sim_store.specs.declared.store.Step.{Step}
 use Rattle.sim_store.specs.declared.store.Step.TheVariants as step
 use Rattle.std.specs.Prelude.{is_some}
-use Rattle.sim_store.specs.Simulation.{Simulation, IsComplete, IsExecuted, after, in_postponed_phase, next_after, reached, with_marks}
+use Rattle.sim_store_simulation.specs.Simulation.{Simulation, IsComplete, IsExecuted, after, in_postponed_phase, next_after, reached, with_marks}
 use Rattle.sim_store.specs.WaveStore.{WaveStore, IsStore, HasEnd}
 
 -- a run that begins

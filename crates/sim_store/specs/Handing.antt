@@ -12,8 +12,8 @@ use Rattle.sim_standard.specs.Together.{together}
 use Rattle.sim_exec.specs.Jobs.{IsReady}
 use Rattle.sim_exec_code.specs.Codes.{Coded, AreCodesOf}
 use Rattle.sim_store_state.specs.FlatState.{views_of}
-use Rattle.sim_store.specs.declared.phase.Phase.{Phase}
-use Rattle.sim_store.specs.Simulation.{Simulation, is_due, reached, those_in}
+use Rattle.sim_store_simulation.specs.declared.phase.Phase.{Phase}
+use Rattle.sim_store_simulation.specs.Simulation.{Simulation, is_due, reached, those_in}
 use Rattle.sim_store.specs.WaveStore.{WaveStore, IsOpen}
 
 -- a simulation as a phase of the execution after a number of cycles begins

@@ -6,7 +6,7 @@ use Rattle.sim_store_state.specs.Apart.{AreApart}
 use Rattle.sim_store_state.specs.FlatState.{views_of}
 use Rattle.sim_store.specs.declared.kept.Kept.{Kept}
 use Rattle.sim_store.specs.Handing.{Front}
-use Rattle.sim_store.specs.Simulation.{Simulation, IsSimulation, reached, those_in}
+use Rattle.sim_store_simulation.specs.Simulation.{Simulation, IsSimulation, reached, those_in}
 
 -- the simulation of which a phase is handed out
 abbrev pub kept_of : Design → Front → Kept → Simulation

@@ -1,6 +1,3 @@
-pub mod Waiting
-pub mod Contents
-pub mod Simulation
 pub mod WaveStore
 pub mod Handing
 pub mod Keeping

@@ -12,9 +12,10 @@ use Rattle.sim_store.specs.declared.store.Look.{Look}
 use Rattle.sim_standard.specs.Histories.{event_count, records_to}
 use Rattle.sim_standard.specs.Cycle.{CycleAt, standard, next_in}
 use Rattle.sim_standard.specs.Outcome.{FinishedAfter, LimitReached, PostponedDeltaAfter, HasOutcome, GoesOn}
-use Rattle.sim_store.specs.Simulation.{Simulation, ArePostponedNext, IsComplete, IsDue, IsExecuted, IsMissing, IsLeastMissing, IsOwn, after, due_numbers}
-use Rattle.sim_store.specs.Simulation.{in_postponed_phase, next_after, reached, those_in, updated_last, with_marks}
-use Rattle.sim_store.specs.declared.phase.Phase.TheVariants as phase
+use Rattle.sim_store_simulation.specs.Simulation.{Simulation, ArePostponedNext, IsComplete, IsDue, IsExecuted, IsMissing, IsLeastMissing, IsOwn}
+use Rattle.sim_store_simulation.specs.Simulation.{after, due_numbers}
+use Rattle.sim_store_simulation.specs.Simulation.{in_postponed_phase, next_after, reached, those_in, updated_last, with_marks}
+use Rattle.sim_store_simulation.specs.declared.phase.Phase.TheVariants as phase
 
 -- A store: its simulation, the stop time, the limit of cycles, and how the run ended.
 pub record WaveStore : Type 0 where

@@ -6,14 +6,13 @@ ghost use Rattle.sim_exec_code.specs.Codes.{FitsAll};
 ghost use Rattle.sim_standard.specs.Processes.{process_at};
 ghost use Rattle.sim_standard.specs.State.{owned_at};
 ghost use Rattle.sim_store.specs.Handing as spec;
-ghost use Rattle.sim_store.specs.Simulation.{is_due, reached};
+ghost use Rattle.sim_store_simulation.specs.Simulation.{is_due, reached};
 
-use crate::due::Due;
 use crate::naming::Naming;
-use crate::phase::Phase;
 use sim_exec_code::{Codes, Frame};
 use sim_flat_design::Design;
 use sim_logic::Logic;
+use sim_store_simulation::{Due, Phase};
 use sim_store_state::Share;
 use std::alloc::{AllocError, Global};
 use std::marker::{Model, PhantomData};

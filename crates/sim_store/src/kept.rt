@@ -3,18 +3,17 @@
 ghost use Rattle.std.specs.Prelude.{ℕ, ◌≡◌, false, length, IfOk};
 ghost use Rattle.sim_store.specs.Handing as spec;
 ghost use Rattle.sim_store.specs.Keeping.{IsKept, kept_of};
-ghost use Rattle.sim_store.specs.Contents.{IsOf, simulation_of};
-ghost use Rattle.sim_store.specs.Simulation as simulations;
+ghost use Rattle.sim_store_simulation.specs.Contents.{IsOf, simulation_of};
+ghost use Rattle.sim_store_simulation.specs.Simulation as simulations;
 ghost use Rattle.sim_store_sets.specs.RowArray.{joined};
 ghost use Rattle.sim_store_state.specs.Lending.{AreShares, counts};
 
 use crate::front::{Front, Scene};
 use crate::naming::Naming;
-use crate::simulation::{Compiled, Contents};
-use crate::waiting::Waiting;
 use sim_exec_code::Frame;
 use sim_flat_design::Design;
 use sim_store_sets::{NumberSet, RowArray};
+use sim_store_simulation::{Compiled, Contents, Waiting};
 use sim_store_state::{Apart, Log, Remains, Shares, put_together, take_apart};
 use std::alloc::{AllocError, Global};
 use std::marker::PhantomData;

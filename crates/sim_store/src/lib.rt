@@ -1,21 +1,14 @@
-//! The state and the history of a run, and the simulation cycle, which carries them on (IEEE
-//! 1076-2008, 14.7).
+//! The state and the history of a run, and the calls that carry them on (IEEE 1076-2008, 14.7).
 #![tactic(auto)]
 
-mod due;
 mod error;
 mod front;
 mod handing;
-mod history;
 mod kept;
 mod naming;
 mod order;
-mod phase;
 mod rest;
-mod simulation;
 mod store;
-mod totals;
-mod waiting;
 
 pub use error::{HandOutError, StoreError};
 pub use naming::Naming;

@@ -4,12 +4,12 @@ ghost use Rattle.std.specs.Prelude.{ℕ, ◌≡◌, ◌≤◌, ◌+◌, IfOk, On
 ghost use Rattle.std.specs.Arc.{arc_value};
 ghost use Rattle.sim_exec_code.specs.Codes.{FitsAll};
 ghost use Rattle.sim_store.specs.Handing as spec;
-ghost use Rattle.sim_store.specs.Simulation.{reached};
+ghost use Rattle.sim_store_simulation.specs.Simulation.{reached};
 
 use crate::front::Front;
 use crate::naming::Naming;
-use crate::phase::Phase;
 use sim_exec_code::Frame;
+use sim_store_simulation::Phase;
 use sim_store_state::Share;
 use std::alloc::{AllocError, Global};
 use std::marker::{Model, PhantomData};
@@ -31,7 +31,7 @@ pub struct Order<J: Naming> {
 impl<J: Naming> Model for Order<J> {
     ghost use Rattle.std.specs.Arc.{arc_value};
     ghost use Rattle.sim_store.specs.Handing.{IsRange, Range, front_of};
-    ghost use Rattle.sim_store.specs.Simulation.{reached};
+    ghost use Rattle.sim_store_simulation.specs.Simulation.{reached};
 
     ghost Value = { Range };
 

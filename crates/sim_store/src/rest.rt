@@ -4,7 +4,7 @@ ghost use Rattle.std.specs.Prelude.{ℕ, ◌≡◌, None, false, length, IfErr, 
 ghost use Rattle.std.specs.Arc.{arc_value};
 ghost use Rattle.sim_store.specs.Handing as spec;
 ghost use Rattle.sim_store.specs.Keeping.{IsKept, kept_of};
-ghost use Rattle.sim_store.specs.Simulation as simulations;
+ghost use Rattle.sim_store_simulation.specs.Simulation as simulations;
 ghost use Rattle.sim_store.specs.WaveStore as store;
 ghost use Rattle.sim_store.specs.declared.error.HandOutError.TheVariants as reason;
 ghost use Rattle.sim_store_sets.specs.RowArray.{joined};
@@ -16,8 +16,8 @@ use crate::handing::{lengths_of, orders_of, shares_of};
 use crate::kept::{Kept, made_whole, taken_apart};
 use crate::naming::Naming;
 use crate::order::{Answer, Order};
-use crate::simulation::Simulation;
 use crate::store::WaveStore;
+use sim_store_simulation::Simulation;
 use sim_store_state::Shares;
 use std::alloc::{AllocError, Global};
 use std::marker::Model;

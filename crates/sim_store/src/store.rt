@@ -9,7 +9,7 @@ ghost use Rattle.sim_standard.specs.State.{net_at};
 ghost use Rattle.sim_standard.specs.Agreement.{total_of, value_by};
 ghost use Rattle.sim_standard.specs.Histories.{IsNamed, records_to};
 ghost use Rattle.sim_standard.specs.Cycle.{CycleAt};
-ghost use Rattle.sim_store.specs.Simulation as simulations;
+ghost use Rattle.sim_store_simulation.specs.Simulation as simulations;
 ghost use Rattle.sim_store.specs.Handing as hands;
 ghost use Rattle.sim_store.specs.WaveStore as spec;
 ghost use Rattle.sim_store.specs.declared.error.StoreError.TheVariants as refusal;
@@ -18,12 +18,11 @@ ghost use Rattle.sim_store.specs.declared.store.Step.TheVariants as step;
 use crate::error::StoreError;
 use crate::naming::Naming;
 use crate::order::Order;
-use crate::phase::Upcoming;
 use crate::rest::{Rest, handed_out};
-use crate::simulation::Simulation;
 use sim_exec::{Done, Job};
 use sim_flat_design::Design;
 use sim_logic::{LATEST, Logic};
+use sim_store_simulation::{Simulation, Upcoming};
 use sim_store_state::{Log, Record};
 use std::alloc::{AllocError, Global};
 use std::marker::Model;
@@ -56,6 +55,19 @@ pub struct Look {
     pub delta: u64,
     /// How many events the cycles after the initialization had.
     pub events: u64,
+}
+
+/// Refuses a process that is not due, or has been executed since the last cycle.
+fn check(simulation: &Simulation, number: usize) -> Result<(), StoreError>
+    ensures { MatchResult result (λ _. simulations.IsMissing simulation.now number) (spec.IsNotMissing simulation.now number) }
+{
+    if !simulation.is_due(number) {
+        return Err(StoreError::NotDue);
+    }
+    if simulation.is_deposited(number) {
+        return Err(StoreError::Twice);
+    }
+    Ok(())
 }
 
 /// The state of a run, and its history: by its type, what is recorded is what the simulation cycle
@@ -122,7 +134,7 @@ impl WaveStore {
         if self.ended.is_some() {
             return Err(StoreError::Ended);
         }
-        self.simulation.check(process)?;
+        check(&self.simulation, process)?;
         let job = self.simulation.job(alloc, process)?;
         Ok(job)
     }
@@ -154,7 +166,7 @@ impl WaveStore {
         if job.cycle() != self.simulation.cycles() {
             return Err(StoreError::Stale);
         }
-        self.simulation.check(job.number())?;
+        check(&self.simulation, job.number())?;
         if !self.simulation.is_own(job) {
             return Err(StoreError::Foreign);
         }

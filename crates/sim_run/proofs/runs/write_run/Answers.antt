@@ -2,7 +2,7 @@ use Rattle.std.proofs.Common.{length, map, ap, ◌∙◌, ◌≡◌, arith}
 use Rattle.std.proofs.lemmas.List.{length-map}
 use Rattle.sim_flat_design.specs.Designs.{Design, Net}
 use Rattle.sim_standard.proofs.Records.{is_history}
-use Rattle.sim_store.proofs.Going.{length-records_to}
+use Rattle.sim_store_simulation.proofs.Going.{length-records_to}
 use Rattle.sim_run_listing.specs.Listing.{listing}
 use Rattle.sim_run_listing.specs.Writing.{AppendsPart}
 use Rattle.sim_run_listing.proofs.Gathering.{on_err}

@@ -6,7 +6,7 @@ use Rattle.sim_store_sets.specs.RowArray.{joined}
 use Rattle.sim_store_sets.proofs.Flat.{joined-push, written_back}
 use Rattle.sim_store_state.specs.Lending.{counts}
 use Rattle.sim_store.specs.Handing.{AreInOrder, AreParts, IsRange, Range, front_of, lengths}
-use Rattle.sim_store.specs.Simulation.{reached}
+use Rattle.sim_store_simulation.specs.Simulation.{reached}
 use Rattle.sim_store.proofs.Orders.{all-handed, more-handed}
 use Rattle.sim_store.proofs.Returning.{range-back, range-front}
 use Rattle.sim_store.proofs.handing.orders_of.Goals as goal

@@ -3,7 +3,7 @@ use Rattle.std.specs.Arc.{arc_value}
 use Rattle.sim_store_sets.specs.RowArray.{joined}
 use Rattle.sim_store_state.specs.Lending.{counts}
 use Rattle.sim_store.specs.Handing.{AreInOrder, IsRange, front_of, lengths}
-use Rattle.sim_store.specs.Simulation.{reached}
+use Rattle.sim_store_simulation.specs.Simulation.{reached}
 use Rattle.sim_store.proofs.handing.orders_of.Given as goal
 
 -- the processes that are left are those below a number, and the orders are for the others

@@ -2,7 +2,7 @@ use Rattle.std.proofs.Common.{ap, sym, ◌∙◌, subst}
 use Rattle.sim_store_sets.specs.RowArray.{joined}
 use Rattle.sim_store.specs.Handing.{Front, IsRange, completed, front_of}
 use Rattle.sim_store.specs.Keeping.{IsKept, kept_of}
-use Rattle.sim_store.specs.Simulation.{reached, with_marks}
+use Rattle.sim_store_simulation.specs.Simulation.{reached, with_marks}
 use Rattle.sim_store.proofs.Keeping.{whole-complete, whole-holds, whole-same, whole-values}
 use Rattle.sim_store.proofs.kept.made_whole.Goals as goal
 

@@ -6,7 +6,7 @@ use Rattle.sim_store_sets.specs.RowArray.{joined}
 use Rattle.sim_store.specs.declared.kept.Kept.{Kept}
 use Rattle.sim_store.specs.Handing.{Front}
 use Rattle.sim_store.specs.Keeping.{IsKept}
-use Rattle.sim_store.proofs.Going.{cycle-count, held-count}
+use Rattle.sim_store_simulation.proofs.Going.{cycle-count, held-count}
 use Rattle.sim_store.proofs.Keeping.{first-front, first-range, first-state, named-kept}
 use Rattle.sim_store.proofs.Returning.{fresh-owned}
 use Rattle.sim_store.proofs.kept.taken_apart.Goals as goal

@@ -3,7 +3,7 @@ use Rattle.std.specs.Arc.{arc_value}
 use Rattle.sim_store_state.specs.Lending.{AreShares}
 use Rattle.sim_store.specs.Handing.{Front}
 use Rattle.sim_store.specs.Keeping.{IsKept, kept_of}
-use Rattle.sim_store.specs.Simulation.{Simulation, those_in}
+use Rattle.sim_store_simulation.specs.Simulation.{Simulation, those_in}
 use Rattle.sim_store.specs.WaveStore.{IsStore}
 use Rattle.sim_store.proofs.Orders.{sum-counts}
 use Rattle.sim_store.proofs.rest.handed_out.Goals as goal

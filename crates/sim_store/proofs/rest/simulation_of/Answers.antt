@@ -1,5 +1,5 @@
 use Rattle.std.proofs.Common.{subst, sym}
-use Rattle.sim_store.specs.Simulation.{IsComplete}
+use Rattle.sim_store_simulation.specs.Simulation.{IsComplete}
 use Rattle.sim_store.proofs.rest.simulation_of.Goals as goal
 
 pub returns-clause-complete : goal.returns-clause-complete

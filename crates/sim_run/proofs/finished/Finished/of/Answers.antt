@@ -3,7 +3,7 @@ use Rattle.std.specs.Prelude.{string_bytes}
 use Rattle.std.proofs.lemmas.List.{length-map}
 use Rattle.sim_flat_design.specs.Designs.{Design, Net}
 use Rattle.sim_standard.proofs.Records.{is_history}
-use Rattle.sim_store.proofs.Going.{length-records_to}
+use Rattle.sim_store_simulation.proofs.Going.{length-records_to}
 use Rattle.sim_run.proofs.finished.Finished.of.Goals as goal
 
 pub new-requires-clause-history : goal.new-requires-clause-history

@@ -2,7 +2,7 @@ use Rattle.std.proofs.Common.{◌≡◌, None, refl, sum, ap, sym, ◌∙◌, su
 use Rattle.std.specs.Arc.{arc_value}
 use Rattle.sim_store.specs.Handing.{Front}
 use Rattle.sim_store.specs.Keeping.{kept_of}
-use Rattle.sim_store.specs.Simulation.{Simulation, IsComplete, with_marks}
+use Rattle.sim_store_simulation.specs.Simulation.{Simulation, IsComplete, with_marks}
 use Rattle.sim_store.specs.WaveStore.{WaveStore, IsStore}
 use Rattle.sim_store.proofs.Orders.{sum-counts}
 use Rattle.sim_store.proofs.Stores.{store-executed}

@@ -1,5 +1,5 @@
 use Rattle.std.proofs.Common.{rules, tests, ◌≡◌, None, sym, subst}
-use Rattle.sim_store.specs.Simulation.{Simulation, IsComplete}
+use Rattle.sim_store_simulation.specs.Simulation.{Simulation, IsComplete}
 use Rattle.sim_store.specs.WaveStore.{WaveStore, IsStore}
 use Rattle.sim_store.specs.contracts.store.WaveStore.{the_view}
 use Rattle.sim_store.proofs.Stores.{ended-complete, store-executed}

@@ -1,6 +1,6 @@
 use Rattle.std.proofs.Common.{◌≡◌, ◌≤◌, None, ap, sym, ◌∙◌, subst}
 use Rattle.sim_standard.specs.Cycle.{CycleAt}
-use Rattle.sim_store.specs.Simulation.{next_after}
+use Rattle.sim_store_simulation.specs.Simulation.{next_after}
 use Rattle.sim_store.specs.WaveStore.{WaveStore, IsStore}
 use Rattle.sim_store.specs.contracts.store.WaveStore.{the_view}
 use Rattle.sim_store.proofs.Stores.{limit-reached, store-goes-on}

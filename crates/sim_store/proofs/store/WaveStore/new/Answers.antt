@@ -1,5 +1,5 @@
 use Rattle.std.proofs.Common.{ap}
-use Rattle.sim_store.specs.Simulation.{Simulation}
+use Rattle.sim_store_simulation.specs.Simulation.{Simulation}
 use Rattle.sim_store.proofs.Stores.{store-begins}
 use Rattle.sim_store.proofs.store.WaveStore.new.Goals as goal
 

@@ -1,9 +1,0 @@
-use Rattle.std.proofs.Common.{arith, ◌∙◌}
-use Rattle.sim_store.proofs.Listing.{members-listed}
-use Rattle.sim_store.proofs.due.Due.find.Goals as goal
-
-pub invariant_of-self : goal.invariant_of-self
-invariant_of-self c = (
-  c.list.ensures.numbers ∙ members-listed c.set_aside.new.set,
-  omega (arith, c.self.invariant.1, c.list.ensures.capacity, c.set_aside.ensures.sized, c.find_resumed.ensures.sized),
-)

@@ -1,0 +1,10 @@
+pub mod Counting
+pub mod Members
+pub mod Phases
+pub mod Going
+pub mod Listing
+pub mod Readiness
+pub mod Boxes
+pub mod Walks
+pub mod Along
+pub mod Crossing

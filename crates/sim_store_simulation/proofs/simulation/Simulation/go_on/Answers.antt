@@ -1,0 +1,155 @@
+use Rattle.std.proofs.Common.{ℕ, suc, ◌+◌, ◌-◌, ◌<◌, ◌≡◌, ◌&&◌, ◌||◌, not, Bool, ◌++◌, [], ◌∷◌, List, length, get_or, ap, sym, ◌∙◌, subst, arith}
+use Rattle.std.proofs.lemmas.List.{length-append}
+use Rattle.std.specs.List.{filter}
+use Rattle.sim_store_sets.proofs.Flat.{written_back}
+use Rattle.sim_standard.specs.declared.record.Record.{Record}
+use Rattle.sim_store_state.specs.Log.{record_at}
+use Rattle.sim_standard.specs.Records.{changes_from}
+use Rattle.sim_standard.specs.Cycle.{CycleAt, has_event_in, state_of}
+use Rattle.sim_standard.specs.Processes.{process_at}
+use Rattle.sim_standard.specs.Agreement.{is_of}
+use Rattle.sim_store_simulation.specs.Simulation.{ArePostponed, AreTotals, Simulation, IsExecuted, after, next_after, those_in}
+use Rattle.sim_store_simulation.proofs.Counting.{changes-few, last-record, totals-few, totals-go-on}
+use Rattle.sim_store_simulation.proofs.Going.{advanced-count, advanced-keeps, advanced-time, cycle-count, next-time-is, none-marked-now, slow}
+use Rattle.sim_store_simulation.specs.Contents.{simulation_of}
+use Rattle.sim_store_simulation.proofs.Boxes.{held, shown}
+use Rattle.sim_store_simulation.proofs.simulation.Simulation.go_on.Goals as goal
+
+pub next_delta-contents-requires : goal.next_delta-contents-requires
+next_delta-contents-requires c =
+    let m = c.deref_mut-contents.result.now in
+    let kept = held c.self.inside.design c.deref_mut-contents.ensures.value c.self.invariant in
+    let view = shown c.self.inside.design c.deref_mut-contents.ensures.value c.self.view_is in
+    let few : (simulation_of c.self.inside.design m).cycles < 4294967296 = subst (λ (g : Simulation). g.cycles < 4294967296) (sym view) c.requires.bound in
+    omega (arith, few, slow kept.state)
+
+pub update-requires : goal.update-requires
+update-requires c =
+    let kept = held c.self.inside.design c.deref_mut-contents.ensures.value c.self.invariant in
+    let view = shown c.self.inside.design c.deref_mut-contents.ensures.value c.self.view_is in
+    let done = subst IsExecuted (sym view) c.requires.executed in
+    record {
+      next = next-time-is kept.state done c.args.time
+          (subst (λ (g : Simulation). next_after g ≡ CycleAt c.args.time) (sym view) c.requires.next);
+    }
+
+pub record-requires-clause-few : goal.record-requires-clause-few
+record-requires-clause-few c =
+    let kept = held c.self.inside.design c.deref_mut-contents.ensures.value c.self.invariant in
+    let view = shown c.self.inside.design c.deref_mut-contents.ensures.value c.self.view_is in
+    let s = c.self.inside in
+    let done = subst IsExecuted (sym view) c.requires.executed in
+    let count = advanced-count kept.state done c.args.time c.update.new.self c.in_ok-update.ensures.ok in
+    omega (arith, count, kept.state.few)
+
+pub record-requires-clause-changes : goal.record-requires-clause-changes
+record-requires-clause-changes c =
+    let kept = held c.self.inside.design c.deref_mut-contents.ensures.value c.self.invariant in
+    let view = shown c.self.inside.design c.deref_mut-contents.ensures.value c.self.view_is in
+    let done = subst IsExecuted (sym view) c.requires.executed in
+    let count = advanced-count kept.state done c.args.time c.update.new.self c.in_ok-update.ensures.ok in
+    omega (arith, count, ap length c.nets-nets.ensures.value, c.in_ok-reserve.ensures.changes)
+
+pub find-requires-clause-processes : goal.find-requires-clause-processes
+find-requires-clause-processes c =
+    let kept = held c.self.inside.design c.deref_mut-contents.ensures.value c.self.invariant in
+    omega (arith, ap length c.leave.ensures.postponed, kept.marked.sized, kept.state.due_sized)
+
+pub count_last-requires-clause-room : goal.count_last-requires-clause-room
+count_last-requires-clause-room c n =
+    let m = c.deref_mut-contents.result.now in
+    let kept = held c.self.inside.design c.deref_mut-contents.ensures.value c.self.invariant in
+    let view = shown c.self.inside.design c.deref_mut-contents.ensures.value c.self.view_is in
+    let s = c.self.inside in
+    let i = kept.state in
+    let few : (simulation_of s.design m).cycles < 4294967296 = subst (λ (g : Simulation). g.cycles < 4294967296) (sym view) c.requires.bound in
+    let done = subst IsExecuted (sym view) c.requires.executed in
+    let count = advanced-count i done c.args.time c.update.new.self c.in_ok-update.ensures.ok in
+    let one : Record = record { time = c.args.time; delta = c.next_delta-contents.result; changes = changes_from 0 c.update.new.self.nets } in
+    let records : c.record.new.log.records ≡ m.log.records ++ one ∷ [] = c.record.ensures ∙ ap (λ rs. rs ++ one ∷ []) c.in_ok-reserve.ensures.same in
+    let last = last-record m.log.records c.record.new.log.records one records in
+    let now : get_or c.as_mut_slice.result.now n 0 ≡ get_or m.totals.items n 0 = ap (λ w. get_or w n 0) c.as_mut_slice.ensures.value in
+    omega (
+      arith,
+      few,
+      count,
+      i.few,
+      now,
+      ap (λ (r : Record). length r.changes) last,
+      changes-few c.update.new.self.nets,
+      totals-few i m.totals.items kept.counts n,
+    )
+
+pub invariant_of-self-2 : goal.invariant_of-self-2
+invariant_of-self-2 c =
+    let m = c.deref_mut-contents.result.now in
+    let kept = held c.self.inside.design c.deref_mut-contents.ensures.value c.self.invariant in
+    let view = shown c.self.inside.design c.deref_mut-contents.ensures.value c.self.view_is in
+    let s = c.self.inside in
+    let h = simulation_of s.design m in
+    let i = kept.state in
+    let done = subst IsExecuted (sym view) c.requires.executed in
+    let next = next-time-is i done c.args.time (subst (λ (g : Simulation). next_after g ≡ CycleAt c.args.time) (sym view) c.requires.next) in
+    let one : Record = record { time = c.args.time; delta = c.next_delta-contents.result; changes = changes_from 0 c.update.new.self.nets } in
+    let records : c.record.new.log.records ≡ m.log.records ++ one ∷ [] = c.record.ensures ∙ ap (λ rs. rs ++ one ∷ []) c.in_ok-reserve.ensures.same in
+    let same : c.find.new.waiting.postponed ≡ m.waiting.postponed = c.find.ensures.postponed ∙ c.leave.ensures.postponed in
+    let marks = c.clear.ensures ∙ none-marked-now m.deposited in
+    let last = last-record m.log.records c.record.new.log.records one records in
+    let changes = ap (λ (r : Record). r.changes) last in
+    let sensed = kept.compiled.sensitive_sized ∙ sym (advanced-count i done c.args.time c.update.new.self c.in_ok-update.ensures.ok) in
+    let written = written_back c.count_last.new.totals m.totals.items m.totals.len (c.count_last.ensures.sized ∙ c.as_mut_slice.ensures.len) in
+    record {
+      compiled = kept.compiled;
+      marked = subst (ArePostponed s.design) (sym same) kept.marked;
+      state = advanced-keeps i done c.args.time next c.requires.early c.next_delta-contents.result (length c.record.new.log.records - 1)
+          c.update.new.self c.record.new.log.records m.waiting.postponed c.find.new.self c.find.new.waiting.waiting _ c.next_delta-contents.ensures
+          c.in_ok-update.ensures.ok records c.find.ensures.sized (c.find.ensures.waiting_sized ∙ c.leave.ensures.sized)
+          kept.marked.are
+          (λ p lt. c.find.ensures.found c.update.new.self.nets h.design.processes p changes sensed kept.compiled.sensitive_are lt
+          ∙ ap (λ (ps : List Bool). has_event_in c.update.new.self.nets (process_at h.design.processes p).sensitivity && not (those_in ps p))
+          c.leave.ensures.postponed)
+          (λ p lt. c.find.ensures.moved c.update.new.self.nets h.design.processes p changes sensed kept.compiled.sensitive_are lt
+          ∙ (ap (λ (ps : List Bool). those_in c.leave.new.waiting.waiting p
+          || (has_event_in c.update.new.self.nets (process_at h.design.processes p).sensitivity && those_in ps p)) c.leave.ensures.postponed
+          ∙ ap (λ (b : Bool). b
+          || (has_event_in c.update.new.self.nets (process_at h.design.processes p).sensitivity && those_in m.waiting.postponed p))
+          (c.leave.ensures.left p))) marks
+          (omega (arith, ap length records, length-append m.log.records (one ∷ []), cycle-count i));
+      counts = subst (AreTotals (length s.design.nets) c.record.new.log.records) (sym written)
+          (totals-go-on (length s.design.nets) m.log.records c.record.new.log.records one m.totals.items c.count_last.new.totals
+          (omega (arith, cycle-count i)) records kept.counts
+          (c.count_last.ensures.sized ∙ ap length c.as_mut_slice.ensures.value)
+          (λ n lt. c.count_last.ensures.counted n (omega (arith, lt, ap length c.as_mut_slice.ensures.value))
+          ∙ (ap (λ (w : List ℕ). get_or w n 0 + length (filter (is_of n) (record_at c.record.new.log.records (length c.record.new.log.records - 1)).changes))
+          c.as_mut_slice.ensures.value
+          ∙ ap (λ (r : Record). get_or m.totals.items n 0 + length (filter (is_of n) r.changes)) last)));
+    }
+
+pub returns-clause-ok : goal.returns-clause-ok
+returns-clause-ok c =
+    let m = c.deref_mut-contents.result.now in
+    let kept = held c.self.inside.design c.deref_mut-contents.ensures.value c.self.invariant in
+    let view = shown c.self.inside.design c.deref_mut-contents.ensures.value c.self.view_is in
+    let s = c.self.inside in
+    let one : Record = record { time = c.args.time; delta = c.next_delta-contents.result; changes = changes_from 0 c.update.new.self.nets } in
+    let records : c.record.new.log.records ≡ m.log.records ++ one ∷ [] = c.record.ensures ∙ ap (λ rs. rs ++ one ∷ []) c.in_ok-reserve.ensures.same in
+    let marks = c.clear.ensures ∙ none-marked-now m.deposited in
+    let cycles : length c.record.new.log.records - 1 ≡ suc (length m.log.records - 1) =
+    omega (arith, ap length records, length-append m.log.records (one ∷ []), cycle-count kept.state) in
+    rw (cycles, marks) (ap after view)
+
+pub returns-clause-at : goal.returns-clause-at
+returns-clause-at c =
+    let m = c.deref_mut-contents.result.now in
+    let kept = held c.self.inside.design c.deref_mut-contents.ensures.value c.self.invariant in
+    let view = shown c.self.inside.design c.deref_mut-contents.ensures.value c.self.view_is in
+    let s = c.self.inside in
+    let h = simulation_of s.design m in
+    let i = kept.state in
+    let done = subst IsExecuted (sym view) c.requires.executed in
+    let next = next-time-is i done c.args.time (subst (λ (g : Simulation). next_after g ≡ CycleAt c.args.time) (sym view) c.requires.next) in
+    let one : Record = record { time = c.args.time; delta = c.next_delta-contents.result; changes = changes_from 0 c.update.new.self.nets } in
+    let records : c.record.new.log.records ≡ m.log.records ++ one ∷ [] = c.record.ensures ∙ ap (λ rs. rs ++ one ∷ []) c.in_ok-reserve.ensures.same in
+    let cycles : length c.record.new.log.records - 1 ≡ suc h.cycles =
+    omega (arith, ap length records, length-append m.log.records (one ∷ []), cycle-count i) in
+    subst (λ (k : ℕ). (state_of s.design k).time ≡ c.args.time) (sym cycles) (advanced-time i done c.args.time next)

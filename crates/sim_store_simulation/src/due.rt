@@ -1,0 +1,136 @@
+//! The processes that are due.
+
+ghost use Rattle.std.specs.Prelude.{ℕ, ◌≡◌, ◌<◌, ◌&&◌, ◌||◌, not, List, length, ◌+◌, ◌-◌, ◌^◌, IfOk, IfSome, MatchOption};
+ghost use Rattle.sim_flat_design.specs.Processes.{Process};
+ghost use Rattle.sim_store_sets.specs.Numbers.{is_beside};
+ghost use Rattle.sim_store_sets.specs.Words.{IsNext, NoneFrom};
+ghost use Rattle.sim_standard.specs.Cycle.{has_event_in};
+ghost use Rattle.sim_standard.specs.Processes.{process_at};
+ghost use Rattle.sim_standard.specs.declared.net_view.NetView.{NetView};
+ghost use Rattle.sim_standard.specs.Records.{changes_from};
+ghost use Rattle.sim_store_state.specs.Log.{record_at};
+ghost use Rattle.sim_store_state.specs.Sensitive.{AreSensitive};
+ghost use Rattle.sim_store_simulation.specs.Simulation.{listed, those_in};
+
+use crate::waiting::Waiting;
+use sim_store_sets::{NumberSet, RowArray};
+use sim_store_state::{Log, find_resumed};
+use std::alloc::{AllocError, Global};
+use std::marker::Model;
+
+/// Which processes the last cycle resumed, as a set and by their numbers. The contracts see for
+/// each process whether it is one.
+pub struct Due {
+    set: NumberSet,
+    numbers: Vec<usize>,
+}
+
+/// By hand, so that crates which drop one need no proof of what is in it.
+impl Drop for Due {
+    fn drop(self) {
+        let Due { set, numbers } = self;
+        drop(set);
+        drop(numbers);
+    }
+}
+
+impl Model for Due {
+    ghost use Rattle.std.specs.Prelude.{◌≡◌, ◌≤◌, List, Bool, length, vec_capacity};
+    ghost use Rattle.sim_store_simulation.specs.Simulation.{listed};
+
+    ghost Value = { List Bool };
+
+    ghost view = { λ d. d.set };
+
+    ghost invariant = { λ d. (d.numbers.items ≡ listed d.set) × (length d.set ≤ vec_capacity d.numbers) };
+}
+
+impl Due {
+    /// All of this number of processes, but for the postponed ones, which wait.
+    pub fn first(alloc: Global, count: usize, waiting: &mut Waiting) -> Result<Due, AllocError>
+        requires { length waiting.old.postponed ≡ count }
+        ensures postponed { waiting.new.postponed ≡ waiting.old.postponed }
+        ensures waiting_sized { length waiting.new.waiting ≡ length waiting.old.waiting }
+        ensures sized { IfOk result (λ d. length d ≡ count) }
+        ensures due { IfOk result (λ d. (p : ℕ) → p < count → those_in d p ≡ not (those_in waiting.old.postponed p)) }
+        ensures moved { IfOk result (λ _. (p : ℕ) → p < count → those_in waiting.new.waiting p
+            ≡ (those_in waiting.old.waiting p || those_in waiting.old.postponed p)) }
+    {
+        let mut set = NumberSet::full(alloc, count)?;
+        let mut numbers = Vec::with_capacity(alloc, count)?;
+        waiting.set_aside(&mut set);
+        set.list(&mut numbers);
+        Ok(Due { set, numbers })
+    }
+
+    /// Whether the process with a number is due.
+    pub fn has(&self, number: usize) -> bool
+        ensures { result ≡ those_in self.now number }
+    {
+        self.set.contains(number)
+    }
+
+    /// The first from a number on that is due.
+    pub fn next(&self, from: usize) -> Option<usize>
+        ensures { MatchOption result (NoneFrom (those_in self.now) from) (IsNext (those_in self.now) from) }
+    {
+        self.set.next(from)
+    }
+
+    /// The first from a number on that is due and is not among others.
+    pub fn next_beside(&self, others: &NumberSet, from: usize) -> Option<usize>
+        ensures value { MatchOption result (NoneFrom (is_beside self.now others.now) from) (IsNext (is_beside self.now others.now) from) }
+        ensures bound { IfSome result (λ n. n + 1 < 2 ^ 64) }
+    {
+        self.set.next_beside(others, from)
+    }
+
+    /// Gives a set those that are due as its members. It takes no memory.
+    pub fn copy_to(&self, set: &mut NumberSet)
+        requires { length self.now ≡ length set.old }
+        ensures sized { length set.new ≡ length set.old }
+        ensures same { (p : ℕ) → those_in set.new p ≡ those_in self.now p }
+    {
+        set.copy_from(&self.set);
+    }
+
+    /// The numbers of those that are due, rising.
+    pub fn numbers(&self) -> &[usize]
+        ensures { result.now ≡ listed self.now }
+    {
+        self.numbers.as_slice()
+    }
+
+    /// Finds those that are due after the cycle of the last record: those that are sensitive to a net
+    /// with an event, but for the postponed ones, which wait. It takes no memory.
+    pub fn find(&mut self, log: &Log, sensitive: &RowArray<usize>, waiting: &mut Waiting)
+        requires begun { 0 < length log.now.records }
+        requires processes { length waiting.old.postponed ≡ length self.old }
+        ensures postponed { waiting.new.postponed ≡ waiting.old.postponed }
+        ensures waiting_sized { length waiting.new.waiting ≡ length waiting.old.waiting }
+        ensures sized { length self.new ≡ length self.old }
+        ensures found { (nets : List NetView) (processes : List Process) (p : ℕ)
+            → (record_at log.now.records (length log.now.records - 1)).changes ≡ changes_from 0 nets → length sensitive.now ≡ length nets
+            → AreSensitive processes sensitive.now → p < length self.old
+            → those_in self.new p ≡ (has_event_in nets (process_at processes p).sensitivity && not (those_in waiting.old.postponed p)) }
+        ensures moved { (nets : List NetView) (processes : List Process) (p : ℕ)
+            → (record_at log.now.records (length log.now.records - 1)).changes ≡ changes_from 0 nets → length sensitive.now ≡ length nets
+            → AreSensitive processes sensitive.now → p < length self.old
+            → those_in waiting.new.waiting p ≡ (those_in waiting.old.waiting p
+            || (has_event_in nets (process_at processes p).sensitivity && those_in waiting.old.postponed p)) }
+    {
+        find_resumed(&mut self.set, log.changes(log.len() - 1), sensitive);
+        waiting.set_aside(&mut self.set);
+        self.set.list(&mut self.numbers);
+    }
+
+    /// Those that wait are due, and no others. It takes no memory.
+    pub fn take(&mut self, waiting: &Waiting)
+        requires { length waiting.now.waiting ≡ length self.old }
+        ensures sized { length self.new ≡ length self.old }
+        ensures same { (p : ℕ) → those_in self.new p ≡ those_in waiting.now.waiting p }
+    {
+        waiting.copy_to(&mut self.set);
+        self.set.list(&mut self.numbers);
+    }
+}

@@ -1,0 +1,15 @@
+//! A simulation of a design, as far as it has come: its state, its records, and the steps of the
+//! simulation cycle, which carry it on (IEEE 1076-2008, 14.7.5).
+#![tactic(auto)]
+
+mod due;
+mod history;
+mod phase;
+mod simulation;
+mod totals;
+mod waiting;
+
+pub use due::Due;
+pub use phase::{Phase, Upcoming};
+pub use simulation::{Compiled, Contents, Simulation};
+pub use waiting::Waiting;

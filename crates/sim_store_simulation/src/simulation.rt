@@ -1,0 +1,700 @@
+//! A simulation of a design, as far as it has come (IEEE 1076-2008, 14.7.5).
+
+ghost use Rattle.std.specs.Prelude.{ℕ, suc, ◌≡◌, ◌<◌, ◌≤◌, ◌^◌, ◌+◌, Some, None, Option, true, false, [], ◌∷◌, length, replicate, drop};
+ghost use Rattle.std.specs.Prelude.{not, ◌==◌, ◌&&◌, slice_set, MatchOption, MatchResult, IfSome, IfOk, IfErr, OnOk, OnErr, ◌↔◌, IsTrue};
+ghost use Rattle.std.specs.List.{All};
+ghost use Rattle.sim_flat_design.specs.Designs.{most};
+ghost use Rattle.sim_flat_design.specs.Processes.{IsProcess};
+ghost use Rattle.sim_standard.specs.Cycle as cycles;
+ghost use Rattle.sim_standard.specs.Initialization.{first_state};
+ghost use Rattle.sim_store_state.specs.FlatState.{flat_state_of};
+ghost use Rattle.sim_standard.specs.Records.{values_of};
+ghost use Rattle.sim_standard.specs.State.{driver_values, net_at, owned_at};
+ghost use Rattle.sim_logic.specs.Time.{largest_time};
+ghost use Rattle.sim_standard.specs.Agreement.{total_of, value_by};
+ghost use Rattle.sim_standard.specs.Histories.{IsNamed, event_count, records_to};
+ghost use Rattle.sim_store_simulation.specs.Contents.{AreFirst, IsOf, simulation_of};
+ghost use Rattle.sim_store_simulation.specs.Simulation as spec;
+ghost use Rattle.sim_standard.specs.Cycle.{CycleAt, standard};
+ghost use Rattle.sim_store_simulation.specs.declared.phase.Phase.TheVariants as phase;
+
+use crate::due::Due;
+use crate::history::records_from;
+use crate::phase::{Phase, Upcoming};
+use crate::totals::{count_last, none};
+use crate::waiting::Waiting;
+use sim_exec::{Done, Job, Results};
+use sim_exec_code::{Codes, Frame};
+use sim_flat_design::{Design, Process};
+use sim_logic::Logic;
+use sim_store_sets::{NumberSet, RowArray};
+use sim_store_state::{FlatState, Log, Record, sensitive};
+use std::alloc::{AllocError, Global};
+use std::marker::Model;
+
+/// The delta number of a cycle at `time`, after one at `last`.
+fn next_delta(time: u64, last: u64, delta: u64) -> u64
+    requires { delta + 1 < 2 ^ 64 }
+    ensures { result ≡ cycles.next_delta time last delta }
+{
+    if time == last { delta + 1 } else { 0 }
+}
+
+/// What a process is by its type.
+fn is_process(process: &Process)
+    ensures { IsProcess process.now }
+{
+    let _sensitivity = process.sensitivity();
+    let _reads = process.reads();
+    let _nets = process.nets();
+}
+
+/// What processes are by their types.
+fn are_processes(processes: &[Process])
+    ensures { All IsProcess processes.now }
+{
+    for process in processes {
+        is_process(process);
+    }
+}
+
+/// Puts what an executed process owns in the place of what it owned, where that is other than
+/// before. It takes no memory.
+fn put_results(state: &mut FlatState, number: usize, results: Option<Results>)
+    requires at { number < length state.old.owned }
+    requires drivers { MatchOption results Unit (λ r. length r.drivers ≡ length (owned_at state.old.owned number).drivers) }
+    requires values { MatchOption results Unit (λ r. driver_values r.drivers ≡ driver_values (owned_at state.old.owned number).drivers) }
+    requires variables { MatchOption results Unit (λ r. length r.variables ≡ length (owned_at state.old.owned number).variables) }
+    ensures { state.new ≡ record state.old {
+      owned = slice_set state.old.owned number (spec.kept_or (owned_at state.old.owned number) results);
+    } }
+{
+    if let Some(results) = results {
+        state.put(number, results.drivers, results.variables);
+    }
+}
+
+/// What comes, by the phase, whether a delta cycle would follow, whether a process waits, and the
+/// first pending time.
+fn upcoming(phase: Phase, is_delta: bool, is_waited: bool, next: Option<u64>) -> Upcoming
+    ensures { result ≡ spec.upcoming_of phase is_delta is_waited next }
+{
+    match (phase, next) {
+        (Phase::AtOnce, _) if !is_delta && is_waited => Upcoming::Postponed,
+        (Phase::Postponed, _) if is_delta => Upcoming::PostponedDelta,
+        (_, Some(time)) => Upcoming::Cycle(time),
+        (_, None) => Upcoming::Nothing,
+    }
+}
+
+/// At the end of a cycle: where those that waited have been executed, none waits any more.
+fn leave(waiting: &mut Waiting, phase: Phase)
+    ensures postponed { waiting.new.postponed ≡ waiting.old.postponed }
+    ensures sized { length waiting.new.waiting ≡ length waiting.old.waiting }
+    ensures left { (p : ℕ) → spec.those_in waiting.new.waiting p ≡ spec.is_left phase (spec.those_in waiting.old.waiting p) }
+{
+    match phase {
+        Phase::AtOnce => {}
+        Phase::Postponed => waiting.clear(),
+    }
+}
+
+/// What is compiled of a design once: for each net the processes that are sensitive to it, for each
+/// process its code, and a frame on which codes are executed.
+#[derive(Drop)]
+pub struct Compiled {
+    pub sensitive: RowArray<usize>,
+    pub codes: Codes,
+    pub frame: Frame,
+}
+
+/// What a simulation holds beside its design, without the simulation's invariant, which need not hold
+/// while processes are being executed: the time and the delta number of the last cycle, what was
+/// compiled, the state, the log, and marks of processes and nets.
+#[derive(Drop)]
+pub struct Contents {
+    pub time: u64,
+    pub delta: u64,
+    pub compiled: Compiled,
+    pub state: FlatState,
+    pub log: Log,
+    /// Which processes are executed now.
+    pub phase: Phase,
+    pub due: Due,
+    pub waiting: Waiting,
+    pub deposited: NumberSet,
+    pub totals: Vec<u64>,
+}
+
+/// The record of a first state, whose design has this number of nets.
+fn first_log(alloc: Global, state: &FlatState, nets: usize) -> Result<Log, AllocError>
+    requires few { nets < 2 ^ 32 }
+    requires nets { length state.now.nets ≡ nets }
+    ensures { IfOk result (λ l. l.records ≡ record { time = 0; delta = 0; changes = values_of state.now.nets } ∷ []) }
+{
+    let mut log = Log::new(alloc);
+    log.reserve(nets)?;
+    state.record_all(&mut log, 0, 0);
+    Ok(log)
+}
+
+/// The state and the log with which a run starts.
+#[derive(Drop)]
+struct Start {
+    state: FlatState,
+    log: Log,
+}
+
+/// The first state of a design with its record.
+fn started(alloc: Global, design: &Design) -> Result<Start, AllocError>
+    ensures state { IfOk result (λ s. s.state ≡ flat_state_of design.now (first_state design.now)) }
+    ensures log { IfOk result (λ s. s.log.records ≡ record { time = 0; delta = 0; changes = values_of s.state.nets } ∷ []) }
+{
+    let state = FlatState::first(alloc, design)?;
+    let log = first_log(alloc, &state, design.nets().len())?;
+    Ok(Start { state, log })
+}
+
+/// Which processes of a design are to be executed first, and which postponed ones wait.
+fn parted(alloc: Global, design: &Design) -> Result<(Due, Waiting), AllocError>
+    ensures parted { IfOk result (λ m. spec.AreParted design.now m.0 m.1.waiting) }
+    ensures postponed { IfOk result (λ m. spec.ArePostponed design.now m.1.postponed) }
+{
+    let processes = design.processes();
+    let mut waiting = Waiting::of(alloc, processes)?;
+    let due = Due::first(alloc, processes.len(), &mut waiting)?;
+    Ok((due, waiting))
+}
+
+/// Which processes are executed and which wait, which have been executed, and how many events each
+/// net had.
+#[derive(Drop)]
+struct FirstMarks {
+    due: Due,
+    waiting: Waiting,
+    deposited: NumberSet,
+    totals: Vec<u64>,
+}
+
+/// Of a design: which processes are to be executed first and which wait, that none has been
+/// executed, and that no net had an event.
+fn marks(alloc: Global, design: &Design) -> Result<FirstMarks, AllocError>
+    ensures parted { IfOk result (λ m. spec.AreParted design.now m.due m.waiting.waiting) }
+    ensures postponed { IfOk result (λ m. spec.ArePostponed design.now m.waiting.postponed) }
+    ensures deposited { IfOk result (λ m. m.deposited ≡ replicate (length design.now.processes) false) }
+    ensures totals { IfOk result (λ m. m.totals.items ≡ replicate (length design.now.nets) 0) }
+{
+    let (due, waiting) = parted(alloc, design)?;
+    let deposited = NumberSet::new(alloc, design.processes().len())?;
+    let totals = none(alloc, design.nets().len())?;
+    Ok(FirstMarks {
+        due,
+        waiting,
+        deposited,
+        totals,
+    })
+}
+
+/// Compiles a design.
+fn compile(alloc: Global, design: &Design) -> Result<Compiled, AllocError>
+    ensures { IfOk result (λ l. spec.AreCompiled design.now l.sensitive l.codes l.frame) }
+{
+    let sensitive = sensitive(alloc, design)?;
+    let codes = Codes::of(alloc, design.processes())?;
+    let frame = codes.frame(alloc)?;
+    Ok(Compiled {
+        sensitive,
+        codes,
+        frame,
+    })
+}
+
+/// All of these, at time 0.
+fn joined(marks: FirstMarks, compiled: Compiled, start: Start) -> Contents
+    ensures start { (result.time ≡ 0) × (result.delta ≡ 0) × (result.phase ≡ phase.AtOnce) }
+    ensures compiled { result.compiled ≡ compiled }
+    ensures state { (result.state ≡ start.state) × (result.log ≡ start.log) }
+    ensures marks { (result.due ≡ marks.due) × (result.waiting ≡ marks.waiting) }
+    ensures none { (result.deposited ≡ marks.deposited) × (result.totals ≡ marks.totals) }
+{
+    Contents {
+        time: 0,
+        delta: 0,
+        compiled,
+        state: start.state,
+        log: start.log,
+        phase: Phase::AtOnce,
+        due: marks.due,
+        waiting: marks.waiting,
+        deposited: marks.deposited,
+        totals: marks.totals,
+    }
+}
+
+/// What the simulation of a design holds at first: what is compiled, the first state with its record,
+/// which processes are to be executed, and that no net had an event.
+fn prepared(alloc: Global, design: &Design) -> Result<Contents, AllocError>
+    ensures start { IfOk result (λ m. (m.time ≡ 0) × (m.delta ≡ 0) × (m.phase ≡ phase.AtOnce)) }
+    ensures contents { IfOk result (λ m. AreFirst design.now m) }
+{
+    let marks = marks(alloc, design)?;
+    let compiled = compile(alloc, design)?;
+    let start = started(alloc, design)?;
+    Ok(joined(marks, compiled, start))
+}
+
+/// The same in a box, so that it stays where it is when the simulation is handed on.
+fn boxed(alloc: Global, design: &Design) -> Result<Box<Contents>, AllocError>
+    ensures start { IfOk result (λ m. (m.value.time ≡ 0) × (m.value.delta ≡ 0) × (m.value.phase ≡ phase.AtOnce)) }
+    ensures contents { IfOk result (λ m. AreFirst design.now m.value) }
+{
+    let contents = prepared(alloc, design)?;
+    let contents = Box::new(alloc, contents)?;
+    Ok(contents)
+}
+
+/// The same, with what the processes own in about so many shares.
+fn divided(alloc: Global, contents: Contents, shares: usize) -> Result<Contents, AllocError>
+    ensures { IfOk result (λ m. m ≡ contents) }
+{
+    let state = contents.state.divide(alloc, shares)?;
+    Ok(Contents {
+        time: contents.time,
+        delta: contents.delta,
+        compiled: contents.compiled,
+        state,
+        log: contents.log,
+        phase: contents.phase,
+        due: contents.due,
+        waiting: contents.waiting,
+        deposited: contents.deposited,
+        totals: contents.totals,
+    })
+}
+
+/// Executes a process in place that is due and has not been executed since the last cycle.
+fn execute(
+    alloc: Global,
+    design: &Design,
+    contents: &mut Contents,
+    number: usize,
+) -> Result<(), AllocError>
+    requires of { IsOf design.now contents.old }
+    requires at { number < length design.now.processes }
+    requires due { spec.those_in contents.old.due number ≡ true }
+    requires fresh { spec.those_in contents.old.deposited number ≡ false }
+    ensures of { OnOk result (IsOf design.now contents.new) }
+    ensures same { OnOk result (simulation_of design.now contents.new ≡ spec.with_marks (simulation_of design.now contents.old) contents.new.deposited) }
+    ensures gone { OnOk result (spec.IsMissing (simulation_of design.now contents.new) number → ⊥) }
+    ensures others { OnOk result ((p : ℕ) → spec.IsMissing (simulation_of design.now contents.new) p
+        → spec.IsMissing (simulation_of design.now contents.old) p) }
+    ensures due { contents.new.due ≡ contents.old.due }
+    ensures marks { OnOk result (contents.new.deposited ≡ slice_set contents.old.deposited number true) }
+{
+    let process = &design.processes()[number];
+    let compiled = &mut contents.compiled;
+    let frame = &mut compiled.frame;
+    contents.state.resume(
+        alloc,
+        number,
+        process,
+        contents.time,
+        &compiled.codes,
+        frame,
+    )?;
+    contents.deposited.insert(number);
+    Ok(())
+}
+
+/// Executes all that are due, none of which has been executed since the last cycle, in place and in
+/// rising order.
+fn execute_listed(alloc: Global, design: &Design, contents: &mut Contents) -> Result<(), AllocError>
+    requires of { IsOf design.now contents.old }
+    requires fresh { (p : ℕ) → spec.those_in contents.old.deposited p ≡ false }
+    ensures of { OnOk result (IsOf design.now contents.new) }
+    ensures same { OnOk result (simulation_of design.now contents.new ≡ spec.with_marks (simulation_of design.now contents.old) contents.new.deposited) }
+    ensures complete { OnOk result (spec.IsComplete (simulation_of design.now contents.new)) }
+{
+    let count = contents.due.numbers().len();
+    for place in 0..count {
+        let number = contents.due.numbers()[place];
+        execute(alloc, design, contents, number)?;
+    }
+    Ok(())
+}
+
+/// Executes all that are due and have not been executed since the last cycle, in place and in
+/// rising order, where some may have been.
+fn execute_missing(
+    alloc: Global,
+    design: &Design,
+    contents: &mut Contents,
+) -> Result<(), AllocError>
+    requires { IsOf design.now contents.old }
+    ensures of { OnOk result (IsOf design.now contents.new) }
+    ensures same { OnOk result (simulation_of design.now contents.new ≡ spec.with_marks (simulation_of design.now contents.old) contents.new.deposited) }
+    ensures complete { OnOk result (spec.IsComplete (simulation_of design.now contents.new)) }
+{
+    let mut from = 0;
+    while let Some(number) = contents.due.next_beside(&contents.deposited, from) {
+        execute(alloc, design, contents, number)?;
+        from = number + 1;
+    }
+    Ok(())
+}
+
+/// Executes all that are due and have not been executed since the last cycle, in place and in
+/// rising order.
+fn execute_all(alloc: Global, design: &Design, contents: &mut Contents) -> Result<(), AllocError>
+    requires { IsOf design.now contents.old }
+    ensures of { OnOk result (IsOf design.now contents.new) }
+    ensures same { OnOk result (simulation_of design.now contents.new ≡ spec.with_marks (simulation_of design.now contents.old) contents.new.deposited) }
+    ensures complete { OnOk result (spec.IsComplete (simulation_of design.now contents.new)) }
+{
+    if contents.deposited.is_empty() {
+        execute_listed(alloc, design, contents)
+    } else {
+        execute_missing(alloc, design, contents)
+    }
+}
+
+/// A simulation of a design, as far as it has come. By its type, what it holds is what the cycle
+/// gives.
+#[derive(Drop)]
+pub struct Simulation {
+    design: Design,
+    /// In a box, so that little is moved where a simulation is handed on.
+    contents: Box<Contents>,
+}
+
+impl Model for Simulation {
+    ghost use Rattle.std.specs.Coded.{codes};
+    ghost use Rattle.sim_flat_design.specs.contracts.expression.LogicExpression as logic;
+    ghost use Rattle.sim_flat_design.specs.contracts.expression.BooleanExpression as boolean;
+    ghost use Rattle.sim_flat_design.specs.contracts.statement.Statement as statement;
+    ghost use Rattle.sim_store_simulation.specs.Simulation.{Simulation};
+    ghost use Rattle.sim_store_simulation.specs.Contents.{IsOf, simulation_of};
+
+    ghost Value = { Simulation };
+
+    ghost coded = { Prim.hlevel (codes, logic.the_row.coded, boolean.the_row.coded, statement.the_row.coded) };
+
+    ghost view = { λ s. simulation_of s.design s.contents.value };
+
+    ghost invariant = { λ s. IsOf s.design s.contents.value };
+}
+
+impl Simulation {
+    ghost use Rattle.std.specs.Prelude.{◌≡◌, ◌↔◌, IsTrue, Some, false, length, replicate};
+    ghost use Rattle.std.specs.Prelude.{IfErr, IfOk, IfSome, OnOk, OnErr, MatchOption, MatchResult};
+
+    /// The simulation of a design at its start: the initialization is recorded, and each process is
+    /// due, or waits where it is postponed. If allocation fails, the design comes back.
+    pub fn begin(alloc: Global, design: Design) -> Result<Simulation, (AllocError, Design)>
+        ensures ok { IfOk result (λ s. s ≡ record {
+          design = design;
+          cycles = 0;
+          phase = phase.AtOnce;
+          deposited = replicate (length design.processes) false;
+        }) }
+        ensures err { IfErr result (λ e. e.1 ≡ design) }
+    {
+        let _nets = design.nets();
+        let _drivers = design.drivers();
+        are_processes(design.processes());
+        match boxed(alloc, &design) {
+            Err(error) => Err((error, design)),
+            Ok(contents) => Ok(Simulation { design, contents }),
+        }
+    }
+
+    /// The job of a process that is due and has not been executed: a copy of its part of the state.
+    pub fn job(&self, alloc: Global, number: usize) -> Result<Job, AllocError>
+        requires { spec.IsMissing self.now number }
+        ensures { IfOk result (λ job. spec.IsJobOf self.now number job) }
+    {
+        let process = &self.design.processes()[number];
+        let contents = &*self.contents;
+        let part = contents.state.part(alloc, number, process.reads())?;
+        let process = process.try_copy()?;
+        Ok(Job::new(
+            contents.log.len() - 1,
+            number,
+            contents.time,
+            process,
+            part.views,
+            part.variables,
+            part.drivers,
+        ))
+    }
+
+    /// Whether a pending time is that of the last cycle, so that a delta cycle would follow; none
+    /// counts as one after the initialization.
+    fn is_delta(&self, next: Option<u64>) -> bool
+        ensures { result ≡ (not (self.now.cycles == 0) && cycles.is_time_of (spec.updated_last self.now) next) }
+    {
+        self.cycles() != 0 && next == Some(self.contents.time)
+    }
+
+    /// What comes once all that are due have been executed (14.7.5.3 g, h): the phase of postponed
+    /// processes, or what follows the cycle.
+    pub fn upcoming(&mut self) -> Result<Upcoming, AllocError>
+        requires { spec.IsComplete self.old }
+        ensures same { self.new ≡ self.old }
+        ensures value { IfOk result (spec.IsUpcoming self.old) }
+    {
+        let contents = &mut *self.contents;
+        let next = contents.state.next()?;
+        let is_waited = !contents.waiting.is_empty();
+        let phase = contents.phase;
+        Ok(upcoming(phase, self.is_delta(next), is_waited, next))
+    }
+
+    /// Begins the phase of postponed processes: those that wait are due (14.7.5.3 h).
+    pub fn begin_postponed(&mut self)
+        requires complete { spec.IsComplete self.old }
+        requires phase { self.old.phase ≡ phase.AtOnce }
+        requires next { spec.ArePostponedNext self.old.design self.old.cycles (spec.updated_last self.old) }
+        ensures { self.new ≡ spec.in_postponed_phase self.old }
+    {
+        let contents = &mut *self.contents;
+        contents.phase = Phase::Postponed;
+        contents.due.take(&contents.waiting);
+        contents.deposited.clear();
+    }
+
+    /// How many cycles there were.
+    pub fn cycles(&self) -> usize
+        ensures { result ≡ self.now.cycles }
+    {
+        self.contents.log.len() - 1
+    }
+
+    /// How many records there are: that of the initialization, and one for each cycle.
+    pub fn records(&self) -> usize
+        ensures { result ≡ suc self.now.cycles }
+    {
+        self.contents.log.len()
+    }
+
+    /// Whether this phase executes the process with a number.
+    pub fn is_due(&self, number: usize) -> bool
+        ensures { IsTrue result ↔ spec.IsDue self.now number }
+    {
+        self.contents.due.has(number)
+    }
+
+    /// Whether the process with a number has been executed in this phase.
+    pub fn is_deposited(&self, number: usize) -> bool
+        ensures { result ≡ spec.those_in self.now.deposited number }
+    {
+        self.contents.deposited.contains(number)
+    }
+
+    /// Whether a job is what its process would be handed out now, but for its cycle. It takes no
+    /// memory.
+    pub fn is_own(&self, job: &Job) -> bool
+        requires at { job.now.number < length self.now.design.processes }
+        requires fresh { spec.those_in self.now.deposited job.now.number ≡ false }
+        ensures { IsTrue result ↔ spec.IsOwn self.now job.now }
+    {
+        let process = &self.design.processes()[job.number()];
+        let contents = &*self.contents;
+        if job.time() != contents.time {
+            return false;
+        }
+        if !process.same(job.process()) {
+            return false;
+        }
+        contents.state.is_part(
+            job.number(),
+            process.reads(),
+            job.views(),
+            job.variables(),
+            job.drivers(),
+        )
+    }
+
+    /// Takes the result of a process that is due and has not been executed: what it owns is what
+    /// its execution gave. Nothing else changes.
+    pub fn deposit(&mut self, done: Done)
+        requires own { spec.IsOwn self.old done }
+        requires missing { spec.IsMissing self.old done.number }
+        ensures one { self.new ≡ spec.with_one self.old done.number }
+        ensures gone { spec.IsMissing self.new done.number → ⊥ }
+    {
+        let (job, results) = done.into_parts();
+        let number = job.number();
+        let contents = &mut *self.contents;
+        put_results(&mut contents.state, number, results);
+        contents.deposited.insert(number);
+    }
+
+    /// Carries out the cycle at the time of the next, once all of the last one have been executed
+    /// (14.7.5.3). If allocation fails nothing changes.
+    pub fn go_on(&mut self, time: u64) -> Result<(), AllocError>
+        requires executed { spec.IsExecuted self.old }
+        requires next { spec.next_after self.old ≡ CycleAt time }
+        requires early { time ≤ largest_time }
+        requires bound { self.old.cycles < 2 ^ 32 }
+        ensures ok { OnOk result (self.new ≡ spec.after self.old) }
+        ensures at { OnOk result ((spec.reached self.new).time ≡ time) }
+        ensures err { OnErr result (self.new ≡ self.old) }
+    {
+        let nets = self.design.nets().len();
+        let contents = &mut *self.contents;
+        contents.log.reserve(nets)?;
+        contents.state.update(time)?;
+        contents.delta = next_delta(time, contents.time, contents.delta);
+        contents.time = time;
+        contents
+            .state
+            .record(&mut contents.log, time, contents.delta);
+        count_last(contents.totals.as_mut_slice(), &contents.log);
+        leave(&mut contents.waiting, contents.phase);
+        contents.phase = Phase::AtOnce;
+        contents.due.find(
+            &contents.log,
+            &contents.compiled.sensitive,
+            &mut contents.waiting,
+        );
+        contents.deposited.clear();
+        Ok(())
+    }
+
+    /// The design.
+    pub fn design(&self) -> &Design
+        ensures { result.now ≡ self.now.design }
+    {
+        &self.design
+    }
+
+    /// The least of those that are due and have not been executed since the last cycle.
+    pub fn missing(&self) -> Option<usize>
+        ensures { MatchOption result (spec.IsComplete self.now) (spec.IsLeastMissing self.now) }
+    {
+        let contents = &*self.contents;
+        contents.due.next_beside(&contents.deposited, 0)
+    }
+
+    /// Executes all that are due and have not been executed since the last cycle, in place and in
+    /// rising order. If allocation fails the simulation is gone: of the process that wanted it
+    /// neither the state before its execution is left nor that after it.
+    pub fn execute_due(self, alloc: Global) -> Result<Simulation, AllocError>
+        ensures same { IfOk result (λ s. s ≡ spec.with_marks self s.deposited) }
+        ensures complete { IfOk result spec.IsComplete }
+    {
+        let Simulation { design, contents } = self;
+        let mut contents = contents;
+        execute_all(alloc, &design, &mut contents)?;
+        Ok(Simulation { design, contents })
+    }
+
+    /// Its design, and what it holds beside that.
+    pub fn into_contents(self) -> (Design, Contents)
+        ensures of { IsOf result.0 result.1 }
+        ensures same { simulation_of result.0 result.1 ≡ self }
+    {
+        let Simulation { design, contents } = self;
+        let contents = Box::into_inner(contents);
+        (design, contents)
+    }
+
+    /// The simulation that holds this.
+    pub fn of_contents(
+        alloc: Global,
+        design: Design,
+        contents: Contents,
+    ) -> Result<Simulation, AllocError>
+        requires { IsOf design contents }
+        ensures { IfOk result (λ s. s ≡ simulation_of design contents) }
+    {
+        let contents = Box::new(alloc, contents)?;
+        Ok(Simulation { design, contents })
+    }
+
+    /// The same simulation, with what its processes own in about so many shares, which can be handed
+    /// out. If allocation fails it is gone.
+    pub fn divide(self, alloc: Global, shares: usize) -> Result<Simulation, AllocError>
+        ensures { IfOk result (λ s. s ≡ self) }
+    {
+        let (design, contents) = self.into_contents();
+        let contents = divided(alloc, contents, shares)?;
+        Simulation::of_contents(alloc, design, contents)
+    }
+
+    /// Whether none has been executed in this phase.
+    pub fn is_untouched(&self) -> bool
+        ensures { result ≡ true → (p : ℕ) → spec.those_in self.now.deposited p ≡ false }
+    {
+        self.contents.deposited.is_empty()
+    }
+
+    /// About how many steps the execution of a process takes. It is a hint by which work is divided
+    /// among threads, so nothing is promised of it.
+    pub fn mean_length(&self) -> usize {
+        self.contents.compiled.codes.mean_length()
+    }
+
+    /// The numbers of the processes that this phase executes, rising.
+    pub fn due(&self) -> &[usize]
+        ensures value { result.now ≡ spec.due_numbers self.now }
+        ensures few { length result.now ≤ most }
+    {
+        let _processes = self.design.processes();
+        self.contents.due.numbers()
+    }
+
+    /// The time and the delta number of the last cycle.
+    pub fn time(&self) -> (u64, u64)
+        ensures value { result ≡ ((spec.reached self.now).time, (spec.reached self.now).delta) }
+        ensures there { standard self.now.design self.now.cycles ≡ Some (spec.updated_last self.now) }
+        ensures rising { spec.AreRising self.now }
+    {
+        let contents = &*self.contents;
+        (contents.time, contents.delta)
+    }
+
+    /// The value of the net with a number; `None` if out of range. It is also that of its last
+    /// change in the records.
+    pub fn value(&self, net: usize) -> Option<Logic>
+        ensures value { MatchOption result (length self.now.design.nets ≤ net)
+            (λ v. (net < length self.now.design.nets) × (v ≡ (net_at (spec.reached self.now).nets net).value)) }
+        ensures records { IfSome result (λ v. value_by (records_to self.now.design self.now.cycles) net ≡ Some v) }
+    {
+        self.contents.state.value(net)
+    }
+
+    /// How many events the net with a number had after the initialization; `None` if out of range.
+    pub fn total(&self, net: usize) -> Option<u64>
+        ensures { MatchOption result (length self.now.design.nets ≤ net)
+            (λ t. (net < length self.now.design.nets) × (t ≡ total_of (records_to self.now.design self.now.cycles) net)) }
+    {
+        self.contents.totals.get(net).copied()
+    }
+
+    /// How many events the cycles after the initialization had.
+    pub fn events(&self) -> u64
+        ensures { result ≡ event_count (records_to self.now.design self.now.cycles) }
+    {
+        (self.contents.log.count() - self.design.nets().len()) as u64
+    }
+
+    /// The log of all records.
+    pub fn history(&self) -> &Log
+        ensures records { result.now.records ≡ records_to self.now.design self.now.cycles }
+        ensures named { All (IsNamed (length self.now.design.nets)) result.now.records }
+    {
+        &self.contents.log
+    }
+
+    /// The records from a number on.
+    pub fn records_from(&self, alloc: Global, number: usize) -> Result<Vec<Record>, AllocError>
+        requires { number ≤ suc self.now.cycles }
+        ensures records { IfOk result (λ v. v.items ≡ drop number (records_to self.now.design self.now.cycles)) }
+        ensures named { IfOk result (λ v. All (IsNamed (length self.now.design.nets)) v.items) }
+    {
+        let found = records_from(alloc, &self.contents.log, number)?;
+        Ok(found)
+    }
+}
