@@ -6,7 +6,7 @@
 A run answers `vsim: Memory`, with status 4 and nothing written, or what it answers with ample memory, and nothing else; and
 it ends. Of a run with more than MOST requests (4,000), as many are tried, evenly apart. refuse.c is compiled by `cc`.
 
-With --calls the program is sim_run_refusals, which makes the public calls one after another, and each that finds no memory
+With --calls the program is sim_run_cases, which then makes the public calls one after another, and each that finds no memory
 once more: where one request is refused it prints the same listing, unless it cannot read the text.
 """
 import argparse
@@ -80,7 +80,7 @@ def main():
         shim = f"{folder}/refuse.so"
         subprocess.run(["cc", "-O2", "-shared", "-fPIC", "-o", shim, f"{HERE}/refuse.c", "-ldl"], check=True)
         for design in given.designs:
-            words = [] if given.calls else words_of(design) + (["--workers", given.workers] if given.workers else [])
+            words = ["--calls"] if given.calls else words_of(design) + (["--workers", given.workers] if given.workers else [])
             for is_memory, fault in differing(os.path.abspath(given.program), words, design, shim, given.most, given.calls):
                 tried, memory, wrong = tried + 1, memory + (is_memory and not fault), wrong + (fault is not None)
                 if fault:

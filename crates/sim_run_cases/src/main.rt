@@ -1,5 +1,7 @@
 //! Gives the program each case of the files that its words name, and prints the number of cases and
-//! each that is answered in another way than the case says: `sim_run_cases FILE ..`.
+//! each that is answered in another way than the case says: `sim_run_cases FILE ..`. For a word
+//! `--calls` it prints the listing of the text on standard input, by the public calls one after
+//! another. One program, since each that holds a whole run proves and links all of it.
 //!
 //! A file has lines. An empty one, and one that begins with `#`, says nothing. Each other begins
 //! with a mark and a blank:
@@ -21,11 +23,13 @@
 //! | `~` | `>` or `!`: what is written there is not compared |
 #![tactic(auto)]
 
+mod calls;
 mod case;
 mod file;
 mod outcome;
 mod repeated;
 
+use crate::calls::list_by_calls;
 use crate::case::Case;
 use crate::file::cases;
 use crate::outcome::{Outcome, answered, compare};
@@ -109,10 +113,22 @@ fn run_file<R: Threads + Wait + Sync + AllocGlobal + Files + Print>(
     Ok(())
 }
 
-/// Gives the program the cases of each file that the words name.
+/// Does what a word says.
+fn obey<R: Threads + Wait + Sync + AllocGlobal + Files + Input + Print>(
+    rt: &R,
+    word: &str,
+) -> Result<()> {
+    if word == "--calls" {
+        list_by_calls(rt)
+    } else {
+        run_file(rt, word)
+    }
+}
+
+/// Does what each word says, in turn.
 fn main(rt: HostRuntime) -> Result<()> {
-    for name in env::args(&rt)?.skip(1) {
-        run_file(&rt, name.as_str())?;
+    for word in env::args(&rt).context("reading the words")?.skip(1) {
+        obey(&rt, word.as_str())?;
     }
     Ok(())
 }

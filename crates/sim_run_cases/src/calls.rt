@@ -1,16 +1,14 @@
-//! Carries a text through the public calls, one after another: `sim_run_refusals < design.vhd`
-//! prints the listing of its top `t`.
+//! Carries a text through the public calls, one after another.
 //!
 //! A call that finds no memory is made once more, with what it gave back. So where one request for
 //! memory is refused, the listing is that of a run with ample memory: `tests/refusals.py --calls`
 //! refuses each in turn.
-#![tactic(auto)]
 
 mod elaboration;
 mod execution;
 
-use crate::elaboration::{design_of, tree_of};
-use crate::execution::{finished, run, store_of};
+use crate::calls::elaboration::{design_of, tree_of};
+use crate::calls::execution::{finished, run, store_of};
 use anyhow::{Context, Result, bail};
 use sim_run::{WaveStore, write_listing};
 use std::alloc::Global;
@@ -43,8 +41,8 @@ fn list<R: AllocGlobal + Print>(rt: &R, mut store: WaveStore) -> Result<()> {
     Ok(())
 }
 
-fn main(rt: HostRuntime) -> Result<()> {
-    let source = read_source(&rt).context("reading")?;
-    let store = begin(rt.alloc(), source.as_slice())?;
-    list(&rt, store)
+/// Prints the listing of the text on standard input, for its top `t`.
+pub fn list_by_calls<R: AllocGlobal + Input + Print>(rt: &R) -> Result<()> {
+    let source = read_source(rt).context("reading")?;
+    list(rt, begin(rt.alloc(), source.as_slice())?)
 }
