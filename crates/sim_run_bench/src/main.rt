@@ -4,7 +4,6 @@
 
 mod drivers;
 mod elaboration;
-mod execution;
 mod jobs;
 mod listing;
 mod reading;
@@ -28,7 +27,6 @@ fn run<R: Print + Eprint + Input + Clock + AllocGlobal>(
             let top = top.context("no top")?;
             elaboration::run(rt, count, top.as_str())
         }
-        "execution" => execution::run(rt, count),
         "jobs" => {
             let top = top.context("no top")?;
             jobs::run(rt, count, top.as_str())
