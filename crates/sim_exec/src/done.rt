@@ -81,11 +81,19 @@ impl Model for Results {
 ///
 /// Where nothing was assigned, nothing is copied. The contracts see a `Done` as its job, since all
 /// else follows from it.
-#[derive(Drop)]
 pub struct Done {
     job: Job,
     /// What is other than in the job; none where nothing was assigned.
     results: Option<Results>,
+}
+
+/// By hand, so that crates which drop one need no proof of what is in it.
+impl Drop for Done {
+    fn drop(self) {
+        let Done { job, results } = self;
+        drop(job);
+        drop(results);
+    }
 }
 
 impl Model for Done {
@@ -190,6 +198,7 @@ impl Done {
         ensures results { MatchOption result.1 (result_of self ≡ self.owned) (λ r. r ≡ result_of self) }
         ensures ready { IsReady self.process.body self.time (result_of self) }
     {
-        (self.job, self.results)
+        let Done { job, results } = self;
+        (job, results)
     }
 }

@@ -14,7 +14,6 @@ use std::marker::Model;
 /// A process to be executed once, with all that it needs: in which cycle, the time in femtoseconds,
 /// how it sees each net that it reads, and its variables and drivers. The process is shared, the
 /// lists are the job's own.
-#[derive(Drop)]
 pub struct Job {
     cycle: usize,
     number: usize,
@@ -23,6 +22,25 @@ pub struct Job {
     views: Vec<NetView>,
     variables: Vec<Held>,
     drivers: Vec<Driver>,
+}
+
+/// By hand, so that crates which drop one need no proof of what is in it.
+impl Drop for Job {
+    fn drop(self) {
+        let Job {
+            cycle: _,
+            number: _,
+            time: _,
+            process,
+            views,
+            variables,
+            drivers,
+        } = self;
+        drop(process);
+        drop(views);
+        drop(variables);
+        drop(drivers);
+    }
 }
 
 impl Model for Job {

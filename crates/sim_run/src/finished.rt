@@ -25,11 +25,23 @@ fn names_of(alloc: Global, nets: &[Net]) -> Result<Vec<String>, AllocError>
 }
 
 /// The records of a finished run, and the names of its nets.
-#[derive(Drop)]
 pub struct Finished {
     names: Vec<String>,
     records: Vec<Record>,
     events: u64,
+}
+
+/// By hand, so that crates which drop one need no proof of what is in it.
+impl Drop for Finished {
+    fn drop(self) {
+        let Finished {
+            names,
+            records,
+            events: _,
+        } = self;
+        drop(names);
+        drop(records);
+    }
 }
 
 impl Model for Finished {

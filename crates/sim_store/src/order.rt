@@ -21,11 +21,23 @@ const WORTH: usize = 16;
 
 /// What the processes of a range own as a phase begins, with the number of the first of them, and
 /// what they read. Contracts see the number.
-#[derive(Drop)]
 pub struct Order<J: Naming> {
     from: usize,
     share: Share,
     front: Arc<Front<J>, Global>,
+}
+
+/// By hand, so that crates which drop one need no proof of what is in it.
+impl<J: Naming> Drop for Order<J> {
+    fn drop(self) {
+        let Order {
+            from: _,
+            share,
+            front,
+        } = self;
+        drop(share);
+        drop(front);
+    }
 }
 
 impl<J: Naming> Model for Order<J> {

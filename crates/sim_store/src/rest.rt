@@ -25,13 +25,28 @@ use std::sync::Arc;
 
 /// What stays here of a run while a phase is handed out. Contracts see the store that was handed
 /// out, and of how many processes each order is.
-#[derive(Drop)]
 pub struct Rest<J: Naming> {
     front: Arc<Front<J>, Global>,
     kept: Kept,
     parts: Vec<usize>,
     stop: u64,
     limit: u32,
+}
+
+/// By hand, so that crates which drop one need no proof of what is in it.
+impl<J: Naming> Drop for Rest<J> {
+    fn drop(self) {
+        let Rest {
+            front,
+            kept,
+            parts,
+            stop: _,
+            limit: _,
+        } = self;
+        drop(front);
+        drop(kept);
+        drop(parts);
+    }
 }
 
 impl<J: Naming> Model for Rest<J> {

@@ -72,12 +72,24 @@ fn check(simulation: &Simulation, number: usize) -> Result<(), StoreError>
 
 /// The state of a run, and its history: by its type, what is recorded is what the simulation cycle
 /// of its design gives, one process at a time, and how the run ended is its outcome.
-#[derive(Drop)]
 pub struct WaveStore {
     simulation: Simulation,
     stop: u64,
     limit: u32,
     ended: Option<Step>,
+}
+
+/// By hand, so that crates which drop one need no proof of what is in it.
+impl Drop for WaveStore {
+    fn drop(self) {
+        let WaveStore {
+            simulation,
+            stop: _,
+            limit: _,
+            ended: _,
+        } = self;
+        drop(simulation);
+    }
 }
 
 impl Model for WaveStore {

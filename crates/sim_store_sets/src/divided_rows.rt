@@ -11,10 +11,17 @@ use std::mem;
 
 /// Lists, in row arrays one after another, each but the last with as many lists. To its user they
 /// are the lists of a row array. In one part no access has to look for its part.
-#[derive(Drop)]
 pub struct DividedRows<T> {
     pub parts: Vec<RowArray<T>>,
     pub each: usize,
+}
+
+/// By hand, so that crates which drop one need no proof of what is in it.
+impl<T: Drop> Drop for DividedRows<T> {
+    fn drop(self) {
+        let DividedRows { parts, each: _ } = self;
+        drop(parts);
+    }
 }
 
 impl<T> Model for DividedRows<T> {

@@ -10,10 +10,18 @@ use std::marker::Model;
 
 /// Lists, one after another in one flat list. Who works in place on one of them uses its bounds,
 /// and owes that the others stay.
-#[derive(Drop)]
 pub struct RowArray<T> {
     pub starts: Vec<usize>,
     pub flat: Vec<T>,
+}
+
+/// By hand, so that crates which drop one need no proof of what is in it.
+impl<T: Drop> Drop for RowArray<T> {
+    fn drop(self) {
+        let RowArray { starts, flat } = self;
+        drop(starts);
+        drop(flat);
+    }
 }
 
 impl<T> Model for RowArray<T> {

@@ -360,11 +360,19 @@ fn execute_all(alloc: Global, design: &Design, contents: &mut Contents) -> Resul
 
 /// A simulation of a design, as far as it has come. By its type, what it holds is what the cycle
 /// gives.
-#[derive(Drop)]
 pub struct Simulation {
     design: Design,
     /// In a box, so that little is moved where a simulation is handed on.
     contents: Box<Contents>,
+}
+
+/// By hand, so that crates which drop one need no proof of what is in it.
+impl Drop for Simulation {
+    fn drop(self) {
+        let Simulation { design, contents } = self;
+        drop(design);
+        drop(contents);
+    }
 }
 
 impl Model for Simulation {

@@ -40,7 +40,6 @@ use std::marker::Model;
 /// drivers and variables by process and place, in parts of a range of processes each. Beside these
 /// it holds what a cycle has to look at, so that it costs no more for what is as it was: a net that
 /// is not touched has no event, and the time in the queue of a driver that is not stale is its own.
-#[derive(Drop)]
 pub struct FlatState {
     values: Vec<Logic>,
     last_values: Vec<Logic>,
@@ -57,6 +56,34 @@ pub struct FlatState {
     stale: NumberSet,
     /// The nets that may have an event.
     touched: NumberSet,
+}
+
+/// By hand, so that crates which drop one need no proof of what is in it.
+impl Drop for FlatState {
+    fn drop(self) {
+        let FlatState {
+            values,
+            last_values,
+            driving,
+            drivers,
+            variables,
+            sources,
+            fan_out,
+            queue,
+            stale,
+            touched,
+        } = self;
+        drop(values);
+        drop(last_values);
+        drop(driving);
+        drop(drivers);
+        drop(variables);
+        drop(sources);
+        drop(fan_out);
+        drop(queue);
+        drop(stale);
+        drop(touched);
+    }
 }
 
 impl Model for FlatState {

@@ -21,10 +21,18 @@ use std::marker::Model;
 
 /// The drivers and the variables of some processes side by side, by place. Contracts see what each
 /// of these owns.
-#[derive(Drop)]
 pub struct Share {
     drivers: RowArray<Driver>,
     variables: RowArray<Held>,
+}
+
+/// By hand, so that crates which drop one need no proof of what is in it.
+impl Drop for Share {
+    fn drop(self) {
+        let Share { drivers, variables } = self;
+        drop(drivers);
+        drop(variables);
+    }
 }
 
 impl Model for Share {

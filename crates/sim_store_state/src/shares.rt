@@ -14,10 +14,18 @@ use std::alloc::{AllocError, Global};
 use std::marker::Model;
 
 /// Shares, one after another. Contracts see what the processes of each of them own.
-#[derive(Drop)]
 pub struct Shares {
     drivers: Vec<RowArray<Driver>>,
     variables: Vec<RowArray<Held>>,
+}
+
+/// By hand, so that functions which drop one need no proof of what is in it.
+impl Drop for Shares {
+    fn drop(self) {
+        let Shares { drivers, variables } = self;
+        drop(drivers);
+        drop(variables);
+    }
 }
 
 impl Model for Shares {
