@@ -3,8 +3,8 @@ use Rattle.std.proofs.Common.{◌≡◌, ℕ, List, map, Bool, not, fold, sym, a
 use Rattle.sim_logic.specs.declared.logic.Logic.{Logic}
 use Rattle.sim_logic.specs.Logic.{is_same}
 use Rattle.sim_logic.specs.Tables.{not_table}
-use Rattle.sim_text_tree.specs.declared.expression.Relational.{Relational}
-use Rattle.sim_text_tree.specs.declared.expression.Logical.{Logical}
+use Rattle.sim_logic.specs.declared.operator_symbol.Relational.{Relational}
+use Rattle.sim_logic.specs.declared.operator_symbol.Logical.{Logical}
 use Rattle.sim_flat_design.specs.declared.held.Held.{Held}
 use Rattle.sim_flat_design.specs.declared.expression.LogicExpression.{LogicExpression}
 use Rattle.sim_flat_design.specs.declared.expression.LogicExpression.TheVariants as l

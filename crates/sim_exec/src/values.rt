@@ -6,9 +6,8 @@ ghost use Rattle.sim_standard.specs.Expressions as spec;
 use crate::view::Nets;
 use sim_flat_design::Held;
 use sim_flat_design::expression::{BooleanExpression, LogicExpression};
-use sim_logic::Logic;
+use sim_logic::{Logic, Logical, Relational};
 use sim_standard::NetView;
-use sim_text_tree::expression::{Logical, Relational};
 
 /// A logical operator on two values of std_ulogic (9.2.2).
 fn logic_operation(operator: Logical, left: Logic, right: Logic) -> Logic

@@ -3,8 +3,8 @@ use Rattle.std.proofs.Common.{◌≡◌, ℕ, ◌+◌, ◌<◌, ◌++◌, List, 
 use Rattle.std.proofs.lemmas.List.{append-nil, append_assoc, drop_more}
 use Rattle.std.specs.List.{concat}
 use Rattle.sim_logic.specs.declared.logic.Logic.{Logic}
-use Rattle.sim_text_tree.specs.declared.expression.Relational.{Relational}
-use Rattle.sim_text_tree.specs.declared.expression.Logical.{Logical}
+use Rattle.sim_logic.specs.declared.operator_symbol.Relational.{Relational}
+use Rattle.sim_logic.specs.declared.operator_symbol.Logical.{Logical}
 use Rattle.sim_flat_design.specs.declared.expression.LogicExpression.{LogicExpression}
 use Rattle.sim_flat_design.specs.declared.expression.LogicExpression.TheVariants as l
 use Rattle.sim_flat_design.specs.declared.expression.LogicExpression.TheOpen as lo

@@ -5,7 +5,7 @@ use Rattle.sim_flat_scope.specs.declared.scope.Type.TheVariants.{Logic, Boolean}
 use Rattle.sim_flat_scope.specs.declared.scope.Meaning.{Meaning}
 use Rattle.sim_flat_scope.specs.declared.scope.Meaning.TheVariants as m
 use Rattle.sim_flat_scope.specs.Scopes.{Lookup}
-use Rattle.sim_text_tree.specs.declared.expression.Relational.{Relational}
+use Rattle.sim_logic.specs.declared.operator_symbol.Relational.{Relational}
 use Rattle.sim_text_tree.specs.declared.expression.Expression.{Expression}
 use Rattle.sim_text_tree.specs.declared.expression.Expression.TheOpen as x
 use Rattle.sim_text_tree.specs.declared.expression.Expression.TheFolds as folds

@@ -12,8 +12,8 @@ ghost use Rattle.sim_flat_bodies.specs.Within.{AreWithin, is_within};
 use crate::names::Names;
 use sim_flat_design::expression::{BooleanExpression, LogicExpression};
 use sim_flat_scope::{Meaning, Type};
-use sim_logic::Logic;
-use sim_text_tree::expression::{Expression, Logical, Operand, Relational};
+use sim_logic::{Logic, Logical, Relational};
+use sim_text_tree::expression::{Expression, Operand};
 use sqlite_items::{Boxed, Items};
 use std::alloc::{AllocError, Global};
 

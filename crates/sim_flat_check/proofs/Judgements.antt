@@ -2,8 +2,8 @@
 use Rattle.std.proofs.Common.{◌≡◌, ℕ, Bool, true, false, List, [], ◌∷◌, ◌++◌, ◌||◌, map, Option, Some, refl, sym, ap, ◌∙◌}
 use Rattle.sim_logic.specs.declared.logic.Logic as value
 use Rattle.sim_text_tree.specs.Name.{Name}
-use Rattle.sim_text_tree.specs.declared.expression.Relational.{Relational}
-use Rattle.sim_text_tree.specs.declared.expression.Logical.{Logical}
+use Rattle.sim_logic.specs.declared.operator_symbol.Relational.{Relational}
+use Rattle.sim_logic.specs.declared.operator_symbol.Logical.{Logical}
 use Rattle.sim_text_tree.specs.declared.expression.Operand.{Operand}
 use Rattle.sim_text_tree.specs.declared.expression.Expression.{Expression}
 use Rattle.sim_text_tree.specs.declared.expression.Expression.TheVariants as e

@@ -5,8 +5,8 @@ use denote.Param.Send.{IsSend, IsSync, sendable}
 use Rattle.std.proofs.Crossing.{crosses}
 use Rattle.sim_logic.proofs.logic.Logic.TheSendSync as logic
 use Rattle.sim_logic.proofs.time.Time.TheSendSync as time
-use Rattle.sim_text_tree.proofs.expression.Logical.TheSendSync as logical
-use Rattle.sim_text_tree.proofs.expression.Relational.TheSendSync as relational
+use Rattle.sim_logic.proofs.operator_symbol.Logical.TheSendSync as logical
+use Rattle.sim_logic.proofs.operator_symbol.Relational.TheSendSync as relational
 use Rattle.sqlite_items.proofs.items.Items.TheSendSync as items
 use Rattle.sqlite_items.proofs.boxed.Boxed.TheSendSync as boxed
 use Rattle.sqlite_items.specs.contracts.items.Items as Items

@@ -4,8 +4,8 @@ use Rattle.std.specs.List.{All}
 use Rattle.std.proofs.lemmas.List.Sums.{list_all-from_AllPass}
 use Rattle.std.proofs.lemmas.List.Folds.{list_all-map}
 use Rattle.sim_logic.specs.declared.logic.Logic.{Logic}
-use Rattle.sim_text_tree.specs.declared.expression.Relational.{Relational}
-use Rattle.sim_text_tree.specs.declared.expression.Logical.{Logical}
+use Rattle.sim_logic.specs.declared.operator_symbol.Relational.{Relational}
+use Rattle.sim_logic.specs.declared.operator_symbol.Logical.{Logical}
 use Rattle.sim_flat_design.specs.declared.held.Held.{Held}
 use Rattle.sim_flat_design.specs.declared.expression.LogicExpression.{LogicExpression}
 use Rattle.sim_flat_design.specs.declared.expression.LogicExpression.TheVariants as l

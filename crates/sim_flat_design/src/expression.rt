@@ -8,8 +8,7 @@
 ghost use Rattle.std.specs.Prelude.{◌≡◌};
 ghost use Rattle.std.specs.Bool.{Decides};
 
-use sim_logic::Logic;
-use sim_text_tree::expression::{Logical, Relational};
+use sim_logic::{Logic, Logical, Relational};
 use sqlite_items::{Boxed, Items};
 
 /// An expression of type std_ulogic.

@@ -5,10 +5,10 @@ use Rattle.sim_logic.specs.declared.logic.Logic.TheVariants.{U, One, H}
 use Rattle.sim_logic.specs.Logic.{is_same}
 use Rattle.sim_logic.specs.Tables.{and_table, or_table, xor_table, not_table}
 use Rattle.sim_logic.specs.Edge.{rises, falls}
-use Rattle.sim_text_tree.specs.declared.expression.Logical.{Logical}
-use Rattle.sim_text_tree.specs.declared.expression.Logical.TheVariants as logical
-use Rattle.sim_text_tree.specs.declared.expression.Relational.{Relational}
-use Rattle.sim_text_tree.specs.declared.expression.Relational.TheVariants as relational
+use Rattle.sim_logic.specs.declared.operator_symbol.Logical.{Logical}
+use Rattle.sim_logic.specs.declared.operator_symbol.Logical.TheVariants as logical
+use Rattle.sim_logic.specs.declared.operator_symbol.Relational.{Relational}
+use Rattle.sim_logic.specs.declared.operator_symbol.Relational.TheVariants as relational
 use Rattle.sim_flat_design.specs.declared.held.Held.{Held}
 use Rattle.sim_flat_design.specs.declared.held.Held.TheVariants as held
 use Rattle.sim_flat_design.specs.declared.expression.LogicExpression.{LogicExpression}

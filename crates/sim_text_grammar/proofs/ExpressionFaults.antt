@@ -10,7 +10,7 @@ use Rattle.sim_text_grammar.specs.declared.error.ParseError.TheVariants.{TimeRan
 use Rattle.sim_text_tree.specs.Name.{Name}
 use Rattle.sim_text_tree.specs.declared.expression.Expression.{Expression}
 use Rattle.sim_text_tree.specs.declared.expression.Operand.{Operand}
-use Rattle.sim_text_tree.specs.declared.expression.Logical.{Logical}
+use Rattle.sim_logic.specs.declared.operator_symbol.Logical.{Logical}
 use Rattle.sim_text_tree.specs.Grammar.{is_repeatable}
 use Rattle.sim_text_tree.specs.Times.{TimeLiteral, is_time, time_of}
 use Rattle.sim_text_tree.specs.declared.waveform.Element.{Element}

@@ -4,10 +4,10 @@ use Rattle.sim_text_tokens.specs.declared.kind.Kind.{Kind}
 use Rattle.sim_text_tokens.specs.declared.kind.Kind.TheVariants as k
 use Rattle.sim_text_grammar.specs.declared.error.ParseError.TheVariants.{TooDeep}
 use Rattle.sim_text_tree.specs.Name.{Name}
-use Rattle.sim_text_tree.specs.declared.expression.Relational.{Relational}
-use Rattle.sim_text_tree.specs.declared.expression.Relational.TheVariants as relational
-use Rattle.sim_text_tree.specs.declared.expression.Logical.{Logical}
-use Rattle.sim_text_tree.specs.declared.expression.Logical.TheVariants as logical
+use Rattle.sim_logic.specs.declared.operator_symbol.Relational.{Relational}
+use Rattle.sim_logic.specs.declared.operator_symbol.Relational.TheVariants as relational
+use Rattle.sim_logic.specs.declared.operator_symbol.Logical.{Logical}
+use Rattle.sim_logic.specs.declared.operator_symbol.Logical.TheVariants as logical
 use Rattle.sim_text_tree.specs.declared.expression.Operand.{Operand, roll-Operand}
 use Rattle.sim_text_tree.specs.declared.expression.Expression.{Expression}
 use Rattle.sim_text_tree.specs.declared.expression.Expression.TheVariants as e

@@ -8,9 +8,10 @@ ghost use Rattle.sim_text_grammar.specs.Readers.{Reads, and_then, pure, expect, 
 ghost use Rattle.sim_text_reader.specs.Cursors.{view};
 
 use crate::cursor::Cursor;
+use sim_logic::{Logical, Relational};
 use sim_text_grammar::ParseError;
 use sim_text_tokens::Kind;
-use sim_text_tree::expression::{Expression, Logical, Operand, Relational};
+use sim_text_tree::expression::{Expression, Operand};
 use sim_text_tree::list::{fitted, one};
 use sim_text_tree::name::Name;
 use sqlite_items::{Boxed, Items};

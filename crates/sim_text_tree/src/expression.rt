@@ -1,26 +1,8 @@
 //! Expressions (IEEE 1076-2008, 9).
 
 use crate::name::Name;
-use sim_logic::Logic;
+use sim_logic::{Logic, Logical, Relational};
 use sqlite_items::{Boxed, Items};
-
-/// A relational operator (9.2.3).
-#[derive(Clone, Copy, Debug, PartialEq, Eq)]
-pub enum Relational {
-    Equal,
-    Unequal,
-}
-
-/// A logical operator of two operands (9.2.2).
-#[derive(Clone, Copy, Debug, PartialEq, Eq)]
-pub enum Logical {
-    And,
-    Or,
-    Xor,
-    Xnor,
-    Nand,
-    Nor,
-}
 
 /// An expression (9.1). A place is that of the first byte of a token.
 ///

@@ -1,5 +1,6 @@
 use crate::line::Line;
-use sim_text_tree::expression::{Expression, Logical, Operand, Relational};
+use sim_logic::{Logical, Relational};
+use sim_text_tree::expression::{Expression, Operand};
 use sim_text_tree::name::Name;
 
 /// Puts a function call, with the places of both names.

@@ -1,0 +1,19 @@
+//! The operators that an expression names (IEEE 1076-2008, 9.2).
+
+/// A relational operator (9.2.3).
+#[derive(Clone, Copy, Debug, PartialEq, Eq)]
+pub enum Relational {
+    Equal,
+    Unequal,
+}
+
+/// A logical operator of two operands (9.2.2).
+#[derive(Clone, Copy, Debug, PartialEq, Eq)]
+pub enum Logical {
+    And,
+    Or,
+    Xor,
+    Xnor,
+    Nand,
+    Nor,
+}
