@@ -6,9 +6,10 @@ use Rattle.sim_standard.specs.Behaviour.{Behaviour}
 use Rattle.sim_standard.specs.Histories.{History}
 use Rattle.sim_run_options.specs.declared.options.Options.{Options}
 use Rattle.sim_run_options.specs.Options.{are_in_range}
-use Rattle.sim_run.specs.declared.error.RunError.{RunError}
-use Rattle.sim_run.specs.declared.error.RunError.TheVariants as refusal
-use Rattle.sim_run.specs.Run.{Finishes, IsAnswer, IsRunRefusal, history_of}
+use Rattle.sim_run_session.specs.declared.error.RunError.{RunError}
+use Rattle.sim_run_session.specs.declared.error.RunError.TheVariants as refusal
+use Rattle.sim_run_session.specs.Run.{Finishes, history_of}
+use Rattle.sim_run.specs.Run.{IsAnswer, IsRunRefusal}
 
 pub answered : (design : Behaviour) (options : Options) (run : WaveStore) (answer : Result History RunError)
     → are_in_range options.stop options.limit options.workers ≡ true → Finishes design options (history_of run)

@@ -1,8 +1,8 @@
 -- What a run answers where its workers gave up.
 use Rattle.sim_run_workers.specs.declared.worker.Fault.{Fault}
 use Rattle.sim_run_workers.specs.declared.worker.Fault.TheVariants as fault
-use Rattle.sim_run.specs.declared.error.RunError.{RunError}
-use Rattle.sim_run.specs.declared.error.RunError.TheVariants as refusal
+use Rattle.sim_run_session.specs.declared.error.RunError.{RunError}
+use Rattle.sim_run_session.specs.declared.error.RunError.TheVariants as refusal
 
 abbrev pub refusal_of : Fault → RunError
 refusal_of fault.Stranger = refusal.Stranger

@@ -6,8 +6,8 @@ ghost use Rattle.sim_run_listing.specs.Listing.{listing};
 ghost use Rattle.sim_run_listing.specs.Writing.{AppendsPart};
 ghost use Rattle.sim_standard.specs.Behaviour.{behaviour_of};
 
-use crate::error::RunError;
 use sim_flat_design::Net;
+use sim_run_session::RunError;
 use sim_store::{Record, WaveStore};
 use std::alloc::{AllocError, Global};
 use std::io::Write;
@@ -59,7 +59,7 @@ impl Finished {
     ghost use Rattle.std.specs.Prelude.{◌≡◌, ◌+◌, ◌<◌, ◌^◌, map, length, string_bytes, IfOk, IfErr};
     ghost use Rattle.sim_standard.specs.Behaviour.{behaviour_of};
     ghost use Rattle.sim_standard.specs.Histories.{IsHistory, event_count};
-    ghost use Rattle.sim_run.specs.declared.error.RunError.TheVariants as refusal;
+    ghost use Rattle.sim_run_session.specs.declared.error.RunError.TheVariants as refusal;
 
     /// The run with these names and records, which had this many events after the initialization.
     pub fn new(names: Vec<String>, records: Vec<Record>, events: u64) -> Finished

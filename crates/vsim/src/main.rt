@@ -2,7 +2,7 @@
 //! listing of its signal changes to standard output.
 #![tactic(auto)]
 
-use sim_run::session;
+use sim_run_session::session;
 use std::alloc::Global;
 use std::io::Write;
 use std::process::ExitCode;

@@ -1,4 +1,4 @@
-use Rattle.sim_run.proofs.Finishing.{finishes, refuses_among}
+use Rattle.sim_run_session.proofs.Finishing.{finishes, refuses_among}
 use Rattle.sim_run.proofs.runs.run_by_workers.Goals as goal
 
 pub returns-clause-finished : goal.returns-clause-finished

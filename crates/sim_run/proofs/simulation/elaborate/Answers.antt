@@ -1,8 +1,0 @@
-use Rattle.std.proofs.Common.{rules}
-use Rattle.sim_run.proofs.simulation.elaborate.Goals as goal
-
-pub returns-in_err-file-clause-only : goal.returns-in_err-file-clause-only
-returns-in_err-file-clause-only c = search rules
-
-pub returns-in_err-file-clause-value : goal.returns-in_err-file-clause-value
-returns-in_err-file-clause-value c = search rules

@@ -1,0 +1,3 @@
+pub mod Finishing
+pub mod Programs
+pub mod Simulations

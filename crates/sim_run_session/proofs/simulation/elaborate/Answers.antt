@@ -1,0 +1,8 @@
+use Rattle.std.proofs.Common.{rules}
+use Rattle.sim_run_session.proofs.simulation.elaborate.Goals as goal
+
+pub returns-in_err-file-clause-only : goal.returns-in_err-file-clause-only
+returns-in_err-file-clause-only c = search rules
+
+pub returns-in_err-file-clause-value : goal.returns-in_err-file-clause-value
+returns-in_err-file-clause-value c = search rules

@@ -1,0 +1,87 @@
+-- A run, whatever the design, by how the design behaves.
+use Rattle.std.specs.Prelude.{◌≡◌, ◌⊎◌, ◌+◌, ◌-◌, ◌*◌, ℕ, List, Option, Some, None}
+use Rattle.sim_flat_design.specs.Designs.{Design}
+use Rattle.sim_store.specs.WaveStore.{WaveStore}
+use Rattle.sim_store_simulation.specs.declared.phase.Phase.{Phase}
+use Rattle.sim_store_simulation.specs.declared.phase.Phase.TheVariants as phase
+use Rattle.sim_store.specs.declared.store.Step.{Step}
+use Rattle.std.specs.Io.KnownBytes.{Appends}
+use Rattle.sim_standard.specs.Behaviour.{Behaviour, behaviour_of}
+use Rattle.sim_standard.specs.Histories.{History}
+use Rattle.sim_standard.specs.Outcome.{FinishedAfter, LimitReached, PostponedDeltaAfter, HasOutcome}
+use Rattle.sim_run_options.specs.declared.options.Options.{Options}
+use Rattle.sim_run_session.specs.declared.error.RunError.{RunError}
+use Rattle.sim_run_session.specs.declared.error.RunError.TheVariants as refusal
+use Rattle.sim_run_listing.specs.Listing.{listing}
+use Rattle.sim_run_listing.specs.Writing.{AppendsPart}
+
+-- The run is finished up to the stop time and within the limit, with this history (IEEE 1076-2008, 14.7.5.1).
+pub record Finishes (design : Behaviour) (options : Options) (history : History) : Type 0 where
+  pub cycles : ℕ
+  pub outcome : HasOutcome design.next options.stop options.limit (FinishedAfter cycles)
+  pub names : history.names ≡ design.names
+  pub records : history.records ≡ design.records cycles
+
+-- The run needs more cycles than the limit.
+abbrev pub ReachesLimit : Behaviour → Options → Type 0
+ReachesLimit design options = HasOutcome design.next options.stop options.limit LimitReached
+
+-- A postponed process makes a delta cycle follow (IEEE 1076-2008, 14.7.5.3 h).
+abbrev pub MakesPostponedDelta : Behaviour → Options → Type 0
+MakesPostponedDelta design options = (n : ℕ) × HasOutcome design.next options.stop options.limit (PostponedDeltaAfter n)
+
+-- The run is cut short: it needs more cycles than the limit, or a postponed process makes a delta cycle follow.
+abbrev pub IsCut : Behaviour → Options → RunError → Type 0
+IsCut design options e =
+    ((e ≡ refusal.CycleLimit options.limit) × ReachesLimit design options) ⊎ ((e ≡ refusal.PostponedDelta) × MakesPostponedDelta design options)
+
+-- Why a run on one thread has no history: there was no memory, or it is cut short.
+abbrev pub IsRefusalAlone : Behaviour → Options → RunError → Type 0
+IsRefusalAlone design options e = (e ≡ refusal.Memory) ⊎ IsCut design options e
+
+-- The run needs more cycles than the limit; or a postponed process makes a delta cycle follow.
+abbrev pub IsCutShort : Behaviour → Options → Type 0
+IsCutShort design options = ReachesLimit design options ⊎ MakesPostponedDelta design options
+
+-- The run is finished, and its listing was written.
+pub record Lists (design : Behaviour) (options : Options) (old new : Option (List ℕ)) : Type 0 where
+  pub history : History
+  pub finishes : Finishes design options history
+  pub written : Appends old new (listing history.names history.records)
+
+-- The run is finished, and a proper prefix of its listing was written.
+pub record ListsPart (design : Behaviour) (options : Options) (old new : Option (List ℕ)) : Type 0 where
+  pub history : History
+  pub finishes : Finishes design options history
+  pub written : AppendsPart old new (listing history.names history.records)
+
+-- what a store has recorded: its design's names, and its records up to as many cycles as it has had
+abbrev pub history_of : WaveStore → History
+history_of run =
+    let design = behaviour_of run.simulation.design in
+    record { names = design.names; records = design.records run.simulation.cycles }
+
+-- This is the store of the run of a design with these options.
+pub record IsRunOf (design : Design) (options : Options) (run : WaveStore) : Type 0 where
+  pub of : run.simulation.design ≡ design
+  pub stop : run.stop ≡ options.stop
+  pub limit : run.limit ≡ options.limit
+
+-- These are of the run of one design with the same options.
+pub record IsSameRun (run other : WaveStore) : Type 0 where
+  pub design : other.simulation.design ≡ run.simulation.design
+  pub stop : other.stop ≡ run.stop
+  pub limit : other.limit ≡ run.limit
+
+-- how many phases of a cycle there may still be
+abbrev pub phases_left : Phase → ℕ
+phases_left phase.AtOnce = 2
+phases_left phase.Postponed = 1
+
+-- how many steps there may still be: two phases for each cycle up to the limit
+abbrev pub steps_from : ℕ → ℕ → Phase → Option Step → ℕ
+steps_from limit cycles f None = 2 * (limit - cycles) + phases_left f
+steps_from limit cycles f (Some s) = 0
+
+abbrev pub steps_left : WaveStore → ℕ
+steps_left run = steps_from run.limit run.simulation.cycles run.simulation.phase run.ended

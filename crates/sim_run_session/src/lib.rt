@@ -1,0 +1,12 @@
+//! From the text of a design to its listing, and the whole program.
+#![tactic(auto)]
+
+mod error;
+mod program;
+mod runs;
+mod simulation;
+
+pub use error::RunError;
+pub use program::session;
+pub use runs::{begun_run, finished_run, run_without_lock};
+pub use simulation::{elaborate, simulate};

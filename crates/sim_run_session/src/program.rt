@@ -1,0 +1,200 @@
+//! The program, over any reader and two writers.
+ghost use Rattle.std.specs.Prelude.{◌≡◌, ◌≢◌, ◌≤◌, ◌<◌, ◌⊎◌, false, codes, OnOk, IfOk, IfErr, [], ◌∷◌, map, string_bytes};
+ghost use Rattle.std.specs.Io.KnownBytes.{Appends, Keeps};
+ghost use Rattle.std.specs.Str.Parse.{starts_with_minus};
+ghost use Rattle.sim_text_tokens.specs.Pieces.{Text};
+ghost use Rattle.sim_run_options.specs.Asks.{AreRefused};
+ghost use Rattle.sim_run_options.specs.Options.{are_in_range};
+ghost use Rattle.sim_run_session.specs.declared.error.RunError.TheVariants as refusal;
+ghost use Rattle.sim_run_session.specs.declared.program.Failure.TheVariants as failure;
+ghost use Rattle.sim_run_session.specs.Run.{IsCutShort, Lists, ListsPart};
+ghost use Rattle.sim_run_session.specs.Session.{ReadsSource, HasText, HasRun, HasOptions, HasHelp, IsAnswerTo, IsFailure, status_of};
+ghost use Rattle.sim_run_session.specs.Simulation.{HasDesign, IsRefusedText};
+ghost use Rattle.sim_run_listing.specs.Writing.{AppendsPart};
+
+use crate::error::RunError;
+use crate::simulation::simulate;
+use arrayvec::ArrayVec;
+use sim_flat::FlatError;
+use sim_run_listing::write_whole;
+use sim_run_options::{CliFault, Options, read_options};
+use sim_text::TextError;
+use std::alloc::Global;
+use std::io::{Read, Write};
+use std::sync::Wait;
+use std::thread::Threads;
+use thiserror::Error;
+
+/// One byte more than a text may have: enough to see that it is too long.
+const MOST_BYTES: usize = 1_048_577;
+
+/// The most reads, each of which may give a single byte.
+const MOST_READS: u32 = 2_097_154;
+
+/// How many bytes are asked of a read.
+const CHUNK: usize = 16_384;
+
+/// More bytes than any line on standard error has.
+const LONGEST_LINE: usize = 64;
+
+/// Why a run that the words ask for has no listing.
+#[derive(Clone, Copy, Debug, Error)]
+pub enum Failure {
+    /// A read failed, or there were too many of them.
+    #[error("Read")]
+    Read,
+    /// No memory.
+    #[error("Memory")]
+    Memory,
+    /// A refusal of the run.
+    #[error("{0}")]
+    Run(RunError),
+}
+
+/// The exit status: 1 for a fault of the text or design, 2 for the options, 3 for the limit of
+/// cycles, 4 for memory and streams.
+fn status_of_failure(failure: Failure) -> u8
+    ensures { result ≡ status_of failure }
+{
+    match failure {
+        Failure::Run(RunError::Text(TextError::Memory) | RunError::Flat(FlatError::Memory)) => 4,
+        Failure::Run(RunError::Text(_) | RunError::Flat(_)) => 1,
+        Failure::Run(RunError::Options) => 2,
+        Failure::Run(RunError::CycleLimit { .. } | RunError::PostponedDelta | RunError::Stranger) =>
+            3,
+        Failure::Read | Failure::Memory | Failure::Run(RunError::Write | RunError::Memory) => 4,
+    }
+}
+
+/// What the reader has left, up to one byte more than a text may have.
+fn read_source<R: Read>(alloc: Global, input: &mut R) -> Result<Vec<u8>, Failure>
+    ensures source { IfOk result (λ text. ReadsSource (R.remaining input.old) (R.remaining input.new) text.items) }
+    ensures failed { IfErr result (λ f. (f ≡ Failure.Read) ⊎ (f ≡ Failure.Memory)) }
+{
+    let mut text = Vec::new(alloc);
+    let mut chunk = [0; CHUNK];
+    for _ in 0..MOST_READS {
+        let room = CHUNK.min(MOST_BYTES - text.len());
+        match input.read(&mut chunk[..room]) {
+            Ok(0) => return Ok(text),
+            Ok(count) => {
+                if text.extend_from_slice(&chunk[..count]).is_err() {
+                    return Err(Failure::Memory);
+                }
+                if text.len() == MOST_BYTES {
+                    return Ok(text);
+                }
+            }
+            Err(_) => return Err(Failure::Read),
+        }
+    }
+    Err(Failure::Read)
+}
+
+/// Reads the source and writes the listing of its run.
+fn carry_out<T: Threads + Wait + Sync, R: Read, W: Write>(
+    rt: &T,
+    alloc: Global,
+    options: &Options,
+    input: &mut R,
+    out: &mut W,
+) -> Result<(), Failure>
+    ensures listed { OnOk result (HasText (R.remaining input.old) (λ text. HasDesign text options.now (λ design.
+        Lists design options.now (W.contents out.old) (W.contents out.new)))) }
+    ensures part { result ≡ Err (failure.Run refusal.Write) → HasText (R.remaining input.old) (λ text. HasDesign text options.now (λ design.
+        ListsPart design options.now (W.contents out.old) (W.contents out.new))) }
+    ensures failed { IfErr result (λ f. IsFailure (R.remaining input.old) options.now f) }
+    ensures quiet { IfErr result (λ f. f ≢ failure.Run refusal.Write → Keeps (W.contents out.old) (W.contents out.new)) }
+{
+    let source = read_source(alloc, input)?;
+    match simulate(rt, alloc, source.as_slice(), options, out) {
+        Ok(()) => Ok(()),
+        Err(refusal) => Err(Failure::Run(refusal)),
+    }
+}
+
+/// The line on standard error. A fault in writing it is ignored.
+fn tell<E: Write>(err: &mut E, failure: Failure) {
+    let mut line = ArrayVec::<u8, LONGEST_LINE>::new();
+    let _ = writeln!(line, "vsim: {failure}");
+    let _ = write_whole(err, line.as_slice());
+}
+
+/// Writes the text of the help; a write that fails is told as that of a listing.
+fn show<W: Write, E: Write>(out: &mut W, err: &mut E, text: &str) -> u8
+    ensures { ((result ≡ 0) × Appends (W.contents out.old) (W.contents out.new) text.now)
+        ⊎ ((result ≡ 4) × AppendsPart (W.contents out.old) (W.contents out.new) text.now) }
+{
+    if write_whole(out, text.as_bytes()).is_ok() {
+        return 0;
+    }
+    tell(err, Failure::Run(RunError::Write));
+    4
+}
+
+/// Answers words that are no options.
+fn explain<W: Write, E: Write>(fault: &CliFault, out: &mut W, err: &mut E) -> u8
+    ensures { IsAnswerTo fault.now result (W.contents out.old) (W.contents out.new) }
+{
+    match fault {
+        CliFault::Help(text) => show(out, err, text.as_str()),
+        CliFault::Refused(text) => {
+            let _ = write_whole(err, text.as_bytes());
+            2
+        }
+        CliFault::Memory => {
+            tell(err, Failure::Memory);
+            4
+        }
+    }
+}
+
+/// The whole program: it takes its words, without its own name; reads the source from `input`;
+/// writes the listing to `out`, or a line `vsim: ` with the refusal's text to `err`; and answers
+/// its status. That is 0 where the listing was written, 1 where the text was refused, 2 where the
+/// words or the options were, 3 where the run needs more cycles than the limit or a postponed process
+/// makes a delta cycle follow, and 4 where memory was short, or reading or writing failed; with any
+/// number of workers. It reads at most 1,048,577 bytes, by at most 2,097,154 reads.
+///
+/// Where the words ask for help, its text goes to `out`, with status 0; where they are refused, the
+/// lines of `clap` that say why go to `err`. Then nothing is read.
+pub fn session<T: Threads + Wait + Sync, R: Read, W: Write, E: Write>(
+    rt: &T,
+    alloc: Global,
+    words: Vec<String>,
+    input: &mut R,
+    out: &mut W,
+    err: &mut E,
+) -> u8
+    ensures status { result ≤ 4 }
+    ensures success { result ≡ 0 → HasRun (map string_bytes words.items) (R.remaining input.old) (λ text options. HasDesign text options (λ design.
+        Lists design options (W.contents out.old) (W.contents out.new)))
+        ⊎ HasHelp (map string_bytes words.items) (λ help. Appends (W.contents out.old) (W.contents out.new) help) }
+    ensures text { result ≡ 1 → HasRun (map string_bytes words.items) (R.remaining input.old) (λ text options. IsRefusedText text options) }
+    ensures words { result ≡ 2 → AreRefused (map string_bytes words.items) ⊎ HasOptions (map string_bytes words.items) (λ options.
+        are_in_range options.stop options.limit options.workers ≡ false) }
+    // `--top NAME` alone is not refused.
+    ensures alone { (name : Text) → map string_bytes words.items ≡ codes "--top" ∷ name ∷ [] → starts_with_minus name ≡ false → result ≢ 2 }
+    ensures limit { result ≡ 3 →
+        HasRun (map string_bytes words.items) (R.remaining input.old) (λ text options.
+        HasDesign text options (λ design. IsCutShort design options)) }
+    ensures quiet { 0 < result → result < 4 → Keeps (W.contents out.old) (W.contents out.new) }
+    // Memory was short, or reading or writing failed: nothing was written, or a proper prefix of
+    // the listing or of the help.
+    ensures stopped { result ≡ 4 → Keeps (W.contents out.old) (W.contents out.new)
+        ⊎ (HasRun (map string_bytes words.items) (R.remaining input.old) (λ text options.
+        HasDesign text options (λ design. ListsPart design options (W.contents out.old) (W.contents out.new)))
+        ⊎ HasHelp (map string_bytes words.items) (λ help. AppendsPart (W.contents out.old) (W.contents out.new) help)) }
+{
+    let options = match read_options(alloc, words) {
+        Ok(options) => options,
+        Err(fault) => return explain(&fault, out, err),
+    };
+    match carry_out(rt, alloc, &options, input, out) {
+        Ok(()) => 0,
+        Err(failure) => {
+            tell(err, failure);
+            status_of_failure(failure)
+        }
+    }
+}

@@ -1,0 +1,179 @@
+//! A whole run of a design: on the calling thread, or by a team of threads.
+ghost use Rattle.std.specs.Prelude.{◌≡◌, ◌≢◌, ◌<◌, ◌≤◌, ◌⊎◌, None, IfOk, IfErr, IfSome, OnOk, OnErr};
+ghost use Rattle.std.specs.Io.KnownBytes.{Appends};
+ghost use Rattle.sim_run_listing.specs.Listing.{listing};
+ghost use Rattle.sim_run_listing.specs.Writing.{AppendsPart};
+ghost use Rattle.sim_logic.specs.Time.{largest_time};
+ghost use Rattle.sim_standard.specs.Behaviour.{behaviour_of};
+ghost use Rattle.sim_store.specs.WaveStore as store;
+ghost use Rattle.sim_run_session.specs.declared.error.RunError.TheVariants as refusal;
+ghost use Rattle.sim_run_session.specs.Run.{Finishes, IsRefusalAlone, IsRunOf, IsSameRun, history_of, steps_left};
+
+use crate::error::RunError;
+use sim_flat_design::Design;
+use sim_run_listing::write_listing;
+use sim_run_options::Options;
+use sim_run_team::{Fault, carry_to_end};
+use sim_store::{Step, WaveStore};
+use std::alloc::Global;
+use std::io::Write;
+use std::sync::Wait;
+use std::thread::Threads;
+
+/// Carries out one phase of a cycle: executes all processes that are due, in place and in rising
+/// order, and goes on.
+fn go_on(alloc: Global, run: WaveStore) -> Result<WaveStore, RunError>
+    requires { store.IsOpen run }
+    ensures bounds { IfOk result (IsSameRun run) }
+    ensures on { IfOk result (λ r. steps_left r < steps_left run) }
+    ensures err { IfErr result (λ e. e ≡ refusal.Memory) }
+{
+    let mut run = run.execute_due(alloc)?;
+    match run.advance(alloc) {
+        Ok(_step) => Ok(run),
+        // All that are due have been executed and the run has not ended, so only memory was short.
+        Err(_refusal) => Err(RunError::Memory),
+    }
+}
+
+/// The store of a design at the start of its run.
+pub fn begun_run(alloc: Global, design: Design, options: &Options) -> Result<WaveStore, RunError>
+    requires { options.now.stop ≤ largest_time }
+    ensures ok { IfOk result (λ run. IsRunOf design options.now run) }
+    ensures err { IfErr result (λ e. e ≡ refusal.Memory) }
+{
+    match WaveStore::new(alloc, design, options.stop, options.limit) {
+        Ok(run) => Ok(run),
+        // The stop time is not too late, so only memory was short.
+        Err(_refusal) => Err(RunError::Memory),
+    }
+}
+
+/// The store of a run that has ended, on the calling thread: nothing is copied, and no lock is
+/// taken.
+fn run_in_place(alloc: Global, design: Design, options: &Options) -> Result<WaveStore, RunError>
+    requires { options.now.stop ≤ largest_time }
+    ensures ok { IfOk result (λ run. IsRunOf design options.now run × (run.ended ≢ None)) }
+    ensures err { IfErr result (λ e. e ≡ refusal.Memory) }
+{
+    let mut run = begun_run(alloc, design, options)?;
+    while run.ended().is_none() {
+        run = go_on(alloc, run)?;
+    }
+    Ok(run)
+}
+
+/// The store of a run that has ended, if it is finished.
+pub fn finished_run(run: WaveStore) -> Result<WaveStore, RunError>
+    requires { run.ended ≢ None }
+    ensures finished { IfOk result (λ r. (r ≡ run) × store.HasEnd run Step.Finished) }
+    ensures refused { IfErr result (λ e. ((e ≡ refusal.CycleLimit run.limit) × store.HasEnd run Step.LimitReached)
+        ⊎ ((e ≡ refusal.PostponedDelta) × store.HasEnd run Step.PostponedDelta)) }
+{
+    match run.ended() {
+        Some(Step::LimitReached) => Err(RunError::CycleLimit { limit: run.limit() }),
+        Some(Step::PostponedDelta) => Err(RunError::PostponedDelta),
+        _ => Ok(run),
+    }
+}
+
+/// The run of a design on the calling thread, up to the stop time and within the limit: its store,
+/// once it is finished.
+pub fn run_alone(alloc: Global, design: Design, options: &Options) -> Result<WaveStore, RunError>
+    requires { options.now.stop ≤ largest_time }
+    ensures finished { IfOk result (λ run. Finishes (behaviour_of design) options.now (history_of run)) }
+    ensures refused { IfErr result (IsRefusalAlone (behaviour_of design) options.now) }
+{
+    let run = run_in_place(alloc, design, options)?;
+    finished_run(run)
+}
+
+/// The store of a run that has ended, by a team of threads, each of which executes a share of what a
+/// cycle resumes; none where a thread is gone, and with it what its processes own.
+fn run_in_shares<R: Threads + Wait + Sync>(
+    rt: &R,
+    alloc: Global,
+    design: Design,
+    options: &Options,
+) -> Result<Option<WaveStore>, RunError>
+    requires { options.now.stop ≤ largest_time }
+    ensures ok { IfOk result (λ found. IfSome found (λ run. IsRunOf design options.now run × (run.ended ≢ None))) }
+    ensures err { IfErr result (λ e. e ≡ refusal.Memory) }
+{
+    let run = begun_run(alloc, design, options)?;
+    match carry_to_end(rt, alloc, run, options.workers) {
+        Ok(run) => Ok(Some(run)),
+        Err(Fault::Memory) => Err(RunError::Memory),
+        Err(Fault::Gone) => Ok(None),
+    }
+}
+
+/// The run of a design by a team of threads, of which nobody is told, up to the stop time and within
+/// the limit: its store, once it is finished; none where a thread is gone. Then the run is to begin
+/// again on the calling thread.
+pub fn run_by_team<R: Threads + Wait + Sync>(
+    rt: &R,
+    alloc: Global,
+    design: Design,
+    options: &Options,
+) -> Result<Option<WaveStore>, RunError>
+    requires { options.now.stop ≤ largest_time }
+    ensures finished { IfOk result (λ found. IfSome found (λ run. Finishes (behaviour_of design) options.now (history_of run))) }
+    ensures refused { IfErr result (IsRefusalAlone (behaviour_of design) options.now) }
+{
+    let found = run_in_shares(rt, alloc, design, options)?;
+    let Some(run) = found else {
+        return Ok(None);
+    };
+    let run = finished_run(run)?;
+    Ok(Some(run))
+}
+
+/// The run of a copy of a design by a team of threads: its store, once it is finished; none where a
+/// thread is gone.
+fn run_copy_by_team<R: Threads + Wait + Sync>(
+    rt: &R,
+    alloc: Global,
+    design: &Design,
+    options: &Options,
+) -> Result<Option<WaveStore>, RunError>
+    requires { options.now.stop ≤ largest_time }
+    ensures finished { IfOk result (λ found. IfSome found (λ run. Finishes (behaviour_of design.now) options.now (history_of run))) }
+    ensures refused { IfErr result (IsRefusalAlone (behaviour_of design.now) options.now) }
+{
+    let copy = design.try_copy()?;
+    run_by_team(rt, alloc, copy, options)
+}
+
+/// The run of a design with no store under a lock: by a team where there are several workers; else,
+/// or where a thread of the team is gone, on the calling thread: its store, once it is finished.
+pub fn run_without_lock<R: Threads + Wait + Sync>(
+    rt: &R,
+    alloc: Global,
+    design: &Design,
+    options: &Options,
+) -> Result<WaveStore, RunError>
+    requires { options.now.stop ≤ largest_time }
+    ensures finished { IfOk result (λ run. Finishes (behaviour_of design.now) options.now (history_of run)) }
+    ensures refused { IfErr result (IsRefusalAlone (behaviour_of design.now) options.now) }
+{
+    if options.workers > 1 {
+        let found = run_copy_by_team(rt, alloc, design, options)?;
+        if let Some(run) = found {
+            return Ok(run);
+        }
+    }
+    let copy = design.try_copy()?;
+    run_alone(alloc, copy, options)
+}
+
+/// Writes the listing of a store's history, from its log and the nets of its design. Nothing is
+/// copied, and nothing allocated.
+pub fn write_run<W: Write>(run: &WaveStore, out: &mut W) -> Result<(), RunError>
+    ensures ok { OnOk result (Appends (W.contents out.old) (W.contents out.new) (listing (history_of run.now).names (history_of run.now).records)) }
+    ensures part { OnErr result (AppendsPart (W.contents out.old) (W.contents out.new) (listing (history_of run.now).names (history_of run.now).records)) }
+    ensures err { IfErr result (λ e. e ≡ refusal.Write) }
+{
+    write_listing(run.design().nets(), run.history(), run.look().events, out)?;
+    Ok(())
+}

@@ -1,0 +1,107 @@
+//! From the text of a design to its listing.
+ghost use Rattle.std.specs.Prelude.{◌≡◌, ◌≢◌, ◌↔◌, true, false, Err, OnOk, IfErr, IfSome, MatchResult};
+ghost use Rattle.std.specs.Io.KnownBytes.{Keeps};
+ghost use Rattle.sim_run_options.specs.Options.{are_in_range};
+ghost use Rattle.sim_run_session.specs.Run.{Finishes, Lists, ListsPart, history_of};
+ghost use Rattle.sim_run_session.specs.Simulation.{IsDesignOf, HasDesign, IsOfText, IsRefusal};
+
+use crate::error::RunError;
+use crate::runs::{run_alone, run_by_team, write_run};
+use sim_flat::flatten;
+use sim_flat_design::Design;
+use sim_run_options::Options;
+use sim_store::WaveStore;
+use sim_text::parse;
+use std::alloc::Global;
+use std::io::Write;
+use std::sync::Wait;
+use std::thread::Threads;
+
+/// Reads a text and elaborates its design under the top of the options. Of the refusals of
+/// `simulate` `Text` and `Flat` come, in this order.
+pub fn elaborate(alloc: Global, source: &[u8], options: &Options) -> Result<Design, RunError>
+    ensures only { IfErr result IsOfText }
+    ensures value { MatchResult result (λ design. IsDesignOf source.now options.now design) (λ e. IsRefusal source.now options.now e) }
+{
+    let file = parse(alloc, source)?;
+    let design = flatten(alloc, &file, options.top.as_str())?;
+    Ok(design)
+}
+
+/// The run of a text by a team of threads: its store, once it is finished; none where a thread is
+/// gone.
+fn run_text_by_team<R: Threads + Wait + Sync>(
+    rt: &R,
+    alloc: Global,
+    source: &[u8],
+    options: &Options,
+) -> Result<Option<WaveStore>, RunError>
+    requires { are_in_range options.now.stop options.now.limit options.now.workers ≡ true }
+    ensures { MatchResult result (λ found. IfSome found (λ run. HasDesign source.now options.now (λ design. Finishes design options.now (history_of run))))
+        (λ e. IsRefusal source.now options.now e) }
+{
+    let design = elaborate(alloc, source, options)?;
+    run_by_team(rt, alloc, design, options)
+}
+
+/// The run of a text on the calling thread: its store, once it is finished.
+fn run_text_alone(alloc: Global, source: &[u8], options: &Options) -> Result<WaveStore, RunError>
+    requires { are_in_range options.now.stop options.now.limit options.now.workers ≡ true }
+    ensures { MatchResult result (λ run. HasDesign source.now options.now (λ design. Finishes design options.now (history_of run)))
+        (λ e. IsRefusal source.now options.now e) }
+{
+    let design = elaborate(alloc, source, options)?;
+    run_alone(alloc, design, options)
+}
+
+/// The run of a text: its store, once it is finished. Where a thread of the team is gone, and with it
+/// what its processes own, the run begins again on the calling thread.
+fn run_text<R: Threads + Wait + Sync>(
+    rt: &R,
+    alloc: Global,
+    source: &[u8],
+    options: &Options,
+) -> Result<WaveStore, RunError>
+    requires { are_in_range options.now.stop options.now.limit options.now.workers ≡ true }
+    ensures { MatchResult result (λ run. HasDesign source.now options.now (λ design. Finishes design options.now (history_of run)))
+        (λ e. IsRefusal source.now options.now e) }
+{
+    if options.workers > 1 {
+        let found = run_text_by_team(rt, alloc, source, options)?;
+        if let Some(run) = found {
+            return Ok(run);
+        }
+    }
+    run_text_alone(alloc, source, options)
+}
+
+/// Simulates the design in a text and writes its listing. The refusals, in the order in which they
+/// are looked for: `Options` where the stop time, the limit or the workers are out of their ranges;
+/// `Text` where the text is at fault, or there was no memory to read it (`sim_text::parse` says
+/// when each fault comes); `Flat` where the design is at fault, or there was no memory to elaborate
+/// it (`sim_flat::flatten` says when each fault comes); `CycleLimit` where the run needs more
+/// cycles than the limit; `PostponedDelta` where a postponed process makes a delta cycle follow
+/// (14.7.5.3 h); `Write` where a write fails or takes nothing. With every refusal but `Write`
+/// nothing is written, and with that one a prefix of the listing.
+pub fn simulate<R: Threads + Wait + Sync, W: Write>(
+    rt: &R,
+    alloc: Global,
+    source: &[u8],
+    options: &Options,
+    out: &mut W,
+) -> Result<(), RunError>
+    ensures options { (result ≡ Err RunError.Options) ↔ (are_in_range options.now.stop options.now.limit options.now.workers ≡ false) }
+    ensures listed { OnOk result (HasDesign source.now options.now (λ design. Lists design options.now (W.contents out.old) (W.contents out.new))) }
+    // Where a write failed, the run is finished, and a proper prefix of its listing was written.
+    ensures part { result ≡ Err RunError.Write → HasDesign source.now options.now (λ design.
+        ListsPart design options.now (W.contents out.old) (W.contents out.new)) }
+    // Any other refusal has its reason, and nothing was written.
+    ensures refused { IfErr result (λ e. e ≢ RunError.Write → IsRefusal source.now options.now e) }
+    ensures quiet { IfErr result (λ e. e ≢ RunError.Write → Keeps (W.contents out.old) (W.contents out.new)) }
+{
+    if !options.are_in_range() {
+        return Err(RunError::Options);
+    }
+    let run = run_text(rt, alloc, source, options)?;
+    write_run(&run, out)
+}
