@@ -128,6 +128,25 @@ fn put_taken_back<J: Naming>(
     }
 }
 
+/// What stays of a store of which a phase is handed out, and the orders; none where memory is
+/// refused.
+fn handed<J: Naming>(alloc: Global, store: WaveStore) -> Option<(Rest<J>, Vec<Order<J>>)>
+    requires { store.simulation.design ≡ J.design }
+{
+    if !store.is_untouched() {
+        return None;
+    }
+    store.hand_out::<J>(alloc).ok()
+}
+
+/// The orders alone.
+fn orders_of<J: Naming>(alloc: Global, store: WaveStore) -> Option<Vec<Order<J>>>
+    requires { store.simulation.design ≡ J.design }
+{
+    let (_rest, orders) = handed::<J>(alloc, store)?;
+    Some(orders)
+}
+
 /// Hands out a phase of a store and one of another, and puts what comes of the answers.
 fn put_handed<J: Naming>(
     line: &mut Line,
@@ -139,17 +158,11 @@ fn put_handed<J: Naming>(
     requires own { own.simulation.design ≡ J.design }
     requires other { other.simulation.design ≡ J.design }
 {
-    if !own.is_untouched() {
-        return line.put("touched");
-    }
-    if !other.is_untouched() {
-        return line.put("touched");
-    }
-    let Ok((rest, orders)) = own.hand_out::<J>(alloc) else {
-        return line.put("no memory");
+    let Some(others) = orders_of::<J>(alloc, other) else {
+        return line.put("no orders of the other");
     };
-    let Ok((_rest, others)) = other.hand_out::<J>(alloc) else {
-        return line.put("no memory");
+    let Some((rest, orders)) = handed::<J>(alloc, own) else {
+        return line.put("no orders");
     };
     match answers_given(alloc, given, orders, others) {
         Err(_refused) => line.put("no memory"),
