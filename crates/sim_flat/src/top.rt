@@ -9,7 +9,7 @@ use sim_flat_instances::Library;
 use std::alloc::Global;
 
 /// The number of the block of the top, and where its entity is named.
-#[derive(Clone, Copy, Debug)]
+#[derive(Clone, Copy)]
 pub struct Top {
     pub block: usize,
     pub at: usize,

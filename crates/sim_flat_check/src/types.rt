@@ -15,7 +15,7 @@ use sim_text_tree::expression::{Expression, Operand};
 use sim_text_tree::name::Name;
 
 /// What an expression is.
-#[derive(Clone, Copy, Debug, PartialEq, Eq)]
+#[derive(Clone, Copy, PartialEq, Eq)]
 pub struct Judgement {
     /// Its type, where it has one: one with a fault inside has none.
     pub type_: Option<Type>,

@@ -6,7 +6,7 @@ ghost use Rattle.sim_text_grammar.specs.declared.error.ParseError.TheVariants.{O
 use std::alloc::{AllocError, AllocFailed};
 
 /// A fault, by how many tokens there are from it on.
-#[derive(Clone, Copy, Debug, PartialEq, Eq)]
+#[derive(Clone, Copy, PartialEq, Eq)]
 pub enum ParseError {
     OutOfMemory,
     /// No tree has this token here.

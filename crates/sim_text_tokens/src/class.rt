@@ -2,7 +2,7 @@
 
 /// What a piece of a text is: a separator, a comment, or a token of some class (IEEE 1076-2008,
 /// 15).
-#[derive(Clone, Copy, Debug)]
+#[derive(Clone, Copy)]
 pub enum Class {
     /// One blank or line end (15.3).
     Separator,
