@@ -65,7 +65,7 @@ impl Pending {
         if transactions.len() <= IN_PLACE {
             return Ok(Pending::of_few(transactions));
         }
-        let stored = Stored::copy_of(alloc, transactions)?;
+        let stored = Stored::copy_of(alloc, transactions, transactions.len())?;
         Ok(Pending::Many(Box::new(alloc, stored)?))
     }
 
@@ -135,7 +135,7 @@ impl Pending {
             *self = Pending::of_kept(few, kept, now, elements);
             return Ok(());
         }
-        let mut stored = Stored::copy_of(alloc, few)?;
+        let mut stored = Stored::copy_of(alloc, few, kept.len() + elements.len())?;
         stored.edit(now, delay, elements)?;
         *self = Pending::Many(Box::new(alloc, stored)?);
         Ok(())

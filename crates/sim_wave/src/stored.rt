@@ -9,7 +9,6 @@ ghost use Rattle.sim_logic.specs.Time.{largest_time};
 use crate::driver::{IN_PLACE, Transaction};
 use crate::edit::{Run, Transactions, close_gap, kept_by, rewrite};
 use sim_standard::Delay;
-use smallvec::SmallVec;
 use std::alloc::{AllocError, Global};
 use std::marker::Model;
 
@@ -25,8 +24,7 @@ pub(crate) struct Stored {
 }
 
 impl Model for Stored {
-    ghost use Rattle.std.specs.Prelude.{List, ◌+◌, ◌≤◌, drop};
-    ghost use Rattle.smallvec.specs.SmallVec.{small_vec_len};
+    ghost use Rattle.std.specs.Prelude.{List, ◌+◌, ◌≤◌, drop, vec_len, vec_capacity};
     ghost use Rattle.sim_standard.specs.Drivers.{Transaction};
     ghost use Rattle.sim_wave.specs.Run.{IsRun};
     ghost use Rattle.sim_wave.specs.declared.driver.TheConstants.{IN_PLACE};
@@ -35,18 +33,23 @@ impl Model for Stored {
 
     ghost view = { λ stored. drop stored.head stored.list.items };
 
-    ghost invariant = { λ stored. (stored.head ≤ small_vec_len stored.list)
-        × (stored.head + IN_PLACE ≤ stored.list.capacity)
+    ghost invariant = { λ stored. (stored.head ≤ vec_len stored.list)
+        × (stored.head + IN_PLACE ≤ vec_capacity stored.list)
         × IsRun stored.list.items stored.run.start stored.run.end stored.run.value };
 }
 
 impl Stored {
-    /// A copy of the transactions.
-    pub(crate) fn copy_of(alloc: Global, transactions: &[Transaction]) -> Result<Stored, AllocError>
-        ensures ok { IfOk result (λ stored. stored ≡ transactions.now) }
-        ensures in_place { length transactions.now ≤ IN_PLACE → IsOk result }
+    /// A copy of the transactions, with room for so many in all.
+    pub(crate) fn copy_of(
+        alloc: Global,
+        transactions: &[Transaction],
+        room: usize,
+    ) -> Result<Stored, AllocError>
+        requires { IN_PLACE ≤ room }
+        ensures { IfOk result (λ stored. stored ≡ transactions.now) }
     {
-        let mut list = SmallVec::with_capacity(alloc, transactions.len())?;
+        let mut list = Vec::new(alloc);
+        list.reserve(room)?;
         list.extend_from_slice(transactions)?;
         Ok(Stored {
             list,
