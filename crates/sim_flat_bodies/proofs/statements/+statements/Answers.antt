@@ -1,5 +1,8 @@
+use Rattle.std.proofs.Common.{rules, arith}
+use Rattle.std.proofs.lemmas.Grind.{common_steps}
 use Rattle.sim_flat_scope.specs.Scopes.{means}
-use Rattle.sim_flat_bodies.proofs.StatementRules.{if_else_made, if_only_made}
+use Rattle.sim_flat_design.proofs.Fitting.{branch_fitting, if_fits}
+use Rattle.sim_flat_bodies.proofs.StatementRules.{signal_is, variable_is, if_else_made, if_only_made}
 use Rattle.sim_flat_bodies.proofs.statements.+statements.Goals as goal
 
 pub statement-returns-in_ok-otherwise-in-Some-clause-value : goal.statement-returns-in_ok-otherwise-in-Some-clause-value
@@ -15,3 +18,24 @@ statement-returns-in-None-clause-value t c =
     c.in-If.all c.as_slice.result.now c.in-If.otherwise c.in-If.label_repeated
     c.in_ok-branches-in-If.branches c.new-otherwise.result c.in-If.is c.in-None.is c.as_slice.ensures
     c.in_ok-branches-in-If.ensures.value c.new-otherwise.ensures
+
+pub branch-returns-clause-fits : goal.branch-returns-clause-fits
+branch-returns-clause-fits t c = search (rules, branch_fitting)
+
+pub statement-returns-in_ok-otherwise-in-Some-clause-fits : goal.statement-returns-in_ok-otherwise-in-Some-clause-fits
+statement-returns-in_ok-otherwise-in-Some-clause-fits t c = search (rules, if_fits)
+
+pub statement-returns-in-None-clause-fits : goal.statement-returns-in-None-clause-fits
+statement-returns-in-None-clause-fits t c = search (rules, if_fits)
+
+pub statement-returns-in-Signal-clause-value : goal.statement-returns-in-Signal-clause-value
+statement-returns-in-Signal-clause-value t c = search (rules, signal_is)
+
+pub statement-returns-in-Variable-clause-value : goal.statement-returns-in-Variable-clause-value
+statement-returns-in-Variable-clause-value t c = search (rules, variable_is)
+
+pub sequence-loop-each-preserved : goal.sequence-loop-each-preserved
+sequence-loop-each-preserved t c = grind (arith, common_steps)
+
+pub branches-loop-each-preserved : goal.branches-loop-each-preserved
+branches-loop-each-preserved t c = grind (arith, common_steps)
