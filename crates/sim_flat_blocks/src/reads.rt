@@ -30,8 +30,7 @@ fn add_logic(expression: &LogicExpression, found: &mut Vec<usize>) -> Result<(),
         LogicExpression::Not(operand) => add_logic(operand.get(), found),
         LogicExpression::Chain { first, rest, .. } => {
             add_logic(first.get(), found)?;
-            add_logics(rest.as_slice(), found)?;
-            Ok(())
+            add_logics(rest.as_slice(), found)
         }
     }
 }
@@ -56,8 +55,7 @@ fn add_two_logics(
     ensures { OnOk result (found.new.items ≡ found.old.items ++ (spec.logic_objects left.now ++ spec.logic_objects right.now)) }
 {
     add_logic(left, found)?;
-    add_logic(right, found)?;
-    Ok(())
+    add_logic(right, found)
 }
 
 /// Adds the place of a port or signal.
@@ -171,8 +169,7 @@ fn add_statement(statement: &Statement, found: &mut Vec<usize>) -> Result<(), Al
             otherwise,
         } => {
             add_branches(branches.as_slice(), found)?;
-            add_statements(otherwise.as_slice(), found)?;
-            Ok(())
+            add_statements(otherwise.as_slice(), found)
         }
         Statement::Null => Ok(()),
     }
@@ -196,8 +193,7 @@ fn add_branch(each: &Branch, found: &mut Vec<usize>) -> Result<(), AllocError>
     ensures { OnOk result (found.new.items ≡ found.old.items ++ branch_objects each.now) }
 {
     add_boolean(&each.condition, found)?;
-    add_statements(each.statements.as_slice(), found)?;
-    Ok(())
+    add_statements(each.statements.as_slice(), found)
 }
 
 /// Adds those of several branches.

@@ -1,5 +1,6 @@
 use Rattle.std.proofs.Common.{map, ap, ◌∙◌}
 use Rattle.std.specs.List.{concat}
+use Rattle.std.proofs.lemmas.Result.{on_ok_weaker}
 use Rattle.sim_flat_design.specs.Bodies.{logic_objects}
 use Rattle.sim_flat_blocks.proofs.ReadRules.{adds_both, adds_nothing, chain_reads, literal_reads, variable_reads}
 use Rattle.sim_flat_blocks.proofs.reads.+logic.Goals as goal
@@ -12,10 +13,12 @@ pub add_logic-returns-in-Variable : goal.add_logic-returns-in-Variable
 add_logic-returns-in-Variable t c =
     adds_nothing c.args.found.now.items (logic_objects c.args.expression.now) (ap logic_objects c.in-Variable.is ∙ variable_reads c.in-Variable.field-0)
 
-pub add_logic-returns-in_ok-add_logics-in-Chain : goal.add_logic-returns-in_ok-add_logics-in-Chain
-add_logic-returns-in_ok-add_logics-in-Chain t c =
-    adds_both c.args.found.now.items c.add_logic-in-Chain.new.found.items c.add_logics.new.found.items
+pub add_logic-returns-in_ok-add_logic-in-Chain : goal.add_logic-returns-in_ok-add_logic-in-Chain
+add_logic-returns-in_ok-add_logic-in-Chain t c =
+    on_ok_weaker c.add_logics.result
+    (adds_both c.args.found.now.items c.add_logic-in-Chain.new.found.items c.add_logics.new.found.items
     (logic_objects c.get-in-Chain.result.now) (concat (map logic_objects c.as_slice.result.now)) (logic_objects c.args.expression.now)
     (rw (c.get-in-Chain.ensures, c.as_slice.ensures)
     (ap logic_objects c.in-Chain.is ∙ chain_reads c.in-Chain.operator c.in-Chain.first c.in-Chain.rest))
-    c.in_ok-add_logic-in-Chain.ensures c.in_ok-add_logics-in-Chain.ensures
+    c.in_ok-add_logic-in-Chain.ensures)
+    c.add_logics.ensures
