@@ -47,10 +47,7 @@ fn add_statement(
         } => {
             add_branches(names, branches.as_slice(), targets)?;
             match otherwise {
-                Some(statements) => {
-                    add_sequence(names, statements.as_slice(), targets)?;
-                    Ok(())
-                }
+                Some(statements) => add_sequence(names, statements.as_slice(), targets),
                 None => Ok(()),
             }
         }

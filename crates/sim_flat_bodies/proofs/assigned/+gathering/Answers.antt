@@ -1,4 +1,5 @@
 use Rattle.std.proofs.Common.{refl}
+use Rattle.std.proofs.lemmas.Result.{on_ok_weaker}
 use Rattle.sim_flat_scope.specs.Scopes.{means}
 use Rattle.sim_flat_bodies.specs.Statements.{branch_targets, branches_targets, sequence_targets, sequential_targets}
 use Rattle.sim_flat_bodies.proofs.StatementRules.{else_gathered, gathers_more, only_gathered}
@@ -18,12 +19,13 @@ add_sequence-loop-each-preserved t c =
     gathers_more (sequence_targets look) (sequential_targets look) (λ x xs. refl) c.args.list.now c.loop-each.each-index c.each-item.result
     c.loop-each-test.true c.each-item.is c.loop-each.targets c.add_labelled.new.targets _ c.in_ok-add_labelled.ensures c.loop-each.invariant
 
-pub add_statement-returns-in_ok-add_sequence-in-Some : goal.add_statement-returns-in_ok-add_sequence-in-Some
-add_statement-returns-in_ok-add_sequence-in-Some t c =
-    else_gathered (means c.args.names.now.process.now c.args.names.now.architecture.now) c.args.statement.now c.in-If.branches c.as_slice.result.now
+pub add_statement-returns-in-Some : goal.add_statement-returns-in-Some
+add_statement-returns-in-Some t c =
+    on_ok_weaker c.add_sequence.result
+    (else_gathered (means c.args.names.now.process.now c.args.names.now.architecture.now) c.args.statement.now c.in-If.branches c.as_slice.result.now
     c.in-If.otherwise c.in-Some.statements c.as_slice-in-Some.result.now c.in-If.label_repeated c.args.targets.now c.add_branches.new.targets
-    c.add_sequence.new.targets c.in-If.is c.in-Some.is c.as_slice.ensures c.as_slice-in-Some.ensures c.in_ok-add_branches-in-If.ensures
-    c.in_ok-add_sequence-in-Some.ensures
+    c.add_sequence.new.targets c.in-If.is c.in-Some.is c.as_slice.ensures c.as_slice-in-Some.ensures c.in_ok-add_branches-in-If.ensures)
+    c.add_sequence.ensures
 
 pub add_statement-returns-in-None : goal.add_statement-returns-in-None
 add_statement-returns-in-None t c =
