@@ -1,4 +1,5 @@
 use Rattle.std.proofs.Common.{◌+◌, ◌*◌, ◌≤◌, ◌<◌, ◌∙◌, arith, length, sym}
+use Rattle.std.proofs.lemmas.Grind.{common_steps}
 use Rattle.sim_store_sets.proofs.Places.{used_within}
 use Rattle.sim_store_sets.proofs.Beside.{at_word, first_of_later, is_number, none_further, none_past_word, none_up_to}
 use Rattle.sim_store_sets.proofs.words.further_beside.Goals as goal
@@ -50,3 +51,12 @@ pub returns : goal.returns
 returns c =
     none_further c.args.words.now c.args.tops.now c.args.others.now c.args.from c.loop-used.place c.requires.tops c.loop-used.invariant.none
     c.in_default.ensures
+
+pub next_top-requires : goal.next_top-requires
+next_top-requires c = grind (arith, common_steps)
+
+pub word_beside-requires : goal.word_beside-requires
+word_beside-requires c = grind (arith, common_steps)
+
+pub overflow_add-place-in-Some : goal.overflow_add-place-in-Some
+overflow_add-place-in-Some c = grind (arith, common_steps)
