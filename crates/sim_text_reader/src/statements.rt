@@ -79,7 +79,6 @@ fn waveform_ended(alloc: Global, tokens: &mut Cursor) -> Result<Waveform, ParseE
 }
 
 /// `<= [delay] wave ;`, after the target.
-#[tactic(auto, using(crate::proofs::StatementParts::signal_assigned_in_parts))]
 fn signal_assigned(
     alloc: Global,
     tokens: &mut Cursor,
@@ -286,7 +285,6 @@ fn otherwise(
 }
 
 /// `end if [NAME] ;`
-#[tactic(auto, using(crate::proofs::StatementParts::if_end_in_parts))]
 fn if_end(
     tokens: &mut Cursor,
     label: &Option<Name>,

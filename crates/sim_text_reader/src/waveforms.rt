@@ -160,7 +160,6 @@ fn waveforms_ended(alloc: Global, tokens: &mut Cursor) -> Result<ConditionalWave
 
 /// Reads what stands after the target of a concurrent assignment, with its semicolon (IEEE
 /// 1076-2008, 11.6).
-#[tactic(auto, using(crate::proofs::Parts::assigned_in_parts))]
 pub fn assigned(
     alloc: Global,
     tokens: &mut Cursor,

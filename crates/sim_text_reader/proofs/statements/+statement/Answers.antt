@@ -1,4 +1,4 @@
-use Rattle.std.proofs.Common.{rules, arith}
+use Rattle.std.proofs.Common.{arith}
 use Rattle.std.proofs.lemmas.Grind.{common_steps}
 use Rattle.sim_text_tree.proofs.Turns.{deeper}
 use Rattle.sim_text_grammar.proofs.OneItemATurn.{one_more, no_more, one_after, none_after}
@@ -7,43 +7,43 @@ use Rattle.sim_text_grammar.specs.Statements.{if_statement}
 use Rattle.sim_text_reader.proofs.statements.+statement.Goals as goal
 
 pub sequence-returns-then-not-begins_statement : goal.sequence-returns-then-not-begins_statement
-sequence-returns-then-not-begins_statement t c = let e = one_more c.loop-turn.invariant c.loop-turn-test.true in search rules
+sequence-returns-then-not-begins_statement t c = let e = one_more c.loop-turn.invariant c.loop-turn-test.true in grind (arith, common_steps)
 
 pub sequence-returns-in_err-statement : goal.sequence-returns-in_err-statement
-sequence-returns-in_err-statement t c = let e = one_more c.loop-turn.invariant c.loop-turn-test.true in search rules
+sequence-returns-in_err-statement t c = let e = one_more c.loop-turn.invariant c.loop-turn-test.true in grind (arith, common_steps)
 
 pub sequence-loop-turn-preserved : goal.sequence-loop-turn-preserved
-sequence-loop-turn-preserved t c = let e = one_more c.loop-turn.invariant c.loop-turn-test.true in search rules
+sequence-loop-turn-preserved t c = let e = one_more c.loop-turn.invariant c.loop-turn-test.true in grind (arith, common_steps)
 
 pub sequence-returns : goal.sequence-returns
-sequence-returns t c = let e = no_more c.loop-turn.invariant c.loop-turn-test.false in search rules
+sequence-returns t c = let e = no_more c.loop-turn.invariant c.loop-turn-test.false in grind (arith, common_steps)
 
 pub branches-returns-then-not-sees : goal.branches-returns-then-not-sees
-branches-returns-then-not-sees t c = let e = one_after c.loop-turn.invariant c.loop-turn-test.true in search rules
+branches-returns-then-not-sees t c = let e = one_after c.loop-turn.invariant c.loop-turn-test.true in grind (arith, common_steps)
 
 pub branches-returns-in_err-branch : goal.branches-returns-in_err-branch
-branches-returns-in_err-branch t c = let e = one_after c.loop-turn.invariant c.loop-turn-test.true in search rules
+branches-returns-in_err-branch t c = let e = one_after c.loop-turn.invariant c.loop-turn-test.true in grind (arith, common_steps)
 
 pub branches-loop-turn-preserved : goal.branches-loop-turn-preserved
-branches-loop-turn-preserved t c = let e = one_after c.loop-turn.invariant c.loop-turn-test.true in search rules
+branches-loop-turn-preserved t c = let e = one_after c.loop-turn.invariant c.loop-turn-test.true in grind (arith, common_steps)
 
 pub branches-returns : goal.branches-returns
-branches-returns t c = let e = none_after c.loop-turn.invariant c.loop-turn-test.false in search rules
+branches-returns t c = let e = none_after c.loop-turn.invariant c.loop-turn-test.false in grind (arith, common_steps)
 
 pub if_statement-returns-in_err-branches : goal.if_statement-returns-in_err-branches
 unfolding if_statement
 if_statement-returns-in_err-branches t c =
     let e = deeper (λ n. if_statement n c.args.label.now (view c.args.tokens.now)) c.args.depth (omega arith) in
-    first_of (search rules, grind (arith, common_steps))
+    grind (arith, common_steps)
 
 pub if_statement-returns-in_err-otherwise : goal.if_statement-returns-in_err-otherwise
 unfolding if_statement
 if_statement-returns-in_err-otherwise t c =
     let e = deeper (λ n. if_statement n c.args.label.now (view c.args.tokens.now)) c.args.depth (omega arith) in
-    first_of (search rules, grind (arith, common_steps))
+    grind (arith, common_steps)
 
 pub if_statement-returns : goal.if_statement-returns
 unfolding if_statement
 if_statement-returns t c =
     let e = deeper (λ n. if_statement n c.args.label.now (view c.args.tokens.now)) c.args.depth (omega arith) in
-    first_of (search rules, grind (arith, common_steps))
+    grind (arith, common_steps)
