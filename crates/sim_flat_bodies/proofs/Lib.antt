@@ -1,3 +1,4 @@
 pub mod StatementRules
+pub mod TargetPlaces
 pub mod Translations
 pub mod WaveformTimes
