@@ -1,6 +1,6 @@
 -- What each expression and each statement reads as an equation, by its variants.
-use Rattle.std.proofs.Common.{◌≡◌, ℕ, ◌+◌, ◌<◌, ◌++◌, List, [], ◌∷◌, length, drop, get_or, map, Bool, sym, ap, ◌∙◌}
-use Rattle.std.proofs.lemmas.List.{append-nil, append_assoc, drop_more}
+use Rattle.std.proofs.Common.{◌≡◌, ℕ, ◌++◌, List, [], ◌∷◌, map, Bool, sym, ap, ◌∙◌}
+use Rattle.std.proofs.lemmas.List.{append-nil, append_assoc}
 use Rattle.std.specs.List.{concat}
 use Rattle.sim_logic.specs.declared.logic.Logic.{Logic}
 use Rattle.sim_logic.specs.declared.operator_symbol.Relational.{Relational}
@@ -23,16 +23,6 @@ use Rattle.sim_flat_design.specs.declared.statement.Statement.TheViews as views
 use Rattle.sim_flat_design.specs.Bodies.{assignment_objects, boolean_objects, logic_objects, statement_objects}
 use Rattle.sim_flat_design.specs.Bodies.{boolean_objects_rule, branch_objects_rule, logic_objects_rule, statement_objects_rule}
 use Rattle.sim_flat_blocks.specs.Reads.{branch_objects}
-
--- a loop that adds what each item gives
-pub adds_more : {X : Type 0} (f : X → List ℕ) (xs : List X) (i : ℕ) (x : X) → i < length xs → x ≡ get_or xs i x → (known more start : List ℕ)
-    → more ≡ known ++ f x → known ++ concat (map f (drop i xs)) ≡ start → more ++ concat (map f (drop (i + 1) xs)) ≡ start
-adds_more {X} f xs i x lt is known more start step so_far =
-    let rest : List X = drop (i + 1) xs in
-    ap (λ (m : List ℕ). m ++ concat (map f rest)) step
-    ∙ (append_assoc known (f x) (concat (map f rest))
-    ∙ (ap (λ (ys : List X). known ++ concat (map f ys)) (ap (λ (y : X). y ∷ rest) is ∙ sym (drop_more xs i x lt))
-    ∙ so_far))
 
 -- what reads nothing adds nothing
 pub adds_nothing : (old read : List ℕ) → read ≡ [] → old ≡ old ++ read
