@@ -3,4 +3,5 @@ pub mod FaultLoops
 pub mod LabelRules
 pub mod NameLists
 pub mod Faults
+pub mod Places
 pub mod Regions

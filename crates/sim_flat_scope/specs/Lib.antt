@@ -1,5 +1,6 @@
 pub mod DeclaredNames
 pub mod Regions
+pub mod Places
 pub mod Ports
 pub mod DeclarationFaults
 pub mod Faults
