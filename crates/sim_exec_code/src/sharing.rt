@@ -6,14 +6,14 @@ ghost use Rattle.sim_exec_code.specs.Codes as spec;
 
 use crate::code::Code;
 use crate::fingerprint::fingerprint;
-use indexmap::IndexMap;
 use sim_flat_design::Process;
 use std::alloc::{AllocError, Global};
+use std::collections::HashMap;
 
 /// The code that is thought to be that of a body with this number: the one that is known, or else
 /// the next one, which is made of this process.
 fn guess(
-    known: &mut IndexMap<u64, u32>,
+    known: &mut HashMap<u64, u32>,
     firsts: &mut Vec<usize>,
     number: u64,
     process: usize,
@@ -40,7 +40,7 @@ fn small(number: usize) -> Result<u32, AllocError>
 /// The processes of which codes are to be made, and for each process the place of the one whose
 /// body it is thought to have.
 pub fn guesses(alloc: Global, processes: &[Process]) -> Result<(Vec<usize>, Vec<u32>), AllocError> {
-    let mut known = IndexMap::new(alloc);
+    let mut known = HashMap::new(alloc);
     let mut firsts = Vec::new(alloc);
     let mut found = Vec::with_capacity(alloc, processes.len())?;
     for (i, process) in processes.iter().enumerate() {
