@@ -1,3 +1,4 @@
+use Rattle.std.proofs.lemmas.Grind.{common_steps}
 use Rattle.std.proofs.Common.{◌≡◌, ◌++◌, ap, length, arith, take, drop, [], ◌∷◌, ◌∙◌}
 use Rattle.sim_store_sets.specs.RowArray.{joined}
 use Rattle.sim_store_sets.proofs.Divided.{cut-more, cut-whole, cut-last}
@@ -20,3 +21,6 @@ invariant_of-result g c =
 
 pub returns : goal.returns
 returns g c = ap joined c.in_ok-push-2.ensures.items ∙ cut-whole c.loop-alloc.invariant
+
+pub loop-alloc-smaller : goal.loop-alloc-smaller
+loop-alloc-smaller g c = grind (arith, common_steps)

@@ -1,3 +1,4 @@
+use Rattle.std.proofs.lemmas.Grind.{common_steps}
 use Rattle.std.proofs.Common.{ℕ, ◌<◌, ◌≤◌, ◌⊎◌, ◌∙◌, List, inl, inr, arith, length, subst, sym}
 use Rattle.std.proofs.lemmas.List.{get_or-set_other, length-set}
 use Rattle.sim_store_sets.specs.Words.{has, IsNext}
@@ -32,3 +33,18 @@ loop-from-preserved c =
       tops = λ k le. c.mark.ensures.others k (omega (arith, le)) ∙ i.tops k (omega (arith, le, further));
       within = omega (arith, used, i.len, length-set words place 0);
     }
+
+pub index_mut-requires : goal.index_mut-requires
+index_mut-requires c = grind (arith, common_steps)
+
+pub loop-from-smaller : goal.loop-from-smaller
+loop-from-smaller c = grind (arith, common_steps)
+
+pub overflow_add-from : goal.overflow_add-from
+overflow_add-from c = grind (arith, common_steps)
+
+pub returns-in-None-clause-none : goal.returns-in-None-clause-none
+returns-in-None-clause-none c = grind (arith, common_steps)
+
+pub mark-requires : goal.mark-requires
+mark-requires c = grind (arith, common_steps)

@@ -1,3 +1,4 @@
+use Rattle.std.proofs.lemmas.Grind.{common_steps}
 use Rattle.std.proofs.Common.{◌<◌, ◌∙◌, arith, get_or, length, sym}
 use Rattle.std.proofs.lemmas.List.{get_or-set_other, length-set}
 use Rattle.sim_store_sets.proofs.Places.{used_within}
@@ -17,3 +18,18 @@ loop-from-preserved c =
       rest = λ k le. get_or-set_other words place k (get_or others place 0) 0 (omega (arith, le)) ∙ i.rest k (omega (arith, le, c.in-Some.ensures.further));
       within = omega (arith, within);
     }
+
+pub index_mut-requires : goal.index_mut-requires
+index_mut-requires c = grind (arith, common_steps)
+
+pub loop-from-smaller : goal.loop-from-smaller
+loop-from-smaller c = grind (arith, common_steps)
+
+pub overflow_add-from : goal.overflow_add-from
+overflow_add-from c = grind (arith, common_steps)
+
+pub bounds-others-place : goal.bounds-others-place
+bounds-others-place c = grind (arith, common_steps)
+
+pub offset_bounds-others-place : goal.offset_bounds-others-place
+offset_bounds-others-place c = grind (arith, common_steps)

@@ -1,3 +1,4 @@
+use Rattle.std.proofs.lemmas.Grind.{common_steps}
 use Rattle.std.proofs.Common.{◌+◌, ◌*◌, ◌/◌, ◌∙◌, arith}
 use Rattle.sim_store_sets.proofs.Places.{at_place, first_there, next_by_tops, none_by_tops, none_there}
 use Rattle.sim_store_sets.proofs.words.next_further.Goals as goal
@@ -24,3 +25,12 @@ pub returns-in-None : goal.returns-in-None
 returns-in-None c =
     none_there c.args.words.now c.args.from c.requires.rest
     (none_by_tops c.args.words.now c.args.tops.now (c.args.from / 64 + 1) c.requires.tops c.in-None.ensures)
+
+pub bounds-words-further : goal.bounds-words-further
+bounds-words-further c = grind (arith, common_steps)
+
+pub next_top-requires : goal.next_top-requires
+next_top-requires c = grind (arith, common_steps)
+
+pub offset_bounds-words-further : goal.offset_bounds-words-further
+offset_bounds-words-further c = grind (arith, common_steps)

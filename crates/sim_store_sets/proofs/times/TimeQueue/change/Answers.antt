@@ -1,4 +1,5 @@
-use Rattle.std.proofs.Common.{◌≡◌, List, Option, ℕ, heap_items, rules, set, subst}
+use Rattle.std.proofs.lemmas.Grind.{common_steps}
+use Rattle.std.proofs.Common.{◌≡◌, List, Option, ℕ, heap_items, rules, set, subst, arith}
 use Rattle.sim_store_sets.specs.Entries.{HasLiveTop, StandsBut}
 use Rattle.sim_store_sets.proofs.Queues.{put_at}
 use Rattle.sim_store_sets.proofs.times.TimeQueue.change.Goals as goal
@@ -13,3 +14,6 @@ invariant_of-self-2 c =
       stands = subst (λ (ts : List (Option ℕ)). StandsBut c.self.inside.front_time ts (heap_items c.trim.new.heap)) times c.trim.ensures.stands;
       live = subst (λ (ts : List (Option ℕ)). HasLiveTop ts (heap_items c.trim.new.heap)) times c.trim.ensures.live;
     }
+
+pub put-requires : goal.put-requires
+put-requires c = grind (arith, common_steps)
