@@ -1,4 +1,5 @@
 use Rattle.std.proofs.Common.{◌≡◌, List, [], length, drop, take, get_or, ap, ◌∙◌, sym, arith}
+use Rattle.std.proofs.lemmas.Grind.{common_steps}
 use Rattle.std.proofs.lemmas.List.{get_or_default}
 use Rattle.sim_store_state.proofs.Sharing.{copied-part, copied-within}
 use Rattle.sim_store_state.proofs.shares.copied_like.Goals as goal
@@ -28,3 +29,9 @@ loop-part-preserved c =
     let er : c.in_ok-rows.rows ≡ take c.len-from.result (drop c.loop-part.from c.args.variables.now) =
     c.in_ok-rows.ensures ∙ ap (λ n. take n (drop c.loop-part.from c.args.variables.now)) (c.len.ensures ∙ sym c.len-from.ensures) in
     copied-part c.loop-part.invariant c.requires.long lt c.len-from.result en c.in_ok-rows.rows c.push.new.self.items er c.in_ok-push.ensures.items
+
+pub returns-clause-counts : goal.returns-clause-counts
+returns-clause-counts c = grind (arith, common_steps)
+
+pub returns-clause-lists : goal.returns-clause-lists
+returns-clause-lists c = grind (arith, common_steps)

@@ -1,4 +1,5 @@
-use Rattle.std.proofs.Common.{◌≡◌, ◌++◌, [], ◌∷◌, List, ap, sym, ◌∙◌}
+use Rattle.std.proofs.Common.{◌≡◌, ◌++◌, [], ◌∷◌, List, ap, sym, ◌∙◌, arith}
+use Rattle.std.proofs.lemmas.Grind.{common_steps}
 use Rattle.sim_flat_design.specs.declared.held.Held.{Held}
 use Rattle.sim_standard.specs.Drivers.{Waveform}
 use Rattle.sim_standard.specs.State.{Owned}
@@ -21,3 +22,9 @@ returns c =
     let both : owned_parts c.self.inside.drivers.items c.self.inside.variables.items ≡ owned_parts ds vs ++ owned_lists rows held ∷ [] =
     rw (ed, ev) (parts-more ds vs (counts-long ds vs less.0) rows held) in
     sym c.self.view_is ∙ (both ∙ ap (λ (w : List Owned). owned_parts ds vs ++ w ∷ []) (sym c.new.ensures))
+
+pub invariant_of-rest : goal.invariant_of-rest
+invariant_of-rest c = grind (arith, common_steps)
+
+pub new-requires : goal.new-requires
+new-requires c = grind (arith, common_steps)
