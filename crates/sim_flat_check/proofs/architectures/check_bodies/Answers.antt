@@ -1,4 +1,6 @@
-use Rattle.std.proofs.Common.{List, Bor, refl}
+use Rattle.std.proofs.Common.{List, Bor, refl, arith}
+use Rattle.std.proofs.lemmas.Grind.{common_steps}
+use Rattle.sim_flat_scope.specs.Faults.{earliest}
 use Rattle.sim_text_tree.specs.declared.unit.Architecture.{Architecture}
 use Rattle.sim_flat_instances.specs.Libraries.{bodies_at}
 use Rattle.sim_flat_check.specs.Architectures.{known_faults, bodies_faults}
@@ -12,3 +14,7 @@ loop-architecture-preserved c =
     (λ (a : Bor Architecture). known_faults c.args.library.now a.now) (λ a xs. refl)
     c.args.architectures.now c.loop-architecture.architecture-index c.architecture-item.result c.loop-architecture-test.true
     c.architecture-item.is c.loop-architecture.first c.check_known.new.first _ c.in_ok-check_known.ensures c.loop-architecture.invariant
+
+pub returns : goal.returns
+unfolding bodies_faults bodies_at earliest
+returns c = grind (arith, common_steps)

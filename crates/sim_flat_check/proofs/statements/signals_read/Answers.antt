@@ -1,4 +1,6 @@
-use Rattle.std.proofs.Common.{refl}
+use Rattle.std.proofs.Common.{refl, arith}
+use Rattle.std.proofs.lemmas.Grind.{common_steps}
+use Rattle.sim_flat_scope.specs.Faults.{earliest}
 use Rattle.sim_text_tree.specs.Name.{Name}
 use Rattle.sim_flat_scope.specs.Scopes.{means}
 use Rattle.sim_flat_check.specs.Types as types
@@ -13,3 +15,7 @@ loop-name-preserved c =
     one_more (signals_read look) (λ (n : Name). types.signal_read n.at (look n.text)) (λ x xs. refl)
     c.args.names.now c.loop-name.name-index c.name-item.result c.loop-name-test.true c.name-item.is
     c.loop-name.first c.sensitive.new.first _ c.sensitive.ensures c.loop-name.invariant
+
+pub returns : goal.returns
+unfolding signals_read earliest
+returns c = grind (arith, common_steps)

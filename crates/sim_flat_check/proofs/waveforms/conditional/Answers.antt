@@ -1,4 +1,5 @@
-use Rattle.std.proofs.Common.{◌≡◌, refl, rules}
+use Rattle.std.proofs.Common.{◌≡◌, refl, rules, arith}
+use Rattle.std.proofs.lemmas.Grind.{common_steps}
 use Rattle.sim_flat_scope.specs.Faults.{earliest}
 use Rattle.sim_flat_scope.specs.Scopes.{means}
 use Rattle.sim_flat_scope.proofs.Faults.{of_both}
@@ -15,3 +16,7 @@ loop-each-preserved c =
     one_more (conditional_faults look c.args.mechanism.now c.args.target) each (λ x xs. refl)
     c.args.alternatives.now c.loop-each.each-index c.each-item.result c.loop-each-test.true c.each-item.is
     c.loop-each.first c.condition.new.first _ step c.loop-each.invariant
+
+pub returns : goal.returns
+unfolding conditional_faults earliest
+returns c = grind (arith, common_steps)
