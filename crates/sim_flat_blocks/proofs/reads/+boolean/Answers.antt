@@ -1,4 +1,5 @@
-use Rattle.std.proofs.Common.{map, ap, ◌∙◌}
+use Rattle.std.proofs.Common.{map, ap, ◌∙◌, arith}
+use Rattle.std.proofs.lemmas.Grind.{common_steps}
 use Rattle.std.specs.List.{concat}
 use Rattle.std.proofs.lemmas.Result.{on_ok_weaker}
 use Rattle.sim_flat_design.specs.Bodies.{boolean_objects}
@@ -35,3 +36,9 @@ add_boolean-returns-in_ok-add_boolean-in-BooleanComparison t c =
     c.in-BooleanComparison.operator c.in-BooleanComparison.right))
     c.in_ok-add_boolean-in-BooleanComparison.ensures)
     c.add_boolean-in-BooleanComparison-2.ensures
+
+pub add_booleans-loop-each-preserved : goal.add_booleans-loop-each-preserved
+add_booleans-loop-each-preserved t c = grind (arith, common_steps)
+
+pub add_booleans-returns : goal.add_booleans-returns
+add_booleans-returns t c = grind (arith, common_steps)

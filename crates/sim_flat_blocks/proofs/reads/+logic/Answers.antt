@@ -1,4 +1,5 @@
-use Rattle.std.proofs.Common.{map, ap, ◌∙◌}
+use Rattle.std.proofs.Common.{map, ap, ◌∙◌, arith}
+use Rattle.std.proofs.lemmas.Grind.{common_steps}
 use Rattle.std.specs.List.{concat}
 use Rattle.std.proofs.lemmas.Result.{on_ok_weaker}
 use Rattle.sim_flat_design.specs.Bodies.{logic_objects}
@@ -22,3 +23,9 @@ add_logic-returns-in_ok-add_logic-in-Chain t c =
     (ap logic_objects c.in-Chain.is ∙ chain_reads c.in-Chain.operator c.in-Chain.first c.in-Chain.rest))
     c.in_ok-add_logic-in-Chain.ensures)
     c.add_logics.ensures
+
+pub add_logics-loop-each-preserved : goal.add_logics-loop-each-preserved
+add_logics-loop-each-preserved t c = grind (arith, common_steps)
+
+pub add_logics-returns : goal.add_logics-returns
+add_logics-returns t c = grind (arith, common_steps)

@@ -1,4 +1,5 @@
-use Rattle.std.proofs.Common.{map, ap, ◌∙◌}
+use Rattle.std.proofs.Common.{map, ap, ◌∙◌, arith}
+use Rattle.std.proofs.lemmas.Grind.{common_steps}
 use Rattle.std.specs.List.{concat}
 use Rattle.std.proofs.lemmas.Result.{on_ok_weaker}
 use Rattle.sim_flat_design.specs.declared.statement.Statement.TheViews as views
@@ -29,3 +30,15 @@ add_branch-returns t c =
     (rw c.as_slice.ensures (branch_reads c.args.each.now))
     c.in_ok-add_boolean.ensures)
     c.add_statements.ensures
+
+pub add_branches-loop-each-preserved : goal.add_branches-loop-each-preserved
+add_branches-loop-each-preserved t c = grind (arith, common_steps)
+
+pub add_branches-returns : goal.add_branches-returns
+add_branches-returns t c = grind (arith, common_steps)
+
+pub add_statements-loop-each-preserved : goal.add_statements-loop-each-preserved
+add_statements-loop-each-preserved t c = grind (arith, common_steps)
+
+pub add_statements-returns : goal.add_statements-returns
+add_statements-returns t c = grind (arith, common_steps)
