@@ -6,3 +6,7 @@ use Rattle.sim_flat_expansion.proofs.processes.targets.Goals as goal
 pub loop-target-preserved : goal.loop-target-preserved
 unfolding targets_expanded
 loop-target-preserved c = grind (arith, common_steps)
+
+pub returns : goal.returns
+unfolding targets_expanded
+returns c = grind (arith, common_steps)
