@@ -10,6 +10,7 @@ ghost use Rattle.sim_text_grammar.specs.Readers.{Reads, and_then, pure, expect};
 ghost use Rattle.sim_text_reader.specs.Cursors.{view};
 
 use crate::declarations::{names, variables};
+use crate::lists::push;
 use sim_text_grammar::ParseError;
 use sim_text_reader::cursor::{Cursor, both};
 use sim_text_reader::statements::{label_ended, statements};
@@ -66,7 +67,6 @@ fn process_ended(tokens: &mut Cursor, postponed: bool) -> Result<bool, ParseErro
 }
 
 /// `begin {seq} end [postponed] process [NAME] ;`
-#[tactic(auto, using(crate::proofs::Parts::process_body_in_parts))]
 fn process_body(
     alloc: Global,
     tokens: &mut Cursor,
@@ -102,7 +102,6 @@ fn sensitivity_closed(alloc: Global, tokens: &mut Cursor) -> Result<Sensitivity,
 }
 
 /// `process ( sens ) [is] {var} begin {seq} end [postponed] process [NAME] ;`
-#[tactic(auto, using(crate::proofs::Parts::process_in_parts))]
 fn process(
     alloc: Global,
     tokens: &mut Cursor,
@@ -223,7 +222,6 @@ fn associations(alloc: Global, tokens: &mut Cursor) -> Result<Items<Association>
 }
 
 /// `[port map ( assocs )]`: without it there are no associations.
-#[tactic(auto, using(crate::proofs::Parts::port_map_in_parts))]
 fn port_map(alloc: Global, tokens: &mut Cursor) -> Result<Items<Association>, ParseError>
     ensures { Reads (spec.port_map (view tokens.old)) result (view tokens.new) }
 {
@@ -244,7 +242,6 @@ fn port_map_ended(alloc: Global, tokens: &mut Cursor) -> Result<Items<Associatio
 }
 
 /// `[pmap] ;`, after the label and the unit.
-#[tactic(auto, using(crate::proofs::Parts::instance_in_parts))]
 fn instance(
     alloc: Global,
     tokens: &mut Cursor,
@@ -270,12 +267,10 @@ fn chosen(tokens: &mut Cursor) -> Result<Option<Name>, ParseError>
         return Ok(None);
     }
     let name = tokens.word()?;
-    tokens.expect(Kind::RightParen)?;
-    Ok(Some(name))
+    tokens.past(Kind::RightParen, Some(name))
 }
 
 /// `entity id . id [( id )]`
-#[tactic(auto, using(crate::proofs::Parts::entity_named_in_parts))]
 fn entity_named(tokens: &mut Cursor) -> Result<Instantiated, ParseError>
     ensures { Reads (spec.entity_named (view tokens.old)) result (view tokens.new) }
 {
@@ -439,7 +434,8 @@ pub fn concurrents(alloc: Global, tokens: &mut Cursor) -> Result<Items<Concurren
         if !begins_concurrent(tokens.peek()) {
             return Ok(fitted(found));
         }
-        found.push(concurrent(alloc, tokens)?)?;
+        let statement = concurrent(alloc, tokens);
+        push(&mut found, statement)?;
     }
     Ok(fitted(found))
 }

@@ -1,43 +1,37 @@
 //! Declarations (IEEE 1076-2008, 6).
 
-ghost use Rattle.std.specs.Prelude.{◌≡◌, Ok, [], ◌∷◌};
+ghost use Rattle.std.specs.Prelude.{◌≡◌, Ok};
 ghost use Rattle.sim_text_grammar.specs.Declarations as spec;
 ghost use Rattle.sim_text_tokens.specs.declared.kind.Kind.TheVariants as k;
-ghost use Rattle.sim_text_grammar.specs.Readers.{Reads, ReadsAs, and_then, pure, expect, word};
+ghost use Rattle.sim_text_grammar.specs.Readers.{Reads, and_then, pure, expect};
 ghost use Rattle.sim_text_reader.specs.Cursors.{view};
 
+use crate::lists::{add, first_of, push};
 use sim_text_grammar::ParseError;
 use sim_text_reader::Cursor;
 use sim_text_tokens::Kind;
 use sim_text_tree::declaration::{
     ComponentDeclaration, Declaration, Initial, Mode, ObjectDeclaration, PortDeclaration,
 };
-use sim_text_tree::list::{Several, fitted, one};
+use sim_text_tree::list::{Several, fitted};
 use sim_text_tree::name::Name;
 use sqlite_items::Items;
 use std::alloc::Global;
-
-/// Reads the first of several names.
-fn first_name(alloc: Global, tokens: &mut Cursor) -> Result<Several<Name>, ParseError>
-    ensures { Reads (and_then (word (view tokens.old)) (λ first. pure (first ∷ []))) result (view tokens.new) }
-{
-    let first = tokens.word()?;
-    let found = Several::new(alloc, first)?;
-    Ok(found)
-}
 
 /// Reads one name, or several with commas between them.
 #[tactic(auto, using(sim_text_grammar::proofs::Parts::halves), unfolding(sim_text_grammar::specs::Declarations::names))]
 pub fn names(alloc: Global, tokens: &mut Cursor) -> Result<Several<Name>, ParseError>
     ensures { Reads (spec.names (view tokens.old)) result (view tokens.new) }
 {
-    let mut found = first_name(alloc, tokens)?;
+    let first = tokens.word();
+    let mut found = first_of(alloc, first)?;
     for _turn in 0..tokens.left() {
         if !tokens.sees(Kind::Comma) {
             return Ok(found.fitted());
         }
         tokens.take();
-        found.push(tokens.word()?)?;
+        let next = tokens.word();
+        add(&mut found, next)?;
     }
     Ok(found.fitted())
 }
@@ -127,34 +121,27 @@ fn port(alloc: Global, tokens: &mut Cursor) -> Result<PortDeclaration, ParseErro
     port_of(tokens, signal, names)
 }
 
-/// Reads the first port declaration of a list.
-fn first_port(alloc: Global, tokens: &mut Cursor) -> Result<Vec<PortDeclaration>, ParseError>
-    ensures { ReadsAs (and_then (spec.port (view tokens.old)) (λ first. pure (first ∷ []))) result (λ v. v.items) (view tokens.new) }
-{
-    let first = port(alloc, tokens)?;
-    let found = one(alloc, first)?;
-    Ok(found)
-}
-
 /// `port1 {; port1}`
 #[tactic(auto, using(sim_text_grammar::proofs::Parts::halves), unfolding(sim_text_grammar::specs::Declarations::port_list))]
 fn port_list(alloc: Global, tokens: &mut Cursor) -> Result<Items<PortDeclaration>, ParseError>
     ensures { Reads (spec.port_list (view tokens.old)) result (view tokens.new) }
 {
-    let mut found = first_port(alloc, tokens)?;
+    let first = port(alloc, tokens);
+    let mut found = Vec::new(alloc);
+    push(&mut found, first)?;
     for _turn in 0..tokens.left() {
         if !tokens.sees(Kind::Semicolon) {
             return Ok(fitted(found));
         }
         tokens.take();
-        found.push(port(alloc, tokens)?)?;
+        let next = port(alloc, tokens);
+        push(&mut found, next)?;
     }
     Ok(fitted(found))
 }
 
 /// Reads a port clause, where one is written (IEEE 1076-2008, 6.5.6.3). Where none is, there are no
 /// ports.
-#[tactic(auto, using(crate::proofs::Parts::ports_in_parts))]
 pub fn ports(alloc: Global, tokens: &mut Cursor) -> Result<Items<PortDeclaration>, ParseError>
     ensures { Reads (spec.ports (view tokens.old)) result (view tokens.new) }
 {
@@ -176,7 +163,6 @@ fn initial_ended(tokens: &mut Cursor) -> Result<Option<Initial>, ParseError>
 }
 
 /// `id {, id} : id [init] ;`, after `signal` or `variable`.
-#[tactic(auto, using(crate::proofs::Parts::object_in_parts))]
 fn object(alloc: Global, tokens: &mut Cursor) -> Result<ObjectDeclaration, ParseError>
     ensures { Reads (spec.object (view tokens.old)) result (view tokens.new) }
 {
@@ -201,7 +187,8 @@ pub fn variables(alloc: Global, tokens: &mut Cursor) -> Result<Items<ObjectDecla
             return Ok(fitted(found));
         }
         tokens.take();
-        found.push(object(alloc, tokens)?)?;
+        let variable = object(alloc, tokens);
+        push(&mut found, variable)?;
     }
     Ok(fitted(found))
 }
@@ -217,7 +204,6 @@ fn name_ended(tokens: &mut Cursor, text: &[u8]) -> Result<bool, ParseError>
 }
 
 /// `end component [NAME] ;`
-#[tactic(auto, using(crate::proofs::Parts::component_end_in_parts))]
 fn component_end(
     tokens: &mut Cursor,
     name: Name,
@@ -262,9 +248,9 @@ fn declaration(alloc: Global, tokens: &mut Cursor) -> Result<Declaration, ParseE
     match tokens.peek() {
         Kind::Signal => {
             tokens.take();
-            Ok(Declaration::Signal(object(alloc, tokens)?))
+            object(alloc, tokens).map(Declaration::Signal)
         }
-        _ => Ok(Declaration::Component(component(alloc, tokens)?)),
+        _ => component(alloc, tokens).map(Declaration::Component),
     }
 }
 
@@ -278,7 +264,8 @@ pub fn declarations(alloc: Global, tokens: &mut Cursor) -> Result<Items<Declarat
         if !begins_declaration(tokens.peek()) {
             return Ok(fitted(found));
         }
-        found.push(declaration(alloc, tokens)?)?;
+        let declaration = declaration(alloc, tokens);
+        push(&mut found, declaration)?;
     }
     Ok(fitted(found))
 }

@@ -3,6 +3,7 @@
 
 mod concurrents;
 pub mod declarations;
+mod lists;
 mod text;
 mod units;
 

@@ -1,6 +1,6 @@
 //! Design units and files (IEEE 1076-2008, 13.1).
 
-ghost use Rattle.std.specs.Prelude.{◌≡◌, [], ◌∷◌};
+ghost use Rattle.std.specs.Prelude.{◌≡◌};
 ghost use Rattle.sim_text_tokens.specs.declared.kind.Kind.TheVariants as k;
 ghost use Rattle.sim_text_grammar.specs.Units as spec;
 ghost use Rattle.sim_text_grammar.specs.Declarations.{declarations, names, ports, repeated};
@@ -10,6 +10,7 @@ ghost use Rattle.sim_text_reader.specs.Cursors.{view};
 
 use crate::concurrents::concurrents;
 use crate::declarations::{declarations, names, ports, repeated};
+use crate::lists::{add, first_of, push};
 use sim_text_grammar::ParseError;
 use sim_text_reader::Cursor;
 use sim_text_tokens::Kind;
@@ -34,7 +35,8 @@ fn suffixes(alloc: Global, tokens: &mut Cursor) -> Result<(Items<Name>, bool), P
         if tokens.eat(Kind::All) {
             return Ok((fitted(found), true));
         }
-        found.push(tokens.word()?)?;
+        let name = tokens.word();
+        push(&mut found, name)?;
         if !tokens.sees(Kind::Dot) {
             return Ok((fitted(found), false));
         }
@@ -56,27 +58,20 @@ fn selected(alloc: Global, tokens: &mut Cursor) -> Result<SelectedName, ParseErr
     })
 }
 
-/// Reads the first of several selected names.
-fn first_selected(alloc: Global, tokens: &mut Cursor) -> Result<Several<SelectedName>, ParseError>
-    ensures { Reads (and_then (spec.selected (view tokens.old)) (λ first. pure (first ∷ []))) result (view tokens.new) }
-{
-    let first = selected(alloc, tokens)?;
-    let found = Several::new(alloc, first)?;
-    Ok(found)
-}
-
 /// `sel {, sel}`
 #[tactic(auto, using(sim_text_grammar::proofs::Parts::halves), unfolding(sim_text_grammar::specs::Units::selected_names))]
 fn selected_names(alloc: Global, tokens: &mut Cursor) -> Result<Several<SelectedName>, ParseError>
     ensures { Reads (spec.selected_names (view tokens.old)) result (view tokens.new) }
 {
-    let mut found = first_selected(alloc, tokens)?;
+    let first = selected(alloc, tokens);
+    let mut found = first_of(alloc, first)?;
     for _turn in 0..tokens.left() {
         if !tokens.sees(Kind::Comma) {
             return Ok(found.fitted());
         }
         tokens.take();
-        found.push(selected(alloc, tokens)?)?;
+        let next = selected(alloc, tokens);
+        add(&mut found, next)?;
     }
     Ok(found.fitted())
 }
@@ -133,7 +128,8 @@ fn context(alloc: Global, tokens: &mut Cursor) -> Result<Items<ContextItem>, Par
         if !begins_context(tokens.peek()) {
             return Ok(fitted(found));
         }
-        found.push(context_item(alloc, tokens)?)?;
+        let item = context_item(alloc, tokens);
+        push(&mut found, item)?;
     }
     Ok(fitted(found))
 }
@@ -154,12 +150,10 @@ fn unit_end(tokens: &mut Cursor, word: Kind, name: &[u8]) -> Result<(bool, bool)
     tokens.expect(Kind::End)?;
     let word_repeated = tokens.eat(word);
     let name_repeated = repeated(tokens, name)?;
-    tokens.expect(Kind::Semicolon)?;
-    Ok((word_repeated, name_repeated))
+    tokens.past(Kind::Semicolon, (word_repeated, name_repeated))
 }
 
 /// `entity = entity id is [ports] end [entity] [NAME] ;`
-#[tactic(auto, using(crate::proofs::Parts::entity_in_parts))]
 fn entity(alloc: Global, tokens: &mut Cursor) -> Result<Entity, ParseError>
     ensures { Reads (spec.entity (view tokens.old)) result (view tokens.new) }
 {
@@ -186,7 +180,6 @@ fn architecture_statements(
 }
 
 /// `begin {conc} end [architecture] [NAME] ;`
-#[tactic(auto, using(crate::proofs::Parts::architecture_body_in_parts))]
 fn architecture_body(
     alloc: Global,
     tokens: &mut Cursor,
@@ -220,7 +213,6 @@ fn architecture_declarations(
 }
 
 /// `arch = architecture id of id is {decl} begin {conc} end [architecture] [NAME] ;`
-#[tactic(auto, using(crate::proofs::Parts::architecture_in_parts))]
 fn architecture(alloc: Global, tokens: &mut Cursor) -> Result<Architecture, ParseError>
     ensures { Reads (spec.architecture (view tokens.old)) result (view tokens.new) }
 {
@@ -236,8 +228,8 @@ fn library_unit(alloc: Global, tokens: &mut Cursor) -> Result<LibraryUnit, Parse
     ensures { Reads (spec.library_unit (view tokens.old)) result (view tokens.new) }
 {
     match tokens.peek() {
-        Kind::Architecture => Ok(LibraryUnit::Architecture(architecture(alloc, tokens)?)),
-        _ => Ok(LibraryUnit::Entity(entity(alloc, tokens)?)),
+        Kind::Architecture => architecture(alloc, tokens).map(LibraryUnit::Architecture),
+        _ => entity(alloc, tokens).map(LibraryUnit::Entity),
     }
 }
 
@@ -254,26 +246,19 @@ fn unit(alloc: Global, tokens: &mut Cursor) -> Result<DesignUnit, ParseError>
     })
 }
 
-/// Reads the first unit of a file.
-fn first_unit(alloc: Global, tokens: &mut Cursor) -> Result<Several<DesignUnit>, ParseError>
-    ensures { Reads (and_then (spec.unit (view tokens.old)) (λ first. pure (first ∷ []))) result (view tokens.new) }
-{
-    let first = unit(alloc, tokens)?;
-    let found = Several::new(alloc, first)?;
-    Ok(found)
-}
-
 /// `unit {unit}`, up to the end of the text.
 #[tactic(auto, using(crate::proofs::Parts::units_in_parts))]
 fn units_of(alloc: Global, tokens: &mut Cursor) -> Result<Several<DesignUnit>, ParseError>
     ensures { Reads (spec.units_of (view tokens.old)) result (view tokens.new) }
 {
-    let mut found = first_unit(alloc, tokens)?;
+    let first = unit(alloc, tokens);
+    let mut found = first_of(alloc, first)?;
     for _turn in 0..tokens.left() {
         if tokens.sees(Kind::EndOfText) {
             return Ok(found.fitted());
         }
-        found.push(unit(alloc, tokens)?)?;
+        let next = unit(alloc, tokens);
+        add(&mut found, next)?;
     }
     Ok(found.fitted())
 }

@@ -5,8 +5,8 @@ use Rattle.sim_text.proofs.declarations.names.Goals as goal
 pub returns-then-not-sees : goal.returns-then-not-sees
 returns-then-not-sees c = let e = one_after c.loop-turn.invariant c.loop-turn-test.true in search rules
 
-pub returns-in_err-word : goal.returns-in_err-word
-returns-in_err-word c = let e = one_after c.loop-turn.invariant c.loop-turn-test.true in search rules
+pub returns-in_err-add : goal.returns-in_err-add
+returns-in_err-add c = let e = one_after c.loop-turn.invariant c.loop-turn-test.true in search rules
 
 pub loop-turn-preserved : goal.loop-turn-preserved
 loop-turn-preserved c = let e = one_after c.loop-turn.invariant c.loop-turn-test.true in search rules

@@ -5,8 +5,8 @@ use Rattle.sim_text.proofs.declarations.port_list.Goals as goal
 pub returns-then-not-sees : goal.returns-then-not-sees
 returns-then-not-sees c = let e = one_after c.loop-turn.invariant c.loop-turn-test.true in search rules
 
-pub returns-in_err-port : goal.returns-in_err-port
-returns-in_err-port c = let e = one_after c.loop-turn.invariant c.loop-turn-test.true in search rules
+pub returns-in_err-push-2 : goal.returns-in_err-push-2
+returns-in_err-push-2 c = let e = one_after c.loop-turn.invariant c.loop-turn-test.true in search rules
 
 pub loop-turn-preserved : goal.loop-turn-preserved
 loop-turn-preserved c = let e = one_after c.loop-turn.invariant c.loop-turn-test.true in search rules

@@ -5,8 +5,8 @@ use Rattle.sim_text.proofs.declarations.variables.Goals as goal
 pub returns-then-not-sees : goal.returns-then-not-sees
 returns-then-not-sees c = let e = one_after c.loop-turn.invariant c.loop-turn-test.true in search rules
 
-pub returns-in_err-object : goal.returns-in_err-object
-returns-in_err-object c = let e = one_after c.loop-turn.invariant c.loop-turn-test.true in search rules
+pub returns-in_err-push : goal.returns-in_err-push
+returns-in_err-push c = let e = one_after c.loop-turn.invariant c.loop-turn-test.true in search rules
 
 pub loop-turn-preserved : goal.loop-turn-preserved
 loop-turn-preserved c = let e = one_after c.loop-turn.invariant c.loop-turn-test.true in search rules

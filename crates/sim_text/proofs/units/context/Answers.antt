@@ -5,8 +5,8 @@ use Rattle.sim_text.proofs.units.context.Goals as goal
 pub returns-then-not-begins_context : goal.returns-then-not-begins_context
 returns-then-not-begins_context c = let e = one_more c.loop-turn.invariant c.loop-turn-test.true in search rules
 
-pub returns-in_err-context_item : goal.returns-in_err-context_item
-returns-in_err-context_item c = let e = one_more c.loop-turn.invariant c.loop-turn-test.true in search rules
+pub returns-in_err-push : goal.returns-in_err-push
+returns-in_err-push c = let e = one_more c.loop-turn.invariant c.loop-turn-test.true in search rules
 
 pub loop-turn-preserved : goal.loop-turn-preserved
 loop-turn-preserved c = let e = one_more c.loop-turn.invariant c.loop-turn-test.true in search rules

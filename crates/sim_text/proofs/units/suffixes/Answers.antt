@@ -12,9 +12,9 @@ pub returns-then-eat : goal.returns-then-eat
 unfolding suffixes_from left
 returns-then-eat c = let e = one_more c.loop-turn.invariant c.loop-turn-test.true in search rules
 
-pub returns-in_err-word : goal.returns-in_err-word
+pub returns-in_err-push : goal.returns-in_err-push
 unfolding suffixes_from left
-returns-in_err-word c = let e = one_more c.loop-turn.invariant c.loop-turn-test.true in search rules
+returns-in_err-push c = let e = one_more c.loop-turn.invariant c.loop-turn-test.true in search rules
 
 pub returns-then-not-sees : goal.returns-then-not-sees
 unfolding suffixes_from left

@@ -4,8 +4,5 @@ use Rattle.sim_text.proofs.units.unit_end.Goals as goal
 pub returns-in_err-name_repeated : goal.returns-in_err-name_repeated
 returns-in_err-name_repeated c = search rules
 
-pub returns-in_err-expect-2 : goal.returns-in_err-expect-2
-returns-in_err-expect-2 c = search rules
-
 pub returns : goal.returns
 returns c = search rules
