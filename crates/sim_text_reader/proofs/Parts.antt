@@ -14,9 +14,9 @@ pub call_in_parts : (function : Name) (i : Input) → named_by function k.LeftPa
 call_in_parts function i = within (word (next i)) _ _ (λ name i. within (expect k.RightParen i) _ _ (λ _ i. refl))
 
 pub assigned_in_parts : (label : Option Name) (postponed : Bool) (target : Name) (i : Input) → assigned label postponed target i
-    ≡ and_then (expect k.SignalAssign i) (λ _ i. and_then (delay i) (λ d i.
+    ≡ and_then (and_then (expect k.SignalAssign i) (λ _. delay)) (λ d i.
     and_then (and_then (waveforms i) (λ found i. and_then (expect k.Semicolon i) (λ _. pure found))) (λ w.
-    pure (record { label = label; postponed = postponed; target = target; delay = d; waveforms = w }))))
+    pure (record { label = label; postponed = postponed; target = target; delay = d; waveforms = w })))
 unfolding assigned
-assigned_in_parts label postponed target i = beyond (expect k.SignalAssign i) (λ _ i. beyond (delay i) (λ d i. within (waveforms i) _ _ (λ w i.
+assigned_in_parts label postponed target i = within (expect k.SignalAssign i) _ _ (λ _ i. beyond (delay i) (λ d i. within (waveforms i) _ _ (λ w i.
     within (expect k.Semicolon i) _ _ (λ _ i. refl))))

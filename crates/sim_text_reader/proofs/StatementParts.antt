@@ -19,9 +19,9 @@ if_end_in_parts label found last i = within (expect k.End i) _ _ (λ _ i. beyond
     within (label_again label i) _ _ (λ again i. within (expect k.Semicolon i) _ _ (λ _ i. refl))))
 
 pub signal_assigned_in_parts : (target : Name) (i : Input) → signal_assigned target i
-    ≡ and_then (expect k.SignalAssign i) (λ _ i. and_then (delay i) (λ d i.
+    ≡ and_then (and_then (expect k.SignalAssign i) (λ _. delay)) (λ d i.
     and_then (and_then (waveform i) (λ found i. and_then (expect k.Semicolon i) (λ _. pure found))) (λ w.
-    pure (s.Signal (record { target = target; delay = d; waveform = w })))))
+    pure (s.Signal (record { target = target; delay = d; waveform = w }))))
 unfolding signal_assigned
-signal_assigned_in_parts target i = beyond (expect k.SignalAssign i) (λ _ i. beyond (delay i) (λ d i. within (waveform i) _ _ (λ w i.
+signal_assigned_in_parts target i = within (expect k.SignalAssign i) _ _ (λ _ i. beyond (delay i) (λ d i. within (waveform i) _ _ (λ w i.
     within (expect k.Semicolon i) _ _ (λ _ i. refl))))

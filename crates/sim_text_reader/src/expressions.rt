@@ -1,13 +1,15 @@
 //! Expressions (IEEE 1076-2008, 9.1).
 
-ghost use Rattle.std.specs.Prelude.{◌≡◌, ◌∷◌, [], true};
+ghost use Rattle.std.specs.Prelude.{◌≡◌, ◌≢◌, ◌∷◌, [], true, Ok, Err, IfOk, IfErr};
+ghost use Rattle.sim_text_grammar.specs.declared.error.ParseError.TheVariants.{OutOfMemory};
 ghost use Rattle.sim_text_grammar.specs.Expressions as spec;
 ghost use Rattle.sim_text_tree.specs.Grammar.{is_repeatable, logical_kind};
 ghost use Rattle.sim_text_tokens.specs.declared.kind.Kind.TheVariants as k;
 ghost use Rattle.sim_text_grammar.specs.Readers.{Reads, and_then, pure, expect, word};
 ghost use Rattle.sim_text_reader.specs.Cursors.{view};
 
-use crate::cursor::Cursor;
+use crate::cursor::{Cursor, both};
+use crate::lists::push;
 use sim_logic::{Logical, Relational};
 use sim_text_grammar::ParseError;
 use sim_text_tokens::Kind;
@@ -19,6 +21,19 @@ use std::alloc::Global;
 
 /// How many parentheses of one expression may be open.
 const MOST_PARENTHESES: usize = 64;
+
+/// An operand that was read, on the heap.
+fn boxed(
+    alloc: Global,
+    read: Result<Expression, ParseError>,
+) -> Result<Boxed<Expression>, ParseError>
+    ensures ok { IfOk result (λ found. read ≡ Ok found) }
+    ensures err { IfErr result (λ e. e ≢ OutOfMemory → read ≡ Err e) }
+{
+    let operand = read?;
+    let found = Boxed::new(alloc, operand)?;
+    Ok(found)
+}
 
 /// Reads the argument of a call, and the parenthesis after it.
 fn argument(tokens: &mut Cursor) -> Result<Name, ParseError>
@@ -77,8 +92,8 @@ fn factor(alloc: Global, tokens: &mut Cursor, depth: usize) -> Result<Expression
     match tokens.peek() {
         Kind::Not => {
             let at = tokens.take();
-            let operand = primary(alloc, tokens, depth)?;
-            let operand = Boxed::new(alloc, operand)?;
+            let operand = primary(alloc, tokens, depth);
+            let operand = boxed(alloc, operand)?;
             Ok(Expression::Not { at, operand })
         }
         _ => primary(alloc, tokens, depth),
@@ -98,8 +113,8 @@ fn comparison(
 {
     let left = Boxed::new(alloc, left)?;
     let at = tokens.take();
-    let right = factor(alloc, tokens, depth)?;
-    let right = Boxed::new(alloc, right)?;
+    let right = factor(alloc, tokens, depth);
+    let (left, right) = both(left, boxed(alloc, right))?;
     Ok(Expression::Comparison {
         left,
         operator,
@@ -189,7 +204,8 @@ fn more_operands(
         if !tokens.sees(kind_of(operator)) {
             return Ok(fitted(found));
         }
-        found.push(operand(alloc, tokens, depth)?)?;
+        let next = operand(alloc, tokens, depth);
+        push(&mut found, next)?;
     }
     Ok(fitted(found))
 }
@@ -226,7 +242,7 @@ fn chained(
     ensures { Reads (spec.chain_by (spec.nested depth) first (Some operator) (view tokens.old)) result (view tokens.new) }
 {
     let first = Boxed::new(alloc, first)?;
-    let rest = operands(alloc, tokens, depth, operator)?;
+    let (first, rest) = both(first, operands(alloc, tokens, depth, operator))?;
     Ok(Expression::Chain {
         operator,
         first,
@@ -256,8 +272,8 @@ fn expression_in(alloc: Global, tokens: &mut Cursor, depth: usize) -> Result<Exp
     match tokens.peek() {
         Kind::Condition => {
             let at = tokens.take();
-            let operand = primary(alloc, tokens, depth)?;
-            let operand = Boxed::new(alloc, operand)?;
+            let operand = primary(alloc, tokens, depth);
+            let operand = boxed(alloc, operand)?;
             Ok(Expression::Condition { at, operand })
         }
         _ => chain(alloc, tokens, depth),
@@ -274,10 +290,9 @@ fn nested(alloc: Global, tokens: &mut Cursor, depth: usize) -> Result<Expression
         return Err(ParseError::TooDeep(tokens.left()));
     }
     let at = tokens.take();
-    let inner = expression_in(alloc, tokens, depth - 1)?;
-    let inner = Boxed::new(alloc, inner)?;
-    tokens.expect(Kind::RightParen)?;
-    Ok(Expression::Parenthesized { at, inner })
+    let inner = expression_in(alloc, tokens, depth - 1);
+    let inner = boxed(alloc, inner)?;
+    tokens.past(Kind::RightParen, Expression::Parenthesized { at, inner })
 }
 
 /// Reads an expression (IEEE 1076-2008, 9.1). `Syntax` comes at the first token with which none

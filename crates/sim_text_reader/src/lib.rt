@@ -4,6 +4,7 @@
 
 pub mod cursor;
 pub mod expressions;
+pub mod lists;
 pub mod statements;
 pub mod waveforms;
 

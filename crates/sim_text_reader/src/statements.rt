@@ -1,21 +1,22 @@
 //! Sequential statements (IEEE 1076-2008, 10).
 
-ghost use Rattle.std.specs.Prelude.{◌≡◌, [], ◌∷◌};
+ghost use Rattle.std.specs.Prelude.{◌≡◌, Ok, Err, None, IfOk, IfErr};
 ghost use Rattle.sim_text_grammar.specs.Statements as spec;
 ghost use Rattle.sim_text_grammar.specs.Statements.{condition};
 ghost use Rattle.sim_text_tokens.specs.declared.kind.Kind.TheVariants as k;
 ghost use Rattle.sim_text_grammar.specs.Waveforms.{waveform};
-ghost use Rattle.sim_text_grammar.specs.Readers.{Reads, ReadsAs, and_then, pure, expect};
+ghost use Rattle.sim_text_grammar.specs.Readers.{Reads, and_then, pure, expect};
 ghost use Rattle.sim_text_reader.specs.Cursors.{view};
 
 use crate::Cursor;
 use crate::cursor::both;
 use crate::expressions::expression;
-use crate::waveforms::{delay, waveform};
+use crate::lists::push;
+use crate::waveforms::{assigned_after, waveform};
 use sim_text_grammar::ParseError;
 use sim_text_tokens::Kind;
 use sim_text_tree::expression::Expression;
-use sim_text_tree::list::{fitted, one};
+use sim_text_tree::list::fitted;
 use sim_text_tree::name::Name;
 use sim_text_tree::sequential::{
     Branch, Sequential, SignalAssignment, Statement, VariableAssignment,
@@ -86,9 +87,8 @@ fn signal_assigned(
 ) -> Result<Statement, ParseError>
     ensures { Reads (spec.signal_assigned target (view tokens.old)) result (view tokens.new) }
 {
-    tokens.expect(Kind::SignalAssign)?;
-    let delay = delay(tokens)?;
-    let waveform = waveform_ended(alloc, tokens)?;
+    let mechanism = assigned_after(tokens)?;
+    let (delay, waveform) = both(mechanism, waveform_ended(alloc, tokens))?;
     Ok(Statement::Signal(SignalAssignment {
         target,
         delay,
@@ -145,6 +145,18 @@ fn labelled(
     }
 }
 
+/// A statement that was read, without a label.
+fn unlabelled(read: Result<Statement, ParseError>) -> Result<Sequential, ParseError>
+    ensures ok { IfOk result (λ found. (statement : _) × (read ≡ Ok statement) × (found ≡ record { label = None; statement = statement })) }
+    ensures err { IfErr result (λ e. read ≡ Err e) }
+{
+    let statement = read?;
+    Ok(Sequential {
+        label: None,
+        statement,
+    })
+}
+
 /// Reads a statement from after its first name: its label, or the target of an assignment.
 #[cycle(statement)]
 fn named(
@@ -160,11 +172,8 @@ fn named(
         let statement = labelled(alloc, tokens, depth, &label)?;
         Ok(Sequential { label, statement })
     } else {
-        let statement = assigned(alloc, tokens, first)?;
-        Ok(Sequential {
-            label: None,
-            statement,
-        })
+        let statement = assigned(alloc, tokens, first);
+        unlabelled(statement)
     }
 }
 
@@ -176,18 +185,12 @@ fn statement(alloc: Global, tokens: &mut Cursor, depth: usize) -> Result<Sequent
 {
     match tokens.peek() {
         Kind::If => {
-            let statement = if_statement(alloc, tokens, depth, &None)?;
-            Ok(Sequential {
-                label: None,
-                statement,
-            })
+            let statement = if_statement(alloc, tokens, depth, &None);
+            unlabelled(statement)
         }
         Kind::Null => {
-            let statement = null(tokens)?;
-            Ok(Sequential {
-                label: None,
-                statement,
-            })
+            let statement = null(tokens);
+            unlabelled(statement)
         }
         _ => {
             let first = tokens.word()?;
@@ -211,7 +214,8 @@ fn sequence(
         if !begins_statement(tokens.peek()) {
             return Ok(fitted(found));
         }
-        found.push(statement(alloc, tokens, depth)?)?;
+        let next = statement(alloc, tokens, depth);
+        push(&mut found, next)?;
     }
     Ok(fitted(found))
 }
@@ -239,30 +243,22 @@ fn branch(alloc: Global, tokens: &mut Cursor, depth: usize) -> Result<Branch, Pa
     })
 }
 
-/// Reads the first branch of an if statement.
-#[cycle(statement)]
-fn first_branch(alloc: Global, tokens: &mut Cursor, depth: usize) -> Result<Vec<Branch>, ParseError>
-    ensures { ReadsAs (and_then (spec.branch (spec.if_statement depth) (view tokens.old)) (λ first. pure (first ∷ [])))
-        result (λ v. v.items) (view tokens.new) }
-{
-    let first = branch(alloc, tokens, depth)?;
-    let found = one(alloc, first)?;
-    Ok(found)
-}
-
 /// `expr then {seq} {elsif expr then {seq}}`
 #[cycle(statement)]
 #[tactic(auto, using(sim_text_grammar::proofs::Parts::halves), unfolding(sim_text_grammar::specs::Statements::branches))]
 fn branches(alloc: Global, tokens: &mut Cursor, depth: usize) -> Result<Items<Branch>, ParseError>
     ensures { Reads (spec.branches (spec.if_statement depth) (view tokens.old)) result (view tokens.new) }
 {
-    let mut found = first_branch(alloc, tokens, depth)?;
+    let first = branch(alloc, tokens, depth);
+    let mut found = Vec::new(alloc);
+    push(&mut found, first)?;
     for _turn in 0..tokens.left() {
         if !tokens.sees(Kind::Elsif) {
             return Ok(fitted(found));
         }
         tokens.take();
-        found.push(branch(alloc, tokens, depth)?)?;
+        let next = branch(alloc, tokens, depth);
+        push(&mut found, next)?;
     }
     Ok(fitted(found))
 }

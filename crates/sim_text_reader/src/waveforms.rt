@@ -1,6 +1,5 @@
 //! Waveforms and delays (IEEE 1076-2008, 10.5).
 
-ghost use Rattle.std.specs.Prelude.{[], ◌∷◌};
 ghost use Rattle.sim_text_grammar.specs.Waveforms as spec;
 ghost use Rattle.sim_text_tokens.specs.declared.kind.Kind.TheVariants as k;
 ghost use Rattle.sim_text_grammar.specs.Readers.{Reads, and_then, pure, expect};
@@ -8,9 +7,10 @@ ghost use Rattle.sim_text_reader.specs.Cursors.{view};
 
 use crate::cursor::{Cursor, both};
 use crate::expressions::expression;
+use crate::lists::{add, first_of, push};
 use sim_text_grammar::ParseError;
 use sim_text_tokens::Kind;
-use sim_text_tree::list::{Several, fitted};
+use sim_text_tree::list::fitted;
 use sim_text_tree::name::Name;
 use sim_text_tree::time::TimeLiteral;
 use sim_text_tree::waveform::{
@@ -59,27 +59,20 @@ fn element(alloc: Global, tokens: &mut Cursor) -> Result<Element, ParseError>
     }
 }
 
-/// Reads the first element of a waveform.
-fn first_element(alloc: Global, tokens: &mut Cursor) -> Result<Waveform, ParseError>
-    ensures { Reads (and_then (spec.element (view tokens.old)) (λ first. pure (first ∷ []))) result (view tokens.new) }
-{
-    let first = element(alloc, tokens)?;
-    let found = Several::new(alloc, first)?;
-    Ok(found)
-}
-
 /// Reads a waveform (IEEE 1076-2008, 10.5.2.1).
 #[tactic(auto, using(sim_text_grammar::proofs::Parts::halves), unfolding(sim_text_grammar::specs::Waveforms::waveform, sim_text_grammar::specs::Readers::sees))]
 pub fn waveform(alloc: Global, tokens: &mut Cursor) -> Result<Waveform, ParseError>
     ensures { Reads (spec.waveform (view tokens.old)) result (view tokens.new) }
 {
-    let mut found = first_element(alloc, tokens)?;
+    let first = element(alloc, tokens);
+    let mut found = first_of(alloc, first)?;
     for _turn in 0..tokens.left() {
         if !tokens.sees(Kind::Comma) {
             return Ok(found.fitted());
         }
         tokens.take();
-        found.push(element(alloc, tokens)?)?;
+        let next = element(alloc, tokens);
+        add(&mut found, next)?;
     }
     Ok(found.fitted())
 }
@@ -101,11 +94,18 @@ pub fn delay(tokens: &mut Cursor) -> Result<DelayMechanism, ParseError>
         Kind::Reject => {
             tokens.take();
             let limit = time(tokens)?;
-            tokens.expect(Kind::Inertial)?;
-            Ok(DelayMechanism::Reject(limit))
+            tokens.past(Kind::Inertial, DelayMechanism::Reject(limit))
         }
         _ => Ok(DelayMechanism::Unwritten),
     }
+}
+
+/// `<= [delay]`, the first part of an assignment after its target.
+pub fn assigned_after(tokens: &mut Cursor) -> Result<DelayMechanism, ParseError>
+    ensures { Reads (and_then (expect k.SignalAssign (view tokens.old)) (λ _. spec.delay)) result (view tokens.new) }
+{
+    tokens.expect(Kind::SignalAssign)?;
+    delay(tokens)
 }
 
 /// Reads the condition of a waveform.
@@ -138,7 +138,8 @@ fn waveforms(alloc: Global, tokens: &mut Cursor) -> Result<ConditionalWaveforms,
                 otherwise: Some(waveform),
             });
         }
-        conditional.push(condition(alloc, tokens, waveform)?)?;
+        let next = condition(alloc, tokens, waveform);
+        push(&mut conditional, next)?;
         if !tokens.eat(Kind::Else) {
             return Ok(ConditionalWaveforms {
                 conditional: fitted(conditional),
@@ -154,8 +155,7 @@ fn waveforms_ended(alloc: Global, tokens: &mut Cursor) -> Result<ConditionalWave
     ensures { Reads (and_then (spec.waveforms (view tokens.old)) (λ found i. and_then (expect k.Semicolon i) (λ _. pure found))) result (view tokens.new) }
 {
     let waveforms = waveforms(alloc, tokens)?;
-    tokens.expect(Kind::Semicolon)?;
-    Ok(waveforms)
+    tokens.past(Kind::Semicolon, waveforms)
 }
 
 /// Reads what stands after the target of a concurrent assignment, with its semicolon (IEEE
@@ -169,9 +169,8 @@ pub fn assigned(
 ) -> Result<ConcurrentSignalAssignment, ParseError>
     ensures { Reads (spec.assigned label postponed target (view tokens.old)) result (view tokens.new) }
 {
-    tokens.expect(Kind::SignalAssign)?;
-    let delay = delay(tokens)?;
-    let waveforms = waveforms_ended(alloc, tokens)?;
+    let mechanism = assigned_after(tokens)?;
+    let (delay, waveforms) = both(mechanism, waveforms_ended(alloc, tokens))?;
     Ok(ConcurrentSignalAssignment {
         label,
         postponed,

@@ -11,9 +11,9 @@ pub more_operands-returns-then-not-sees : goal.more_operands-returns-then-not-se
 unfolding sees
 more_operands-returns-then-not-sees t c = let e = one_more c.loop-turn.invariant c.loop-turn-test.true in grind (arith, common_steps)
 
-pub more_operands-returns-in_err-operand : goal.more_operands-returns-in_err-operand
+pub more_operands-returns-in_err-push : goal.more_operands-returns-in_err-push
 unfolding sees
-more_operands-returns-in_err-operand t c = let e = one_more c.loop-turn.invariant c.loop-turn-test.true in grind (arith, common_steps)
+more_operands-returns-in_err-push t c = let e = one_more c.loop-turn.invariant c.loop-turn-test.true in grind (arith, common_steps)
 
 pub more_operands-loop-turn-preserved : goal.more_operands-loop-turn-preserved
 unfolding sees
@@ -22,9 +22,9 @@ more_operands-loop-turn-preserved t c = let e = one_more c.loop-turn.invariant c
 pub more_operands-returns : goal.more_operands-returns
 more_operands-returns t c = let e = no_more c.loop-turn.invariant c.loop-turn-test.false in grind (arith, common_steps)
 
-pub nested-returns-in_err-expect : goal.nested-returns-in_err-expect
+pub nested-returns : goal.nested-returns
 unfolding nested
-nested-returns-in_err-expect t c =
+nested-returns t c =
     let e = deeper (λ n. nested n (view c.args.tokens.now)) c.args.depth (omega arith) in
     grind (arith, common_steps)
 

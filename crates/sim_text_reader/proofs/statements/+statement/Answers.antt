@@ -9,8 +9,8 @@ use Rattle.sim_text_reader.proofs.statements.+statement.Goals as goal
 pub sequence-returns-then-not-begins_statement : goal.sequence-returns-then-not-begins_statement
 sequence-returns-then-not-begins_statement t c = let e = one_more c.loop-turn.invariant c.loop-turn-test.true in grind (arith, common_steps)
 
-pub sequence-returns-in_err-statement : goal.sequence-returns-in_err-statement
-sequence-returns-in_err-statement t c = let e = one_more c.loop-turn.invariant c.loop-turn-test.true in grind (arith, common_steps)
+pub sequence-returns-in_err-push : goal.sequence-returns-in_err-push
+sequence-returns-in_err-push t c = let e = one_more c.loop-turn.invariant c.loop-turn-test.true in grind (arith, common_steps)
 
 pub sequence-loop-turn-preserved : goal.sequence-loop-turn-preserved
 sequence-loop-turn-preserved t c = let e = one_more c.loop-turn.invariant c.loop-turn-test.true in grind (arith, common_steps)
@@ -21,8 +21,8 @@ sequence-returns t c = let e = no_more c.loop-turn.invariant c.loop-turn-test.fa
 pub branches-returns-then-not-sees : goal.branches-returns-then-not-sees
 branches-returns-then-not-sees t c = let e = one_after c.loop-turn.invariant c.loop-turn-test.true in grind (arith, common_steps)
 
-pub branches-returns-in_err-branch : goal.branches-returns-in_err-branch
-branches-returns-in_err-branch t c = let e = one_after c.loop-turn.invariant c.loop-turn-test.true in grind (arith, common_steps)
+pub branches-returns-in_err-push-2 : goal.branches-returns-in_err-push-2
+branches-returns-in_err-push-2 t c = let e = one_after c.loop-turn.invariant c.loop-turn-test.true in grind (arith, common_steps)
 
 pub branches-loop-turn-preserved : goal.branches-loop-turn-preserved
 branches-loop-turn-preserved t c = let e = one_after c.loop-turn.invariant c.loop-turn-test.true in grind (arith, common_steps)

@@ -26,9 +26,6 @@ decreases-branch l = 9 * l.depth + 5
 abbrev pub decreases-otherwise : goal.decreases-otherwise
 decreases-otherwise l = 9 * l.depth + 5
 
-abbrev pub decreases-first_branch : goal.decreases-first_branch
-decreases-first_branch l = 9 * l.depth + 6
-
 abbrev pub decreases-branches : goal.decreases-branches
 decreases-branches l = 9 * l.depth + 7
 

@@ -5,8 +5,8 @@ use Rattle.sim_text_reader.proofs.waveforms.waveform.Goals as goal
 pub returns-then-not-sees : goal.returns-then-not-sees
 returns-then-not-sees c = let e = one_after c.loop-turn.invariant c.loop-turn-test.true in search rules
 
-pub returns-in_err-element : goal.returns-in_err-element
-returns-in_err-element c = let e = one_after c.loop-turn.invariant c.loop-turn-test.true in search rules
+pub returns-in_err-add : goal.returns-in_err-add
+returns-in_err-add c = let e = one_after c.loop-turn.invariant c.loop-turn-test.true in search rules
 
 pub loop-turn-preserved : goal.loop-turn-preserved
 loop-turn-preserved c = let e = one_after c.loop-turn.invariant c.loop-turn-test.true in search rules

@@ -12,9 +12,9 @@ pub returns-then-not-eat : goal.returns-then-not-eat
 unfolding alternatives_from left
 returns-then-not-eat c = let e = one_more c.loop-turn.invariant c.loop-turn-test.true in search rules
 
-pub returns-in_err-condition : goal.returns-in_err-condition
+pub returns-in_err-push : goal.returns-in_err-push
 unfolding alternatives_from left
-returns-in_err-condition c = let e = one_more c.loop-turn.invariant c.loop-turn-test.true in search rules
+returns-in_err-push c = let e = one_more c.loop-turn.invariant c.loop-turn-test.true in search rules
 
 pub returns-then-not-eat-2 : goal.returns-then-not-eat-2
 unfolding alternatives_from left

@@ -1,0 +1,41 @@
+//! Lists whose items are read one after another. A fault of an item is a fault of the list.
+
+ghost use Rattle.std.specs.Prelude.{◌≡◌, ◌≢◌, ◌∷◌, [], ◌++◌, Ok, Err, IfOk, IfErr, OnOk};
+ghost use Rattle.sim_text_grammar.specs.declared.error.ParseError.TheVariants.{OutOfMemory};
+
+use sim_text_grammar::ParseError;
+use sim_text_tree::list::Several;
+use std::alloc::Global;
+
+/// The list of the one item that was read.
+pub fn first_of<T: Drop>(
+    alloc: Global,
+    read: Result<T, ParseError>,
+) -> Result<Several<T>, ParseError>
+    ensures ok { IfOk result (λ found. (first : T) × (read ≡ Ok first) × (found ≡ first ∷ [])) }
+    ensures err { IfErr result (λ e. e ≢ OutOfMemory → read ≡ Err e) }
+{
+    let first = read?;
+    let found = Several::new(alloc, first)?;
+    Ok(found)
+}
+
+/// Puts the item that was read at the end.
+pub fn add<T: Drop>(found: &mut Several<T>, read: Result<T, ParseError>) -> Result<(), ParseError>
+    ensures ok { OnOk result ((next : T) × (read ≡ Ok next) × (found.new ≡ found.old ++ next ∷ [])) }
+    ensures err { IfErr result (λ e. e ≢ OutOfMemory → read ≡ Err e) }
+{
+    let next = read?;
+    found.push(next)?;
+    Ok(())
+}
+
+/// Puts the item that was read at the end.
+pub fn push<T: Drop>(found: &mut Vec<T>, read: Result<T, ParseError>) -> Result<(), ParseError>
+    ensures ok { OnOk result ((next : T) × (read ≡ Ok next) × (found.new.items ≡ found.old.items ++ next ∷ [])) }
+    ensures err { IfErr result (λ e. e ≢ OutOfMemory → read ≡ Err e) }
+{
+    let next = read?;
+    found.push(next)?;
+    Ok(())
+}
