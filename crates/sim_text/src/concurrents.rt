@@ -10,9 +10,9 @@ ghost use Rattle.sim_text_grammar.specs.Readers.{Reads, and_then, pure, expect};
 ghost use Rattle.sim_text_reader.specs.Cursors.{view};
 
 use crate::declarations::{names, variables};
-use crate::lists::push;
 use sim_text_grammar::ParseError;
 use sim_text_reader::cursor::{Cursor, both};
+use sim_text_reader::lists::push;
 use sim_text_reader::statements::{label_ended, statements};
 use sim_text_reader::waveforms::assigned;
 use sim_text_tokens::Kind;

@@ -6,9 +6,9 @@ ghost use Rattle.sim_text_tokens.specs.declared.kind.Kind.TheVariants as k;
 ghost use Rattle.sim_text_grammar.specs.Readers.{Reads, and_then, pure, expect};
 ghost use Rattle.sim_text_reader.specs.Cursors.{view};
 
-use crate::lists::{add, first_of, push};
 use sim_text_grammar::ParseError;
 use sim_text_reader::Cursor;
+use sim_text_reader::lists::{add, first_of, push};
 use sim_text_tokens::Kind;
 use sim_text_tree::declaration::{
     ComponentDeclaration, Declaration, Initial, Mode, ObjectDeclaration, PortDeclaration,

@@ -3,7 +3,6 @@
 
 mod concurrents;
 pub mod declarations;
-mod lists;
 mod text;
 mod units;
 

@@ -10,9 +10,9 @@ ghost use Rattle.sim_text_reader.specs.Cursors.{view};
 
 use crate::concurrents::concurrents;
 use crate::declarations::{declarations, names, ports, repeated};
-use crate::lists::{add, first_of, push};
 use sim_text_grammar::ParseError;
 use sim_text_reader::Cursor;
+use sim_text_reader::lists::{add, first_of, push};
 use sim_text_tokens::Kind;
 use sim_text_tree::DesignFile;
 use sim_text_tree::declaration::{Declaration, PortDeclaration};
