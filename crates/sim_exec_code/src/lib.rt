@@ -26,5 +26,4 @@ mod step;
 
 pub use code::Code;
 pub use codes::Codes;
-pub use execution::execute;
 pub use frame::Frame;

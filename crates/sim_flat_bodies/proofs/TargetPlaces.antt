@@ -1,5 +1,6 @@
 -- Where each signal and port stands among those that a process assigns, and where it stands after one more is added.
-use Rattle.std.proofs.Common.{◌≡◌, ℕ, suc, ◌+◌, ◌<◌, nat_lt, ◌==◌, ◌||◌, ◌++◌, List, [], ◌∷◌, length, Bool, true, false, cond, Option, Some, None, IfSome}
+use Rattle.std.proofs.Common.{◌≡◌, ℕ, suc, ◌+◌, ◌<◌, nat_lt, ◌==◌, ◌||◌, ◌++◌, List, [], ◌∷◌, length}
+use Rattle.std.proofs.Common.{Bool, true, false, cond, Option, Some, None, IfSome}
 use Rattle.std.proofs.Common.{refl, ap, sym, ◌∙◌, eqb-true, is_some, arith}
 use Rattle.std.proofs.lemmas.List.Quantifiers.{position-Some}
 use Rattle.std.proofs.lemmas.Bool.Decides.{Decides-eqb, nat_tests}

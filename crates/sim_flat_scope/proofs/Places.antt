@@ -51,7 +51,8 @@ stands_at [] n p h = cc
 stands_at (e ∷ es) n p h = next (bytes_eq n e.0.now) (place_of (named es) n) (found (named es) n) e es p (stands_at es n) h
 
 later : (b same x : Bool) (k : Option ℕ) (o o' : Option ℕ) (l : ℕ) → cond x (Some zero) (option_map suc k) ≡ None → (same ≡ true → b ≡ x)
-    → (k ≡ None → o' ≡ cond same (Some l) o) → cond b (Some zero) (option_map suc o') ≡ cond same (Some (suc l)) (cond b (Some zero) (option_map suc o))
+    → (k ≡ None → o' ≡ cond same (Some l) o)
+    → cond b (Some zero) (option_map suc o') ≡ cond same (Some (suc l)) (cond b (Some zero) (option_map suc o))
 later b same true k o o' l h e f = cc
 later b same false (Some k) o o' l h e f = cc
 later true true false None o o' l h e f = cc (e refl)

@@ -1,3 +1,4 @@
+pub mod Crossing
 pub mod Finishing
 pub mod Programs
 pub mod Simulations

@@ -5,6 +5,7 @@ mod error;
 mod program;
 mod runs;
 mod simulation;
+mod team;
 
 pub use error::RunError;
 pub use program::session;

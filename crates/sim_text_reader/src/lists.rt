@@ -1,6 +1,6 @@
 //! Lists whose items are read one after another. A fault of an item is a fault of the list.
 
-ghost use Rattle.std.specs.Prelude.{◌≡◌, ◌≢◌, ◌∷◌, [], ◌++◌, Ok, Err, IfOk, IfErr, OnOk};
+ghost use Rattle.std.specs.Prelude.{◌≡◌, ◌≢◌, ◌∷◌, [], ◌++◌, Ok, Err, IfOk, IfErr, OnOk, OnErr};
 ghost use Rattle.sim_text_grammar.specs.declared.error.ParseError.TheVariants.{OutOfMemory};
 
 use sim_text_grammar::ParseError;
@@ -14,6 +14,7 @@ pub fn first_of<T: Drop>(
 ) -> Result<Several<T>, ParseError>
     ensures ok { IfOk result (λ found. (first : T) × (read ≡ Ok first) × (found ≡ first ∷ [])) }
     ensures err { IfErr result (λ e. e ≢ OutOfMemory → read ≡ Err e) }
+    ensures fault { IfErr read (λ e. result ≡ Err e) }
 {
     let first = read?;
     let found = Several::new(alloc, first)?;
@@ -24,6 +25,8 @@ pub fn first_of<T: Drop>(
 pub fn add<T: Drop>(found: &mut Several<T>, read: Result<T, ParseError>) -> Result<(), ParseError>
     ensures ok { OnOk result ((next : T) × (read ≡ Ok next) × (found.new ≡ found.old ++ next ∷ [])) }
     ensures err { IfErr result (λ e. e ≢ OutOfMemory → read ≡ Err e) }
+    ensures fault { IfErr read (λ e. result ≡ Err e) }
+    ensures kept { OnErr result (found.new ≡ found.old) }
 {
     let next = read?;
     found.push(next)?;
@@ -34,6 +37,8 @@ pub fn add<T: Drop>(found: &mut Several<T>, read: Result<T, ParseError>) -> Resu
 pub fn push<T: Drop>(found: &mut Vec<T>, read: Result<T, ParseError>) -> Result<(), ParseError>
     ensures ok { OnOk result ((next : T) × (read ≡ Ok next) × (found.new.items ≡ found.old.items ++ next ∷ [])) }
     ensures err { IfErr result (λ e. e ≢ OutOfMemory → read ≡ Err e) }
+    ensures fault { IfErr read (λ e. result ≡ Err e) }
+    ensures kept { OnErr result (found.new.items ≡ found.old.items) }
 {
     let next = read?;
     found.push(next)?;

@@ -1,3 +1,5 @@
+use Rattle.sim_text_grammar.specs.Units.{selected_names}
+use Rattle.sim_text_grammar.proofs.Parts.{halves}
 use Rattle.std.proofs.Common.{arith}
 use Rattle.std.proofs.lemmas.Grind.{common_steps}
 use Rattle.sim_text_grammar.proofs.OneItemATurn.{one_after, none_after}
@@ -14,3 +16,23 @@ loop-turn-preserved c = let e = one_after c.loop-turn.invariant c.loop-turn-test
 
 pub returns : goal.returns
 returns c = let e = none_after c.loop-turn.invariant c.loop-turn-test.false in grind (arith, common_steps)
+
+pub selected-first-requires : goal.selected-first-requires
+unfolding selected_names
+selected-first-requires c = grind (arith, common_steps, halves)
+
+pub left-turn-end-requires : goal.left-turn-end-requires
+unfolding selected_names
+left-turn-end-requires c = grind (arith, common_steps, halves)
+
+pub sees-requires : goal.sees-requires
+unfolding selected_names
+sees-requires c = grind (arith, common_steps, halves)
+
+pub take-requires : goal.take-requires
+unfolding selected_names
+take-requires c = grind (arith, common_steps, halves)
+
+pub selected-next-requires : goal.selected-next-requires
+unfolding selected_names
+selected-next-requires c = grind (arith, common_steps, halves)

@@ -1,3 +1,4 @@
+use Rattle.std.proofs.lemmas.Grind.{common_steps}
 use Rattle.std.proofs.Common.{◌≡◌, List, length, ap, ◌∙◌, subst, arith}
 use Rattle.std.proofs.lemmas.List.{get_or_default}
 use Rattle.std.proofs.lemmas.Result.{on_ok_weaker}
@@ -31,3 +32,6 @@ returns-clause-ok g c =
     (views_of c.as_slice.result.now c.as_slice-2.result.now) c.index-processes-number.result i.processes c.requires.number (time ∙ i.time_is)
     c.requires.begun nets is in
     on_ok_weaker c.resume.result (λ e. e ∙ ap (set c.args.share.now c.args.place) step) c.resume.ensures.ok
+
+pub resume-requires : goal.resume-requires
+resume-requires c = grind (arith, common_steps)

@@ -4,10 +4,10 @@ ghost use Rattle.std.specs.Prelude.{◌≡◌, ◌≢◌, None, IfOk};
 ghost use Rattle.sim_store.specs.Handing as hands;
 ghost use Rattle.sim_store_simulation.specs.Simulation as simulations;
 ghost use Rattle.sim_store.specs.WaveStore as store;
-ghost use Rattle.sim_run_team.specs.Runs.{IsCarriedOn};
+ghost use Rattle.sim_run_session.specs.Run.{IsSameRun};
 
-use crate::bell::Bell;
-use crate::team::{Fault, Order, Team, pair};
+use crate::team::bell::Bell;
+use crate::team::workers::{Fault, Order, Team, pair};
 use sim_store::{Answer, Naming, Order as Share, WaveStore};
 use std::alloc::{AllocError, Global};
 use std::marker::Brand;
@@ -93,7 +93,7 @@ fn go_on<J: Naming, R: Wait>(
 ) -> Result<WaveStore, Fault>
     requires design { run.simulation.design ≡ J.design }
     requires open { store.IsOpen run }
-    ensures { IfOk result (IsCarriedOn run) }
+    ensures { IfOk result (IsSameRun run) }
 {
     let mut run = execute(rt, alloc, run, team, length)?;
     match run.advance(alloc) {
@@ -111,7 +111,7 @@ fn lead<J: Naming, R: Wait>(
     team: &mut Team<'_, Share<J>>,
 ) -> Result<WaveStore, Fault>
     requires { run.simulation.design ≡ J.design }
-    ensures { IfOk result (λ r. IsCarriedOn run r × (r.ended ≢ None)) }
+    ensures { IfOk result (λ r. IsSameRun run r × (r.ended ≢ None)) }
 {
     let length = run.mean_length().saturating_add(1);
     let mut run = run;
@@ -144,7 +144,7 @@ fn run_by<J: Naming + Send + Sync, R: Threads + Wait + Sync>(
     workers: usize,
 ) -> Result<WaveStore, Fault>
     requires { run.simulation.design ≡ J.design }
-    ensures { IfOk result (λ r. IsCarriedOn run r × (r.ended ≢ None)) }
+    ensures { IfOk result (λ r. IsSameRun run r × (r.ended ≢ None)) }
 {
     let main = Bell::new();
     let main = &main;
@@ -155,7 +155,7 @@ fn run_by<J: Naming + Send + Sync, R: Threads + Wait + Sync>(
         rt,
         |scope| -> Result<WaveStore, Fault>
             requires { run.simulation.design ≡ J.design }
-            ensures { IfOk result (λ r. IsCarriedOn run r × (r.ended ≢ None)) }
+            ensures { IfOk result (λ r. IsSameRun run r × (r.ended ≢ None)) }
         {
             let mut team = Team::new(alloc, main);
             for bell in bells {
@@ -194,7 +194,7 @@ pub fn carry_to_end<R: Threads + Wait + Sync>(
     run: WaveStore,
     workers: usize,
 ) -> Result<WaveStore, Fault>
-    ensures { IfOk result (λ r. IsCarriedOn run r × (r.ended ≢ None)) }
+    ensures { IfOk result (λ r. IsSameRun run r × (r.ended ≢ None)) }
 {
     let workers = useful(&run, workers);
     let run = run.divide(alloc, workers)?;

@@ -10,11 +10,11 @@ use mir.Syntax.{Sym, Ty}
 use Rattle.std.proofs.Common.{ℕ, List, [], ◌∷◌}
 use Rattle.std.proofs.Crossing.{crosses}
 use Rattle.std.specs.contracts.alloc.Global as Global
-use Rattle.sim_run_team.specs.contracts.bell.Bell as Bell
-use Rattle.sim_run_team.specs.contracts.team.Worker as Worker
-use Rattle.sim_run_team.proofs.bell.Bell.TheSendSync as bells
-use Rattle.sim_run_team.proofs.team.Errand.TheSendSync as errands
-use Rattle.sim_run_team.proofs.team.Worker.TheSendSync as workers
+use Rattle.sim_run_session.specs.contracts.team.bell.Bell as Bell
+use Rattle.sim_run_session.specs.contracts.team.workers.Worker as Worker
+use Rattle.sim_run_session.proofs.team.bell.Bell.TheSendSync as bells
+use Rattle.sim_run_session.proofs.team.workers.Errand.TheSendSync as errands
+use Rattle.sim_run_session.proofs.team.workers.Worker.TheSendSync as workers
 
 -- the types of what a worker takes along: its ends, the handle, the allocator, its bell and that of the main thread
 abbrev pub baggage : RattleType → RattleType → NamedLft → NamedLft → NamedLft → List RattleType

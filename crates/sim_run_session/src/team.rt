@@ -1,12 +1,11 @@
 //! Threads that are kept for a run: in each cycle they execute what a phase resumed, each a share of
 //! it by value.
-#![tactic(auto)]
 
 mod bell;
 mod message;
 mod pace;
 mod run;
-mod team;
+mod workers;
 
 pub use run::carry_to_end;
-pub use team::Fault;
+pub use workers::Fault;

@@ -1,8 +1,8 @@
 //! Workers, and who gives them orders.
 
-use crate::bell::Bell;
-use crate::message::next;
-use crate::pace::{Pace, patience};
+use crate::team::bell::Bell;
+use crate::team::message::next;
+use crate::team::pace::{Pace, patience};
 use rtrb::{Consumer, Producer, PushError, RingBuffer};
 use sim_store::HandOutError;
 use std::alloc::{AllocError, Global};

@@ -7,10 +7,10 @@ use Rattle.sim_store.specs.contracts.order.Answer as Answer
 use Rattle.sim_store.specs.contracts.order.Order as Order
 use Rattle.sim_store.proofs.Crossing.{order_send}
 use Rattle.sim_store.proofs.order.Answer.TheSendSync as answers
-use Rattle.sim_run_team.specs.contracts.run.fn.run_by.scope as scope
-use Rattle.sim_run_team.specs.contracts.team.Worker as Worker
-use Rattle.sim_run_team.proofs.Crossing.{ends_send, worker_send}
-use Rattle.sim_run_team.proofs.run.fn.run_by.scope.Goals as goal
+use Rattle.sim_run_session.specs.contracts.team.run.fn.run_by.scope as scope
+use Rattle.sim_run_session.specs.contracts.team.workers.Worker as Worker
+use Rattle.sim_run_session.proofs.Crossing.{ends_send, worker_send}
+use Rattle.sim_run_session.proofs.team.run.fn.run_by.scope.Goals as goal
 
 pub spawn-requires-send-F : goal.spawn-requires-send-F
 spawn-requires-send-F g c κs within =

@@ -1,0 +1,7 @@
+use Rattle.sim_run_session.specs.Run.{IsSameRun}
+use Rattle.sim_run_session.proofs.team.run.lead.Given as goal
+
+-- the same run so far
+abbrev pub invariant-loop-turn : goal.invariant-loop-turn
+invariant-loop-turn g l =
+    (goal.iterator-loop-turn g).can_next l._turn-iterator × (goal.iterator-loop-turn g).is_finite l._turn-iterator × IsSameRun l.fn.run l.run

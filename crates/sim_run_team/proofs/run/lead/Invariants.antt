@@ -1,7 +1,0 @@
-use Rattle.sim_run_team.specs.Runs.{IsCarriedOn}
-use Rattle.sim_run_team.proofs.run.lead.Given as goal
-
--- the same run so far
-abbrev pub invariant-loop-turn : goal.invariant-loop-turn
-invariant-loop-turn g l =
-    (goal.iterator-loop-turn g).can_next l._turn-iterator × (goal.iterator-loop-turn g).is_finite l._turn-iterator × IsCarriedOn l.fn.run l.run
