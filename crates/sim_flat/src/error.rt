@@ -6,75 +6,97 @@ ghost use Rattle.sim_flat.specs.Refusals.{refusal_of};
 
 use sim_flat_scope::{Fault, Kind};
 use std::alloc::{AllocError, AllocFailed};
-use thiserror::Error;
+use std::error::Error;
+use std::fmt;
+use std::fmt::Display;
 
 /// A refusal of `flatten`. Positions are those of the first byte of a token, from 0; the text is
 /// that of the program's line on standard error.
-#[derive(Clone, Copy, Debug, PartialEq, Eq, Error)]
+#[derive(Clone, Copy, Debug, PartialEq, Eq)]
 pub enum FlatError {
     /// No memory.
-    #[error("Memory")]
     Memory,
     /// No entity has the name of the top.
-    #[error("NoTop")]
     NoTop,
     /// A name is declared twice (12.3).
-    #[error("Duplicate at {at}")]
     Duplicate { at: usize },
     /// A predefined name is declared.
-    #[error("Predefined at {at}")]
     Predefined { at: usize },
     /// No such name is declared (12.3).
-    #[error("Unknown at {at}")]
     Unknown { at: usize },
     /// A name means something else than its place asks for.
-    #[error("WrongKind at {at}")]
     WrongKind { at: usize },
     /// Two operands, or a value and its target, have different types (9.2, 10.5, 10.6).
-    #[error("TypeClash at {at}")]
     TypeClash { at: usize },
     /// Both operands of `=` or `/=` are of type std_ulogic, or the operand of `??` or a condition is,
     /// and none holds a name (9.2.9, 12.5).
-    #[error("Ambiguous at {at}")]
     Ambiguous { at: usize },
     /// A port of mode out is read (6.5.2).
-    #[error("ReadOut at {at}")]
     ReadOut { at: usize },
     /// A port of mode in is assigned (6.5.2).
-    #[error("WriteIn at {at}")]
     WriteIn { at: usize },
     /// A port of mode in without a default is left open (6.5.6.3).
-    #[error("PortMissing at {at}")]
     PortMissing { at: usize },
     /// A port is associated twice (6.5.7).
-    #[error("PortTwice at {at}")]
     PortTwice { at: usize },
     /// The mode of a port does not allow its actual (6.5.6.3).
-    #[error("ModeClash at {at}")]
     ModeClash { at: usize },
     /// The ports of a component differ from those of its entity (7.3.3).
-    #[error("ComponentDiffers at {at}")]
     ComponentDiffers { at: usize },
     /// An entity has no architecture, or not the one that is named (7.3.3).
-    #[error("NoArchitecture at {at}")]
     NoArchitecture { at: usize },
     /// An architecture stands, by instances, in itself.
-    #[error("Recursive at {at}")]
     Recursive { at: usize },
     /// A signal or port of type std_ulogic has more than one source (6.4.2.3).
-    #[error("ManySources at {at}")]
     ManySources { at: usize },
     /// The times of a waveform do not rise (10.5.2.2).
-    #[error("NotAscending at {at}")]
     NotAscending { at: usize },
     /// A rejection limit is larger than the first delay of its waveform (10.5.2.1).
-    #[error("RejectTooLong at {at}")]
     RejectTooLong { at: usize },
     /// There are too many elements, nets, processes, drivers or instances, or instances stand too
     /// deep in one another.
-    #[error("TooMany at {at}")]
     TooMany { at: usize },
 }
+
+impl FlatError {
+    /// Its word, and its position.
+    fn word(self) -> (&'static str, Option<usize>) {
+        match self {
+            FlatError::Memory => ("Memory", None),
+            FlatError::NoTop => ("NoTop", None),
+            FlatError::Duplicate { at } => ("Duplicate", Some(at)),
+            FlatError::Predefined { at } => ("Predefined", Some(at)),
+            FlatError::Unknown { at } => ("Unknown", Some(at)),
+            FlatError::WrongKind { at } => ("WrongKind", Some(at)),
+            FlatError::TypeClash { at } => ("TypeClash", Some(at)),
+            FlatError::Ambiguous { at } => ("Ambiguous", Some(at)),
+            FlatError::ReadOut { at } => ("ReadOut", Some(at)),
+            FlatError::WriteIn { at } => ("WriteIn", Some(at)),
+            FlatError::PortMissing { at } => ("PortMissing", Some(at)),
+            FlatError::PortTwice { at } => ("PortTwice", Some(at)),
+            FlatError::ModeClash { at } => ("ModeClash", Some(at)),
+            FlatError::ComponentDiffers { at } => ("ComponentDiffers", Some(at)),
+            FlatError::NoArchitecture { at } => ("NoArchitecture", Some(at)),
+            FlatError::Recursive { at } => ("Recursive", Some(at)),
+            FlatError::ManySources { at } => ("ManySources", Some(at)),
+            FlatError::NotAscending { at } => ("NotAscending", Some(at)),
+            FlatError::RejectTooLong { at } => ("RejectTooLong", Some(at)),
+            FlatError::TooMany { at } => ("TooMany", Some(at)),
+        }
+    }
+}
+
+// (written out: what `thiserror` makes of so many variants takes four times as long to prove)
+impl Display for FlatError {
+    fn fmt<W: fmt::Write>(&self, f: &mut fmt::Formatter<W>) -> fmt::Result {
+        match self.word() {
+            (word, None) => f.write_str(word),
+            (word, Some(at)) => write!(f, "{word} at {at}"),
+        }
+    }
+}
+
+impl Error for FlatError {}
 
 impl From<AllocError> for FlatError {
     ghost from_gives = { λ _ e. e ≡ fault.Memory };
