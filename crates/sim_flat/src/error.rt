@@ -8,11 +8,11 @@ use sim_flat_scope::{Fault, Kind};
 use std::alloc::{AllocError, AllocFailed};
 use std::error::Error;
 use std::fmt;
-use std::fmt::Display;
+use std::fmt::{Debug, Display};
 
 /// A refusal of `flatten`. Positions are those of the first byte of a token, from 0; the text is
 /// that of the program's line on standard error.
-#[derive(Clone, Copy, Debug, PartialEq, Eq)]
+#[derive(Clone, Copy, PartialEq, Eq)]
 pub enum FlatError {
     /// No memory.
     Memory,
@@ -86,13 +86,19 @@ impl FlatError {
     }
 }
 
-// (written out: what `thiserror` makes of so many variants takes four times as long to prove)
+// (written out: what is derived of so many variants takes four times as long to prove)
 impl Display for FlatError {
     fn fmt<W: fmt::Write>(&self, f: &mut fmt::Formatter<W>) -> fmt::Result {
         match self.word() {
             (word, None) => f.write_str(word),
             (word, Some(at)) => write!(f, "{word} at {at}"),
         }
+    }
+}
+
+impl Debug for FlatError {
+    fn fmt<W: fmt::Write>(&self, f: &mut fmt::Formatter<W>) -> fmt::Result {
+        Display::fmt(self, f)
     }
 }
 

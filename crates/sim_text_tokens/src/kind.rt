@@ -1,7 +1,7 @@
 //! Kinds of tokens.
 
 /// The kind of a token (IEEE 1076-2008, 15).
-#[derive(Clone, Copy, Debug, PartialEq, Eq)]
+#[derive(Clone, Copy, PartialEq, Eq)]
 pub enum Kind {
     /// A word that is not reserved.
     Word,

@@ -5,7 +5,7 @@ use sqlite_items::Items;
 use std::marker::Model;
 
 /// One token of a text (IEEE 1076-2008, 15.2).
-#[derive(Debug, Drop)]
+#[derive(Drop)]
 pub struct Token {
     kind: Kind,
     text: Items<u8>,
