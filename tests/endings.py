@@ -6,7 +6,7 @@
 The designs of examples/ whose run is finished are run in turn, 10,000 times in all, with 3 workers, beside 8 busy processes. Each
 run has to end within a minute, with the status and the listing that it has by one worker. A worker gets an order only where there
 is work enough for it, so to try the threads themselves take a program in which each phase is handed out: LEAST and WORTH 1, SHORT
-and PRICE 0 (team of sim_run_session, and order.rt of sim_store).
+and PRICE 0 (team.rt of sim_run_session, pace.rt of sim_run_team, order.rt of sim_store).
 """
 import argparse
 import glob

@@ -1,4 +1,3 @@
-pub mod Crossing
 pub mod Finishing
 pub mod Programs
 pub mod Simulations

@@ -10,10 +10,11 @@ ghost use Rattle.sim_run_session.specs.declared.error.RunError.TheVariants as re
 ghost use Rattle.sim_run_session.specs.Run.{Finishes, IsRefusalAlone, IsRunOf, IsSameRun, history_of, steps_left};
 
 use crate::error::RunError;
-use crate::team::{Fault, carry_to_end};
+use crate::team::carry_to_end;
 use sim_flat_design::Design;
 use sim_run_listing::write_listing;
 use sim_run_options::Options;
+use sim_run_team::Fault;
 use sim_store::{Step, WaveStore};
 use std::alloc::Global;
 use std::io::Write;

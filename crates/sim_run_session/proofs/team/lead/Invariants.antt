@@ -1,5 +1,5 @@
 use Rattle.sim_run_session.specs.Run.{IsSameRun}
-use Rattle.sim_run_session.proofs.team.run.lead.Given as goal
+use Rattle.sim_run_session.proofs.team.lead.Given as goal
 
 -- the same run so far
 abbrev pub invariant-loop-turn : goal.invariant-loop-turn

@@ -1,23 +1,28 @@
 //! Workers, and who gives them orders.
 
-use crate::team::bell::Bell;
-use crate::team::message::next;
-use crate::team::pace::{Pace, patience};
+ghost use Rattle.std.specs.Prelude.{◌≡◌, ◌+◌, IfOk, length};
+
+use crate::bell::Bell;
+use crate::message::next;
+use crate::pace::{Pace, patience};
 use rtrb::{Consumer, Producer, PushError, RingBuffer};
-use sim_store::HandOutError;
 use std::alloc::{AllocError, Global};
 use std::sync::Wait;
 
-/// Work that any thread may carry out. What is known of an answer is what its type says.
-pub trait Order: Drop {
-    /// What comes of it.
+/// Work that any thread may carry out, an order at a time. What is known of an answer is what its
+/// type says.
+pub trait Work {
+    /// A part of it.
+    type Order: Drop;
+
+    /// What comes of an order.
     type Answer: Drop;
 
-    /// Whether it is worth giving to another thread.
-    fn is_large(&self) -> bool;
+    /// Whether an order is worth giving to another thread.
+    fn is_large(order: &Self::Order) -> bool;
 
-    /// Carries it out; none where memory is refused.
-    fn carry_out(self, alloc: Global) -> Option<Self::Answer>;
+    /// Carries an order out; none where memory is refused.
+    fn carry_out(alloc: Global, order: Self::Order) -> Option<Self::Answer>;
 }
 
 /// Why orders have no answers.
@@ -35,15 +40,6 @@ impl From<AllocError> for Fault {
     }
 }
 
-impl From<HandOutError> for Fault {
-    fn from(error: HandOutError) -> Fault {
-        match error {
-            HandOutError::Memory => Fault::Memory,
-            HandOutError::Stranger | HandOutError::OrderLeft => Fault::Gone,
-        }
-    }
-}
-
 /// An order for a worker, and how often it is to look for the next one before it sleeps.
 #[derive(Drop)]
 struct Errand<O> {
@@ -53,19 +49,19 @@ struct Errand<O> {
 
 /// The ends of a worker: it takes orders and hands in answers, one at a time.
 #[derive(Drop)]
-pub struct Worker<O: Order> {
-    orders: Consumer<Errand<O>>,
-    answers: Producer<Option<O::Answer>>,
+pub struct Worker<W: Work> {
+    orders: Consumer<Errand<W::Order>>,
+    answers: Producer<Option<W::Answer>>,
 }
 
 /// The other ends, which the main thread has. Where they are dropped the worker is woken and ends.
-pub struct Line<'a, O: Order> {
-    orders: Producer<Errand<O>>,
-    answers: Consumer<Option<O::Answer>>,
+pub struct Line<'a, W: Work> {
+    orders: Producer<Errand<W::Order>>,
+    answers: Consumer<Option<W::Answer>>,
     bell: &'a Bell,
 }
 
-impl<O: Order> Drop for Line<'_, O> {
+impl<W: Work> Drop for Line<'_, W> {
     fn drop(self) {
         let Line {
             orders,
@@ -79,7 +75,7 @@ impl<O: Order> Drop for Line<'_, O> {
 }
 
 /// The ends of the main thread and of a worker, who sleeps until this bell rings.
-pub fn pair<O: Order>(alloc: Global, bell: &Bell) -> Result<(Line<'_, O>, Worker<O>), AllocError> {
+pub fn pair<W: Work>(alloc: Global, bell: &Bell) -> Result<(Line<'_, W>, Worker<W>), AllocError> {
     let (orders, their_orders) = RingBuffer::new(alloc, 1)?;
     let (their_answers, answers) = RingBuffer::new(alloc, 1)?;
     Ok((
@@ -95,7 +91,7 @@ pub fn pair<O: Order>(alloc: Global, bell: &Bell) -> Result<(Line<'_, O>, Worker
     ))
 }
 
-impl<O: Order> Worker<O> {
+impl<W: Work> Worker<W> {
     /// Carries out order after order, until the main thread's ends are gone.
     pub fn work<R: Wait>(self, rt: &R, alloc: Global, mine: &Bell, main: &Bell) {
         let Worker { orders, answers } = self;
@@ -107,7 +103,7 @@ impl<O: Order> Worker<O> {
                 return;
             };
             let Errand { order, looks } = errand;
-            let _ = answers.push(order.carry_out(alloc));
+            let _ = answers.push(W::carry_out(alloc, order));
             main.ring();
             often = looks;
         }
@@ -123,15 +119,15 @@ enum Begun<A> {
 
 /// The workers of a run, as the main thread has them, and the bell by which they wake it.
 #[derive(Drop)]
-pub struct Team<'a, O: Order> {
-    lines: Vec<Line<'a, O>>,
+pub struct Team<'a, W: Work> {
+    lines: Vec<Line<'a, W>>,
     bell: &'a Bell,
     pace: Pace,
 }
 
-impl<'a, O: Order> Team<'a, O> {
+impl<'a, W: Work> Team<'a, W> {
     /// A team of nobody.
-    pub fn new(alloc: Global, bell: &'a Bell) -> Team<'a, O> {
+    pub fn new(alloc: Global, bell: &'a Bell) -> Team<'a, W> {
         Team {
             lines: Vec::new(alloc),
             bell,
@@ -140,7 +136,7 @@ impl<'a, O: Order> Team<'a, O> {
     }
 
     /// A worker more.
-    pub fn add(&mut self, line: Line<'a, O>) -> Result<(), Fault> {
+    pub fn add(&mut self, line: Line<'a, W>) -> Result<(), Fault> {
         match self.lines.push(line) {
             Ok(()) => Ok(()),
             Err(_) => Err(Fault::Memory),
@@ -159,9 +155,9 @@ impl<'a, O: Order> Team<'a, O> {
 
     /// Gives an order to the worker with a number, or carries it out here where it is small or
     /// there is no such worker.
-    fn begin(&mut self, alloc: Global, order: O, number: usize) -> Begun<O::Answer> {
-        if !order.is_large() || number >= self.lines.len() {
-            return Begun::Done(order.carry_out(alloc));
+    fn begin(&mut self, alloc: Global, order: W::Order, number: usize) -> Begun<W::Answer> {
+        if !W::is_large(&order) || number >= self.lines.len() {
+            return Begun::Done(W::carry_out(alloc, order));
         }
         let looks = self.pace.looks();
         let line = &mut self.lines[number];
@@ -170,7 +166,7 @@ impl<'a, O: Order> Team<'a, O> {
                 line.bell.ring();
                 Begun::Given(number)
             }
-            Err(PushError::Full(errand)) => Begun::Done(errand.order.carry_out(alloc)),
+            Err(PushError::Full(errand)) => Begun::Done(W::carry_out(alloc, errand.order)),
         }
     }
 
@@ -178,9 +174,9 @@ impl<'a, O: Order> Team<'a, O> {
     fn answer<R: Wait>(
         &mut self,
         rt: &R,
-        begun: Begun<O::Answer>,
+        begun: Begun<W::Answer>,
         looks: u32,
-    ) -> Result<(O::Answer, bool), Fault> {
+    ) -> Result<(W::Answer, bool), Fault> {
         match begun {
             Begun::Done(Some(answer)) => Ok((answer, false)),
             Begun::Done(None) => Err(Fault::Memory),
@@ -206,7 +202,13 @@ impl<'a, O: Order> Team<'a, O> {
 
     /// Begins each order: it is given to the worker with its number, so that a worker has the same
     /// share each time; where there is none it is carried out here meanwhile.
-    fn begin_all(&mut self, alloc: Global, orders: Vec<O>) -> Result<Vec<Begun<O::Answer>>, Fault> {
+    fn begin_all(
+        &mut self,
+        alloc: Global,
+        orders: Vec<W::Order>,
+    ) -> Result<Vec<Begun<W::Answer>>, Fault>
+        ensures { IfOk result (λ v. length v.items ≡ length orders.items) }
+    {
         let mut begun = Vec::with_capacity(alloc, orders.len())?;
         for (number, order) in orders.into_iter().enumerate() {
             let one = self.begin(alloc, order, number);
@@ -222,10 +224,12 @@ impl<'a, O: Order> Team<'a, O> {
     fn answers<R: Wait>(
         &mut self,
         rt: &R,
-        begun: Vec<Begun<O::Answer>>,
+        begun: Vec<Begun<W::Answer>>,
         looks: u32,
-        answers: &mut Vec<O::Answer>,
-    ) -> Result<bool, Fault> {
+        answers: &mut Vec<W::Answer>,
+    ) -> Result<bool, Fault>
+        ensures { IfOk result (λ _. length answers.new.items ≡ length answers.old.items + length begun.items) }
+    {
         let mut late = Ok(false);
         for one in begun {
             match self.answer(rt, one, looks) {
@@ -249,9 +253,11 @@ impl<'a, O: Order> Team<'a, O> {
         &mut self,
         rt: &R,
         alloc: Global,
-        orders: Vec<O>,
+        orders: Vec<W::Order>,
         steps: usize,
-    ) -> Result<Vec<O::Answer>, Fault> {
+    ) -> Result<Vec<W::Answer>, Fault>
+        ensures { IfOk result (λ v. length v.items ≡ length orders.items) }
+    {
         let mut answers = Vec::with_capacity(alloc, orders.len())?;
         let begun = self.begin_all(alloc, orders)?;
         let is_late = self.answers(rt, begun, patience(steps), &mut answers)?;

@@ -1,4 +1,4 @@
-use Rattle.sim_run_session.proofs.team.run.carry_to_end.Given as goal
+use Rattle.sim_run_session.proofs.team.carry_to_end.Given as goal
 
 -- the design is that of the call
 abbrev pub ghosts-run_by : goal.ghosts-run_by

@@ -1,6 +1,6 @@
 //! Messages from one thread to another.
 
-use crate::team::bell::Bell;
+use crate::bell::Bell;
 use rtrb::Consumer;
 use std::hint::spin_loop;
 use std::sync::Wait;

@@ -10,11 +10,10 @@ use mir.Syntax.{Sym, Ty}
 use Rattle.std.proofs.Common.{ℕ, List, [], ◌∷◌}
 use Rattle.std.proofs.Crossing.{crosses}
 use Rattle.std.specs.contracts.alloc.Global as Global
-use Rattle.sim_run_session.specs.contracts.team.bell.Bell as Bell
-use Rattle.sim_run_session.specs.contracts.team.workers.Worker as Worker
-use Rattle.sim_run_session.proofs.team.bell.Bell.TheSendSync as bells
-use Rattle.sim_run_session.proofs.team.workers.Errand.TheSendSync as errands
-use Rattle.sim_run_session.proofs.team.workers.Worker.TheSendSync as workers
+use Rattle.sim_run_team.specs.contracts.bell.Bell as Bell
+use Rattle.sim_run_team.specs.contracts.workers.Worker as Worker
+use Rattle.sim_run_team.proofs.bell.Bell.TheSendSync as bells
+use Rattle.sim_run_team.proofs.workers.Worker.TheSendSync as workers
 
 -- the types of what a worker takes along: its ends, the handle, the allocator, its bell and that of the main thread
 abbrev pub baggage : RattleType → RattleType → NamedLft → NamedLft → NamedLft → List RattleType
@@ -41,5 +40,5 @@ worker_send i δ k ν W R ℓ ℓ₁ ℓ₂ w r =
     search (all, param_send, arg_send, recorded_send, struct_send)
 
 -- a worker's ends may go to another thread where orders and answers may
-pub ends_send : (O A : RattleType) → IsSend O → IsSend A → IsSend (Worker.the_row O A)
-ends_send O A o a = search (o, a, workers.the_send, errands.the_send, crosses, sendable) depth 30
+pub ends_send : (W O A : RattleType) → IsSend O → IsSend A → IsSend (Worker.the_row W O A)
+ends_send W O A o a = search (o, a, workers.the_send, crosses, sendable) depth 30
