@@ -18,7 +18,7 @@ use Rattle.std.specs.Prelude.{pos}
 -- ---- the command line
 
 -- an option with one value: its long name is its id
-abbrev valued : Text → Rule
+abbrev pub valued : Text → Rule
 valued id = record (new_rule id) { long = Some id; action = Some Set; value_names = 1 }
 
 -- `--top NAME`, which may not be left out

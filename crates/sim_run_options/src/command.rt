@@ -1,8 +1,9 @@
 //! The command line, as `clap` has it.
-ghost use Rattle.std.specs.Prelude.{◌≡◌, IfOk, false};
+ghost use Rattle.std.specs.Prelude.{◌≡◌, ◌∷◌, [], IfOk, Some, false};
 ghost use Rattle.clap.specs.Words.{rule_of, app_of};
-ghost use Rattle.sim_run_options.specs.Asks.{top_rule, stop_rule, limit_rule, workers_rule, program};
+ghost use Rattle.sim_run_options.specs.Asks.{top_rule, stop_rule, limit_rule, workers_rule, valued, program};
 
+use clap::builder::ValueParser;
 use clap::{Arg, ArgAction, Command, value_parser};
 use std::alloc::{AllocError, Global};
 
@@ -50,16 +51,42 @@ Example:
       5000000 0 s 1
       done 1 1";
 
+/// An option with one value: its name, and what help calls the value.
+fn valued_argument<'a>(alloc: Global, name: &'a str, value: &'a str) -> Arg<'a>
+    ensures rule { rule_of result ≡ valued name.now }
+    ensures local { result.global ≡ false }
+{
+    Arg::new(alloc, name)
+        .long(name)
+        .action(ArgAction::Set)
+        .value_name(value)
+}
+
+/// An option with one number: also how it is read, its default, and what it is.
+fn number_argument<'a>(
+    alloc: Global,
+    name: &'a str,
+    value: &'a str,
+    parser: ValueParser<'a>,
+    default: &'a str,
+    help: &'a str,
+) -> Arg<'a>
+    ensures rule { rule_of result ≡ record (valued name.now) { parser = Some parser.entry; defaults = default.now ∷ [] } }
+    ensures local { result.global ≡ false }
+{
+    valued_argument(alloc, name, value)
+        .value_parser(parser)
+        .default_value(default)
+        .help(help)
+}
+
 /// `--top NAME`, which has to be there.
 fn top_argument<'a>(alloc: Global) -> Arg<'a>
     ensures rule { rule_of result ≡ top_rule }
     ensures local { result.global ≡ false }
 {
-    Arg::new(alloc, "top")
-        .long("top")
-        .action(ArgAction::Set)
+    valued_argument(alloc, "top", "NAME")
         .required(true)
-        .value_name("NAME")
         .help("The entity at the top of the design, in any case")
 }
 
@@ -68,13 +95,9 @@ fn stop_argument<'a>(alloc: Global) -> Arg<'a>
     ensures rule { rule_of result ≡ stop_rule }
     ensures local { result.global ≡ false }
 {
-    Arg::new(alloc, "stop")
-        .long("stop")
-        .action(ArgAction::Set)
-        .value_parser(value_parser!(u64))
-        .default_value("4611686018427387903")
-        .value_name("FS")
-        .help("The last time that is simulated, in femtoseconds, at most the default")
+    let latest = "4611686018427387903";
+    let help = "The last time that is simulated, in femtoseconds, at most the default";
+    number_argument(alloc, "stop", "FS", value_parser!(u64), latest, help)
 }
 
 /// `--limit N`, by default 10,000.
@@ -82,13 +105,8 @@ fn limit_argument<'a>(alloc: Global) -> Arg<'a>
     ensures rule { rule_of result ≡ limit_rule }
     ensures local { result.global ≡ false }
 {
-    Arg::new(alloc, "limit")
-        .long("limit")
-        .action(ArgAction::Set)
-        .value_parser(value_parser!(u32))
-        .default_value("10000")
-        .value_name("N")
-        .help("The most simulation cycles, 1 to 1000000")
+    let help = "The most simulation cycles, 1 to 1000000";
+    number_argument(alloc, "limit", "N", value_parser!(u32), "10000", help)
 }
 
 /// `--workers N`, by default 1.
@@ -96,13 +114,8 @@ fn workers_argument<'a>(alloc: Global) -> Arg<'a>
     ensures rule { rule_of result ≡ workers_rule }
     ensures local { result.global ≡ false }
 {
-    Arg::new(alloc, "workers")
-        .long("workers")
-        .action(ArgAction::Set)
-        .value_parser(value_parser!(usize))
-        .default_value("1")
-        .value_name("N")
-        .help("How many threads execute processes, 1 to 16; four halve a run of long bodies")
+    let help = "How many threads execute processes, 1 to 16; four halve a run of long bodies";
+    number_argument(alloc, "workers", "N", value_parser!(usize), "1", help)
 }
 
 /// The command line of the program, whose words come without its name.
