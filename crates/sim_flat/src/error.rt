@@ -86,7 +86,7 @@ impl FlatError {
     }
 }
 
-// (written out: what is derived of so many variants takes four times as long to prove)
+// (written out: what is derived of so many variants takes three times as long to prove)
 impl Display for FlatError {
     fn fmt<W: fmt::Write>(&self, f: &mut fmt::Formatter<W>) -> fmt::Result {
         match self.word() {

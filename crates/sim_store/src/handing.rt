@@ -67,11 +67,7 @@ pub fn orders_of<J: Naming>(
 pub fn lengths_of<J: Naming>(alloc: Global, orders: &[Order<J>]) -> Result<Vec<usize>, AllocError>
     ensures { IfOk result (λ v. v.items ≡ spec.lengths orders.now) }
 {
-    let mut lengths = Vec::with_capacity(alloc, orders.len())?;
-    for order in orders {
-        lengths.push(order.len())?;
-    }
-    Ok(lengths)
+    orders.iter().map(|order| order.len()).collect(alloc)
 }
 
 /// Whether an answer is of the phase that is read here, begins with this process, and is of so many.

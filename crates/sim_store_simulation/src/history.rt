@@ -12,11 +12,10 @@ use std::alloc::{AllocError, Global};
 fn changes(alloc: Global, changes: &[(u32, Logic)]) -> Result<Vec<(usize, Logic)>, AllocError>
     ensures { IfOk result (λ v. v.items ≡ changes.now) }
 {
-    let mut copied = Vec::with_capacity(alloc, changes.len())?;
-    for (net, value) in changes {
-        copied.push((*net as usize, *value))?;
-    }
-    Ok(copied)
+    changes
+        .iter()
+        .map(|(net, value)| (*net as usize, *value))
+        .collect(alloc)
 }
 
 /// The record with a number.

@@ -123,11 +123,10 @@ pub fn views_at(
 ) -> Result<Vec<NetView>, AllocError>
     ensures { IfOk result (λ v. v.items ≡ map (net_at (views_of values.now last_values.now)) numbers.now) }
 {
-    let mut views = Vec::with_capacity(alloc, numbers.len())?;
-    for number in numbers {
-        views.push(view_at(values, last_values, *number))?;
-    }
-    Ok(views)
+    numbers
+        .iter()
+        .map(|number| view_at(values, last_values, *number))
+        .collect(alloc)
 }
 
 /// How the nets with these numbers are seen, by place.

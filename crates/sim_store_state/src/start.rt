@@ -94,11 +94,7 @@ fn first_owned(
 fn driving_values(alloc: Global, drivers: &[Driver]) -> Result<Vec<Logic>, AllocError>
     ensures { IfOk result (λ v. v.items ≡ driver_values drivers.now) }
 {
-    let mut values = Vec::with_capacity(alloc, drivers.len())?;
-    for driver in drivers {
-        values.push(driver.value())?;
-    }
-    Ok(values)
+    drivers.iter().map(|driver| driver.value()).collect(alloc)
 }
 
 /// The value of each net, from the values of the drivers.
