@@ -1,3 +1,2 @@
 mod Places
 mod Texts
-mod Parts

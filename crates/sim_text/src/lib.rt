@@ -1,10 +1,7 @@
 //! The tokens and the syntax tree of a text.
 #![tactic(auto)]
 
-mod concurrents;
-pub mod declarations;
 mod text;
-mod units;
 
 pub use sim_text_tokens::{Kind, TextError, Token, tokens};
 pub use sim_text_tree as tree;

@@ -8,9 +8,8 @@ ghost use Rattle.sim_text_tree.specs.Grammar.{IsFile};
 ghost use Rattle.sim_text.specs.Faults.{place_of, fault_of, IsFaultOf};
 ghost use Rattle.sim_text.specs.Texts.{HasTokens, IsText, IsFault};
 
-use crate::units::file;
 use sim_text_grammar::ParseError;
-use sim_text_reader::Cursor;
+use sim_text_reader::{Cursor, file};
 use sim_text_tokens::{TextError, Token, tokens};
 use sim_text_tree::DesignFile;
 use std::alloc::Global;

@@ -1,2 +1,3 @@
 mod Parts
 mod StatementParts
+mod UnitParts
