@@ -21,23 +21,22 @@ fn words(rt: &HostRuntime, alloc: Global) -> io::Result<Vec<String>> {
 }
 
 /// Hands the words and the standard streams to `session`, whose status is the exit status.
-fn main(rt: HostRuntime) -> io::Result<ExitCode> {
+fn main(rt: HostRuntime) -> ExitCode {
     let alloc = rt.alloc();
     let mut err = rt.stderr();
     let words = match words(&rt, alloc) {
         Ok(words) => words,
-        Err(fault) if fault.kind() == io::ErrorKind::OutOfMemory => {
-            let _reported = err.write_all(b"vsim: Memory\n");
-            return Ok(ExitCode::from(4));
-        }
         Err(fault) if fault.kind() == io::ErrorKind::InvalidData => {
             let _reported = err.write_all(NO_TEXT);
-            return Ok(ExitCode::from(2));
+            return ExitCode::from(2);
         }
-        Err(fault) => return Err(fault),
+        // There is no other fault than this.
+        Err(_out_of_memory) => {
+            let _reported = err.write_all(b"vsim: Memory\n");
+            return ExitCode::from(4);
+        }
     };
     let mut input = rt.reader();
     let mut out = rt.stdout();
-    let status = session(&rt, alloc, words, &mut input, &mut out, &mut err);
-    Ok(ExitCode::from(status))
+    ExitCode::from(session(&rt, alloc, words, &mut input, &mut out, &mut err))
 }
