@@ -10,7 +10,9 @@ pub use runs::{run, run_in};
 pub use sim_flat::FlatError;
 pub use sim_flat_design::Design;
 pub use sim_run_options::{CliFault, Options, read_options};
-pub use sim_run_session::{RunError, elaborate, session, simulate};
+pub use sim_run_session::{
+    Hints, RunError, elaborate, session, session_with_hints, simulate, simulate_with_hints,
+};
 pub use sim_run_workers::{Gate, Open};
 pub use sim_store::{Record, WaveStore};
 pub use sim_text::TextError;

@@ -1,31 +1,20 @@
 //! A whole run of a design by threads that share its store under a lock.
-ghost use Rattle.std.specs.Prelude.{◌≡◌, ◌≢◌, ◌≤◌, ◌⊎◌, ◌↔◌, IsTrue, None, IfOk, IfErr, IfSome, MatchResult};
+ghost use Rattle.std.specs.Prelude.{◌≡◌, ◌≢◌, ◌≤◌, ◌⊎◌, ◌↔◌, IsTrue, None, Some, IfOk, IfErr, MatchOption, MatchResult, false};
 ghost use Rattle.sim_logic.specs.Time.{largest_time};
 ghost use Rattle.sim_standard.specs.Behaviour.{behaviour_of};
 ghost use Rattle.sim_run_session.specs.declared.error.RunError.TheVariants as refusal;
 ghost use Rattle.sim_run_session.specs.Run.{Finishes, IsRefusalAlone, IsRunOf, history_of};
-ghost use Rattle.sim_run.specs.Faults as faults;
 ghost use Rattle.sim_run.specs.Run.{IsAnswer, IsRunRefusal};
 
 use crate::finished::Finished;
 use sim_flat_design::Design;
 use sim_run_options::Options;
-use sim_run_session::{RunError, begun_run, finished_run, run_without_lock};
-use sim_run_workers::{Fault, Gate, run_to_end};
+use sim_run_session::{Hints, RunError, begun_run, finished_run, run_without_lock};
+use sim_run_workers::{Carried, Gate, run_to_end};
 use sim_store::{Step, WaveStore};
 use std::alloc::Global;
 use std::sync::{Mutex, Wait};
 use std::thread::Threads;
-
-/// What a run answers where its workers gave up.
-fn refusal_of(fault: Fault) -> RunError
-    ensures { result ≡ faults.refusal_of fault }
-{
-    match fault {
-        Fault::Stranger => RunError::Stranger,
-        Fault::Memory => RunError::Memory,
-    }
-}
 
 /// Whether a store is that of the run of a design with these options.
 fn is_run_of(run: &WaveStore, design: &Design, options: &Options) -> bool
@@ -43,7 +32,7 @@ fn is_run_of(run: &WaveStore, design: &Design, options: &Options) -> bool
 /// A store that came out of a lock, if it is that of this run and has ended.
 fn own_run(run: WaveStore, design: &Design, options: &Options) -> Result<WaveStore, RunError>
     ensures ok { IfOk result (λ r. IsRunOf design.now options.now r × (r.ended ≢ None)) }
-    ensures err { IfErr result (λ e. e ≡ refusal.Stranger) }
+    ensures err { IfErr result (λ e. (e ≡ refusal.Stranger) × (IsRunOf design.now options.now run → run.ended ≡ None)) }
 {
     if !is_run_of(&run, design, options) {
         return Err(RunError::Stranger);
@@ -66,9 +55,9 @@ fn carried_on<R: Threads + Wait + Sync, G: Gate + Sync>(
     ensures { IfErr result (λ e. (e ≡ refusal.Stranger) ⊎ (e ≡ refusal.Memory)) }
 {
     let store = Mutex::new(run);
-    match run_to_end(rt, alloc, &store, workers, gate) {
-        Ok(()) => Ok(store.into_inner()),
-        Err(fault) => Err(refusal_of(fault)),
+    match run_to_end(rt, alloc, &store, workers, gate)? {
+        Carried::ToEnd => Ok(store.into_inner()),
+        Carried::ToStranger => Err(RunError::Stranger),
     }
 }
 
@@ -109,15 +98,17 @@ pub fn run_by_workers<R: Threads + Wait + Sync, G: Gate + Sync>(
 }
 
 /// The history of a store under a lock, if its run has ended; none where it goes on. It is compared
-/// with the design and the options first.
+/// with the design and the options first: `Stranger` comes where it is not of this run, and there
+/// alone.
 fn answer_of(
     alloc: Global,
     run: &WaveStore,
     design: &Design,
     options: &Options,
 ) -> Result<Option<Finished>, RunError>
-    ensures { MatchResult result (λ found. IfSome found (λ history. Finishes (behaviour_of design.now) options.now history))
+    ensures answer { MatchResult result (λ found. MatchOption found (run.now.ended ≡ None) (λ history. Finishes (behaviour_of design.now) options.now history))
         (λ e. (e ≢ refusal.Options) × IsRunRefusal (behaviour_of design.now) options.now e) }
+    ensures stranger { IfErr result (λ e. (e ≡ refusal.Stranger) ↔ (IsRunOf design.now options.now run.now → ⊥)) }
 {
     if !is_run_of(run, design, options) {
         return Err(RunError::Stranger);
@@ -149,7 +140,7 @@ fn run_either<R: Threads + Wait + Sync, G: Gate + Sync>(
     ensures refused { IfErr result (λ e. (e ≢ refusal.Options) × IsRunRefusal (behaviour_of design.now) options.now e) }
 {
     if !gate.watches() {
-        return run_without_lock(rt, alloc, design, options);
+        return run_without_lock(rt, alloc, design, options, Hints::measured());
     }
     let copy = design.try_copy()?;
     run_by_workers(rt, alloc, copy, options, gate)
@@ -202,8 +193,8 @@ pub fn run_in<R: Threads + Wait + Sync, G: Gate + Sync>(
         return Err(RunError::Stranger);
     }
     for _ in rt.forever() {
-        if let Err(fault) = run_to_end(rt, alloc, store, options.workers, gate) {
-            return Err(refusal_of(fault));
+        if let Carried::ToStranger = run_to_end(rt, alloc, store, options.workers, gate)? {
+            return Err(RunError::Stranger);
         }
         let found = answer_of(alloc, &store.lock(rt), design, options)?;
         if let Some(finished) = found {

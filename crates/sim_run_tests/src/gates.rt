@@ -100,3 +100,39 @@ impl Gate for Meeting {
         }
     }
 }
+
+/// Holds each process until so many are about to be executed.
+#[derive(Drop)]
+pub struct Crowd {
+    awaited: u64,
+    come: Counting,
+    is_missed: AtomicU64,
+}
+
+impl Crowd {
+    pub fn new(awaited: u64) -> Crowd {
+        Crowd {
+            awaited,
+            come: Counting::new(),
+            is_missed: AtomicU64::new(0),
+        }
+    }
+
+    /// Whether all came while the first was held.
+    pub fn is_met(&self) -> bool {
+        self.come.calls() >= self.awaited && self.is_missed.load(Ordering::SeqCst) == 0
+    }
+}
+
+impl Gate for Crowd {
+    fn before(&self, process: usize) {
+        self.come.before(process);
+        for _turn in 0..MOST_TURNS {
+            if self.come.calls() >= self.awaited {
+                return;
+            }
+            thread::yield_now();
+        }
+        self.is_missed.store(1, Ordering::SeqCst);
+    }
+}

@@ -12,6 +12,8 @@ mod gates;
 #[cfg(test)]
 mod listings;
 #[cfg(test)]
+mod locked;
+#[cfg(test)]
 mod meetings;
 #[cfg(test)]
 mod programs;

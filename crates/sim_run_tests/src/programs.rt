@@ -1,6 +1,6 @@
 //! The program, over readers and writers in memory.
 
-use crate::streams::{Counting, Dripping, Endless, Failing};
+use crate::streams::{Counting, Dripping, Endless, Failing, Trickling};
 use sim_run::session;
 use std::alloc::{AllocError, Global};
 use std::test::Fail;
@@ -76,6 +76,29 @@ fn refusals_have_their_status_and_line(rt: HostRuntime) -> Result<(), Fail> {
     assert_eq!(rt; status, 4);
     assert!(rt; out.is_empty());
     assert_eq!(rt; err.as_slice(), b"vsim: Read\n".as_slice());
+    Ok(())
+}
+
+/// A text that is too long is read up to a byte more than it may have, however few come at once: each
+/// read gives one at the least, so the limit of reads is not met before.
+#[test]
+fn a_text_that_comes_byte_by_byte_is_read_to_its_limit(rt: HostRuntime) -> Result<(), Fail> {
+    let alloc = rt.alloc();
+    let mut input = Trickling { calls: 0 };
+    let mut out = Vec::new(alloc);
+    let mut err = Vec::new(alloc);
+    let status = session(
+        &rt,
+        alloc,
+        words(alloc, "--top t")?,
+        &mut input,
+        &mut out,
+        &mut err,
+    );
+    assert_eq!(rt; status, 1);
+    assert_eq!(rt; input.calls, 1_048_577);
+    assert!(rt; out.is_empty());
+    assert_eq!(rt; err.as_slice(), b"vsim: TooLong\n".as_slice());
     Ok(())
 }
 

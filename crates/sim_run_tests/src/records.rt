@@ -23,6 +23,19 @@ fn are_same(changes: &[(usize, Logic)], others: &[(usize, Logic)]) -> bool {
     changes.len() == others.len()
 }
 
+/// Whether two lists of records are the same.
+pub fn are_equal(records: &[Record], others: &[Record]) -> bool {
+    for (record, other) in records.iter().zip(others) {
+        if record.time != other.time
+            || record.delta != other.delta
+            || !are_same(record.changes.as_slice(), other.changes.as_slice())
+        {
+            return false;
+        }
+    }
+    records.len() == others.len()
+}
+
 /// Whether these are the first records of the toggling flip-flop.
 pub fn begin_toggling(records: &[Record]) -> bool {
     for (record, (time, delta, changes)) in records.iter().zip(&TOGGLED) {

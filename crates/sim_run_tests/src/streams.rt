@@ -78,6 +78,25 @@ impl Read for Endless {
     }
 }
 
+/// A reader that gives blanks without an end, one a call, and counts the calls.
+#[derive(Drop)]
+pub struct Trickling {
+    pub calls: usize,
+}
+
+impl Read for Trickling {
+    fn read(&mut self, buf: &mut [u8]) -> io::Result<usize> {
+        self.calls = self.calls.saturating_add(1);
+        match buf.first_mut() {
+            Some(first) => {
+                *first = b' ';
+                Ok(1)
+            }
+            None => Ok(0),
+        }
+    }
+}
+
 /// A reader that counts its calls, and is at its end.
 #[derive(Drop)]
 pub struct Counting {

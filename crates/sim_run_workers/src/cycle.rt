@@ -1,9 +1,10 @@
 //! The workers of one cycle.
 
-ghost use Rattle.std.specs.Prelude.{◌≡◌, ◌≤◌, vec_len};
+ghost use Rattle.std.specs.Prelude.{◌≡◌, ◌≤◌, ◌↔◌, ◌⊎◌, Ok, Err, vec_len};
 ghost use Rattle.std.specs.Thread.{IsSync};
 ghost use Rattle.sim_run_claims.specs.Seats.{IsOf, balance};
 ghost use Rattle.sim_flat_design.specs.Designs.{most};
+ghost use Rattle.sim_run_workers.specs.declared.worker.Fault.TheVariants as fault;
 
 use crate::gate::Gate;
 use crate::round::Round;
@@ -15,7 +16,10 @@ use std::sync::{Mutex, Wait};
 use std::thread::{Threads, join};
 
 /// What two workers came to: a stranger goes before want of memory.
-fn both(one: Result<(), Fault>, other: Result<(), Fault>) -> Result<(), Fault> {
+fn both(one: Result<(), Fault>, other: Result<(), Fault>) -> Result<(), Fault>
+    ensures stranger { (result ≡ Err fault.Stranger) ↔ ((one ≡ Err fault.Stranger) ⊎ (other ≡ Err fault.Stranger)) }
+    ensures executed { (result ≡ Ok tt) ↔ ((one ≡ Ok tt) × (other ≡ Ok tt)) }
+{
     match (one, other) {
         (Ok(()), fault) => fault,
         (Err(Fault::Stranger), _) | (_, Err(Fault::Stranger)) => Err(Fault::Stranger),

@@ -9,5 +9,4 @@ mod run;
 mod worker;
 
 pub use gate::{Gate, Open};
-pub use run::run_to_end;
-pub use worker::Fault;
+pub use run::{Carried, run_to_end};

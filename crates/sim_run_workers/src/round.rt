@@ -1,6 +1,6 @@
 //! The processes of one cycle, to be drawn.
 
-ghost use Rattle.std.specs.Prelude.{◌≤◌, vec_len};
+ghost use Rattle.std.specs.Prelude.{◌≡◌, vec_len};
 ghost use Rattle.sim_run_claims.specs.Seats.{count_of};
 
 use sim_run_claims::{ClaimSeat, Claims};
@@ -11,17 +11,19 @@ use std::alloc::{AllocError, Global};
 pub struct Round {
     due: Vec<usize>,
     claims: Claims,
-    ghost places: { count_of claims ≤ vec_len due },
+    ghost places: { count_of claims ≡ vec_len due },
 }
 
 impl Round {
-    ghost use Rattle.std.specs.Prelude.{◌≡◌, ◌≤◌, ◌+◌, vec_len, IfOk, OnErr};
-    ghost use Rattle.sim_run_claims.specs.Seats.{IsOf, balance};
+    ghost use Rattle.std.specs.Prelude.{◌≡◌, ◌<◌, ◌≤◌, ◌+◌, vec_len, None, IfOk, OnErr};
+    ghost use Rattle.sim_run_claims.specs.Seats.{IsOf, balance, seen};
     ghost use Rattle.sim_flat_design.specs.Designs.{most};
+    ghost use Rattle.sim_run_workers.specs.Workers.{DrawsProcess};
 
     /// The round of these processes, and its first seat, which has the whole allowance.
     pub fn new(alloc: Global, due: Vec<usize>) -> Result<(Round, ClaimSeat), AllocError>
         requires { vec_len due ≤ most }
+        ensures due { IfOk result (λ made. made.0.due ≡ due) }
         ensures of { IfOk result (λ made. IsOf made.0.claims made.1) }
         ensures whole { IfOk result (λ made. balance made.1 ≡ 64) }
     {
@@ -29,10 +31,13 @@ impl Round {
         Ok((Round { due, claims }, seat))
     }
 
-    /// The number of a process that no other worker draws; none where all are drawn.
+    /// The number of a process that no other worker draws: the one at the place that the seat draws
+    /// among those that are due. None where all are drawn, or the seat has no allowance.
     pub fn draw(&self, seat: &mut ClaimSeat) -> Option<usize>
         requires { IsOf self.now.claims seat.old }
         ensures of { IsOf self.now.claims seat.new }
+        ensures drawn { 0 < (seen seat.old).allowance → DrawsProcess self.now.due.items (seen seat.old) result (seen seat.new) }
+        ensures no_allowance { (seen seat.old).allowance ≡ 0 → (result ≡ None) × (seen seat.new ≡ seen seat.old) }
         ensures balance { balance seat.new ≡ balance seat.old }
     {
         let place = self.claims.draw(seat)?;

@@ -1,34 +1,44 @@
 //! From where a store stands to the end of its run.
 
-ghost use Rattle.std.specs.Prelude.{◌≤◌, vec_len, IfOk, IfSome};
+ghost use Rattle.std.specs.Prelude.{◌≡◌, ◌≢◌, ◌≤◌, None, vec_len, IfOk, MatchOption};
 ghost use Rattle.sim_flat_design.specs.Designs.{most};
+ghost use Rattle.sim_store.specs.WaveStore as store;
 
 use crate::cycle::execute_all;
 use crate::gate::Gate;
 use crate::worker::Fault;
 use sim_store::{StoreError, WaveStore};
-use std::alloc::Global;
+use std::alloc::{AllocError, Global};
 use std::sync::{Mutex, Wait};
 use std::thread::Threads;
 
-/// A copy of who is due; none where the run has ended.
-fn due_of(alloc: Global, store: &WaveStore) -> Result<Option<Vec<usize>>, Fault>
-    ensures { IfOk result (λ found. IfSome found (λ due. vec_len due ≤ most)) }
+/// How far workers have carried a run on.
+#[derive(Clone, Copy)]
+pub enum Carried {
+    /// To its end.
+    ToEnd,
+    /// Up to a result that did not fit: the store under the lock is not the one that its job was
+    /// taken from.
+    ToStranger,
+}
+
+/// A copy of the processes that are due; none where the run has ended.
+fn due_of(alloc: Global, run: &WaveStore) -> Result<Option<Vec<usize>>, AllocError>
+    ensures { IfOk result (λ found. MatchOption found (run.now.ended ≢ None) (λ due. (run.now.ended ≡ None) × (due.items ≡ store.due_of run.now)
+        × (vec_len due ≤ most))) }
 {
-    if store.ended().is_some() {
+    if run.ended().is_some() {
         return Ok(None);
     }
-    match Vec::from_slice(alloc, store.due()) {
-        Ok(due) => Ok(Some(due)),
-        Err(_error) => Err(Fault::Memory),
-    }
+    let due = Vec::from_slice(alloc, run.due())?;
+    Ok(Some(due))
 }
 
 /// Goes on to the next cycle. Where others have gone on meanwhile, or have not executed all, there
 /// is nothing to do but to look again.
-fn advance<R: Wait>(rt: &R, alloc: Global, store: &Mutex<WaveStore>) -> Result<(), Fault> {
+fn advance<R: Wait>(rt: &R, alloc: Global, store: &Mutex<WaveStore>) -> Result<(), AllocError> {
     match store.lock(rt).advance(alloc) {
-        Err(StoreError::Memory) => Err(Fault::Memory),
+        Err(StoreError::Memory) => Err(AllocError),
         _ => Ok(()),
     }
 }
@@ -36,21 +46,24 @@ fn advance<R: Wait>(rt: &R, alloc: Global, store: &Mutex<WaveStore>) -> Result<(
 /// Carries a run on from where its store stands, cycle by cycle, until it has ended. In each cycle
 /// the processes that are due are executed by at most so many threads, none under the lock; then
 /// the calling thread goes on. The lock is free in between, so that others may look, or carry the
-/// run on as well.
+/// run on as well. An error is want of memory, once all workers are joined.
 pub fn run_to_end<R: Threads + Wait + Sync, G: Gate + Sync>(
     rt: &R,
     alloc: Global,
     store: &Mutex<WaveStore>,
     workers: usize,
     gate: &G,
-) -> Result<(), Fault> {
+) -> Result<Carried, AllocError> {
     for _ in rt.forever() {
         let found = due_of(alloc, &store.lock(rt))?;
         let Some(due) = found else {
             break;
         };
-        execute_all(rt, alloc, store, gate, due, workers)?;
-        advance(rt, alloc, store)?;
+        match execute_all(rt, alloc, store, gate, due, workers) {
+            Ok(()) => advance(rt, alloc, store)?,
+            Err(Fault::Stranger) => return Ok(Carried::ToStranger),
+            Err(Fault::Memory) => return Err(AllocError),
+        }
     }
-    Ok(())
+    Ok(Carried::ToEnd)
 }

@@ -2,6 +2,7 @@
 
 ghost use Rattle.std.specs.Prelude.{◌≡◌};
 ghost use Rattle.sim_run_claims.specs.Seats.{IsOf, balance};
+ghost use Rattle.sim_run_workers.specs.Workers.{meaning_of};
 
 use crate::gate::Gate;
 use crate::round::Round;
@@ -22,7 +23,9 @@ pub enum Fault {
 
 /// What a refusal of the store means to a worker. Where others have executed the process, or have
 /// carried the run on, there is nothing left to do.
-fn fault_of(refusal: StoreError) -> Result<(), Fault> {
+fn fault_of(refusal: StoreError) -> Result<(), Fault>
+    ensures { result ≡ meaning_of refusal }
+{
     match refusal {
         StoreError::Foreign => Err(Fault::Stranger),
         StoreError::Memory => Err(Fault::Memory),

@@ -131,10 +131,12 @@ due_of w = go w.ended
     go None = due_numbers w.simulation
     go (Some s) = []
 
--- Whoever has a store knows: it has had no more cycles than the limit, none later than the stop time, and the standard's cycle gives a state after as many.
+-- Whoever has a store knows: it has had no more cycles than the limit, none later than the stop time, the run was over after none before the last of them,
+-- and the standard's cycle gives a state after as many.
 pub record IsWithin (w : WaveStore) : Type 0 where
   pub cycles : w.simulation.cycles ≤ w.limit
   pub time : (reached w.simulation).time ≤ w.stop
+  pub going : (m : ℕ) → m < w.simulation.cycles → GoesOn (next_in w.simulation.design m) w.stop
   pub there : standard w.simulation.design w.simulation.cycles ≡ Some (updated_last w.simulation)
 
 -- how far it has come

@@ -15,10 +15,6 @@ use std::alloc::{AllocError, Global};
 use std::marker::{Model, PhantomData};
 use std::sync::Arc;
 
-/// So many processes have to be due in a share, or else handing it out takes longer than executing
-/// them here.
-const WORTH: usize = 16;
-
 /// What the processes of a range own as a phase begins, with the number of the first of them, and
 /// what they read. Contracts see the number.
 pub struct Order<J: Naming> {
@@ -143,13 +139,13 @@ impl<J: Naming> Order<J> {
         self.share.len()
     }
 
-    /// Whether so many processes are due that it is worth handing out.
-    pub fn is_worthwhile(&self) -> bool {
+    /// Whether so many of these processes are due that it is worth handing out.
+    pub fn is_worthwhile(&self, least: usize) -> bool {
         let front = &*self.front;
         let _count = front.count();
         let to = self.from + self.share.len();
         let mut next = self.from;
-        for _turn in 0..WORTH {
+        for _turn in 0..least {
             match front.next(next, to) {
                 None => return false,
                 Some(number) => next = number + 1,
