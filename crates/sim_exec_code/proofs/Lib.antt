@@ -17,3 +17,5 @@ pub mod InARow
 pub mod ExpressionsFit
 pub mod BodiesFit
 pub mod StepsFound
+mod Needed
+mod TimesRise

@@ -4,3 +4,4 @@ pub mod Frames
 pub mod Codes
 pub mod Counts
 pub mod Fitting
+pub mod Needs

@@ -1,5 +1,6 @@
 //! Designs and processes that are the same, and that differ in one thing.
 
+use crate::readers::OPEN;
 use crate::texts::flat;
 use sim_flat_design::{Design, Process};
 use std::alloc::{AllocError, Global};
@@ -158,4 +159,15 @@ fn are_copied(alloc: Global, text: &str) -> Option<bool> {
 #[test]
 fn copies_are_the_same(rt: HostRuntime) {
     assert_eq!(rt; are_copied(rt.alloc(), TEXT), Some(true));
+}
+
+/// Whether a text has a design, and its copy is the same.
+fn is_copied(alloc: Global, text: &str) -> Option<bool> {
+    let design = flat(alloc, text)?;
+    Some(design_is_copied(&design))
+}
+
+#[test]
+fn an_open_port_is_copied(rt: HostRuntime) {
+    assert_eq!(rt; is_copied(rt.alloc(), OPEN), Some(true));
 }

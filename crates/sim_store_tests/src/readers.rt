@@ -7,7 +7,7 @@ use std::alloc::Global;
 use std::test::Fail;
 
 /// An instance with a constant and an open port.
-const OPEN: &str =
+pub const OPEN: &str =
     "entity t is end;architecture a of t is begin u:entity work.l port map(i=>'1',o=>open); end;\
 entity l is port(i:in std_logic;o:out std_logic);end;architecture a of l is begin o<=i;end;";
 

@@ -77,7 +77,14 @@ static SCRIPTS: [Script<'_>; 15] = [
         ],
         ";Postponed;none;done;done;PostponedDelta;PostponedDelta;3 1000000+0,1;;",
     ),
-    (TOGGLE, LATEST, 10, 2, &[Run(0), Run(2)], "NotDue;NotDue;"),
+    (
+        TOGGLE,
+        LATEST,
+        10,
+        2,
+        &[Due, Run(0), Run(2)],
+        ";NotDue;NotDue;",
+    ),
     (
         EMPTY,
         LATEST,

@@ -1,0 +1,93 @@
+//! That the times of all waveforms of statements rise (IEEE 1076-2008, 10.5.2.1). A `Waveform` keeps
+//! it of its own; these functions only go over all of them, and so hand it on.
+
+ghost use Rattle.std.specs.Prelude.{◌≡◌, true, map};
+ghost use Rattle.sim_flat_design.specs.Bodies.{all};
+ghost use Rattle.sim_exec_code.specs.Bodies.{rises};
+ghost use Rattle.sim_exec_code.specs.Fitting as spec;
+
+use sim_flat_design::statement::{Branch, ConditionalWaveform, SignalAssignment, Statement};
+use sim_flat_design::waveform::Waveform;
+
+/// Of a waveform.
+#[tactic(auto, using(crate::proofs::TimesRise::waveform_rises))]
+fn waveform_rises(waveform: &Waveform)
+    ensures { rises waveform.now ≡ true }
+{
+    let _elements = waveform.elements();
+}
+
+/// Of waveforms with conditions.
+fn conditionals_rise(conditionals: &[ConditionalWaveform])
+    ensures { all (map spec.conditional_rises conditionals.now) ≡ true }
+{
+    for conditional in conditionals {
+        waveform_rises(&conditional.waveform);
+    }
+}
+
+/// Of the waveform without a condition, if there is one.
+fn last_rises(last: &Option<Waveform>)
+    ensures { spec.last_rises last.now ≡ true }
+{
+    if let Some(last) = last {
+        waveform_rises(last);
+    }
+}
+
+/// Of a signal assignment.
+#[tactic(auto, using(crate::proofs::TimesRise::assignment_is))]
+fn assignment_rises(assignment: &SignalAssignment)
+    ensures { spec.assignment_rises assignment.now ≡ true }
+{
+    conditionals_rise(assignment.conditional.as_slice());
+    last_rises(&assignment.otherwise);
+}
+
+/// Of a statement.
+#[cycle(rising)]
+#[tactic(auto, using(crate::proofs::TimesRise::statements_rise))]
+fn statement_rises(statement: &Statement)
+    ensures { spec.statement_rises statement.now ≡ true }
+{
+    match statement {
+        Statement::Signal(own) => assignment_rises(own),
+        Statement::If {
+            branches,
+            otherwise,
+        } => {
+            branches_rise(branches.as_slice());
+            all_rise(otherwise.as_slice());
+        }
+        Statement::LogicVariable { .. } | Statement::BooleanVariable { .. } | Statement::Null => {}
+    }
+}
+
+/// Of branches.
+#[cycle(rising)]
+fn branches_rise(branches: &[Branch])
+    ensures { all (map spec.branch_rises branches.now) ≡ true }
+{
+    for branch in branches {
+        branch_rises(branch);
+    }
+}
+
+/// Of a branch.
+#[cycle(rising)]
+fn branch_rises(branch: &Branch)
+    ensures { spec.branch_rises branch.now ≡ true }
+{
+    all_rise(branch.statements.as_slice());
+}
+
+/// Of statements, one after another.
+#[cycle(rising)]
+#[tactic(auto, unfolding(crate::specs::Fitting::waveforms_rise))]
+pub fn all_rise(statements: &[Statement])
+    ensures { spec.waveforms_rise statements.now ≡ true }
+{
+    for statement in statements {
+        statement_rises(statement);
+    }
+}

@@ -1,0 +1,90 @@
+//! The codes of processes.
+
+use crate::texts::{CHOICE, EXCHANGE, PULSES, TOGGLE, flat};
+use sim_exec_code::{Code, Codes};
+use sim_flat_design::{Design, Process};
+use std::alloc::Global;
+
+/// How many operations the code of a process has.
+fn operations_of(alloc: Global, process: &Process) -> Option<usize> {
+    match Code::of(alloc, process) {
+        Ok(code) => Some(code.ops()),
+        Err(_refused) => None,
+    }
+}
+
+/// How many operations the code of the process with a number has.
+fn operations_at(alloc: Global, text: &str, number: usize) -> Option<usize> {
+    let design = flat(alloc, text)?;
+    operations_of(alloc, design.processes().get(number)?)
+}
+
+/// Texts, the numbers of processes, and how many expressions stand in their bodies: values of
+/// elements, values that variables are assigned, and conditions.
+static EXPRESSIONS: [(&str, usize, usize); 7] = [
+    (TOGGLE, 0, 1),
+    (TOGGLE, 1, 3),
+    (EXCHANGE, 1, 2),
+    (CHOICE, 1, 3),
+    (PULSES, 1, 3),
+    (PULSES, 2, 1),
+    (PULSES, 3, 2),
+];
+
+/// The place of the first process whose code has fewer operations than its body has expressions.
+fn first_with_fewer(alloc: Global) -> Option<usize> {
+    for (place, row) in EXPRESSIONS.iter().enumerate() {
+        match operations_at(alloc, row.0, row.1) {
+            Some(operations) if row.2 <= operations => {}
+            _ => return Some(place),
+        }
+    }
+    None
+}
+
+#[test]
+fn a_code_has_an_operation_for_each_expression(rt: HostRuntime) {
+    assert_eq!(rt; first_with_fewer(rt.alloc()), None);
+}
+
+/// Whether these are the nets that are gathered for the processes, and for one more.
+fn are_gathered(codes: &Codes, nets: &[&[usize]]) -> bool {
+    for (number, row) in nets.iter().enumerate() {
+        if codes.nets(number) != *row {
+            return false;
+        }
+    }
+    true
+}
+
+/// Whether there are codes of the processes of a design, with these nets.
+fn are_coded(alloc: Global, design: &Design, nets: &[&[usize]]) -> bool {
+    match Codes::of(alloc, design.processes()) {
+        Ok(codes) => are_gathered(&codes, nets),
+        Err(_refused) => false,
+    }
+}
+
+/// Texts, and the nets that are gathered for each of their processes, and for one more: that of the
+/// edge that guards the whole body, and those that are read as values.
+static NETS: [(&str, &[&[usize]]); 3] = [
+    (TOGGLE, &[&[0], &[0], &[]]),
+    (EXCHANGE, &[&[], &[0, 2], &[0, 1], &[]]),
+    (CHOICE, &[&[], &[0], &[]]),
+];
+
+/// The place of the first text whose codes gather other nets.
+fn first_other(alloc: Global) -> Option<usize> {
+    for (place, row) in NETS.iter().enumerate() {
+        match flat(alloc, row.0) {
+            Some(design) if are_coded(alloc, &design, row.1) => {}
+            _ => return Some(place),
+        }
+    }
+    None
+}
+
+#[test]
+fn codes_gather_what_bodies_read(rt: HostRuntime) {
+    assert_eq!(rt; first_other(rt.alloc()), None);
+}
