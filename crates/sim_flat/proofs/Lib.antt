@@ -1,3 +1,4 @@
+pub mod AsciiFolding
 pub mod NamesAtPlaces
 pub mod NestedNets
 pub mod SourceTrees

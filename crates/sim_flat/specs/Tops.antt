@@ -1,5 +1,5 @@
 -- The top: the entity that is elaborated, and its architecture (IEEE 1076-2008, 7.3.3, 14.1).
-use Rattle.std.specs.Prelude.{ℕ, ◌≡◌, List, Some, None, map}
+use Rattle.std.specs.Prelude.{ℕ, ◌≡◌, List, Some, None, map, IsAscii}
 use Rattle.std.specs.Char.{to_ascii_lowercase}
 use Rattle.sim_text_tree.specs.declared.unit.Entity.{Entity}
 use Rattle.sim_flat_instances.specs.Libraries.{Library, entity_of, last_architecture}
@@ -7,12 +7,13 @@ use Rattle.sim_flat.specs.declared.error.FlatError.{FlatError}
 use Rattle.sim_flat.specs.declared.error.FlatError.TheVariants as refusal
 use Rattle.sim_flat.specs.declared.top.Top.{Top}
 
--- the name of the top, without regard to case
+-- the name of the top in small letters, as the names of a text are
 abbrev pub folded : List ℕ → List ℕ
 folded top = map to_ascii_lowercase top
 
--- The entity of the top is named here, and its last architecture has this number.
+-- The entity of the top is named here, and its last architecture has this number. A name with a byte above 127 names no entity.
 pub record IsTop (l : Library) (name : List ℕ) (top : Top) : Type 0 where
+  pub ascii : IsAscii name
   pub entity : Entity
   pub is : entity_of l (folded name) ≡ Some entity
   pub named : top.at ≡ entity.name.at
@@ -20,6 +21,7 @@ pub record IsTop (l : Library) (name : List ℕ) (top : Top) : Type 0 where
 
 -- The entity of the top has no architecture. It is named here.
 pub record IsBare (l : Library) (name : List ℕ) (at : ℕ) : Type 0 where
+  pub ascii : IsAscii name
   pub entity : Entity
   pub is : entity_of l (folded name) ≡ Some entity
   pub named : at ≡ entity.name.at
@@ -28,6 +30,6 @@ pub record IsBare (l : Library) (name : List ℕ) (at : ℕ) : Type 0 where
 -- Why there is no top.
 abbrev pub IsMissing : Library → List ℕ → FlatError → Type 0
 IsMissing l name refusal.Memory = Unit {0}
-IsMissing l name refusal.NoTop = entity_of l (folded name) ≡ None
+IsMissing l name refusal.NoTop = IsAscii name → entity_of l (folded name) ≡ None
 IsMissing l name (refusal.NoArchitecture at) = IsBare l name at
 IsMissing l name _ = ⊥

@@ -4,6 +4,7 @@
 
 mod elaboration;
 mod error;
+mod folding;
 mod hierarchy;
 pub mod laws;
 mod top;

@@ -1,10 +1,10 @@
 //! The top: the entity that is elaborated, and its architecture (IEEE 1076-2008, 7.3.3, 14.1).
 
 ghost use Rattle.std.specs.Prelude.{MatchResult};
-ghost use Rattle.std.specs.Char.{to_ascii_lowercase};
 ghost use Rattle.sim_flat.specs.Tops as spec;
 
 use crate::error::FlatError;
+use crate::folding::folded;
 use sim_flat_instances::Library;
 use std::alloc::Global;
 
@@ -16,17 +16,19 @@ pub struct Top {
 }
 
 /// The top of this name, which is compared without regard to case: the last architecture of its
-/// entity counts. `NoTop` comes where no entity has the name, `NoArchitecture` where it has no
-/// architecture.
+/// entity counts. `NoTop` comes where no entity has the name, as none has one with a character beyond
+/// ASCII, `NoArchitecture` where it has no architecture.
 pub fn top_of(alloc: Global, library: &Library<'_>, name: &str) -> Result<Top, FlatError>
     ensures { MatchResult result (λ top. spec.IsTop library.now name.now top) (λ e. spec.IsMissing library.now name.now e) }
 {
-    let folded = name.as_bytes().to_ascii_lowercase(alloc)?;
-    let Some(entity) = library.entity(folded.as_slice()) else {
+    let Some(small) = folded(alloc, name)? else {
+        return Err(FlatError::NoTop);
+    };
+    let Some(entity) = library.entity(small.as_bytes()) else {
         return Err(FlatError::NoTop);
     };
     let at = entity.name.at();
-    match library.last_architecture(folded.as_slice()) {
+    match library.last_architecture(small.as_bytes()) {
         None => Err(FlatError::NoArchitecture { at }),
         Some(block) => Ok(Top { block, at }),
     }

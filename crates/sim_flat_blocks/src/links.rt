@@ -4,9 +4,9 @@ ghost use Rattle.std.specs.Prelude.{ℕ, ◌≡◌, IfOk, OnOk, OnErr, replicate
 ghost use Rattle.sim_flat_blocks.specs.declared.links.Link.TheVariants.{Open};
 ghost use Rattle.sim_flat_blocks.specs.Links as spec;
 
+use indexmap::IndexMap;
 use sim_logic::Logic;
 use std::alloc::{AllocError, Global};
-use std::collections::HashMap;
 use std::marker::Model;
 
 /// What a port of an instance is associated with (IEEE 1076-2008, 6.5.6.3).
@@ -26,7 +26,7 @@ pub struct Links {
     /// How many ports are associated with nothing that has a net.
     unlinked: usize,
     first: Vec<Link>,
-    others: HashMap<usize, Link>,
+    others: IndexMap<usize, Link>,
 }
 
 /// By hand, so that what drops one needs no proof of what is in it.
@@ -75,7 +75,7 @@ fn all_open(alloc: Global, count: usize) -> Result<Vec<Link>, AllocError>
 }
 
 /// What is kept for a port that is not in the list.
-fn other(others: &HashMap<usize, Link>, place: usize) -> Link
+fn other(others: &IndexMap<usize, Link>, place: usize) -> Link
     ensures { result ≡ spec.kept others.now.entries place }
 {
     match others.get(&place) {
@@ -87,7 +87,7 @@ fn other(others: &HashMap<usize, Link>, place: usize) -> Link
 /// Keeps the link of the port at a place.
 fn keep(
     first: &mut Vec<Link>,
-    others: &mut HashMap<usize, Link>,
+    others: &mut IndexMap<usize, Link>,
     place: usize,
     link: Link,
 ) -> Result<(), AllocError>
@@ -118,7 +118,7 @@ impl Links {
             ports,
             unlinked: ports,
             first,
-            others: HashMap::new(alloc),
+            others: IndexMap::new(alloc),
         })
     }
 

@@ -1,4 +1,3 @@
 pub mod StatementRules
-pub mod TargetPlaces
 pub mod Translations
 pub mod WaveformTimes

@@ -1,36 +1,22 @@
 //! The signals and ports that a process assigns.
 
+use indexmap::IndexSet;
 use std::alloc::{AllocError, Global};
-use std::collections::HashMap;
 use std::marker::Model;
 
 /// Signals and ports by their places in the architecture, each once, in the order in which they
 /// were added.
+#[derive(Drop)]
 pub struct Targets {
-    objects: Vec<usize>,
-    /// Where each of them stands in the list.
-    places: HashMap<usize, usize>,
-}
-
-/// By hand, so that what drops one needs no proof of what is in it.
-impl Drop for Targets {
-    fn drop(self) {
-        let Targets { objects, places } = self;
-        drop(objects);
-        drop(places);
-    }
+    objects: IndexSet<usize>,
 }
 
 impl Model for Targets {
-    ghost use Rattle.std.specs.Prelude.{◌≡◌, ◌==◌, ℕ, List};
-    ghost use Rattle.std.specs.Map.{lookup};
-    ghost use Rattle.sim_flat_bodies.specs.Statements.{place_of};
+    ghost use Rattle.std.specs.Prelude.{ℕ, List};
 
     ghost Value = { List ℕ };
 
-    ghost view = { λ t. t.objects.items };
-
-    ghost invariant = { λ t. (n : ℕ) → lookup (λ (m : ℕ). n == m) t.places.entries ≡ place_of t.objects.items n };
+    ghost view = { λ t. t.objects.keys };
 }
 
 impl Targets {
@@ -42,22 +28,16 @@ impl Targets {
         ensures { result ≡ [] }
     {
         Targets {
-            objects: Vec::new(alloc),
-            places: HashMap::new(alloc),
+            objects: IndexSet::new(alloc),
         }
     }
 
     /// Adds a signal or port, unless it is there.
+    #[tactic(auto, unfolding(crate::specs::Statements::with_new))]
     pub fn add(&mut self, object: usize) -> Result<(), AllocError>
         ensures { OnOk result (self.new ≡ with_new self.old object) }
     {
-        if self.place(object).is_some() {
-            return Ok(());
-        }
-        // The list has room before the map changes, so both change or neither does.
-        self.objects.reserve(1)?;
-        self.places.insert(object, self.objects.len())?;
-        self.objects.push(object)?;
+        self.objects.insert(object)?;
         Ok(())
     }
 
@@ -67,7 +47,7 @@ impl Targets {
         ensures place { result ≡ place_of self.now object }
         ensures bound { IfSome result (λ p. p < length self.now) }
     {
-        self.places.get(&object).copied()
+        self.objects.get_index_of(&object)
     }
 
     /// All of them.

@@ -5,13 +5,13 @@ ghost use Rattle.std.specs.Option.{option_or};
 ghost use Rattle.std.specs.Str.{bytes_eq};
 ghost use Rattle.sim_flat_instances.specs.Places as spec;
 
+use indexmap::IndexMap;
 use std::alloc::{AllocError, Global};
-use std::collections::HashMap;
 use std::marker::Model;
 
 /// The place for which each name stands.
 pub struct Places<'a> {
-    places: HashMap<&'a [u8], usize>,
+    places: IndexMap<&'a [u8], usize>,
 }
 
 /// By hand, so that what drops one needs no proof of what is in it.
@@ -36,7 +36,7 @@ impl<'a> Places<'a> {
         ensures { result ≡ [] }
     {
         Places {
-            places: HashMap::new(alloc),
+            places: IndexMap::new(alloc),
         }
     }
 
@@ -68,7 +68,7 @@ impl<'a> Places<'a> {
 
 /// The place for which each two names stand.
 pub struct PairPlaces<'a> {
-    places: HashMap<(&'a [u8], &'a [u8]), usize>,
+    places: IndexMap<(&'a [u8], &'a [u8]), usize>,
 }
 
 /// By hand, so that what drops one needs no proof of what is in it.
@@ -93,7 +93,7 @@ impl<'a> PairPlaces<'a> {
         ensures { result ≡ [] }
     {
         PairPlaces {
-            places: HashMap::new(alloc),
+            places: IndexMap::new(alloc),
         }
     }
 
@@ -116,7 +116,7 @@ impl<'a> PairPlaces<'a> {
 
 /// The place for which each number stands.
 pub struct NumberPlaces {
-    places: HashMap<usize, usize>,
+    places: IndexMap<usize, usize>,
 }
 
 /// By hand, so that what drops one needs no proof of what is in it.
@@ -141,7 +141,7 @@ impl NumberPlaces {
         ensures { result ≡ [] }
     {
         NumberPlaces {
-            places: HashMap::new(alloc),
+            places: IndexMap::new(alloc),
         }
     }
 

@@ -3,5 +3,4 @@ pub mod FaultLoops
 pub mod LabelRules
 pub mod NameLists
 pub mod Faults
-pub mod Places
 pub mod Regions

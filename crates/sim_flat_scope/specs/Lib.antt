@@ -1,6 +1,5 @@
 pub mod DeclaredNames
 pub mod Regions
-pub mod Places
 pub mod Ports
 pub mod DeclarationFaults
 pub mod Faults

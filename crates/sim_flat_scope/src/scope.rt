@@ -4,9 +4,9 @@ ghost use Rattle.std.specs.Prelude.{◌≡◌, [], OnOk, OnErr, IfOk, is_none};
 ghost use Rattle.sim_flat_scope.specs.Scopes as spec;
 
 use crate::predefined::predefined;
+use indexmap::IndexMap;
 use sim_text_tree::declaration::Mode;
 use std::alloc::{AllocError, Global};
-use std::collections::HashMap;
 use std::marker::Model;
 
 /// A type of expressions: std_ulogic, of which std_logic is a subtype, or boolean (5.2.3).
@@ -70,45 +70,34 @@ pub trait Declare<'a> {
 /// A part of a declarative region by itself: the ports of an entity, which go on in each of its
 /// architectures.
 pub struct DeclarativeRegion<'a> {
-    /// In the order in which they were made, no two of one name.
-    declarations: Vec<(&'a [u8], Meaning)>,
-    /// Where the declaration of each name stands among them.
-    places: HashMap<&'a [u8], usize>,
+    /// What each name is declared to be, in the order of the declarations.
+    meanings: IndexMap<&'a [u8], Meaning>,
 }
 
 /// By hand, so that what drops one needs no proof of the map that is in it.
 impl<'a> Drop for DeclarativeRegion<'a> {
     fn drop(self) {
-        let DeclarativeRegion {
-            declarations,
-            places,
-        } = self;
-        drop(declarations);
-        drop(places);
+        let DeclarativeRegion { meanings } = self;
+        drop(meanings);
     }
 }
 
 impl<'a> Model for DeclarativeRegion<'a> {
-    ghost use Rattle.std.specs.Prelude.{ℕ, List};
+    ghost use Rattle.std.specs.Prelude.{ℕ, List, map};
     ghost use Rattle.sim_flat_scope.specs.declared.scope.Meaning.{Meaning};
-    ghost use Rattle.sim_flat_scope.specs.Places.{named, HasPlaces};
 
     ghost Value = { List (List ℕ × Meaning) };
 
-    ghost view = { λ s. named s.declarations.items };
-
-    ghost invariant = { λ s. HasPlaces (named s.declarations.items) s.places.entries };
+    ghost view = { λ s. map (λ e. (e.0.now, e.1)) s.meanings.entries };
 }
 
 impl<'a> DeclarativeRegion<'a> {
     /// A part without names.
-    #[tactic(auto, unfolding(crate::specs::Places::place_of))]
     pub fn new(alloc: Global) -> DeclarativeRegion<'a>
         ensures { result ≡ [] }
     {
         DeclarativeRegion {
-            declarations: Vec::new(alloc),
-            places: HashMap::new(alloc),
+            meanings: IndexMap::new(alloc),
         }
     }
 
@@ -116,8 +105,7 @@ impl<'a> DeclarativeRegion<'a> {
     pub fn find(&self, name: &[u8]) -> Option<Meaning>
         ensures { result ≡ spec.found self.now name.now }
     {
-        let place = *self.places.get(name)?;
-        Some(self.declarations[place].1)
+        self.meanings.get(name).copied()
     }
 }
 
@@ -127,12 +115,10 @@ impl<'a> Declare<'a> for DeclarativeRegion<'a> {
     ghost declared = { λ (part : Region). part };
 
     fn declare(&mut self, name: &'a [u8], meaning: Meaning) -> Result<bool, AllocError> {
-        if self.places.contains_key(name) {
+        if self.meanings.contains_key(name) {
             return Ok(false);
         }
-        self.declarations.reserve(1)?;
-        self.places.insert(name, self.declarations.len())?;
-        self.declarations.push_reserved((name, meaning));
+        self.meanings.insert(name, meaning)?;
         Ok(true)
     }
 }
