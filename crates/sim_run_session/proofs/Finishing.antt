@@ -13,7 +13,7 @@ use Rattle.sim_run_listing.specs.Listing.{listing}
 use Rattle.sim_run_listing.specs.Writing.{AppendsPart}
 use Rattle.sim_run_session.specs.declared.error.RunError.{RunError}
 use Rattle.sim_run_session.specs.declared.error.RunError.TheVariants as refusal
-use Rattle.sim_run_session.specs.Run.{Finishes, IsRefusalAlone, IsRunOf, Lists, ListsPart, history_of}
+use Rattle.sim_run_session.specs.Run.{Finishes, IsCut, IsRefusalAlone, IsRunOf, Lists, ListsPart, history_of}
 use Rattle.sim_run_session.specs.Simulation.{HasDesign}
 
 -- a store that is finished has the history of the run
@@ -46,18 +46,18 @@ module _ (design : Design) (options : Options) (run : WaveStore) (of : IsRunOf d
       (subst (λ (limit : ℕ). HasOutcome (next_in run.simulation.design) options.stop limit o) of.limit
       (subst (λ (stop : ℕ). HasOutcome (next_in run.simulation.design) stop run.limit o) of.stop end))
 
-  pub cut_short : (e : RunError) → IsEnd e → IsRefusalAlone (behaviour_of design) options e
-  cut_short e (inl p) = inr (inl (p.0 ∙ ap (λ (n : ℕ). refusal.CycleLimit n) of.limit, outcome_of LimitReached p.1))
-  cut_short e (inr p) = inr (inr (p.0, (run.simulation.cycles, outcome_of (PostponedDeltaAfter run.simulation.cycles) p.1)))
+  pub cut_short : (e : RunError) → IsEnd e → IsCut (behaviour_of design) options e
+  cut_short e (inl p) = inl (p.0 ∙ ap (λ (n : ℕ). refusal.CycleLimit n) of.limit, outcome_of LimitReached p.1)
+  cut_short e (inr p) = inr (p.0, (run.simulation.cycles, outcome_of (PostponedDeltaAfter run.simulation.cycles) p.1))
 
   pub refuses : (r : Result WaveStore RunError) → IfErr r IsEnd → IfErr r (IsRefusalAlone (behaviour_of design) options)
   refuses (Ok s) h = tt
-  refuses (Err e) h = cut_short e h
+  refuses (Err e) h = inr (cut_short e h)
 
   pub refuses_among : (r : Result WaveStore RunError) → IfErr r IsEnd
       → IfErr r (λ e. (e ≡ refusal.Stranger) ⊎ IsRefusalAlone (behaviour_of design) options e)
   refuses_among (Ok s) h = tt
-  refuses_among (Err e) h = inr (cut_short e h)
+  refuses_among (Err e) h = inr (inr (cut_short e h))
 
 -- the part that was written is of the listing of the run
 pub part_listed : (text : List ℕ) (options : Options) (run : WaveStore) (old new : Option (List ℕ))

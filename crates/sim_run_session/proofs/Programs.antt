@@ -44,6 +44,11 @@ read_text unread left source Holds r short p =
       | inr (long, _) ↦ absurd (too_much source long short)
     ]
 
+-- a text of which something is true, beside what is true of all texts
+pub with_range : (unread : Option (List ℕ)) {Holds : List ℕ → Type 0} {Range : Type 0} → Range → HasText unread Holds
+    → HasText unread (λ text. Range × Holds text)
+with_range unread in_range t = record { text = t.text; whole = t.whole; holds = (in_range, t.holds) }
+
 -- ---- failures
 
 -- a refusal of a text that is too long is one of every such text

@@ -1,13 +1,13 @@
 -- From the run of a design to that of a text.
-use Rattle.std.proofs.Common.{◌≡◌, ◌≢◌, ℕ, inl, inr, List, Option, None, Some, Result, Ok, Err, refl, sym, subst}
-use Rattle.std.specs.Prelude.{◌⊎◌, MatchResult, IfOk, IfErr, IfSome, OnErr}
+use Rattle.std.proofs.Common.{◌≡◌, ◌≢◌, ℕ, Bool, true, false, inl, inr, List, Option, None, Some, Result, Ok, Err, refl, sym, subst}
+use Rattle.std.specs.Prelude.{◌↔◌, MatchResult, IfOk, IfErr, IfSome, OnErr, OnOk}
 use Rattle.sim_flat_design.specs.Designs.{Design}
 use Rattle.sim_store.specs.WaveStore.{WaveStore}
-use Rattle.sim_standard.specs.Behaviour.{Behaviour, behaviour_of}
+use Rattle.sim_standard.specs.Behaviour.{behaviour_of}
 use Rattle.sim_run_session.specs.declared.error.RunError.{RunError}
 use Rattle.sim_run_session.specs.declared.error.RunError.TheVariants as refusal
 use Rattle.sim_run_options.specs.declared.options.Options.{Options}
-use Rattle.sim_run_session.specs.Run.{Finishes, IsRefusalAlone, history_of}
+use Rattle.sim_run_session.specs.Run.{Finishes, IsCut, IsRefusalAlone, history_of}
 use Rattle.sim_run_session.specs.Simulation.{IsDesignOf, HasDesign, IsRefusal}
 
 stopped : (text : List ℕ) (options : Options) (design : Design) (e : RunError) → IsDesignOf text options design
@@ -25,11 +25,11 @@ module _ (text : List ℕ) (options : Options) (design : Design) where
 
   pub text_run_found : (r : Result (Option WaveStore) RunError) → IsDesignOf text options design
       → IfOk r (λ found. IfSome found (λ run. Finishes (behaviour_of design) options (history_of run)))
-      → IfErr r (IsRefusalAlone (behaviour_of design) options)
+      → IfErr r (IsCut (behaviour_of design) options)
       → MatchResult r (λ found. IfSome found (λ run. HasDesign text options (λ b. Finishes b options (history_of run)))) (λ e. IsRefusal text options e)
   text_run_found (Ok None) d f e = tt
   text_run_found (Ok (Some run)) d f e = record { design = design; is_design = d; holds = f }
-  text_run_found (Err e) d f why = stopped text options design e d why
+  text_run_found (Err e) d f why = stopped text options design e d (inr why)
 
 -- A listing is refused for a failed write alone.
 pub write_failed : (r : Result (Unit {0}) RunError) (Why : RunError → Type 0) → IfErr r (λ e. e ≡ refusal.Write)
@@ -40,3 +40,9 @@ write_failed (Err e) Why is = λ other. absurd (other is)
 -- what is known where it failed
 pub where_failed : (r : Result (Unit {0}) RunError) (e : RunError) (P : Type 0) → OnErr r P → r ≡ Err e → P
 where_failed r e P part failed = subst (λ (s : Result (Unit {0}) RunError). OnErr s P) failed part
+
+-- what is not refused for its options has them in range
+pub in_range : (r : Result (Unit {0}) RunError) (b : Bool) → (r ≡ Err refusal.Options) ↔ (b ≡ false) → OnOk r (b ≡ true)
+in_range (Ok done) true h = refl
+in_range (Ok done) false h = let is = h.1 refl in absurd cc
+in_range (Err e) b h = tt

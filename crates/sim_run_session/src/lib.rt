@@ -8,6 +8,7 @@ mod simulation;
 mod team;
 
 pub use error::RunError;
-pub use program::session;
+pub use program::{session, session_with_hints};
 pub use runs::{begun_run, finished_run, run_without_lock};
-pub use simulation::{elaborate, simulate};
+pub use sim_run_team::Hints;
+pub use simulation::{elaborate, simulate, simulate_with_hints};

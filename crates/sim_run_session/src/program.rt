@@ -1,5 +1,5 @@
 //! The program, over any reader and two writers.
-ghost use Rattle.std.specs.Prelude.{◌≡◌, ◌≢◌, ◌≤◌, ◌<◌, ◌⊎◌, false, codes, OnOk, IfOk, IfErr, [], ◌∷◌, map, string_bytes};
+ghost use Rattle.std.specs.Prelude.{◌≡◌, ◌≢◌, ◌≤◌, ◌<◌, ◌⊎◌, true, false, codes, OnOk, IfOk, IfErr, [], ◌∷◌, map, string_bytes};
 ghost use Rattle.std.specs.Io.KnownBytes.{Appends, Keeps};
 ghost use Rattle.std.specs.Str.Parse.{starts_with_minus};
 ghost use Rattle.sim_text_tokens.specs.Pieces.{Text};
@@ -13,11 +13,12 @@ ghost use Rattle.sim_run_session.specs.Simulation.{HasDesign, IsRefusedText};
 ghost use Rattle.sim_run_listing.specs.Writing.{AppendsPart};
 
 use crate::error::RunError;
-use crate::simulation::simulate;
+use crate::simulation::simulate_with_hints;
 use arrayvec::ArrayVec;
 use sim_flat::FlatError;
 use sim_run_listing::write_whole;
 use sim_run_options::{CliFault, Options, read_options};
+use sim_run_team::Hints;
 use sim_text::TextError;
 use std::alloc::Global;
 use std::io::{Read, Write};
@@ -28,7 +29,7 @@ use thiserror::Error;
 /// One byte more than a text may have: enough to see that it is too long.
 const MOST_BYTES: usize = 1_048_577;
 
-/// The most reads, each of which may give a single byte.
+/// The most reads. Each gives a byte at the least, so fewer are enough.
 const MOST_READS: u32 = 2_097_154;
 
 /// How many bytes are asked of a read.
@@ -96,9 +97,11 @@ fn carry_out<T: Threads + Wait + Sync, R: Read, W: Write>(
     rt: &T,
     alloc: Global,
     options: &Options,
+    hints: Hints,
     input: &mut R,
     out: &mut W,
 ) -> Result<(), Failure>
+    ensures range { OnOk result (are_in_range options.now.stop options.now.limit options.now.workers ≡ true) }
     ensures listed { OnOk result (HasText (R.remaining input.old) (λ text. HasDesign text options.now (λ design.
         Lists design options.now (W.contents out.old) (W.contents out.new)))) }
     ensures part { result ≡ Err (failure.Run refusal.Write) → HasText (R.remaining input.old) (λ text. HasDesign text options.now (λ design.
@@ -107,7 +110,7 @@ fn carry_out<T: Threads + Wait + Sync, R: Read, W: Write>(
     ensures quiet { IfErr result (λ f. f ≢ failure.Run refusal.Write → Keeps (W.contents out.old) (W.contents out.new)) }
 {
     let source = read_source(alloc, input)?;
-    match simulate(rt, alloc, source.as_slice(), options, out) {
+    match simulate_with_hints(rt, alloc, source.as_slice(), options, hints, out) {
         Ok(()) => Ok(()),
         Err(refusal) => Err(Failure::Run(refusal)),
     }
@@ -167,7 +170,43 @@ pub fn session<T: Threads + Wait + Sync, R: Read, W: Write, E: Write>(
     err: &mut E,
 ) -> u8
     ensures status { result ≤ 4 }
-    ensures success { result ≡ 0 → HasRun (map string_bytes words.items) (R.remaining input.old) (λ text options. HasDesign text options (λ design.
+    ensures success { result ≡ 0 → HasRun (map string_bytes words.items) (R.remaining input.old) (λ text options.
+        (are_in_range options.stop options.limit options.workers ≡ true) × HasDesign text options (λ design.
+        Lists design options (W.contents out.old) (W.contents out.new)))
+        ⊎ HasHelp (map string_bytes words.items) (λ help. Appends (W.contents out.old) (W.contents out.new) help) }
+    ensures text { result ≡ 1 → HasRun (map string_bytes words.items) (R.remaining input.old) (λ text options. IsRefusedText text options) }
+    ensures words { result ≡ 2 → AreRefused (map string_bytes words.items) ⊎ HasOptions (map string_bytes words.items) (λ options.
+        are_in_range options.stop options.limit options.workers ≡ false) }
+    // `--top NAME` alone is not refused.
+    ensures alone { (name : Text) → map string_bytes words.items ≡ codes "--top" ∷ name ∷ [] → starts_with_minus name ≡ false → result ≢ 2 }
+    ensures limit { result ≡ 3 →
+        HasRun (map string_bytes words.items) (R.remaining input.old) (λ text options.
+        HasDesign text options (λ design. IsCutShort design options)) }
+    ensures quiet { 0 < result → result < 4 → Keeps (W.contents out.old) (W.contents out.new) }
+    // Memory was short, or reading or writing failed: nothing was written, or a proper prefix of
+    // the listing or of the help.
+    ensures stopped { result ≡ 4 → Keeps (W.contents out.old) (W.contents out.new)
+        ⊎ (HasRun (map string_bytes words.items) (R.remaining input.old) (λ text options.
+        HasDesign text options (λ design. ListsPart design options (W.contents out.old) (W.contents out.new)))
+        ⊎ HasHelp (map string_bytes words.items) (λ help. AppendsPart (W.contents out.old) (W.contents out.new) help)) }
+{
+    session_with_hints(rt, alloc, words, Hints::measured(), input, out, err)
+}
+
+/// The same, by hints of the caller: from when on work is handed out to other threads. No answer
+/// depends on them.
+pub fn session_with_hints<T: Threads + Wait + Sync, R: Read, W: Write, E: Write>(
+    rt: &T,
+    alloc: Global,
+    words: Vec<String>,
+    hints: Hints,
+    input: &mut R,
+    out: &mut W,
+    err: &mut E,
+) -> u8
+    ensures status { result ≤ 4 }
+    ensures success { result ≡ 0 → HasRun (map string_bytes words.items) (R.remaining input.old) (λ text options.
+        (are_in_range options.stop options.limit options.workers ≡ true) × HasDesign text options (λ design.
         Lists design options (W.contents out.old) (W.contents out.new)))
         ⊎ HasHelp (map string_bytes words.items) (λ help. Appends (W.contents out.old) (W.contents out.new) help) }
     ensures text { result ≡ 1 → HasRun (map string_bytes words.items) (R.remaining input.old) (λ text options. IsRefusedText text options) }
@@ -190,7 +229,7 @@ pub fn session<T: Threads + Wait + Sync, R: Read, W: Write, E: Write>(
         Ok(options) => options,
         Err(fault) => return explain(&fault, out, err),
     };
-    match carry_out(rt, alloc, &options, input, out) {
+    match carry_out(rt, alloc, &options, hints, input, out) {
         Ok(()) => 0,
         Err(failure) => {
             tell(err, failure);

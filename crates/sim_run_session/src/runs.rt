@@ -7,14 +7,14 @@ ghost use Rattle.sim_logic.specs.Time.{largest_time};
 ghost use Rattle.sim_standard.specs.Behaviour.{behaviour_of};
 ghost use Rattle.sim_store.specs.WaveStore as store;
 ghost use Rattle.sim_run_session.specs.declared.error.RunError.TheVariants as refusal;
-ghost use Rattle.sim_run_session.specs.Run.{Finishes, IsRefusalAlone, IsRunOf, IsSameRun, history_of, steps_left};
+ghost use Rattle.sim_run_session.specs.Run.{Finishes, IsCut, IsRefusalAlone, IsRunOf, IsSameRun, history_of, steps_left};
 
 use crate::error::RunError;
 use crate::team::carry_to_end;
 use sim_flat_design::Design;
 use sim_run_listing::write_listing;
 use sim_run_options::Options;
-use sim_run_team::Fault;
+use sim_run_team::Hints;
 use sim_store::{Step, WaveStore};
 use std::alloc::Global;
 use std::io::Write;
@@ -90,76 +90,77 @@ pub fn run_alone(alloc: Global, design: Design, options: &Options) -> Result<Wav
 }
 
 /// The store of a run that has ended, by a team of threads, each of which executes a share of what a
-/// cycle resumes; none where a thread is gone, and with it what its processes own.
+/// cycle resumes. None where the team fails, or memory is refused: nothing is known of the run then.
 fn run_in_shares<R: Threads + Wait + Sync>(
     rt: &R,
     alloc: Global,
     design: Design,
     options: &Options,
-) -> Result<Option<WaveStore>, RunError>
+    hints: Hints,
+) -> Option<WaveStore>
     requires { options.now.stop ≤ largest_time }
-    ensures ok { IfOk result (λ found. IfSome found (λ run. IsRunOf design options.now run × (run.ended ≢ None))) }
-    ensures err { IfErr result (λ e. e ≡ refusal.Memory) }
+    ensures { IfSome result (λ run. IsRunOf design options.now run × (run.ended ≢ None)) }
 {
-    let run = begun_run(alloc, design, options)?;
-    match carry_to_end(rt, alloc, run, options.workers) {
-        Ok(run) => Ok(Some(run)),
-        Err(Fault::Memory) => Err(RunError::Memory),
-        Err(Fault::Gone) => Ok(None),
-    }
+    let run = begun_run(alloc, design, options).ok()?;
+    carry_to_end(rt, alloc, run, options.workers, hints)
 }
 
 /// The run of a design by a team of threads, of which nobody is told, up to the stop time and within
-/// the limit: its store, once it is finished; none where a thread is gone. Then the run is to begin
-/// again on the calling thread.
+/// the limit: its store, once it is finished. None where the team fails, or memory is refused: then
+/// the run is to begin again on the calling thread, so want of memory is no refusal here.
 pub fn run_by_team<R: Threads + Wait + Sync>(
     rt: &R,
     alloc: Global,
     design: Design,
     options: &Options,
+    hints: Hints,
 ) -> Result<Option<WaveStore>, RunError>
     requires { options.now.stop ≤ largest_time }
     ensures finished { IfOk result (λ found. IfSome found (λ run. Finishes (behaviour_of design) options.now (history_of run))) }
-    ensures refused { IfErr result (IsRefusalAlone (behaviour_of design) options.now) }
+    ensures cut { IfErr result (IsCut (behaviour_of design) options.now) }
 {
-    let found = run_in_shares(rt, alloc, design, options)?;
-    let Some(run) = found else {
+    let Some(run) = run_in_shares(rt, alloc, design, options, hints) else {
         return Ok(None);
     };
     let run = finished_run(run)?;
     Ok(Some(run))
 }
 
-/// The run of a copy of a design by a team of threads: its store, once it is finished; none where a
-/// thread is gone.
+/// The run of a copy of a design by a team of threads: its store, once it is finished. None where the
+/// team fails, or memory is refused.
 fn run_copy_by_team<R: Threads + Wait + Sync>(
     rt: &R,
     alloc: Global,
     design: &Design,
     options: &Options,
+    hints: Hints,
 ) -> Result<Option<WaveStore>, RunError>
     requires { options.now.stop ≤ largest_time }
     ensures finished { IfOk result (λ found. IfSome found (λ run. Finishes (behaviour_of design.now) options.now (history_of run))) }
-    ensures refused { IfErr result (IsRefusalAlone (behaviour_of design.now) options.now) }
+    ensures cut { IfErr result (IsCut (behaviour_of design.now) options.now) }
 {
-    let copy = design.try_copy()?;
-    run_by_team(rt, alloc, copy, options)
+    match design.try_copy() {
+        Ok(copy) => run_by_team(rt, alloc, copy, options, hints),
+        Err(_no_memory) => Ok(None),
+    }
 }
 
 /// The run of a design with no store under a lock: by a team where there are several workers; else,
-/// or where a thread of the team is gone, on the calling thread: its store, once it is finished.
+/// or where the team fails, on the calling thread: its store, once it is finished. So with any number
+/// of workers `Memory` comes only where the calling thread alone has none.
 pub fn run_without_lock<R: Threads + Wait + Sync>(
     rt: &R,
     alloc: Global,
     design: &Design,
     options: &Options,
+    hints: Hints,
 ) -> Result<WaveStore, RunError>
     requires { options.now.stop ≤ largest_time }
     ensures finished { IfOk result (λ run. Finishes (behaviour_of design.now) options.now (history_of run)) }
     ensures refused { IfErr result (IsRefusalAlone (behaviour_of design.now) options.now) }
 {
     if options.workers > 1 {
-        let found = run_copy_by_team(rt, alloc, design, options)?;
+        let found = run_copy_by_team(rt, alloc, design, options, hints)?;
         if let Some(run) = found {
             return Ok(run);
         }

@@ -10,6 +10,7 @@ use crate::runs::{run_alone, run_by_team, write_run};
 use sim_flat::flatten;
 use sim_flat_design::Design;
 use sim_run_options::Options;
+use sim_run_team::Hints;
 use sim_store::WaveStore;
 use sim_text::parse;
 use std::alloc::Global;
@@ -28,20 +29,21 @@ pub fn elaborate(alloc: Global, source: &[u8], options: &Options) -> Result<Desi
     Ok(design)
 }
 
-/// The run of a text by a team of threads: its store, once it is finished; none where a thread is
-/// gone.
+/// The run of a text by a team of threads: its store, once it is finished. None where the team
+/// fails, or has no memory; want of memory is a refusal of the text or its elaboration alone.
 fn run_text_by_team<R: Threads + Wait + Sync>(
     rt: &R,
     alloc: Global,
     source: &[u8],
     options: &Options,
+    hints: Hints,
 ) -> Result<Option<WaveStore>, RunError>
     requires { are_in_range options.now.stop options.now.limit options.now.workers ≡ true }
     ensures { MatchResult result (λ found. IfSome found (λ run. HasDesign source.now options.now (λ design. Finishes design options.now (history_of run))))
         (λ e. IsRefusal source.now options.now e) }
 {
     let design = elaborate(alloc, source, options)?;
-    run_by_team(rt, alloc, design, options)
+    run_by_team(rt, alloc, design, options, hints)
 }
 
 /// The run of a text on the calling thread: its store, once it is finished.
@@ -54,20 +56,21 @@ fn run_text_alone(alloc: Global, source: &[u8], options: &Options) -> Result<Wav
     run_alone(alloc, design, options)
 }
 
-/// The run of a text: its store, once it is finished. Where a thread of the team is gone, and with it
-/// what its processes own, the run begins again on the calling thread.
+/// The run of a text: its store, once it is finished. Where the team fails, and with it what the
+/// processes own is lost, the run begins again on the calling thread.
 fn run_text<R: Threads + Wait + Sync>(
     rt: &R,
     alloc: Global,
     source: &[u8],
     options: &Options,
+    hints: Hints,
 ) -> Result<WaveStore, RunError>
     requires { are_in_range options.now.stop options.now.limit options.now.workers ≡ true }
     ensures { MatchResult result (λ run. HasDesign source.now options.now (λ design. Finishes design options.now (history_of run)))
         (λ e. IsRefusal source.now options.now e) }
 {
     if options.workers > 1 {
-        let found = run_text_by_team(rt, alloc, source, options)?;
+        let found = run_text_by_team(rt, alloc, source, options, hints)?;
         if let Some(run) = found {
             return Ok(run);
         }
@@ -99,9 +102,31 @@ pub fn simulate<R: Threads + Wait + Sync, W: Write>(
     ensures refused { IfErr result (λ e. e ≢ RunError.Write → IsRefusal source.now options.now e) }
     ensures quiet { IfErr result (λ e. e ≢ RunError.Write → Keeps (W.contents out.old) (W.contents out.new)) }
 {
+    simulate_with_hints(rt, alloc, source, options, Hints::measured(), out)
+}
+
+/// The same, by hints of the caller: from when on work is handed out to other threads. No answer
+/// depends on them.
+pub fn simulate_with_hints<R: Threads + Wait + Sync, W: Write>(
+    rt: &R,
+    alloc: Global,
+    source: &[u8],
+    options: &Options,
+    hints: Hints,
+    out: &mut W,
+) -> Result<(), RunError>
+    ensures options { (result ≡ Err RunError.Options) ↔ (are_in_range options.now.stop options.now.limit options.now.workers ≡ false) }
+    ensures listed { OnOk result (HasDesign source.now options.now (λ design. Lists design options.now (W.contents out.old) (W.contents out.new))) }
+    // Where a write failed, the run is finished, and a proper prefix of its listing was written.
+    ensures part { result ≡ Err RunError.Write → HasDesign source.now options.now (λ design.
+        ListsPart design options.now (W.contents out.old) (W.contents out.new)) }
+    // Any other refusal has its reason, and nothing was written.
+    ensures refused { IfErr result (λ e. e ≢ RunError.Write → IsRefusal source.now options.now e) }
+    ensures quiet { IfErr result (λ e. e ≢ RunError.Write → Keeps (W.contents out.old) (W.contents out.new)) }
+{
     if !options.are_in_range() {
         return Err(RunError::Options);
     }
-    let run = run_text(rt, alloc, source, options)?;
+    let run = run_text(rt, alloc, source, options, hints)?;
     write_run(&run, out)
 }

@@ -1,26 +1,19 @@
 //! From where a store stands to the end of its run, by a team of threads: in each cycle they execute
 //! what a phase resumed, each a share of it by value.
 
-ghost use Rattle.std.specs.Prelude.{◌≡◌, ◌≢◌, None, IfOk};
+ghost use Rattle.std.specs.Prelude.{◌≡◌, ◌≢◌, None, IfSome};
 ghost use Rattle.sim_store.specs.Handing as hands;
 ghost use Rattle.sim_store_simulation.specs.Simulation as simulations;
 ghost use Rattle.sim_store.specs.WaveStore as store;
 ghost use Rattle.sim_run_session.specs.Run.{IsSameRun};
 
-use sim_run_team::{Bell, Fault, Team, Work, pair};
-use sim_store::{Answer, HandOutError, Naming, Order, WaveStore};
+use sim_run_team::{Bell, Hints, Team, Work, pair};
+use sim_store::{Answer, Naming, Order, WaveStore};
 use std::alloc::{AllocError, Global};
 use std::marker::{Brand, PhantomData};
 use std::sync::Wait;
 use std::thread;
 use std::thread::Threads;
-
-/// How many steps the execution of all that are due has to take for shares to be handed out at all:
-/// with fewer, some tens of microseconds, a cycle is over before another thread has its share.
-const LEAST: usize = 10_000;
-
-/// How many steps a body has to have, by the mean of all processes.
-const SHORT: usize = 16;
 
 /// The shares of what the phases of a run of this design execute.
 struct Shares<J: Naming> {
@@ -32,8 +25,8 @@ impl<J: Naming> Work for Shares<J> {
 
     type Answer = Answer<J>;
 
-    fn is_large(order: &Order<J>) -> bool {
-        order.is_worthwhile()
+    fn is_large(order: &Order<J>, least: usize) -> bool {
+        order.is_worthwhile(least)
     }
 
     fn carry_out(alloc: Global, order: Order<J>) -> Option<Answer<J>> {
@@ -41,127 +34,116 @@ impl<J: Naming> Work for Shares<J> {
     }
 }
 
-/// What a refusal of answers says of the team.
-fn fault_of(error: HandOutError) -> Fault {
-    match error {
-        HandOutError::Memory => Fault::Memory,
-        HandOutError::Stranger | HandOutError::OrderLeft => Fault::Gone,
-    }
-}
-
-/// Executes all that are due on this thread.
-fn execute_alone(alloc: Global, run: WaveStore) -> Result<WaveStore, Fault>
-    ensures same { IfOk result (λ s. s ≡ store.with_deposited run s.simulation.deposited) }
-    ensures complete { IfOk result (λ s. simulations.IsComplete s.simulation) }
+/// Executes all that are due on this thread; none where memory is refused.
+fn execute_alone(alloc: Global, run: WaveStore) -> Option<WaveStore>
+    ensures same { IfSome result (λ s. s ≡ store.with_deposited run s.simulation.deposited) }
+    ensures complete { IfSome result (λ s. simulations.IsComplete s.simulation) }
 {
-    let run = run.execute_due(alloc)?;
-    Ok(run)
+    run.execute_due(alloc).ok()
 }
 
-/// Executes all that are due, which take so many steps, each share by a worker where it is large.
+/// Executes all that are due, which take so many steps, each share by a worker where it is large;
+/// none where the team fails.
 fn execute_in_shares<J: Naming, R: Wait>(
     rt: &R,
     alloc: Global,
     run: WaveStore,
     team: &mut Team<'_, Shares<J>>,
     steps: usize,
-) -> Result<WaveStore, Fault>
+) -> Option<WaveStore>
     requires design { run.simulation.design ≡ J.design }
     requires untouched { hands.IsUntouched run }
-    ensures same { IfOk result (λ s. s ≡ store.with_deposited run s.simulation.deposited) }
-    ensures complete { IfOk result (λ s. simulations.IsComplete s.simulation) }
+    ensures same { IfSome result (λ s. s ≡ store.with_deposited run s.simulation.deposited) }
+    ensures complete { IfSome result (λ s. simulations.IsComplete s.simulation) }
 {
-    let (rest, shares) = run.hand_out::<J>(alloc)?;
+    let (rest, shares) = run.hand_out::<J>(alloc).ok()?;
     let answers = team.carry_out(rt, alloc, shares, steps)?;
     match rest.take_back(alloc, answers) {
-        Ok(run) => Ok(run),
-        Err(error) => Err(fault_of(error)),
+        Ok(run) => Some(run),
+        Err(_lost) => None,
     }
 }
 
 /// Executes all that are due, by the team where there is work enough and it is free. A process takes
-/// so many steps.
+/// so many steps. None where the team fails, or memory is refused.
 fn execute<J: Naming, R: Wait>(
     rt: &R,
     alloc: Global,
     run: WaveStore,
     team: &mut Team<'_, Shares<J>>,
     length: usize,
-) -> Result<WaveStore, Fault>
+) -> Option<WaveStore>
     requires { run.simulation.design ≡ J.design }
-    ensures same { IfOk result (λ s. s ≡ store.with_deposited run s.simulation.deposited) }
-    ensures complete { IfOk result (λ s. simulations.IsComplete s.simulation) }
+    ensures same { IfSome result (λ s. s ≡ store.with_deposited run s.simulation.deposited) }
+    ensures complete { IfSome result (λ s. simulations.IsComplete s.simulation) }
 {
     let steps = run.due().len().saturating_mul(length);
-    if steps < LEAST || !team.is_free() || !run.is_untouched() {
+    if !team.is_free(steps) || !run.is_untouched() {
         team.pay(steps);
         return execute_alone(alloc, run);
     }
     execute_in_shares(rt, alloc, run, team, steps)
 }
 
-/// Carries out one phase of a cycle, and goes on.
+/// Carries out one phase of a cycle, and goes on; none where the team fails, or memory is refused.
 fn go_on<J: Naming, R: Wait>(
     rt: &R,
     alloc: Global,
     run: WaveStore,
     team: &mut Team<'_, Shares<J>>,
     length: usize,
-) -> Result<WaveStore, Fault>
+) -> Option<WaveStore>
     requires design { run.simulation.design ≡ J.design }
     requires open { store.IsOpen run }
-    ensures { IfOk result (IsSameRun run) }
+    ensures { IfSome result (IsSameRun run) }
 {
     let mut run = execute(rt, alloc, run, team, length)?;
-    match run.advance(alloc) {
-        Ok(_step) => Ok(run),
-        // All that are due have been executed and the run has not ended, so only memory was short.
-        Err(_refusal) => Err(Fault::Memory),
-    }
+    // All that are due have been executed and the run has not ended, so an error is want of memory.
+    run.advance(alloc).ok()?;
+    Some(run)
 }
 
-/// Carries a run on until it has ended.
+/// Carries a run on until it has ended; none where the team fails, or memory is refused.
 fn lead<J: Naming, R: Wait>(
     rt: &R,
     alloc: Global,
     run: WaveStore,
     team: &mut Team<'_, Shares<J>>,
-) -> Result<WaveStore, Fault>
+) -> Option<WaveStore>
     requires { run.simulation.design ≡ J.design }
-    ensures { IfOk result (λ r. IsSameRun run r × (r.ended ≢ None)) }
+    ensures { IfSome result (λ r. IsSameRun run r × (r.ended ≢ None)) }
 {
     let length = run.mean_length().saturating_add(1);
     let mut run = run;
     for _turn in rt.forever() {
         if run.ended().is_some() {
-            return Ok(run);
+            return Some(run);
         }
         run = go_on(rt, alloc, run, team, length)?;
     }
-    Err(Fault::Gone)
+    None
 }
 
 /// A bell for each of so many workers.
-fn bells(alloc: Global, workers: usize) -> Result<Vec<Bell>, AllocError> {
-    let mut bells = Vec::with_capacity(alloc, workers)?;
+fn bells(alloc: Global, workers: usize) -> Option<Vec<Bell>> {
+    let mut bells = Vec::with_capacity(alloc, workers).ok()?;
     for _worker in 0..workers {
-        if bells.push(Bell::new()).is_err() {
-            return Err(AllocError);
-        }
+        bells.push(Bell::new()).ok()?;
     }
-    Ok(bells)
+    Some(bells)
 }
 
 /// Carries a run that has a name on to its end. As many threads are started as can be, up to so
-/// many less one.
+/// many less one. None where the team fails, or memory is refused.
 fn run_by<J: Naming + Send + Sync, R: Threads + Wait + Sync>(
     rt: &R,
     alloc: Global,
     run: WaveStore,
     workers: usize,
-) -> Result<WaveStore, Fault>
+    hints: Hints,
+) -> Option<WaveStore>
     requires { run.simulation.design ≡ J.design }
-    ensures { IfOk result (λ r. IsSameRun run r × (r.ended ≢ None)) }
+    ensures { IfSome result (λ r. IsSameRun run r × (r.ended ≢ None)) }
 {
     let main = Bell::new();
     let main = &main;
@@ -170,13 +152,13 @@ fn run_by<J: Naming + Send + Sync, R: Threads + Wait + Sync>(
     thread::scope(
         thread::scope_env(),
         rt,
-        |scope| -> Result<WaveStore, Fault>
+        |scope| -> Option<WaveStore>
             requires { run.simulation.design ≡ J.design }
-            ensures { IfOk result (λ r. IsSameRun run r × (r.ended ≢ None)) }
+            ensures { IfSome result (λ r. IsSameRun run r × (r.ended ≢ None)) }
         {
-            let mut team = Team::new(alloc, main);
+            let mut team = Team::new(alloc, main, hints);
             for bell in bells {
-                let (line, worker) = pair::<Shares<J>>(alloc, bell)?;
+                let (line, worker) = pair::<Shares<J>>(alloc, bell).ok()?;
                 if scope
                     .spawn(move || worker.work(rt, alloc, bell, main))
                     .is_ok()
@@ -190,12 +172,11 @@ fn run_by<J: Naming + Send + Sync, R: Threads + Wait + Sync>(
 }
 
 /// How many threads a run is carried on by, of so many that it may have: one where bodies are short,
-/// or all processes together have too little work. Then what a thread saves is less than what it
-/// costs to hand out and take back what the processes own.
-fn useful(run: &WaveStore, workers: usize) -> usize {
+/// or all processes together have too little work.
+fn useful(run: &WaveStore, workers: usize, hints: Hints) -> usize {
     let length = run.mean_length();
     let all = run.design().processes().len().saturating_mul(length);
-    if length < SHORT || all < LEAST {
+    if length < hints.least_steps_of_a_process || all < hints.least_steps_of_a_phase {
         1
     } else {
         workers
@@ -203,17 +184,20 @@ fn useful(run: &WaveStore, workers: usize) -> usize {
 }
 
 /// Carries a run on from where its store stands until it has ended, by at most so many threads. In
-/// each cycle with enough processes that are due, each thread gets a share of them by value. What
-/// can't be told apart by a caller: which thread executes which process.
+/// each cycle with enough processes that are due, by the hints, each thread gets a share of them by
+/// value. What can't be told apart by a caller: which thread executes which process. None where the
+/// team fails: memory was refused, to any of its threads, or a thread is gone. The store is then
+/// gone, and the run may begin again on the calling thread.
 pub fn carry_to_end<R: Threads + Wait + Sync>(
     rt: &R,
     alloc: Global,
     run: WaveStore,
     workers: usize,
-) -> Result<WaveStore, Fault>
-    ensures { IfOk result (λ r. IsSameRun run r × (r.ended ≢ None)) }
+    hints: Hints,
+) -> Option<WaveStore>
+    ensures { IfSome result (λ r. IsSameRun run r × (r.ended ≢ None)) }
 {
-    let workers = useful(&run, workers);
-    let run = run.divide(alloc, workers)?;
-    run_by::<Brand, R>(rt, alloc, run, workers)
+    let workers = useful(&run, workers, hints);
+    let run = run.divide(alloc, workers).ok()?;
+    run_by::<Brand, R>(rt, alloc, run, workers, hints)
 }

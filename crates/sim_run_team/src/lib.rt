@@ -3,9 +3,11 @@
 #![tactic(auto)]
 
 mod bell;
+mod hints;
 mod message;
 mod pace;
 mod workers;
 
 pub use bell::Bell;
-pub use workers::{Fault, Line, Team, Work, Worker, pair};
+pub use hints::Hints;
+pub use workers::{Line, Team, Work, Worker, pair};

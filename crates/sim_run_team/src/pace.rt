@@ -5,10 +5,7 @@
 //! before anything is handed out again, four times as much each time in a row. It bounds what a run
 //! loses by its workers to a part of what it takes on one thread.
 
-/// How many steps are executed alone after a first late answer: about a millisecond.
-const PRICE: usize = 100_000;
-
-/// How often the price is raised at the most, to about a second.
+/// How often the price is raised at the most, to about a thousand times the first.
 const MOST: u32 = 5;
 
 /// After how many phases whose answers all came in time the price is lowered.
@@ -25,6 +22,8 @@ const PATIENCE: usize = 100_000;
 /// How answers came so far.
 #[derive(Drop)]
 pub struct Pace {
+    /// How many steps are executed alone after a first late answer.
+    price: usize,
     /// How often the price was raised, four times each.
     raised: u32,
     /// How many steps are still to be executed alone.
@@ -34,9 +33,10 @@ pub struct Pace {
 }
 
 impl Pace {
-    /// No answer came late.
-    pub fn new() -> Pace {
+    /// No answer came late; the first that does has this price.
+    pub fn new(price: usize) -> Pace {
         Pace {
+            price,
             raised: 0,
             owed: 0,
             calm: 0,
@@ -56,7 +56,7 @@ impl Pace {
     /// The answers of a phase came, one of them late or all in time.
     pub fn came(&mut self, is_late: bool) {
         if is_late {
-            self.owed = PRICE << (2 * self.raised.min(MOST));
+            self.owed = self.price.saturating_mul(1 << (2 * self.raised.min(MOST)));
             self.raised = self.raised.min(MOST - 1) + 1;
             self.calm = 0;
             return;

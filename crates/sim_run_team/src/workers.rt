@@ -1,8 +1,9 @@
 //! Workers, and who gives them orders.
 
-ghost use Rattle.std.specs.Prelude.{◌≡◌, ◌+◌, IfOk, length};
+ghost use Rattle.std.specs.Prelude.{◌≡◌, ◌+◌, IfSome, length};
 
 use crate::bell::Bell;
+use crate::hints::Hints;
 use crate::message::next;
 use crate::pace::{Pace, patience};
 use rtrb::{Consumer, Producer, PushError, RingBuffer};
@@ -18,26 +19,11 @@ pub trait Work {
     /// What comes of an order.
     type Answer: Drop;
 
-    /// Whether an order is worth giving to another thread.
-    fn is_large(order: &Self::Order) -> bool;
+    /// Whether an order is to execute so many processes.
+    fn is_large(order: &Self::Order, least: usize) -> bool;
 
     /// Carries an order out; none where memory is refused.
     fn carry_out(alloc: Global, order: Self::Order) -> Option<Self::Answer>;
-}
-
-/// Why orders have no answers.
-#[derive(Clone, Copy, PartialEq, Eq)]
-pub enum Fault {
-    /// No memory.
-    Memory,
-    /// A worker is gone.
-    Gone,
-}
-
-impl From<AllocError> for Fault {
-    fn from(_error: AllocError) -> Fault {
-        Fault::Memory
-    }
 }
 
 /// An order for a worker, and how often it is to look for the next one before it sleeps.
@@ -122,30 +108,30 @@ enum Begun<A> {
 pub struct Team<'a, W: Work> {
     lines: Vec<Line<'a, W>>,
     bell: &'a Bell,
+    hints: Hints,
     pace: Pace,
 }
 
 impl<'a, W: Work> Team<'a, W> {
     /// A team of nobody.
-    pub fn new(alloc: Global, bell: &'a Bell) -> Team<'a, W> {
+    pub fn new(alloc: Global, bell: &'a Bell, hints: Hints) -> Team<'a, W> {
         Team {
             lines: Vec::new(alloc),
             bell,
-            pace: Pace::new(),
+            hints,
+            pace: Pace::new(hints.steps_after_a_late_answer),
         }
     }
 
-    /// A worker more.
-    pub fn add(&mut self, line: Line<'a, W>) -> Result<(), Fault> {
-        match self.lines.push(line) {
-            Ok(()) => Ok(()),
-            Err(_) => Err(Fault::Memory),
-        }
+    /// A worker more; none where memory is refused.
+    pub fn add(&mut self, line: Line<'a, W>) -> Option<()> {
+        self.lines.push(line).ok()
     }
 
-    /// Whether orders may be given: there are workers, and their answers come in time.
-    pub fn is_free(&self) -> bool {
-        !self.lines.is_empty() && self.pace.is_free()
+    /// Whether orders of so many steps in all may be given: there is work enough, there are workers,
+    /// and their answers come in time.
+    pub fn is_free(&self, steps: usize) -> bool {
+        steps >= self.hints.least_steps_of_a_phase && !self.lines.is_empty() && self.pace.is_free()
     }
 
     /// So many steps were executed without the team.
@@ -156,7 +142,8 @@ impl<'a, W: Work> Team<'a, W> {
     /// Gives an order to the worker with a number, or carries it out here where it is small or
     /// there is no such worker.
     fn begin(&mut self, alloc: Global, order: W::Order, number: usize) -> Begun<W::Answer> {
-        if !W::is_large(&order) || number >= self.lines.len() {
+        let is_large = W::is_large(&order, self.hints.least_processes_of_an_order);
+        if !is_large || number >= self.lines.len() {
             return Begun::Done(W::carry_out(alloc, order));
         }
         let looks = self.pace.looks();
@@ -170,98 +157,92 @@ impl<'a, W: Work> Team<'a, W> {
         }
     }
 
-    /// The answer of an order that was begun, and whether it came late.
+    /// The answer of the worker with a number, and whether it came late; none where that worker is
+    /// gone, or had no memory.
+    fn received<R: Wait>(
+        &mut self,
+        rt: &R,
+        number: usize,
+        looks: u32,
+    ) -> Option<(W::Answer, bool)> {
+        if number >= self.lines.len() {
+            return None;
+        }
+        let answers = &mut self.lines[number].answers;
+        let (message, is_late) = next(rt, answers, self.bell, looks)?;
+        Some((message?, is_late))
+    }
+
+    /// The answer of an order that was begun, and whether it came late; none where there is none.
     fn answer<R: Wait>(
         &mut self,
         rt: &R,
         begun: Begun<W::Answer>,
         looks: u32,
-    ) -> Result<(W::Answer, bool), Fault> {
+    ) -> Option<(W::Answer, bool)> {
         match begun {
-            Begun::Done(Some(answer)) => Ok((answer, false)),
-            Begun::Done(None) => Err(Fault::Memory),
-            Begun::Given(number) => {
-                if number >= self.lines.len() {
-                    return Err(Fault::Gone);
-                }
-                let Some((message, is_late)) = next(
-                    rt,
-                    &mut self.lines[number].answers,
-                    self.bell,
-                    looks,
-                ) else {
-                    return Err(Fault::Gone);
-                };
-                match message {
-                    Some(answer) => Ok((answer, is_late)),
-                    None => Err(Fault::Memory),
-                }
-            }
+            Begun::Done(answer) => Some((answer?, false)),
+            Begun::Given(number) => self.received(rt, number, looks),
         }
     }
 
     /// Begins each order: it is given to the worker with its number, so that a worker has the same
-    /// share each time; where there is none it is carried out here meanwhile.
-    fn begin_all(
-        &mut self,
-        alloc: Global,
-        orders: Vec<W::Order>,
-    ) -> Result<Vec<Begun<W::Answer>>, Fault>
-        ensures { IfOk result (λ v. length v.items ≡ length orders.items) }
+    /// share each time; where there is none it is carried out here meanwhile. None where memory is
+    /// refused.
+    fn begin_all(&mut self, alloc: Global, orders: Vec<W::Order>) -> Option<Vec<Begun<W::Answer>>>
+        ensures { IfSome result (λ v. length v.items ≡ length orders.items) }
     {
-        let mut begun = Vec::with_capacity(alloc, orders.len())?;
+        let mut begun = Vec::with_capacity(alloc, orders.len()).ok()?;
         for (number, order) in orders.into_iter().enumerate() {
             let one = self.begin(alloc, order, number);
-            if begun.push(one).is_err() {
-                return Err(Fault::Memory);
-            }
+            begun.push(one).ok()?;
         }
-        Ok(begun)
+        Some(begun)
     }
 
     /// The answers of orders, in their order, and whether one came late. All that were given away
-    /// are waited for; then a fault is told.
+    /// are waited for; none where one has no answer.
     fn answers<R: Wait>(
         &mut self,
         rt: &R,
         begun: Vec<Begun<W::Answer>>,
         looks: u32,
         answers: &mut Vec<W::Answer>,
-    ) -> Result<bool, Fault>
-        ensures { IfOk result (λ _. length answers.new.items ≡ length answers.old.items + length begun.items) }
+    ) -> Option<bool>
+        ensures { IfSome result (λ _. length answers.new.items ≡ length answers.old.items + length begun.items) }
     {
-        let mut late = Ok(false);
+        let mut late = Some(false);
         for one in begun {
             match self.answer(rt, one, looks) {
-                Ok((answer, is_late)) => {
+                Some((answer, is_late)) => {
                     if answers.push(answer).is_err() {
-                        late = Err(Fault::Memory);
-                    }
-                    if is_late && late == Ok(false) {
-                        late = Ok(true);
+                        late = None;
+                    } else if is_late && late == Some(false) {
+                        late = Some(true);
                     }
                 }
-                Err(error) => late = Err(error),
+                None => late = None,
             }
         }
         late
     }
 
     /// Has orders of so many steps in all carried out by the workers and this thread, and gives
-    /// their answers in the same order.
+    /// their answers in the same order. None where the team fails: memory was refused, to this thread
+    /// or a worker, or a worker is gone; what the orders held is then lost.
     pub fn carry_out<R: Wait>(
         &mut self,
         rt: &R,
         alloc: Global,
         orders: Vec<W::Order>,
         steps: usize,
-    ) -> Result<Vec<W::Answer>, Fault>
-        ensures { IfOk result (λ v. length v.items ≡ length orders.items) }
+    ) -> Option<Vec<W::Answer>>
+        ensures { IfSome result (λ v. length v.items ≡ length orders.items) }
     {
-        let mut answers = Vec::with_capacity(alloc, orders.len())?;
+        let mut answers = Vec::with_capacity(alloc, orders.len()).ok()?;
         let begun = self.begin_all(alloc, orders)?;
         let is_late = self.answers(rt, begun, patience(steps), &mut answers)?;
         self.pace.came(is_late);
-        Ok(answers)
+        Some(answers)
     }
 }

@@ -1,6 +1,6 @@
 use Rattle.sim_run_session.proofs.Finishing.{listed, part_listed}
 use Rattle.sim_run_session.proofs.Simulations.{write_failed, where_failed}
-use Rattle.sim_run_session.proofs.simulation.simulate.Goals as goal
+use Rattle.sim_run_session.proofs.simulation.simulate_with_hints.Goals as goal
 
 pub returns-clause-refused : goal.returns-clause-refused
 returns-clause-refused g c = write_failed c.write_run.result _ c.write_run.ensures.err

@@ -2,15 +2,14 @@ use Rattle.std.proofs.Common.{inl, sym, ◌∙◌, map}
 use Rattle.std.specs.Prelude.{string_bytes}
 use Rattle.sim_run_session.specs.Run.{ListsPart}
 use Rattle.sim_run_session.specs.Simulation.{HasDesign}
-use Rattle.sim_run_session.proofs.Programs.{status_1, status_2, status_3, stopped}
-use Rattle.sim_run_session.proofs.program.session.Goals as goal
+use Rattle.sim_run_session.proofs.Programs.{with_range, status_1, status_2, status_3, stopped}
+use Rattle.sim_run_session.proofs.program.session_with_hints.Goals as goal
 
 pub returns-in-Ok-carry_out-clause-success : goal.returns-in-Ok-carry_out-clause-success
 returns-in-Ok-carry_out-clause-success g c = λ _. inl (record {
   options = c.in-Ok.options;
   asked = c.in-Ok.ensures.read;
-  read =
-      c.in-Ok-carry_out.ensures.listed;
+  read = with_range (g.R.Read.remaining c.args.input.now) c.in-Ok-carry_out.ensures.range c.in-Ok-carry_out.ensures.listed;
 })
 
 pub returns-clause-text : goal.returns-clause-text

@@ -1,0 +1,151 @@
+//! Who carries orders out, and in which order answers come.
+
+use crate::board::Board;
+use crate::visits::{Visit, Visits, orders};
+use sim_run_team::{Bell, Hints, Team, pair};
+use std::alloc::{AllocError, Global};
+use std::sync::{Arc, Wait};
+use std::test::Fail;
+use std::thread::{self, Threads};
+
+/// What a team is given.
+#[derive(Clone, Copy)]
+struct Given {
+    /// How many threads there are beside the main thread.
+    workers: usize,
+    /// How many have to have arrived before one of these begins to work.
+    begins_after: u64,
+    /// How many orders there are.
+    orders: usize,
+    /// How many are to be carried out at once.
+    at_once: u64,
+    /// Which has no answer.
+    silent: Option<usize>,
+}
+
+/// A bell for each of so many workers.
+fn bells(alloc: Global, workers: usize) -> Result<Vec<Bell>, AllocError> {
+    let mut bells = Vec::new(alloc);
+    for _worker in 0..workers {
+        bells.push(Bell::new())?;
+    }
+    Ok(bells)
+}
+
+/// The bells of the workers, the orders, and the board that all of these look at.
+fn ready(alloc: Global, given: Given) -> Option<(Vec<Bell>, Vec<Visit>, Arc<Board, Global>)> {
+    let bells = bells(alloc, given.workers).ok()?;
+    let board = Arc::new(alloc, Board::new()).ok()?;
+    let orders = orders(alloc, given.orders, given.at_once, given.silent, &board).ok()?;
+    Some((bells, orders, board))
+}
+
+/// What a team answers to visits.
+fn answered<R: Threads + Wait + Sync>(rt: &R, alloc: Global, given: Given) -> Option<Vec<usize>> {
+    let main = &Bell::new();
+    let (bells, orders, board) = ready(alloc, given)?;
+    let bells = bells.as_slice();
+    let board = &*board;
+    let begins_after = given.begins_after;
+    thread::scope(thread::scope_env(), rt, |scope| -> Option<Vec<usize>> {
+        let mut team = Team::new(alloc, main, Hints::all_handed_out());
+        for bell in bells {
+            let (line, worker) = pair::<Visits>(alloc, bell).ok()?;
+            let _started = scope.spawn(move || {
+                board.has(begins_after);
+                worker.work(rt, alloc, bell, main)
+            });
+            team.add(line)?;
+        }
+        team.carry_out(rt, alloc, orders, 0)
+    })
+}
+
+/// Whether a team has the answers of so many visits, in their order.
+fn is_answered<R: Threads + Wait + Sync>(rt: &R, alloc: Global, given: Given) -> bool {
+    let Some(answers) = answered(rt, alloc, given) else {
+        return false;
+    };
+    for (number, answer) in answers.iter().enumerate() {
+        if *answer != number {
+            return false;
+        }
+    }
+    answers.len() == given.orders
+}
+
+/// Workers, when they begin, orders, and how many of these are carried out at once. Where all are,
+/// none would be answered if one thread carried out two, as each waits for all. Workers that begin
+/// late have their orders before they look for them.
+static ANSWERED: [(usize, u64, usize, u64); 13] = [
+    (1, 0, 2, 2),
+    (2, 0, 3, 3),
+    (3, 0, 4, 4),
+    (7, 0, 8, 8),
+    (15, 0, 16, 16),
+    (1, 1, 2, 2),
+    (3, 1, 4, 4),
+    (0, 0, 5, 1),
+    (1, 0, 5, 2),
+    (3, 0, 5, 4),
+    (5, 0, 5, 5),
+    (16, 0, 5, 5),
+    (3, 0, 0, 0),
+];
+
+#[test]
+fn orders_are_carried_out_at_once_and_answered_in_order(rt: HostRuntime) -> Result<(), Fail> {
+    for (workers, begins_after, orders, at_once) in &ANSWERED {
+        let given = Given {
+            workers: *workers,
+            begins_after: *begins_after,
+            orders: *orders,
+            at_once: *at_once,
+            silent: None,
+        };
+        assert!(rt;
+            is_answered(&rt, rt.alloc(), given),
+            "{workers} workers, {orders} orders"
+        );
+    }
+    Ok(())
+}
+
+#[test]
+fn a_team_fails_where_an_order_has_no_answer(rt: HostRuntime) -> Result<(), Fail> {
+    for silent in 0..4 {
+        let given = Given {
+            workers: 2,
+            begins_after: 0,
+            orders: 4,
+            at_once: 0,
+            silent: Some(silent),
+        };
+        assert!(rt; answered(&rt, rt.alloc(), given).is_none(), "{silent}");
+    }
+    Ok(())
+}
+
+/// What a team answers to a visit whose worker is gone.
+fn answered_by_nobody<R: Wait>(rt: &R, alloc: Global, given: Given) -> Option<Vec<usize>> {
+    let (main, theirs) = (Bell::new(), Bell::new());
+    let (_bells, orders, _board) = ready(alloc, given)?;
+    let (line, worker) = pair::<Visits>(alloc, &theirs).ok()?;
+    drop(worker);
+    let mut team = Team::new(alloc, &main, Hints::all_handed_out());
+    team.add(line)?;
+    team.carry_out(rt, alloc, orders, 0)
+}
+
+#[test]
+fn a_team_fails_where_a_worker_is_gone(rt: HostRuntime) -> Result<(), Fail> {
+    let given = Given {
+        workers: 0,
+        begins_after: 0,
+        orders: 1,
+        at_once: 0,
+        silent: None,
+    };
+    assert!(rt; answered_by_nobody(&rt, rt.alloc(), given).is_none());
+    Ok(())
+}

@@ -1,0 +1,59 @@
+//! Orders that wait for one another.
+
+use crate::board::Board;
+use sim_run_team::Work;
+use std::alloc::{AllocError, Global};
+use std::sync::Arc;
+
+/// An order to arrive, and to wait until so many have arrived. It answers with its number, or not at
+/// all.
+#[derive(Drop)]
+pub struct Visit {
+    pub number: usize,
+    pub awaited: u64,
+    pub answers: bool,
+    pub board: Arc<Board, Global>,
+}
+
+/// The work of visits.
+pub struct Visits {}
+
+impl Work for Visits {
+    type Order = Visit;
+
+    type Answer = usize;
+
+    fn is_large(order: &Visit, least: usize) -> bool {
+        order.number >= least
+    }
+
+    fn carry_out(_alloc: Global, order: Visit) -> Option<usize> {
+        order.board.arrive();
+        if order.answers && order.board.has(order.awaited) {
+            Some(order.number)
+        } else {
+            None
+        }
+    }
+}
+
+/// Visits with the numbers from 0, each of which waits until so many have arrived; the one with a
+/// number has no answer.
+pub fn orders(
+    alloc: Global,
+    count: usize,
+    awaited: u64,
+    silent: Option<usize>,
+    board: &Arc<Board, Global>,
+) -> Result<Vec<Visit>, AllocError> {
+    let mut orders = Vec::new(alloc);
+    for number in 0..count {
+        orders.push(Visit {
+            number,
+            awaited,
+            answers: silent != Some(number),
+            board: Arc::try_clone(board)?,
+        })?;
+    }
+    Ok(orders)
+}
