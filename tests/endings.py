@@ -1,12 +1,12 @@
 #!/usr/bin/env python3
 """Runs small designs by several workers very often, beside processes that never wait: each run has to end.
 
-    endings.py PROGRAM [--runs N] [--workers N] [--load N]
+    endings.py PROGRAM [--handed-out] [--runs N] [--workers N] [--load N]
 
 The designs of examples/ whose run is finished are run in turn, 10,000 times in all, with 3 workers, beside 8 busy processes. Each
 run has to end within a minute, with the status and the listing that it has by one worker. A worker gets an order only where there
-is work enough for it, so to try the threads themselves take a program in which each phase is handed out: LEAST and WORTH 1, SHORT
-and PRICE 0 (team.rt of sim_run_session, pace.rt of sim_run_team, order.rt of sim_store).
+is work enough for it. To try the threads themselves the program is sim_run_cases with --handed-out: it then is vsim, but that each
+phase is handed out. The last line is `N passed, M failed`.
 """
 import argparse
 import glob
@@ -22,7 +22,7 @@ BUSY = [sys.executable, "-c", "while True: pass"]
 
 def answer(program, workers, text):
     """The status of a run and its standard output, or None where it does not end."""
-    words = [program, "--top", "t", "--workers", str(workers)]
+    words = [*program, "--top", "t", "--workers", str(workers)]
     try:
         ran = subprocess.run(words, input=text, capture_output=True, timeout=LONGEST)
     except subprocess.TimeoutExpired:
@@ -33,11 +33,12 @@ def answer(program, workers, text):
 def main():
     given = argparse.ArgumentParser()
     given.add_argument("program")
+    given.add_argument("--handed-out", action="store_true")
     given.add_argument("--runs", type=int, default=10_000)
     given.add_argument("--workers", type=int, default=3)
     given.add_argument("--load", type=int, default=8)
     given = given.parse_args()
-    program = os.path.abspath(given.program)
+    program = [os.path.abspath(given.program), *(["--handed-out"] if given.handed_out else [])]
     texts = []
     for name in sorted(glob.glob(f"{HERE}/../examples/*.vhd")):
         with open(name, "rb") as file:
@@ -59,7 +60,8 @@ def main():
     finally:
         for it in busy:
             it.kill()
-    print(f"{given.runs} runs, {wrong} with another answer than they should have; the longest took {longest:.2f} s")
+    print(f"endings: {given.runs} runs of {len(texts)} designs; the longest took {longest:.2f} s")
+    print(f"{given.runs - wrong} passed, {wrong} failed")
     return 1 if wrong else 0
 
 

@@ -6,7 +6,8 @@
 - Each proper prefix of three designs is refused as a text, but for the one that ends after its entity.
 - A zero byte in place of each byte of these designs is refused at its place, or at the token that it breaks.
 - Texts of 1 MiB, each of one thing over and over, and one of a byte more: each is answered as the manual says, in at most 20 s of a processor.
-- In little memory a run answers `vsim: Memory`, and in more its listing, by one worker and by three.
+- In little memory a run answers `vsim: Memory`, and in more its listing, by one worker and by three. Where work is handed out,
+  runs by 4 and 16 workers answer what one worker does, in address spaces from that which one needs up to ample.
 - Standard output is full, closed, or a pipe that nobody reads; standard input is closed, a folder or a terminal; standard error
   is closed. The status and the line are those of the manual.
 
@@ -198,6 +199,25 @@ def memory(program, tally):
         tally.note(refused[0] and not refused[-1], f"little memory and ample by {workers}", ample)
 
 
+def worked(processes, statements):
+    """A design in which a clock resumes so many processes of so many statements each."""
+    body = "v:=v xor clk;" * (statements - 1)
+    of_all = [f"s{number}" for number in range(processes)]
+    every = "".join(f"process(clk) variable v:std_logic:='0'; begin {body}{name}<=v and '0';end process;" for name in of_all)
+    return f"entity t is end;architecture a of t is signal clk,{','.join(of_all)}:std_logic:='0';begin clk<=not clk after 1 ns;{every}end;".encode()
+
+
+def shared(program, tally):
+    """Each thread has a stack and a heap of its own, for which there is no room in small address spaces."""
+    text, words = worked(600, 20), [*WORDS, "--stop", "20000000", "--workers"]
+    ample = run(program, text, [*words, "1"])
+    tally.note(ample.status == 0 and ample.out.endswith(b"\ndone 41 20\n"), "600 processes by 1", ample)
+    for mebibytes in (24, 32, 48, 64, 96, 128, 192, 256, 384, 512, 768, 1000, 1200, 1600, 2400, 3200):
+        for workers in ("1", "4", "16"):
+            answer = limited(program, text, [*words, workers], mebibytes << 10)
+            tally.note(answer.same(0, ample.out, b""), f"600 processes in {mebibytes} MiB by {workers}", answer)
+
+
 def streams(program, tally):
     """Streams that fail, each with the status and the line that the manual has for it."""
     write, read = (4, b"vsim: Write\n"), (4, b"vsim: Read\n")
@@ -243,7 +263,8 @@ def main():
     program, tally = os.path.abspath(program), Tally()
     answer = run(program, DESIGN)
     tally.note(answer.same(0, LISTING, b""), "the design", answer)
-    for part in (prefixes, zeros, huge, memory) if words else (prefixes, zeros, huge, memory, streams, terminal):
+    of_texts = (prefixes, zeros, huge, memory, shared)
+    for part in of_texts if words else (*of_texts, streams, terminal):
         part(program, tally)
     print(f"{tally.passed} passed, {tally.failed} failed")
     return 1 if tally.failed else 0

@@ -1,17 +1,28 @@
 #!/usr/bin/env python3
-"""Refuses each request for memory of a run in turn, alone and with all that come after it, and checks what the program says.
+"""Refuses each request for memory of a run in turn, and checks what the program says.
 
-    refusals.py PROGRAM [--calls] [--workers N] [--most N] [DESIGN.vhd ..]      default: the designs of examples/
+    refusals.py PROGRAM [--calls] [--rows] [--words WORDS] [--workers N] [--most N] [DESIGN.vhd ..]    default: those of examples/
+    refusals.py VSIM --gate SIM_RUN_CASES
 
 A run answers `vsim: Memory`, with status 4 and nothing written, or what it answers with ample memory, and nothing else; and
-it ends. Of a run with more than MOST requests (4,000), as many are tried, evenly apart. refuse.c is compiled by `cc`.
+it ends. Each request is refused alone, and then with all that come after it. Of a run with more than MOST requests (4,000),
+as many are tried, evenly apart. With --words the program is given these words, whatever the design.
 
-With --calls the program is sim_run_cases, which then makes the public calls one after another, and each that finds no memory
-once more: where one request is refused it prints the same listing, unless it cannot read the text.
+With --calls or --rows the program is sim_run_cases, which makes the public calls one after another, on the design or on rows
+of its own, and each that finds no memory once more. Where one request is refused it prints what it does with ample memory,
+and for a whole call or a row, in a line that begins with `!`, which error came first: want of memory of the text, of the
+design or of the run, in this order. Only where it cannot read the text, it says so.
+
+With --gate each request of the designs below is refused alone, of the program and of all calls.
+
+refuse.c is made a library by the clang that rt has, or else by `cc`.
 """
 import argparse
+import concurrent.futures
 import glob
 import os
+import shlex
+import shutil
 import subprocess
 import sys
 import tempfile
@@ -20,6 +31,53 @@ HERE = os.path.dirname(os.path.realpath(__file__))
 EXAMPLES = f"{os.path.dirname(HERE)}/examples"
 MEMORY = (4, b"", b"vsim: Memory\n")
 LONGEST = 60
+AT_ONCE = 4
+# errors for want of memory in the order in which a whole run meets them
+ERRORS = [b"Text(Memory)", b"Flat(Memory)", b"Memory"]
+# the calls that meet all of them
+WHOLE = [b"simulate", b"run", b"run_in"]
+
+LEAF = "entity l is port(i:in std_logic;o:out std_logic);end;architecture a of l is begin o<=i;end;"
+TOGGLE = "process (clk) variable v:std_logic:='0'; begin if rising_edge(clk) then v := not v; q <= v; end if; end process;"
+TAKEN = "process(clk) begin if rising_edge(clk) then {0} <= {1}; end if; end process;"
+# what is declared, what is in the architecture, what follows it, and more words than `--top t`
+DESIGNS = [
+    ("signal s:std_logic:='0';", "s <= '1' after 5 ns;", "", ""),
+    ("", "", "", ""),
+    ("signal s:std_logic;", "s <= '0'; s <= '1';", "", ""),
+    ("signal s:std_logic;", "s <= '-';", "", ""),
+    ("signal s:std_logic;", "s <= '-'; s <= 'Z';", "", ""),
+    ("signal a,q:std_logic;", "a <= '0', '1' after 10 ns, '0' after 13 ns; q <= a after 5 ns;", "", ""),
+    ("signal a,q:std_logic;", "a <= '0', '1' after 10 ns, '0' after 13 ns; q <= transport a after 5 ns;", "", ""),
+    ("signal a,q:std_logic;", "a <= '0', '1' after 10 ns, '0' after 13 ns; q <= reject 2 ns inertial a after 5 ns;", "", ""),
+    ("signal a,q:std_logic;", "a <= '0', '1' after 10 ns, '0' after 12 ns; q <= reject 2 ns inertial a after 5 ns;", "", ""),
+    ("signal a,q:std_logic:='0';", "a <= '1' after 1 ns; q <= '1' after 8 ns when a = '0' else '1' after 9 ns;", "", ""),
+    ("signal s:std_logic:='0';", "s <= not s;", "", "--limit 100"),
+    ("signal s:std_logic;", "s <= not s;", "", "--limit 100"),
+    ("signal clk:std_logic:='0';", "clk <= not clk after 5 ns;", "", "--stop 12000000"),
+    ("signal clk:std_logic:='0';", "clk <= not clk after 5 ns;", "", "--stop 12000000 --limit 2"),
+    ("signal clk:std_logic:='0';", "clk <= not clk after 5 ns;", "", "--stop 12000000 --limit 1"),
+    ("signal clk:std_logic:='0'; signal q:std_logic;", "clk <= not clk after 5 ns; " + TOGGLE, "", "--stop 16000000"),
+    ("signal s:std_logic:='0';", "s <= '1'; u:entity work.e port map(p=>s);",
+     "entity e is port(p:out std_logic);end;architecture a of e is begin end;", ""),
+    ("signal s:std_logic:='0';", "u:entity work.l port map('1',s);", LEAF, ""),
+    ("", "u:entity work.l port map(i=>'1',o=>open);", LEAF, ""),
+    ("signal s:std_logic;", "u:entity work.e port map(s,s);",
+     "entity e is port(p,q:out std_logic);end;architecture a of e is begin process(all) begin p<='0';q<='1';end process;end;", ""),
+    ("signal s:std_ulogic;", "u:entity work.e port map(s);",
+     "entity e is port(p:out std_logic);end;architecture a of e is begin p<='1';p<='H';end;", ""),
+    ("signal clk,a:std_logic:='0'; signal b:std_logic:='1';",
+     "clk <= '1' after 5 ns; " + TAKEN.format("a", "b") + TAKEN.format("b", "a"), "", ""),
+    ("signal a,s:std_logic:='0';", "a <= '1' after 1 ns; process(a) begin s <= '1' after 3 ns; s <= transport '0' after 5 ns; "
+     "end process; s <= 'Z' after 2 ns;", "", ""),
+    ("signal s:std_logic;", "s <= '1' after 1 hr;", "", ""),
+    ("signal s:std_logic;", "s <= '1' after 4611686018427387903 fs;", "", ""),
+]
+
+
+def text_of(declared, inside, behind):
+    """The text of a design."""
+    return f"entity t is end;architecture a of t is {declared} begin {inside} end;{behind}".encode("ascii")
 
 
 def words_of(design):
@@ -31,60 +89,147 @@ def words_of(design):
         return file.read().split()
 
 
-def answer(program, words, design, settings):
+def answer(program, words, text, settings):
     """The status of a run, its standard output and its standard error."""
-    with open(design, "rb") as source:
-        ran = subprocess.run([program, *words], stdin=source, capture_output=True, timeout=LONGEST, env={**os.environ, **settings})
+    try:
+        ran = subprocess.run([program, *words], input=text, capture_output=True, timeout=LONGEST, env={**os.environ, **settings})
+    except subprocess.TimeoutExpired:
+        return "no end", b"", b""
     return ran.returncode, ran.stdout, ran.stderr
 
 
-def requests(program, words, design, shim):
+def requests(program, words, text, shim):
     """How many requests for memory a run makes."""
     with tempfile.NamedTemporaryFile("r") as counts:
-        answer(program, words, design, {"LD_PRELOAD": shim, "REFUSE_COUNT": counts.name})
+        answer(program, words, text, {"LD_PRELOAD": shim, "REFUSE_COUNT": counts.name})
         return int(counts.read().split()[-1])
+
+
+def apart(written):
+    """What was written of the listing, and the lines that tell an error."""
+    lines = written.splitlines(True)
+    return b"".join(line for line in lines if not line.startswith(b"! ")), [line for line in lines if line.startswith(b"! ")]
 
 
 def is_right(found, ample, calls, alone):
     """Whether a run with a refused request has an answer that it may have."""
     if not calls:
-        return found in (ample, MEMORY)
-    refused = found[0] == 1 and not found[1] and found[2].startswith(b"Error: ")
-    return found == ample or refused and (not alone or b"reading" in found[2])
+        # (sim_run_cases says so of the words themselves)
+        return found in (ample, MEMORY) or b"Error: reading the words" in found[2]
+    listing, told = apart(found[1])
+    refused = found[0] == 1 and found[2].startswith(b"Error: ")
+    if alone:
+        return (found[0], listing, found[2]) == ample and len(told) <= 1 or refused and not found[1] and b"reading" in found[2]
+    return found == ample or refused and ample[1].startswith(listing)
 
 
-def differing(program, words, design, shim, most, calls):
-    """Yields of each refusal whether the run had no answer for want of memory, and what is wrong with its answer."""
-    ample, count = answer(program, words, design, {}), requests(program, words, design, shim)
-    step = max(1, count // most)
-    for number in range(1, count + 1, step):
-        for more in ({}, {"REFUSE_ON": "1"}):
-            try:
-                found = answer(program, words, design, {"LD_PRELOAD": shim, "REFUSE_AT": str(number), **more})
-            except subprocess.TimeoutExpired:
-                found = ("no end", b"", b"")
-            right = is_right(found, ample, calls, not more)
-            yield found != ample, None if right else f"{design}: request {number}{' and on' if more else ''}: {found[0]} {found[2]!r}"
+def error_of(found):
+    """The call or row that told an error, and the place of that error; none where none was told."""
+    for line in apart(found[1])[1]:
+        name, _, error = line[2:].strip().partition(b": ")
+        return name, ERRORS.index(error) if error in ERRORS else len(ERRORS)
+    return None
+
+
+def out_of_order(answers, all_tried):
+    """What is wrong with the errors that were told, as the requests were refused from the first to the last."""
+    told = {}
+    for number, found in answers:
+        known = error_of(found)
+        if known:
+            name, error = known
+            if error == len(ERRORS) or error < max(told.get(name, {0})):
+                return f"request {number}: {found[1]!r}"
+            told.setdefault(name, set()).add(error)
+    missing = [name for name in WHOLE if name in told and len(told[name]) < len(ERRORS)] if all_tried else []
+    return f"{missing} told {told}" if missing else None
+
+
+def tries(program, words, text, shim, most, with_later):
+    """Of each refusal its number, whether it was alone, and the answer, in the order of the requests."""
+    count = requests(program, words, text, shim)
+    kinds = [({}, True), ({"REFUSE_ON": "1"}, False)] if with_later else [({}, True)]
+    planned = [(number, more, alone) for number in range(1, count + 1, max(1, count // most)) for more, alone in kinds]
+
+    def one(plan):
+        number, more, alone = plan
+        return number, alone, answer(program, words, text, {"LD_PRELOAD": shim, "REFUSE_AT": str(number), **more})
+
+    with concurrent.futures.ThreadPoolExecutor(AT_ONCE) as pool:
+        return list(pool.map(one, planned))
+
+
+def faults(program, words, text, shim, most, calls, with_later=True):
+    """How many runs had a refused request, how many of these had another answer than with ample memory, and what is wrong."""
+    ample = answer(program, words, text, {})
+    ran = tries(program, words, text, shim, most, with_later)
+    wrong = [f"request {number}{'' if alone else ' and on'}: {found}" for number, alone, found in ran if not is_right(found, ample, calls, alone)]
+    alone_ran = [(number, found) for number, alone, found in ran if alone]
+    disorder = out_of_order(alone_ran, len(alone_ran) < most) if calls else None
+    return len(ran), sum(found != ample for _, _, found in ran), wrong + ([disorder] if disorder else [])
+
+
+def library(folder):
+    """The library that refuses, made in this folder."""
+    made, source = f"{folder}/refuse.so", f"{HERE}/refuse.c"
+    rt = shutil.which("rt")
+    clang = f"{os.path.dirname(os.path.dirname(os.path.realpath(rt)))}/toolchain/bin/clang" if rt else ""
+    compiler = [clang, "-fuse-ld=lld"] if os.path.exists(clang) else ["cc"]
+    subprocess.run([*compiler, "-O2", "-shared", "-fPIC", "-nostdlib", "-o", made, source], check=True)
+    return made
+
+
+def gate(vsim, cases, shim):
+    """Each request of the designs above refused alone: how many designs and calls are right, and how many are not."""
+    passed = failed = tried = 0
+    plans = [(cases, ["--rows"], b"", True)]
+    for declared, inside, behind, more in DESIGNS:
+        text = text_of(declared, inside, behind)
+        plans.append((vsim, ["--top", "t", *more.split()], text, False))
+        if "--limit" not in more:
+            plans.append((cases, ["--calls"], text, True))
+        if declared.count("signal") > 1:
+            # (several processes, by three workers to whom each phase is handed out)
+            plans.append((cases, ["--handed-out", "--top", "t", *more.split(), "--workers", "3"], text, False))
+    for program, words, text, calls in plans:
+        runs, _, wrong = faults(os.path.abspath(program), words, text, shim, 1 << 30, calls, False)
+        tried, passed, failed = tried + runs, passed + (not wrong), failed + bool(wrong)
+        for fault in wrong[:3]:
+            print(f"refusals: {' '.join(words)} < {text.decode('ascii')!r}: {fault}")
+    print(f"refusals: {tried} runs, in each of which one request for memory was refused")
+    print(f"{passed} passed, {failed} failed")
+    return 1 if failed else 0
 
 
 def main():
     given = argparse.ArgumentParser()
     given.add_argument("program")
-    given.add_argument("designs", nargs="*", default=sorted(glob.glob(f"{EXAMPLES}/*.vhd")))
+    given.add_argument("designs", nargs="*")
+    given.add_argument("--gate", action="store_true")
     given.add_argument("--calls", action="store_true")
+    given.add_argument("--rows", action="store_true")
+    given.add_argument("--words")
     given.add_argument("--workers")
     given.add_argument("--most", type=int, default=4000)
     given = given.parse_intermixed_args()
-    tried = memory = wrong = 0
     with tempfile.TemporaryDirectory() as folder:
-        shim = f"{folder}/refuse.so"
-        subprocess.run(["cc", "-O2", "-shared", "-fPIC", "-o", shim, f"{HERE}/refuse.c", "-ldl"], check=True)
-        for design in given.designs:
-            words = ["--calls"] if given.calls else words_of(design) + (["--workers", given.workers] if given.workers else [])
-            for is_memory, fault in differing(os.path.abspath(given.program), words, design, shim, given.most, given.calls):
-                tried, memory, wrong = tried + 1, memory + (is_memory and not fault), wrong + (fault is not None)
-                if fault:
-                    print(f"refusals: {fault}")
+        shim = library(folder)
+        if given.gate:
+            return gate(given.program, given.designs[0], shim)
+        program = os.path.abspath(given.program)
+        tried = memory = wrong = 0
+        designs = given.designs or ([os.devnull] if given.rows else sorted(glob.glob(f"{EXAMPLES}/*.vhd")))
+        for design in designs:
+            words = words_of(design) + (["--workers", given.workers] if given.workers else [])
+            if given.calls or given.rows:
+                words = ["--calls" if given.calls else "--rows"]
+            if given.words is not None:
+                words = shlex.split(given.words)
+            with open(design, "rb") as source:
+                runs, others, found = faults(program, words, source.read(), shim, given.most, given.calls or given.rows)
+            tried, memory, wrong = tried + runs, memory + others - len(found), wrong + len(found)
+            for fault in found:
+                print(f"refusals: {design}: {fault}")
     print(f"{tried} runs with a refused request: {memory} Memory, {tried - memory - wrong} the answer with ample memory, {wrong} something else")
     return 1 if wrong else 0
 

@@ -94,6 +94,22 @@ impl Case {
         true
     }
 
+    /// Whether its run is finished, so that there is a listing to compare.
+    pub fn is_listed(&self) -> bool {
+        self.status == 0 && self.compares_output
+    }
+
+    /// Asks for so many workers, unless its words say how many there are.
+    pub fn put_workers(&mut self, alloc: Global, workers: &str) -> Result<(), AllocError> {
+        for word in &self.words {
+            if word.starts_with("--workers") {
+                return Ok(());
+            }
+        }
+        push_word(alloc, &mut self.words, "--workers")?;
+        push_word(alloc, &mut self.words, workers)
+    }
+
     /// Reads a line of the case: its mark, and what follows the blank after it. `false` where it is
     /// none.
     pub fn put(&mut self, alloc: Global, mark: u8, line: &[u8]) -> Result<bool, AllocError> {

@@ -1,7 +1,13 @@
 //! Gives the program each case of the files that its words name, and prints the number of cases and
-//! each that is answered in another way than the case says: `sim_run_cases FILE ..`. For a word
-//! `--calls` it prints the listing of the text on standard input, by the public calls one after
-//! another. One program, since each that holds a whole run proves and links all of it.
+//! each that is answered in another way than the case says: `sim_run_cases FILE ..`. After a word
+//! `--by=N` it does so with each case whose run is finished, by N workers, where the case does not
+//! say how many, to whom each phase is handed out. For a word `--calls` it prints the listing of the
+//! text on standard input, by the public calls one after another; for a word `--rows` it works rows of
+//! calls that are made alone.
+//!
+//! Where the first word is `--handed-out`, it is the program itself: the others are its words, the
+//! streams and the status are its own, and each phase is handed out. One program, since each that
+//! holds a whole run proves and links all of it.
 //!
 //! A file has lines. An empty one, and one that begins with `#`, says nothing. Each other begins
 //! with a mark and a blank:
@@ -28,12 +34,16 @@ mod case;
 mod file;
 mod outcome;
 mod repeated;
+mod way;
 
-use crate::calls::list_by_calls;
+use crate::calls::{list_by_calls, work_rows};
 use crate::case::Case;
 use crate::file::cases;
 use crate::outcome::{Outcome, answered, compare};
+use crate::way::Way;
 use anyhow::{Context, Result};
+use sim_run::{Hints, session_with_hints};
+use std::process::ExitCode;
 use std::rt::Files;
 use std::sync::Wait;
 use std::thread::Threads;
@@ -61,10 +71,11 @@ fn tell<R: Print>(rt: &R, name: &str, outcome: Outcome) -> Result<()> {
 fn run_case<R: Threads + Wait + Sync + AllocGlobal>(
     rt: &R,
     case: Case,
+    hints: Hints,
 ) -> Result<(String, Outcome)> {
     let mut case = case;
     let words = std::mem::replace(&mut case.words, Vec::new(rt.alloc()));
-    let answer = answered(rt, rt.alloc(), words, case.text.as_slice());
+    let answer = answered(rt, rt.alloc(), words, hints, case.text.as_slice());
     let outcome = compare(&case, &answer);
     Ok((case.name, outcome))
 }
@@ -89,46 +100,117 @@ fn cases_of<R: AllocGlobal + Files>(rt: &R, name: &str) -> Result<Vec<Case>> {
     cases(rt.alloc(), file.as_slice())
 }
 
-/// Gives the program these cases.
+/// Gives the program a case, if it is run in this way, and adds it to the counts.
+fn count_case<R: Threads + Wait + Sync + AllocGlobal + Print>(
+    rt: &R,
+    case: Case,
+    way: &Way,
+    counts: Counts,
+) -> Result<Counts> {
+    let mut case = case;
+    if !way.takes(rt.alloc(), &mut case)? {
+        return Ok(counts);
+    }
+    let (name, outcome) = run_case(rt, case, way.hints)?;
+    tell(rt, name.as_str(), outcome)?;
+    Ok(counted(counts, outcome))
+}
+
+/// Gives the program those of these cases that are run in this way.
 fn run_cases<R: Threads + Wait + Sync + AllocGlobal + Print>(
     rt: &R,
     cases: Vec<Case>,
+    way: &Way,
 ) -> Result<Counts> {
     let mut counts = Counts { same: 0, differ: 0 };
     for case in cases {
-        let (name, outcome) = run_case(rt, case)?;
-        tell(rt, name.as_str(), outcome)?;
-        counts = counted(counts, outcome);
+        counts = count_case(rt, case, way, counts)?;
     }
     Ok(counts)
+}
+
+/// Tells how many cases of a file there were.
+fn tell_counts<R: Print>(rt: &R, name: &str, way: &Way, counts: Counts) -> Result<()> {
+    let Counts { same, differ } = counts;
+    match &way.workers {
+        None => println!(rt; "{name}: {same} as they are to be, {differ} differ")?,
+        Some(workers) => println!(rt;
+            "{name} by {workers}: {same} as they are to be, {differ} differ"
+        )?,
+    }
+    Ok(())
 }
 
 /// Gives the program the cases of a file.
 fn run_file<R: Threads + Wait + Sync + AllocGlobal + Files + Print>(
     rt: &R,
     name: &str,
+    way: &Way,
 ) -> Result<()> {
-    let Counts { same, differ } = run_cases(rt, cases_of(rt, name)?)?;
-    println!(rt; "{name}: {same} as they are to be, {differ} differ")?;
-    Ok(())
+    let cases = cases_of(rt, name)?;
+    let counts = run_cases(rt, cases, way)?;
+    tell_counts(rt, name, way, counts)
 }
 
 /// Does what a word says.
 fn obey<R: Threads + Wait + Sync + AllocGlobal + Files + Input + Print>(
     rt: &R,
     word: &str,
+    way: &Way,
 ) -> Result<()> {
-    if word == "--calls" {
-        list_by_calls(rt)
-    } else {
-        run_file(rt, word)
+    match word {
+        "--calls" => list_by_calls(rt),
+        "--rows" => work_rows(rt),
+        name => run_file(rt, name, way),
     }
 }
 
 /// Does what each word says, in turn.
-fn main(rt: HostRuntime) -> Result<()> {
-    for word in env::args(&rt).context("reading the words")?.skip(1) {
-        obey(&rt, word.as_str())?;
+fn obey_all<R: Threads + Wait + Sync + AllocGlobal + Files + Input + Print>(
+    rt: &R,
+    words: &[String],
+) -> Result<()> {
+    let mut way = Way::measured();
+    for word in words {
+        match word.strip_prefix("--by=") {
+            Some(workers) => way = Way::handed_out(rt.alloc(), workers)?,
+            None => obey(rt, word.as_str(), &way)?,
+        }
     }
     Ok(())
+}
+
+/// Whether the words ask for the program itself, with each phase handed out.
+fn are_handed_out(words: &[String]) -> bool {
+    match words.first() {
+        Some(first) => first.as_str() == "--handed-out",
+        None => false,
+    }
+}
+
+/// Is the program itself, with the words after the first, and each phase handed out.
+fn run_handed_out(rt: &HostRuntime, words: Vec<String>) -> Result<ExitCode> {
+    let alloc = rt.alloc();
+    let words: Vec<String> = words
+        .into_iter()
+        .skip(1)
+        .collect(alloc)
+        .context("reading the words")?;
+    let hints = Hints::all_handed_out();
+    let mut input = rt.reader();
+    let mut out = rt.stdout();
+    let mut err = rt.stderr();
+    let status = session_with_hints(rt, alloc, words, hints, &mut input, &mut out, &mut err);
+    Ok(ExitCode::from(status))
+}
+
+/// Does what the words say.
+fn main(rt: HostRuntime) -> Result<ExitCode> {
+    let words = env::args(&rt).context("reading the words")?.skip(1);
+    let words: Vec<String> = words.collect(rt.alloc()).context("reading the words")?;
+    if are_handed_out(words.as_slice()) {
+        return run_handed_out(&rt, words);
+    }
+    obey_all(&rt, words.as_slice())?;
+    Ok(ExitCode::SUCCESS)
 }

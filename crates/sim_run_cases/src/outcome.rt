@@ -1,7 +1,7 @@
 //! What the program makes of a case.
 
 use crate::case::Case;
-use sim_run::session;
+use sim_run::{Hints, session_with_hints};
 use std::alloc::Global;
 use std::sync::Wait;
 use std::thread::Threads;
@@ -23,19 +23,20 @@ pub struct Answer {
     pub error: Vec<u8>,
 }
 
-/// Gives the program the words and the text of a case.
+/// Gives the program the words and the text of a case; work is handed out by the hints.
 pub fn answered<R: Threads + Wait + Sync>(
     rt: &R,
     alloc: Global,
     words: Vec<String>,
+    hints: Hints,
     text: &[u8],
 ) -> Answer {
     let mut input = text;
     let mut output = Vec::new(alloc);
     let mut error = Vec::new(alloc);
-    let status = u32::from(session(rt, alloc, words, &mut input, &mut output, &mut error));
+    let status = session_with_hints(rt, alloc, words, hints, &mut input, &mut output, &mut error);
     Answer {
-        status,
+        status: u32::from(status),
         output,
         error,
     }

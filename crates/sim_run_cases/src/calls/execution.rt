@@ -2,15 +2,17 @@
 
 use anyhow::{Result, bail};
 use sim_exec::{Done, Job};
+use sim_exec_code::Code;
+use sim_flat_design::Process;
 use sim_run::{Design, Finished, Record, RunError, WaveStore};
 use sim_store::{Step, StoreError};
 use std::alloc::{AllocError, Global};
 
 /// The last time that is simulated, in femtoseconds.
-const STOP: u64 = 100_000_000;
+pub const STOP: u64 = 100_000_000;
 
 /// The most cycles.
-const LIMIT: u32 = 1_000;
+pub const LIMIT: u32 = 1_000;
 
 /// The most parts of cycles: of each, one of postponed processes comes after the others.
 const MOST_PARTS: u32 = 2 * LIMIT + 2;
@@ -92,6 +94,22 @@ fn check_records(alloc: Global, store: &WaveStore) -> Result<()> {
     let records = records_of(alloc, store)?;
     if records.len() != store.look().records {
         bail!("records are missing");
+    }
+    Ok(())
+}
+
+/// The code of a process.
+fn code_of(alloc: Global, process: &Process) -> Result<Code, AllocError> {
+    match Code::of(alloc, process) {
+        Err(_refused) => Code::of(alloc, process),
+        code => code,
+    }
+}
+
+/// Makes the code of each process of a design.
+pub fn make_codes(alloc: Global, design: &Design) -> Result<()> {
+    for process in design.processes() {
+        let _code = code_of(alloc, process)?;
     }
     Ok(())
 }

@@ -1,0 +1,186 @@
+//! Rows of calls of a store.
+
+use sim_exec::Done;
+use sim_run::{Options, RunError, WaveStore, elaborate};
+use sim_store::{Look, Step, StoreError};
+use std::alloc::Global;
+
+/// Two drivers that contradict each other.
+const TWO_DRIVERS: &str =
+    "entity t is end;architecture a of t is signal s:std_logic;begin s <= '0'; s <= '1'; end;";
+
+/// One signal, changed once.
+const ONCE: &str =
+    "entity t is end;architecture a of t is signal s:std_logic:='0';begin s <= '1' after 5 ns; end;";
+
+/// A waveform that is chosen by a condition, once before and once after it changes.
+const CHOICE: &str =
+    "entity t is end;architecture a of t is signal a,q:std_logic:='0';begin a <= '1' after 1 ns; \
+q <= '1' after 8 ns when a = '0' else '1' after 9 ns; end;";
+
+/// Want of memory as that of a run; no row has another refusal where it is made so.
+fn of_run(fault: StoreError) -> RunError {
+    match fault {
+        StoreError::Memory => RunError::Memory,
+        _ => RunError::Stranger,
+    }
+}
+
+/// The store of a text at the start of its run.
+fn store_of(alloc: Global, text: &str, options: &Options) -> Result<WaveStore, RunError> {
+    let design = elaborate(alloc, text.as_bytes(), options)?;
+    match WaveStore::new(alloc, design, options.stop, options.limit) {
+        Ok(store) => Ok(store),
+        Err((fault, _design)) => Err(of_run(fault)),
+    }
+}
+
+/// The result of a process.
+fn result_of(alloc: Global, store: &WaveStore, process: usize) -> Result<Done, StoreError> {
+    let job = store.job(alloc, process)?;
+    match Done::run(alloc, job) {
+        Ok(done) => Ok(done),
+        Err((_refused, _job)) => Err(StoreError::Memory),
+    }
+}
+
+/// The results of these processes.
+fn results_of(
+    alloc: Global,
+    store: &WaveStore,
+    processes: &[usize],
+) -> Result<Vec<Done>, StoreError> {
+    let mut results = Vec::new(alloc);
+    for process in processes {
+        let done = result_of(alloc, store, *process)?;
+        if results.push(done).is_err() {
+            return Err(StoreError::Memory);
+        }
+    }
+    Ok(results)
+}
+
+/// The refusal of a result, if it is refused.
+fn deposit(store: &mut WaveStore, done: Done) -> Option<StoreError> {
+    match store.deposit(done) {
+        Ok(()) => None,
+        Err((fault, _done)) => Some(fault),
+    }
+}
+
+/// The refusal to go on, if it is refused, but for want of memory.
+fn refusal(alloc: Global, store: &mut WaveStore) -> Result<Option<StoreError>, StoreError> {
+    match store.advance(alloc) {
+        Ok(_step) => Ok(None),
+        Err(StoreError::Memory) => Err(StoreError::Memory),
+        Err(fault) => Ok(Some(fault)),
+    }
+}
+
+/// The processes whose results are handed in, one after another.
+static PROCESSES: [usize; 4] = [0, 0, 1, 1];
+
+/// Before each of them, whether the store goes on; and whether it takes the result.
+static REFUSALS: [(Option<StoreError>, Option<StoreError>); 4] = [
+    (Some(StoreError::Missing { process: 0 }), None),
+    (
+        Some(StoreError::Missing { process: 1 }),
+        Some(StoreError::Twice),
+    ),
+    (Some(StoreError::Missing { process: 1 }), None),
+    (None, Some(StoreError::Stale)),
+];
+
+/// Whether a store refuses what it is to refuse of these results.
+fn refuses(alloc: Global, store: &mut WaveStore, results: Vec<Done>) -> Result<bool, StoreError> {
+    let mut right = true;
+    for (done, wanted) in results.into_iter().zip(REFUSALS.iter()) {
+        let going = refusal(alloc, store)?;
+        let taking = deposit(store, done);
+        right = right && going == wanted.0 && taking == wanted.1;
+    }
+    Ok(right)
+}
+
+/// The same, of results of its own.
+fn refuses_own(alloc: Global, store: &mut WaveStore) -> Result<bool, StoreError> {
+    let results = results_of(alloc, store, PROCESSES.as_slice())?;
+    refuses(alloc, store, results)
+}
+
+/// Whether results are refused that are missing, come twice or late.
+pub fn refuses_results(alloc: Global, options: &Options) -> Result<bool, RunError> {
+    let mut store = store_of(alloc, TWO_DRIVERS, options)?;
+    refuses_own(alloc, &mut store).map_err(of_run)
+}
+
+/// Whether a store refuses the result of another one.
+fn is_foreign(alloc: Global, store: &mut WaveStore, other: &WaveStore) -> Result<bool, StoreError> {
+    let done = result_of(alloc, other, 0)?;
+    Ok(deposit(store, done) == Some(StoreError::Foreign))
+}
+
+/// Whether a result of another design is refused.
+pub fn refuses_strangers(alloc: Global, options: &Options) -> Result<bool, RunError> {
+    let mut store = store_of(alloc, ONCE, options)?;
+    let other = store_of(alloc, TWO_DRIVERS, options)?;
+    is_foreign(alloc, &mut store, &other).map_err(of_run)
+}
+
+/// Executes the due process at a place of their list.
+fn execute(alloc: Global, store: &mut WaveStore, place: usize) -> Result<(), StoreError> {
+    let Some(process) = store.due().get(place).copied() else {
+        return Ok(());
+    };
+    let done = result_of(alloc, store, process)?;
+    match deposit(store, done) {
+        None => Ok(()),
+        Some(fault) => Err(fault),
+    }
+}
+
+/// Executes the due processes, and goes on.
+fn go_on(alloc: Global, store: &mut WaveStore) -> Result<Step, StoreError> {
+    for place in 0..store.due().len() {
+        execute(alloc, store, place)?;
+    }
+    store.advance(alloc)
+}
+
+/// The most cycles of a row.
+const MOST: u32 = 10;
+
+/// Carries a run on to its end.
+fn end(alloc: Global, store: &mut WaveStore) -> Result<(), StoreError> {
+    for _part in 0..MOST {
+        if go_on(alloc, store)? == Step::Finished {
+            break;
+        }
+    }
+    Ok(())
+}
+
+/// How far the run of a choice comes.
+const END: Look = Look {
+    records: 4,
+    time: 10_000_000,
+    delta: 0,
+    events: 2,
+};
+
+/// Whether a run that has ended tells how far it came, and has no more records.
+fn tells(alloc: Global, store: &mut WaveStore) -> Result<bool, StoreError> {
+    end(alloc, store)?;
+    let none = store.records_since(alloc, 4)?;
+    let is_behind = matches!(
+        store.records_since(alloc, 9),
+        Err(StoreError::Behind { records: 4 })
+    );
+    Ok(store.look() == END && none.is_empty() && is_behind)
+}
+
+/// Whether a run that has ended is told as it is.
+pub fn tells_its_end(alloc: Global, options: &Options) -> Result<bool, RunError> {
+    let mut store = store_of(alloc, CHOICE, options)?;
+    tells(alloc, &mut store).map_err(of_run)
+}

@@ -1,0 +1,111 @@
+//! Calls that carry a whole run.
+
+use anyhow::Result;
+use sim_run::{
+    Design, FlatError, Open, Options, RunError, TextError, WaveStore, elaborate, run, run_in,
+    simulate, write_listing,
+};
+use std::alloc::Global;
+use std::io::writer;
+use std::sync::{Mutex, Wait};
+use std::thread::Threads;
+
+/// The calls.
+#[derive(Clone, Copy)]
+enum Call {
+    Simulate,
+    Run,
+    RunIn,
+}
+
+/// Each call with its name.
+static CALLS: [(Call, &str); 3] = [
+    (Call::Simulate, "simulate"),
+    (Call::Run, "run"),
+    (Call::RunIn, "run_in"),
+];
+
+/// The store of a design at the start of its run, under a lock.
+fn store_of(
+    alloc: Global,
+    design: &Design,
+    options: &Options,
+) -> Result<Mutex<WaveStore>, RunError> {
+    match WaveStore::new(alloc, design.try_copy()?, options.stop, options.limit) {
+        Ok(store) => Ok(Mutex::new(store)),
+        Err(_refused) => Err(RunError::Memory),
+    }
+}
+
+/// Lists the run of a design.
+fn list_run<R: Threads + Wait + Sync + AllocGlobal + Print>(
+    rt: &R,
+    design: &Design,
+    options: &Options,
+) -> Result<(), RunError> {
+    let finished = run(rt, rt.alloc(), design, options, &Open)?;
+    write_listing(&finished, &mut writer(rt))
+}
+
+/// Lists the run of a store under a lock.
+fn list_run_in<R: Threads + Wait + Sync + AllocGlobal + Print>(
+    rt: &R,
+    design: &Design,
+    options: &Options,
+) -> Result<(), RunError> {
+    let store = store_of(rt.alloc(), design, options)?;
+    let finished = run_in(rt, rt.alloc(), &store, design, options, &Open)?;
+    write_listing(&finished, &mut writer(rt))
+}
+
+/// Lists the run of a text by a call.
+fn list_by<R: Threads + Wait + Sync + AllocGlobal + Print>(
+    rt: &R,
+    source: &[u8],
+    options: &Options,
+    call: Call,
+) -> Result<(), RunError> {
+    match call {
+        Call::Simulate => simulate(rt, rt.alloc(), source, options, &mut writer(rt)),
+        Call::Run => list_run(rt, &elaborate(rt.alloc(), source, options)?, options),
+        Call::RunIn => list_run_in(rt, &elaborate(rt.alloc(), source, options)?, options),
+    }
+}
+
+/// Whether an error is want of memory: of the text, of the design or of the run.
+fn is_memory(fault: RunError) -> bool {
+    matches!(
+        fault,
+        RunError::Text(TextError::Memory) | RunError::Flat(FlatError::Memory) | RunError::Memory
+    )
+}
+
+/// Lists the run of a text by a call. Where there is no memory for it, that is told, and it is
+/// called once more.
+fn list<R: Threads + Wait + Sync + AllocGlobal + Print>(
+    rt: &R,
+    source: &[u8],
+    options: &Options,
+    call: Call,
+    name: &str,
+) -> Result<()> {
+    match list_by(rt, source, options, call) {
+        Err(fault) if is_memory(fault) => {
+            println!(rt; "! {name}: {fault:?}")?;
+            Ok(list_by(rt, source, options, call)?)
+        }
+        answer => Ok(answer?),
+    }
+}
+
+/// Lists the run of a text by each call in turn.
+pub fn list_by_each<R: Threads + Wait + Sync + AllocGlobal + Print>(
+    rt: &R,
+    source: &[u8],
+    options: &Options,
+) -> Result<()> {
+    for (call, name) in CALLS.iter() {
+        list(rt, source, options, *call, name)?;
+    }
+    Ok(())
+}

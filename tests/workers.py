@@ -1,0 +1,134 @@
+#!/usr/bin/env python3
+"""Runs designs by several workers, to whom the work is really handed out.
+
+    workers.py VSIM [CASES]
+
+CASES is sim_run_cases, which with the word --handed-out is vsim, but that each phase is handed out; without it the examples are left out.
+
+- Each example that examples/check runs and whose run is finished has its listing by 2, 3, 4, 8 and 16 workers, with each phase handed out.
+- 600 processes of twenty statements, by VSIM itself with three workers: the listing is that of the rules, and each of three threads takes
+  processor time. A thread that is given no order sleeps, so this shows that work is handed out. It is tried five times at the most, since
+  beside other load a thread may find no processor.
+
+Each run has a minute, so one that does not end is told. The last line is `N passed, M failed`.
+"""
+import glob
+import importlib.machinery
+import importlib.util
+import os
+import subprocess
+import sys
+import tempfile
+import time
+
+TOP = os.path.dirname(os.path.dirname(os.path.realpath(__file__)))
+LONGEST = 60
+WORKERS = (2, 3, 4, 8, 16)
+PROCESSES = 600
+STATEMENTS = 20
+EDGES = 5000
+TRIES = 5
+# nanoseconds of a processor, many times what a thread takes that only begins, sleeps and ends
+BUSY = 3_000_000
+
+
+def examples():
+    """Yields the name, the words, the text and the listing of each example whose run is finished."""
+    path = f"{TOP}/examples/check"
+    loader = importlib.machinery.SourceFileLoader("check", path)
+    check = importlib.util.module_from_spec(importlib.util.spec_from_loader("check", loader))
+    loader.exec_module(check)
+    pages = [f"{TOP}/docs/{it}" for it in sorted(os.listdir(f"{TOP}/docs")) if it.endswith(".md")]
+    for name, words, text, wanted in [*check.designs(), *(it for page in pages for it in check.runs(page))]:
+        if words and wanted[2] == 0 and "--workers" not in words:
+            yield name, words, text, wanted
+
+
+def answer(words, text):
+    """Standard output, standard error and status, or None where a run does not end."""
+    try:
+        ran = subprocess.run(words, input=text, stdout=subprocess.PIPE, stderr=subprocess.PIPE, timeout=LONGEST)
+    except subprocess.TimeoutExpired:
+        return None
+    return ran.stdout, ran.stderr, ran.returncode
+
+
+def small(cases):
+    """Yields the name of each run of an example, and whether its answer is that of the example."""
+    for name, words, text, wanted in examples():
+        for workers in WORKERS:
+            found = answer([cases, "--handed-out", *words, "--workers", str(workers)], text)
+            yield f"{name} by {workers}", found == wanted
+
+
+def large():
+    """A design in which a clock resumes all processes but its own, its stop time and its listing."""
+    names = [f"s{number}" for number in range(PROCESSES)]
+    body = "v:=v xor clk;" * (STATEMENTS - 1)
+    processes = "".join(f"process(clk) variable v:std_logic:='0'; begin {body}{name}<=v and '0';end process;" for name in names)
+    text = f"entity t is end;architecture a of t is signal clk,{','.join(names)}:std_logic:='0';begin clk<=not clk after 1 ns;{processes}end;"
+    # no signal but the clock changes; each edge is a cycle, and what the processes assign is the next
+    lines = [*(f"0 0 {name} 0" for name in ["clk", *names]), *(f"{edge}000000 0 clk {edge % 2}" for edge in range(1, EDGES + 1))]
+    lines.append(f"done {2 * EDGES + 1} {EDGES}")
+    return text.encode(), f"{EDGES}000000", "".join(f"{line}\n" for line in lines).encode()
+
+
+def spent(process):
+    """The processor time that each thread of a process has taken so far, in nanoseconds."""
+    found = {}
+    for path in glob.glob(f"/proc/{process}/task/*/schedstat"):
+        try:
+            with open(path, encoding="ascii") as file:
+                found[path] = int(file.read().split()[0])
+        except OSError:
+            continue
+    return found
+
+
+def watched(words, text):
+    """What a run answers, and the processor time of each of its threads; None where it does not end."""
+    with tempfile.TemporaryFile() as source, tempfile.TemporaryFile() as out:
+        source.write(text)
+        source.seek(0)
+        process, taken, begun = subprocess.Popen(words, stdin=source, stdout=out), {}, time.monotonic()
+        while process.poll() is None:
+            if time.monotonic() - begun > LONGEST:
+                process.kill()
+                process.wait()
+                return None, taken
+            for thread, count in spent(process.pid).items():
+                taken[thread] = max(count, taken.get(thread, 0))
+            time.sleep(0.005)
+        out.seek(0)
+        return (process.returncode, out.read()), taken
+
+
+def handed_out(vsim):
+    """Yields a name, and whether a large design has its listing by one worker and three, and three threads take part."""
+    text, stop, listing = large()
+    words = [vsim, "--top", "t", "--limit", "1000000", "--stop", stop, "--workers"]
+    yield f"{PROCESSES} processes by 1", answer([*words, "1"], text) == (listing, b"", 0)
+    for turn in range(TRIES):
+        found, taken = watched([*words, "3"], text)
+        busy = sum(count > BUSY for count in taken.values())
+        if found != (0, listing) or busy == 3 or turn == TRIES - 1:
+            yield f"{PROCESSES} processes by 3", found == (0, listing)
+            yield f"three threads take part, and not {busy}", busy == 3
+            return
+
+
+def main():
+    if len(sys.argv) not in (2, 3):
+        sys.exit(__doc__)
+    vsim, *cases = map(os.path.abspath, sys.argv[1:])
+    passed = failed = 0
+    for name, holds in [*(it for program in cases for it in small(program)), *handed_out(vsim)]:
+        passed, failed = passed + holds, failed + (not holds)
+        if not holds:
+            print(f"workers: {name}", flush=True)
+    print(f"{passed} passed, {failed} failed")
+    return 1 if failed or not passed else 0
+
+
+if __name__ == "__main__":
+    sys.exit(main())
