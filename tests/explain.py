@@ -92,7 +92,7 @@ MISTAKES = [
     (17, "u1 : entity work.inverter port map (i <= clk, o => p);", 17, "Syntax", "In a port map it is =>"),
     (2, "port (i : in std_logic, o : out std_logic);", 2, "Syntax", "Between ports stands ;"),
     (2, "port (i : in std_logic; o : out std_logic;);", 2, "Syntax", "The last port has no ;"),
-    (24, "else if p = '1' then q <= '0'; end if;", 25, "Syntax", "where elsif was meant"),
+    (24, "else if p = '1' then q <= '0'; end if;", 25, "Syntax", "elsif was meant"),
     (24, "elseif p = '1' then q <= '0'; end if;", 24, "Syntax", "The word is elsif."),
     (25, "end process main;", 25, "Syntax", "A closing name is that of what it closes."),
     (26, "end architecture b;", 26, "Syntax", "A closing name is that of what it closes."),
@@ -141,6 +141,24 @@ MISTAKES = [
     (17, "g : for k in 0 to 7 generate end generate;", 17, "Syntax", "Loops and generate are left out."),
     (23, "assert q = v;", 23, "Syntax", "Assertions and reports are left out."),
     (23, "q <= p(0);", 23, "Syntax", "signals have no elements"),
+    (18, "process begin", 18, "Syntax", "There is no wait"),
+    (14, "constant period : time := 10 ns;", 14, "Syntax", "write the delay itself"),
+    (23, 'q <= "10";', 23, "BadByte", "a signal for each element of"),
+    (17, "u1 : entity work.inverter port map (i => not clk, o => p);", 17, "Syntax", "An actual is a signal, a port, a value or open"),
+    (17, "u1 : entity work.inverter port map (clk and q, p);", 17, "Syntax", "An actual is a signal, a port, a value or open"),
+    # a word of the text that may have been meant otherwise
+    (24, "endif;", 24, "Syntax", "An if ends by two words, end if."),
+    (12, "architectur a of t is", 12, "Syntax", "architectur is no reserved word; architecture is."),
+    (14, "singal clk, p, q : std_logic := '0';", 14, "Syntax", "singal is no reserved word; signal is."),
+    (18, "Proces (clk)", 18, "Syntax", "Proces is no reserved word; process is."),
+    (1, "module inverter (input i, output o);", 1, "Syntax", "This looks like Verilog"),
+    (1, "// an inverter", 1, "BadByte", "This looks like Verilog"),
+    (1, '{"creator": "Yosys"}', 1, "BadByte", "This looks like Verilog"),
+    # a port that has no actual
+    (17, "u1 : entity work.inverter port map (o => p);", 17, "PortMissing", "The port is i of inverter."),
+    (17, "u1 : entity work.inverter port map (ii => clk, o => p);", 17, "PortMissing", "ii is none of its ports; the nearest is i."),
+    # a waveform that is too long
+    (16, "clk <= " + ", ".join(f"'{n % 2}' after {n} ns" for n in range(17)) + ";", 16, "TooMany", "further assignments in the same"),
 ]
 
 LOOP = "entity t is end; architecture a of t is signal s : std_logic := '0'; begin s <= not s; end;"
@@ -262,7 +280,8 @@ RUNS = [
         CLOCK,
         1,
         "NoTop\nNo entity of the text has the name that was given by --top. Compare the two; the case of\n"
-        "letters makes no difference.\nSee Calling the program in docs/LANGUAGE.md.\n",
+        "letters makes no difference.\nSee Calling the program in docs/LANGUAGE.md.\n"
+        "The entities of the text, the nearest first: t.\n",
     ),
     ("design.vhd", CLOCK, 2, ""),
 ]

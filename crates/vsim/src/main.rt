@@ -8,6 +8,9 @@ use std::io::Write;
 use std::process::ExitCode;
 use std::{env, io};
 
+/// What `--version` says. The script `build` writes into its copy of this line what it builds of.
+const VERSION: &[u8] = b"vsim 1.0.0, sources unknown, toolchain unknown\n";
+
 /// What is said of words that are no text, as clap says it.
 const NO_TEXT: &[u8] = b"error: invalid UTF-8 was detected in one or more arguments
 
@@ -18,6 +21,24 @@ For more information, try '--help'.
 fn words(rt: &HostRuntime, alloc: Global) -> io::Result<Vec<String>> {
     let words = env::args(rt)?.skip(1).collect(alloc)?;
     Ok(words)
+}
+
+/// Whether the words ask for the version.
+fn ask_for_version(words: &[String]) -> bool {
+    match words.first() {
+        Some(first) => first.as_str() == "--version" || first.as_str() == "-V",
+        None => false,
+    }
+}
+
+/// Writes the version, and answers the exit status.
+fn tell_version(rt: &HostRuntime) -> ExitCode {
+    let mut out = rt.stdout();
+    if out.write_all(VERSION).is_ok() {
+        return ExitCode::SUCCESS;
+    }
+    let _reported = rt.stderr().write_all(b"vsim: Write\n");
+    ExitCode::from(4)
 }
 
 /// Hands the words and the standard streams to `session`, whose status is the exit status.
@@ -36,6 +57,10 @@ fn main(rt: HostRuntime) -> ExitCode {
             return ExitCode::from(4);
         }
     };
+    if ask_for_version(words.as_slice()) {
+        drop(words);
+        return tell_version(&rt);
+    }
     let mut input = rt.reader();
     let mut out = rt.stdout();
     ExitCode::from(session(&rt, alloc, words, &mut input, &mut out, &mut err))

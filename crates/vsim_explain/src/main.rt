@@ -20,10 +20,15 @@ use std::env;
 use std::io::{self, BufWriter, Read, Write, writer};
 use std::process::ExitCode;
 use std::rt::Env;
-use vsim_explain_refusals::{explain_design, explain_text};
+use vsim_explain_refusals::{
+    explain_design, explain_text, write_more_of_design, write_more_of_text,
+};
 
 /// One byte more than a text may have: enough to see that it is too long.
 const MOST_BYTES: u64 = 1_048_577;
+
+/// What `--version` says. The script `build` writes into its copy of this line what it builds of.
+const VERSION: &str = "vsim_explain 1.0.0, sources unknown, toolchain unknown";
 
 /// What is said of words that are no text, as clap says it.
 const NO_TEXT: &str = "error: invalid UTF-8 was detected in one or more arguments
@@ -43,20 +48,39 @@ The text comes by standard input: vsim_explain --top NAME < design.vhd
 ";
 
 /// Writes what a fault of a text means.
-fn write_text_fault<W: Write>(out: &mut W, source: &[u8], fault: TextError) -> io::Result<()> {
-    explain_text(source, fault).write(out, source, &fault)
+fn write_text_fault<W: Write>(
+    alloc: Global,
+    out: &mut W,
+    source: &[u8],
+    fault: TextError,
+) -> io::Result<()> {
+    explain_text(source, fault).write(out, source, &fault)?;
+    write_more_of_text(alloc, out, source, fault)
 }
 
-/// Writes what a fault of a design means.
-fn write_design_fault<W: Write>(out: &mut W, source: &[u8], fault: FlatError) -> io::Result<()> {
-    explain_design(source, fault).write(out, source, &fault)
+/// Writes what a fault of a design means under a top.
+fn write_design_fault<W: Write>(
+    alloc: Global,
+    out: &mut W,
+    source: &[u8],
+    top: &str,
+    fault: FlatError,
+) -> io::Result<()> {
+    explain_design(source, fault).write(out, source, &fault)?;
+    write_more_of_design(alloc, out, source, top, fault)
 }
 
-/// Writes what a refusal of a text means.
-fn write_refusal<W: Write>(out: &mut W, source: &[u8], refusal: RunError) -> io::Result<()> {
+/// Writes what a refusal of a text means under a top.
+fn write_refusal<W: Write>(
+    alloc: Global,
+    out: &mut W,
+    source: &[u8],
+    top: &str,
+    refusal: RunError,
+) -> io::Result<()> {
     match refusal {
-        RunError::Text(fault) => write_text_fault(out, source, fault),
-        RunError::Flat(fault) => write_design_fault(out, source, fault),
+        RunError::Text(fault) => write_text_fault(alloc, out, source, fault),
+        RunError::Flat(fault) => write_design_fault(alloc, out, source, top, fault),
         _ => out.write_all(b"Memory\nThere is not enough memory.\n"),
     }
 }
@@ -87,7 +111,7 @@ fn answer_text<W: Write>(
     match elaborate(alloc, source, &request.options) {
         Ok(design) => tell_run(alloc, design, request, out),
         Err(refusal) => {
-            write_refusal(out, source, refusal)?;
+            write_refusal(alloc, out, source, request.options.top.as_str(), refusal)?;
             Ok(status_of(refusal))
         }
     }
@@ -146,6 +170,24 @@ fn answer_words<R: AllocGlobal + Input + Print + Eprint>(rt: &R, words: Vec<Stri
     status
 }
 
+/// Whether the words ask for the version.
+fn ask_for_version(words: &[String]) -> bool {
+    match words.first() {
+        Some(first) => first.as_str() == "--version" || first.as_str() == "-V",
+        None => false,
+    }
+}
+
+/// Answers words that are texts, and gives the exit status.
+fn answer_texts<R: AllocGlobal + Input + Print + Eprint>(rt: &R, words: Vec<String>) -> Result<u8> {
+    if ask_for_version(words.as_slice()) {
+        drop(words);
+        rt.println(VERSION)?;
+        return Ok(0);
+    }
+    answer_words(rt, words)
+}
+
 /// Says that the words are no text.
 fn answer_no_text<R: Eprint>(rt: &R) -> Result<u8> {
     rt.eprint(NO_TEXT)?;
@@ -155,7 +197,7 @@ fn answer_no_text<R: Eprint>(rt: &R) -> Result<u8> {
 /// Answers what the program was called with, and gives the exit status.
 fn answer<R: AllocGlobal + Input + Print + Eprint + Env>(rt: &R) -> Result<u8> {
     match words(rt) {
-        Ok(words) => answer_words(rt, words),
+        Ok(words) => answer_texts(rt, words),
         Err(fault) if fault.kind() == io::ErrorKind::InvalidData => answer_no_text(rt),
         Err(fault) => Err(fault.into()),
     }

@@ -2,6 +2,7 @@
 
 use crate::explanation::{Explanation, at, nowhere};
 use crate::hints;
+use crate::tokens::{is_one_of, last_word, without_comments};
 use sim_flat::FlatError;
 
 const MEMORY: &str = "\
@@ -100,11 +101,25 @@ const REJECT_TOO_LONG: &str = "\
     shorter, or that delay longer.\n\
     See Transport, inertial and reject in docs/LANGUAGE.md.";
 
+const TOO_MANY_ELEMENTS: &str = "\
+    A waveform has 16 elements at most. Assign the others by further assignments in the same\n\
+    process, which is executed once, as in s <= transport '0' after 16 ns, '1' after 17 ns;\n\
+    See Stimuli longer than sixteen elements in docs/LANGUAGE.md.";
+
 const TOO_MANY: &str = "\
-    At an element of a waveform: 16 are the most, so make several assignments of it. At the\n\
-    name of the top: there are more than 65,536 nets, processes or drivers, more than 16,384\n\
-    instances, or more than 32 levels of them, so leave a part out.\n\
+    The design of this top has more than 65,536 nets, processes or drivers, more than 16,384\n\
+    instances, or more than 32 levels of them. Leave a part out.\n\
     See Limits in docs/REFERENCE.md.";
+
+/// What a limit means that is exceeded at this place: the name of the top, or an element.
+fn explain_limit(source: &[u8], place: usize) -> Explanation {
+    let (before, _) = source.split_at(place.min(source.len()));
+    if is_one_of(&["entity"], last_word(without_comments(before))) {
+        at(place, TOO_MANY)
+    } else {
+        at(place, TOO_MANY_ELEMENTS)
+    }
+}
 
 /// What a fault of the design means.
 pub fn explain_design(source: &[u8], fault: FlatError) -> Explanation {
@@ -130,6 +145,6 @@ pub fn explain_design(source: &[u8], fault: FlatError) -> Explanation {
         FlatError::ManySources { at: place } => at(place, MANY_SOURCES),
         FlatError::NotAscending { at: place } => at(place, NOT_ASCENDING),
         FlatError::RejectTooLong { at: place } => at(place, REJECT_TOO_LONG),
-        FlatError::TooMany { at: place } => at(place, TOO_MANY),
+        FlatError::TooMany { at: place } => explain_limit(source, place),
     }
 }

@@ -4,12 +4,13 @@ use crate::left_out::{
     self, ARITHMETIC, BASED, CALL, EXTENDED, JOINING, NAMES, ORDER, STRING, TICK,
 };
 use crate::slips::{
-    self, ARROW, ASSIGNMENT, BEGIN, CLOSING_NAME, COMMA, COMPARISON, KINDS, LAST_PORT, LINE_BEFORE,
-    NOT_ASCII, NUMBER, OPEN, SIGNAL, SIGNAL_ASSIGNMENT, UNDERSCORE, UNEQUAL, UNIT_OF_TIME,
+    self, ACTUAL, ARROW, ASSIGNMENT, BEGIN, CLOSING_NAME, COMMA, COMPARISON, ELSE_IF, KINDS,
+    LAST_PORT, LINE_BEFORE, NOT_ASCII, NUMBER, OPEN, OPERATORS, SIGNAL, SIGNAL_ASSIGNMENT,
+    UNDERSCORE, UNEQUAL, UNIT_OF_TIME,
 };
 use crate::tokens::{
-    find, first_token, first_word, is_at_line_start, is_one_of, last_word, without_comments,
-    word_before_last,
+    find, first_token, first_word, has_pair_since, has_word, is_at_line_start, is_one_of,
+    last_statement, last_word, without_comments, word_before_last,
 };
 
 /// Whether a text ends so that its last line may be complete.
@@ -90,12 +91,43 @@ fn of_slips(before: &[u8], after: &[u8]) -> Option<&'static str> {
     of_number(before).or(of_signs(before, after))
 }
 
+/// What an operator tells in a port map.
+fn of_actual(before: &[u8], after: &[u8]) -> Option<&'static str> {
+    if is_one_of(&OPERATORS, first_word(after)) && has_word(last_statement(before), "map") {
+        Some(ACTUAL)
+    } else {
+        None
+    }
+}
+
+/// What `else if` tells in a process whose end is not understood.
+fn of_else_if(before: &[u8]) -> Option<&'static str> {
+    if is_one_of(&["end"], last_word(before)) && has_pair_since(before, "process", "else", "if") {
+        Some(ELSE_IF)
+    } else {
+        None
+    }
+}
+
+/// Whether a text begins as Verilog and netlists do.
+pub fn is_foreign(source: &[u8]) -> bool {
+    let text = source.trim_ascii_start();
+    is_one_of(&["module"], first_word(text))
+        || text.starts_with(b"//")
+        || text.starts_with(b"`")
+        || text.starts_with(b"{")
+        || text.starts_with(b"(")
+        || text.starts_with(b".")
+}
+
 /// What is known of a `Syntax` between what stands before it and after it.
 fn of_place(before: &[u8], after: &[u8], is_first: bool) -> Option<&'static str> {
     if is_one_of(&["end"], word_before_last(before)) {
         return of_line(before, is_first).or(Some(CLOSING_NAME));
     }
-    of_left_out(before, after)
+    of_else_if(before)
+        .or(of_actual(before, after))
+        .or(of_left_out(before, after))
         .or(of_head(before, after))
         .or(of_line(before, is_first))
         .or(of_slips(before, after))

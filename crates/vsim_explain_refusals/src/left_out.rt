@@ -39,7 +39,8 @@ pub const GENERIC: &str = "\
     value. See Entities in docs/LEFT_OUT.md.";
 
 pub const CONSTANT: &str = "\
-    Constants are left out. Take a signal with a first value that nothing assigns.\n\
+    Constants are left out. Take a signal with a first value that nothing assigns; in the\n\
+    place of a constant of type time write the delay itself, as in after 5 ns.\n\
     See Declarations in docs/LEFT_OUT.md.";
 
 pub const CONDITIONAL: &str = "\
@@ -60,8 +61,13 @@ pub const BLOCK: &str = "\
     own. See Concurrent statements in docs/LEFT_OUT.md.";
 
 pub const PROCESS: &str = "\
-    A process has a sensitivity list, as process (s) or process (all).\n\
+    A process has a sensitivity list, as process (s) or process (all). There is no wait:\n\
+    stimuli are written as a waveform, as in s <= '0', '1' after 5 ns, '0' after 10 ns;\n\
     See Processes in docs/LANGUAGE.md.";
+
+pub const FOREIGN: &str = "\
+    This looks like Verilog, or like a netlist. vsim reads a subset of VHDL: units begin\n\
+    with entity or architecture. See A first design in docs/LANGUAGE.md.";
 
 pub const SELECTED: &str = "\
     Selected assignments are left out. Write '1' when .. else '0'.\n\
@@ -90,8 +96,9 @@ pub const CALL: &str = "\
     elements, since vectors are left out. See Values in docs/LEFT_OUT.md.";
 
 pub const STRING: &str = "\
-    Strings are left out, and with them vectors and reports. A single value has apostrophes,\n\
-    as '1'. See Values in docs/LEFT_OUT.md.";
+    Strings are left out, since vectors and reports are. Declare a signal for each element of\n\
+    a vector, and assign each a value of its own, which has apostrophes, as '1'.\n\
+    See Values in docs/LEFT_OUT.md.";
 
 pub const EXTENDED: &str = "\
     Extended identifiers are left out. Take a name of letters, digits and single\n\

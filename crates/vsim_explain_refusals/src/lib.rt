@@ -5,11 +5,15 @@ mod design_faults;
 mod explanation;
 mod hints;
 mod left_out;
+mod more;
+mod nearest;
 mod places;
+mod ports;
 mod slips;
 mod text_faults;
 mod tokens;
 
 pub use design_faults::explain_design;
 pub use explanation::{Explanation, nowhere};
+pub use more::{write_more_of_design, write_more_of_text};
 pub use text_faults::explain_text;

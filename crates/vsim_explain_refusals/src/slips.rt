@@ -39,6 +39,17 @@ pub const ENDS: &str = "\
 pub const ELSIF: &str = "\
     The word is elsif. See Processes in docs/LANGUAGE.md.";
 
+pub const END_IF: &str = "\
+    An if ends by two words, end if. See Processes in docs/LANGUAGE.md.";
+
+pub const ELSE_IF: &str = "\
+    else if opens an if of its own, which wants an end if of its own: elsif was meant.\n\
+    See Processes in docs/LANGUAGE.md.";
+
+pub const ACTUAL: &str = "\
+    An actual is a signal, a port, a value or open, and no expression. Assign the expression\n\
+    to a signal, and associate that. See Modes in docs/INSTANCES.md.";
+
 pub const SIGNAL: &str = "\
     Signals are declared in an architecture, between is and begin, and a process declares\n\
     variables alone. See Processes in docs/LANGUAGE.md.";
@@ -121,8 +132,9 @@ pub static AT: [(&str, &str); 16] = [
 ];
 
 /// What a word before the place of a `Syntax` tells.
-pub static AFTER: [(&str, &str); 5] = [
+pub static AFTER: [(&str, &str); 6] = [
     ("end", ENDS),
+    ("endif", END_IF),
     ("elseif", ELSIF),
     ("elif", ELSIF),
     ("after", UNIT_OF_TIME),
@@ -135,6 +147,9 @@ pub static KINDS: [(&str, &str); 3] = [
     ("std_logic", CONVERSION),
     ("std_ulogic", CONVERSION),
 ];
+
+/// The operators that are words.
+pub static OPERATORS: [&str; 7] = ["not", "and", "or", "nand", "nor", "xor", "xnor"];
 
 /// The words after which a line may go on.
 pub static OPEN: [&str; 4] = ["is", "begin", "then", "else"];

@@ -2,6 +2,7 @@
 
 use crate::explanation::{Explanation, at, at_token, nowhere};
 use crate::hints;
+use crate::left_out::FOREIGN;
 use sim_text::TextError;
 
 const MEMORY: &str = "\
@@ -52,8 +53,25 @@ fn explain_syntax(source: &[u8], place: usize) -> Explanation {
     }
 }
 
+/// What a fault means of a text that is no VHDL.
+fn explain_foreign(fault: TextError) -> Explanation {
+    match fault {
+        TextError::Memory => nowhere(MEMORY),
+        TextError::TooLong => nowhere(FOREIGN),
+        TextError::BadByte { at: place }
+        | TextError::OpenComment { at: place }
+        | TextError::BadLiteral { at: place }
+        | TextError::TimeRange { at: place }
+        | TextError::TooDeep { at: place }
+        | TextError::Syntax { at: place } => at(place, FOREIGN),
+    }
+}
+
 /// What a fault of the text means.
 pub fn explain_text(source: &[u8], fault: TextError) -> Explanation {
+    if hints::is_foreign(source) {
+        return explain_foreign(fault);
+    }
     match fault {
         TextError::Memory => nowhere(MEMORY),
         TextError::TooLong => nowhere(TOO_LONG),

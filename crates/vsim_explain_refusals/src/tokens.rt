@@ -63,6 +63,36 @@ pub fn word_before_last(text: &[u8]) -> &[u8] {
     last_word(before.trim_ascii_end())
 }
 
+/// What stands after the last semicolon.
+pub fn last_statement(text: &[u8]) -> &[u8] {
+    match text.rsplit(|byte| *byte == b';').next() {
+        Some(statement) => statement,
+        None => text,
+    }
+}
+
+/// Whether a text has a word.
+pub fn has_word(text: &[u8], word: &str) -> bool {
+    for it in text.split(|byte| !is_of_word(*byte)) {
+        if is_same(it, word) {
+            return true;
+        }
+    }
+    false
+}
+
+/// Whether a word is followed by another after the last place of a third.
+pub fn has_pair_since(text: &[u8], since: &str, word: &str, next: &str) -> bool {
+    let (mut found, mut is_behind) = (false, false);
+    for it in text.split(|byte| !is_of_word(*byte)) {
+        if !it.is_empty() {
+            found = !is_same(it, since) && (found || is_behind && is_same(it, next));
+            is_behind = is_same(it, word);
+        }
+    }
+    found
+}
+
 /// What stands after the last end of a line.
 pub fn last_line(text: &[u8]) -> &[u8] {
     match text.rsplit(|byte| *byte == b'\n').next() {

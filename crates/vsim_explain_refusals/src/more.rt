@@ -1,0 +1,140 @@
+//! What the text itself tells of a fault.
+
+use crate::nearest::{meant, nearest};
+use crate::ports::write_missing;
+use crate::tokens::{first_word, last_word, without_comments};
+use sim_flat::FlatError;
+use sim_text::{TextError, parse};
+use sim_text_tree::DesignFile;
+use sim_text_tree::unit::LibraryUnit;
+use std::alloc::{AllocError, Global};
+use std::io::{self, Write};
+use std::str::from_utf8;
+
+/// The reserved words that begin or join what is written most.
+static WORDS: [&str; 37] = [
+    "after",
+    "all",
+    "and",
+    "architecture",
+    "begin",
+    "component",
+    "else",
+    "elsif",
+    "end",
+    "entity",
+    "if",
+    "in",
+    "inertial",
+    "inout",
+    "is",
+    "library",
+    "map",
+    "nand",
+    "nor",
+    "not",
+    "null",
+    "of",
+    "open",
+    "or",
+    "out",
+    "port",
+    "postponed",
+    "process",
+    "reject",
+    "signal",
+    "then",
+    "transport",
+    "use",
+    "variable",
+    "when",
+    "xnor",
+    "xor",
+];
+
+/// The names of the entities of a file, in order.
+fn entities<'a>(alloc: Global, file: &'a DesignFile) -> Result<Vec<&'a str>, AllocError> {
+    let mut found = Vec::new(alloc);
+    for unit in file.units() {
+        if let LibraryUnit::Entity(entity) = &unit.library_unit {
+            if found.push(entity.name.as_str()).is_err() {
+                return Err(AllocError);
+            }
+        }
+    }
+    Ok(found)
+}
+
+/// Writes some names, first the one that is said, each but that behind a comma.
+fn write_names<W: Write>(out: &mut W, names: &[&str], first: &str) -> io::Result<()> {
+    write!(out, "The entities of the text, the nearest first: {first}")?;
+    for name in names {
+        if *name != first {
+            write!(out, ", {name}")?;
+        }
+    }
+    out.write_all(b".\n")
+}
+
+/// Writes which entities there are, first the one that is nearest to the top's name.
+fn write_entities<W: Write>(
+    alloc: Global,
+    out: &mut W,
+    file: &DesignFile,
+    top: &str,
+) -> io::Result<()> {
+    let names = entities(alloc, file)?;
+    match nearest(alloc, top, names.as_slice())? {
+        Some(first) => write_names(out, names.as_slice(), first),
+        None => out.write_all(b"The text has no entity.\n"),
+    }
+}
+
+/// Writes what the text tells of a fault of its design under this top, where it tells more.
+pub fn write_more_of_design<W: Write>(
+    alloc: Global,
+    out: &mut W,
+    source: &[u8],
+    top: &str,
+    fault: FlatError,
+) -> io::Result<()> {
+    let Ok(file) = parse(alloc, source) else {
+        return Ok(());
+    };
+    match fault {
+        FlatError::NoTop => write_entities(alloc, out, &file, top),
+        FlatError::PortMissing { at } => write_missing(alloc, out, &file, at),
+        _ => Ok(()),
+    }
+}
+
+/// Writes which reserved word may have been meant by a word, and whether there is one.
+fn write_meant<W: Write>(alloc: Global, out: &mut W, word: &[u8]) -> io::Result<bool> {
+    let Ok(word) = from_utf8(word) else {
+        return Ok(false);
+    };
+    let Some(found) = meant(alloc, word, &WORDS)? else {
+        return Ok(false);
+    };
+    writeln!(out, "{word} is no reserved word; {found} is.")?;
+    Ok(true)
+}
+
+/// Writes what the text tells of a fault of its own, where it tells more: a word just before the place
+/// of a `Syntax`, or at it, that is nearly a reserved one.
+pub fn write_more_of_text<W: Write>(
+    alloc: Global,
+    out: &mut W,
+    source: &[u8],
+    fault: TextError,
+) -> io::Result<()> {
+    let TextError::Syntax { at } = fault else {
+        return Ok(());
+    };
+    let (before, after) = source.split_at(at.min(source.len()));
+    if write_meant(alloc, out, last_word(without_comments(before)))? {
+        return Ok(());
+    }
+    write_meant(alloc, out, first_word(after))?;
+    Ok(())
+}

@@ -1,0 +1,171 @@
+//! Which port of an instance has no actual, and which name that is associated is no port.
+
+use crate::nearest::nearest;
+use sim_text_tree::DesignFile;
+use sim_text_tree::declaration::{Mode, PortDeclaration};
+use sim_text_tree::unit::{
+    Actual, Association, Concurrent, Entity, Instance, Instantiated, LibraryUnit,
+};
+use std::alloc::{AllocError, Global};
+use std::io::{self, Write};
+
+/// The instance whose label stands at a place, among the statements of an architecture.
+fn instance_among(statements: &[Concurrent], at: usize) -> Option<&Instance> {
+    for statement in statements {
+        if let Concurrent::Instance(instance) = statement {
+            if instance.label.at() == at {
+                return Some(instance);
+            }
+        }
+    }
+    None
+}
+
+/// The instance whose label stands at a place.
+fn instance_at(file: &DesignFile, at: usize) -> Option<&Instance> {
+    for unit in file.units() {
+        if let LibraryUnit::Architecture(architecture) = &unit.library_unit {
+            let found = instance_among(architecture.statements.as_slice(), at);
+            if found.is_some() {
+                return found;
+            }
+        }
+    }
+    None
+}
+
+/// The entity with a name.
+fn entity_named<'a>(file: &'a DesignFile, name: &str) -> Option<&'a Entity> {
+    for unit in file.units() {
+        if let LibraryUnit::Entity(entity) = &unit.library_unit {
+            if entity.name.as_str() == name {
+                return Some(entity);
+            }
+        }
+    }
+    None
+}
+
+/// The entity of which an instance is made.
+fn entity_of<'a>(file: &'a DesignFile, instance: &Instance) -> Option<&'a Entity> {
+    match &instance.unit {
+        Instantiated::Component { component, .. } => entity_named(file, component.as_str()),
+        Instantiated::Entity { entity, .. } => entity_named(file, entity.as_str()),
+    }
+}
+
+/// Whether the ports of a declaration want an actual.
+fn is_wanted(ports: &PortDeclaration) -> bool {
+    let is_in = match ports.mode {
+        None | Some(Mode::In) => true,
+        Some(_) => false,
+    };
+    is_in && ports.initial.is_none()
+}
+
+/// Whether an association is of the port with a name and a place.
+fn is_of(association: &Association, index: usize, name: &str, place: usize) -> bool {
+    match &association.formal {
+        Some(formal) => formal.as_str() == name,
+        None => index == place,
+    }
+}
+
+/// Whether a port has an actual: the first association of it counts.
+fn has_actual(associations: &[Association], name: &str, place: usize) -> bool {
+    for (index, association) in associations.iter().enumerate() {
+        if is_of(association, index, name, place) {
+            return match association.actual {
+                Actual::Open { .. } => false,
+                _ => true,
+            };
+        }
+    }
+    false
+}
+
+/// The names of ports, in order, and of each whether it wants an actual.
+fn ports_of<'a>(alloc: Global, entity: &'a Entity) -> Result<Vec<(&'a str, bool)>, AllocError> {
+    let mut found = Vec::new(alloc);
+    for ports in entity.ports.as_slice() {
+        let wanted = is_wanted(ports);
+        for name in ports.names.as_slice() {
+            if found.push((name.as_str(), wanted)).is_err() {
+                return Err(AllocError);
+            }
+        }
+    }
+    Ok(found)
+}
+
+/// The first port that wants an actual and has none.
+fn missing<'a>(ports: &[(&'a str, bool)], associations: &[Association]) -> Option<&'a str> {
+    for (place, (name, wanted)) in ports.iter().enumerate() {
+        if *wanted && !has_actual(associations, name, place) {
+            return Some(name);
+        }
+    }
+    None
+}
+
+/// The first formal that names no port.
+fn stranger<'a>(ports: &[(&str, bool)], associations: &'a [Association]) -> Option<&'a str> {
+    for association in associations {
+        if let Some(formal) = &association.formal {
+            let name = formal.as_str();
+            if !ports.iter().any(|port| port.0 == name) {
+                return Some(name);
+            }
+        }
+    }
+    None
+}
+
+/// Writes which port has no actual, and what may have been meant by a name that is no port.
+fn write_ports<W: Write>(
+    alloc: Global,
+    out: &mut W,
+    entity: &Entity,
+    associations: &[Association],
+) -> io::Result<()> {
+    let ports = ports_of(alloc, entity)?;
+    let Some(name) = missing(ports.as_slice(), associations) else {
+        return Ok(());
+    };
+    let of = entity.name.as_str();
+    writeln!(out, "The port is {name} of {of}.")?;
+    match stranger(ports.as_slice(), associations) {
+        Some(formal) => write_stranger(alloc, out, ports.as_slice(), formal),
+        None => Ok(()),
+    }
+}
+
+/// Writes that a name is no port, and the port that is nearest to it.
+fn write_stranger<W: Write>(
+    alloc: Global,
+    out: &mut W,
+    ports: &[(&str, bool)],
+    formal: &str,
+) -> io::Result<()> {
+    let names: Vec<&str> = ports.iter().map(|port| port.0).collect(alloc)?;
+    match nearest(alloc, formal, names.as_slice())? {
+        Some(name) => writeln!(out, "{formal} is none of its ports; the nearest is {name}."),
+        None => Ok(()),
+    }
+}
+
+/// Writes which port of the instance at a place has no actual.
+pub fn write_missing<W: Write>(
+    alloc: Global,
+    out: &mut W,
+    file: &DesignFile,
+    at: usize,
+) -> io::Result<()> {
+    let Some(instance) = instance_at(file, at) else {
+        return Ok(());
+    };
+    match entity_of(file, instance) {
+        Some(entity) => write_ports(alloc, out, entity, instance.associations.as_slice()),
+        None => Ok(()),
+    }
+}
