@@ -1,0 +1,56 @@
+#!/usr/bin/env python3
+"""Runs all examples side by side by GNU parallel, as docs/RECIPES.md does with hundreds of designs.
+
+    many.py PROGRAM [--jobs N]
+
+Each design of examples/ that has a listing is run and its listing compared by `cmp`, all of them by one call of `parallel`, whose
+status is how many failed. Then one listing is damaged in a copy, and that one has to be told. The last line is `N passed, M failed`.
+Where there is no `parallel`, that is said, and nothing is tried.
+"""
+import argparse
+import glob
+import os
+import shlex
+import shutil
+import subprocess
+import sys
+import tempfile
+
+EXAMPLES = os.path.join(os.path.dirname(os.path.dirname(os.path.realpath(__file__))), "examples")
+
+
+def failed(program, folder, jobs):
+    """Returns how many runs failed of the designs in a folder, as `parallel` says."""
+    designs = sorted(it for it in glob.glob(f"{folder}/*.vhd") if os.path.exists(f"{it[:-4]}.listing"))
+    # (a design that wants other words than these has them in a file beside it)
+    run = f"{shlex.quote(program)} $(cat {{.}}.words 2> /dev/null || echo --top t) < {{}} | cmp -s - {{.}}.listing"
+    return len(designs), subprocess.run(["parallel", "--jobs", str(jobs), run, ":::", *designs], stdin=subprocess.DEVNULL).returncode
+
+
+def main():
+    given = argparse.ArgumentParser()
+    given.add_argument("program")
+    given.add_argument("--jobs", type=int, default=4)
+    given = given.parse_args()
+    if not shutil.which("parallel"):
+        print("many: there is no parallel here: nothing was tried.")
+        return 0
+    program, wrong = os.path.abspath(given.program), 0
+    with tempfile.TemporaryDirectory() as room:
+        folder = shutil.copytree(EXAMPLES, f"{room}/examples")
+        count, found = failed(program, folder, given.jobs)
+        if found != 0:
+            print(f"many: {found} of {count} designs have another listing than they should have.")
+            wrong += 1
+        with open(f"{folder}/bus.listing", "a", encoding="ascii") as file:
+            file.write("one line more\n")
+        _, found = failed(program, folder, given.jobs)
+        if found != 1:
+            print(f"many: {found} designs are told where one listing is damaged.")
+            wrong += 1
+    print(f"{2 - wrong} passed, {wrong} failed")
+    return 1 if wrong else 0
+
+
+if __name__ == "__main__":
+    sys.exit(main())
