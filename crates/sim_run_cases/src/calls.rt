@@ -50,33 +50,41 @@ fn list<R: AllocGlobal + Print>(rt: &R, mut store: WaveStore) -> Result<()> {
     Ok(())
 }
 
-/// The options of a run of the top `t`, by one worker.
-fn options(alloc: Global) -> Result<Options, AllocError> {
+/// Prints the listing of a text by single calls.
+fn list_by_single_calls<R: AllocGlobal + Print>(rt: &R, source: &[u8]) -> Result<()> {
+    let store = begin(rt.alloc(), source)?;
+    list(rt, store)
+}
+
+/// The options of a run of the top `t`.
+fn options(alloc: Global, workers: usize) -> Result<Options, AllocError> {
     Ok(Options {
         top: String::from_str(alloc, "t")?,
         stop: execution::STOP,
         limit: execution::LIMIT,
-        workers: 1,
+        workers,
     })
 }
 
-/// The text on standard input, and the options of its run.
-fn read<R: AllocGlobal + Input>(rt: &R) -> Result<(Vec<u8>, Options)> {
-    let options = options(rt.alloc()).context("reading")?;
-    let source = read_source(rt).context("reading")?;
-    Ok((source, options))
+/// The options of a run by one worker, and of one by several.
+fn options_of_each(alloc: Global) -> Result<(Options, Options), AllocError> {
+    let alone = options(alloc, 1)?;
+    let shared = options(alloc, 2)?;
+    Ok((alone, shared))
 }
 
 /// Prints the listing of the text on standard input, for its top `t`: by single calls, and then by
 /// each of the calls that carry a whole run.
 pub fn list_by_calls<R: Threads + Wait + Sync + AllocGlobal + Input + Print>(rt: &R) -> Result<()> {
-    let (source, options) = read(rt)?;
-    list(rt, begin(rt.alloc(), source.as_slice())?)?;
-    list_by_each(rt, source.as_slice(), &options)
+    let source = read_source(rt).context("reading")?;
+    let source = source.as_slice();
+    let (alone, shared) = options_of_each(rt.alloc()).context("reading")?;
+    list_by_single_calls(rt, source)?;
+    list_by_each(rt, source, &alone, &shared)
 }
 
 /// Works rows of calls that are made alone.
 pub fn work_rows<R: AllocGlobal + Print>(rt: &R) -> Result<()> {
-    let options = options(rt.alloc()).context("reading")?;
+    let options = options(rt.alloc(), 1).context("reading")?;
     work_each(rt, &options)
 }

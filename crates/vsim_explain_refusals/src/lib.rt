@@ -12,6 +12,7 @@ mod ports;
 mod slips;
 mod text_faults;
 mod tokens;
+mod words;
 
 pub use design_faults::explain_design;
 pub use explanation::{Explanation, nowhere};

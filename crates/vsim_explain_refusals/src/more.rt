@@ -2,7 +2,8 @@
 
 use crate::nearest::{meant, nearest};
 use crate::ports::write_missing;
-use crate::tokens::{first_word, last_word, without_comments};
+use crate::tokens::{first_word, is_one_of, last_word, without_comments};
+use crate::words::{OTHER_WORDS, WORDS};
 use sim_flat::FlatError;
 use sim_text::{TextError, parse};
 use sim_text_tree::DesignFile;
@@ -10,47 +11,6 @@ use sim_text_tree::unit::LibraryUnit;
 use std::alloc::{AllocError, Global};
 use std::io::{self, Write};
 use std::str::from_utf8;
-
-/// The reserved words that begin or join what is written most.
-static WORDS: [&str; 37] = [
-    "after",
-    "all",
-    "and",
-    "architecture",
-    "begin",
-    "component",
-    "else",
-    "elsif",
-    "end",
-    "entity",
-    "if",
-    "in",
-    "inertial",
-    "inout",
-    "is",
-    "library",
-    "map",
-    "nand",
-    "nor",
-    "not",
-    "null",
-    "of",
-    "open",
-    "or",
-    "out",
-    "port",
-    "postponed",
-    "process",
-    "reject",
-    "signal",
-    "then",
-    "transport",
-    "use",
-    "variable",
-    "when",
-    "xnor",
-    "xor",
-];
 
 /// The names of the entities of a file, in order.
 fn entities<'a>(alloc: Global, file: &'a DesignFile) -> Result<Vec<&'a str>, AllocError> {
@@ -110,6 +70,9 @@ pub fn write_more_of_design<W: Write>(
 
 /// Writes which reserved word may have been meant by a word, and whether there is one.
 fn write_meant<W: Write>(alloc: Global, out: &mut W, word: &[u8]) -> io::Result<bool> {
+    if is_one_of(&OTHER_WORDS, word) {
+        return Ok(false);
+    }
     let Ok(word) = from_utf8(word) else {
         return Ok(false);
     };

@@ -2,8 +2,8 @@
 
 use anyhow::Result;
 use sim_run::{
-    Design, FlatError, Open, Options, RunError, TextError, WaveStore, elaborate, run, run_in,
-    simulate, write_listing,
+    Design, Finished, FlatError, Open, Options, RunError, TextError, WaveStore, elaborate, run,
+    run_in, simulate, write_listing,
 };
 use std::alloc::Global;
 use std::io::writer;
@@ -47,6 +47,23 @@ fn list_run<R: Threads + Wait + Sync + AllocGlobal + Print>(
     write_listing(&finished, &mut writer(rt))
 }
 
+/// The run of a store under a lock. Where a worker finds no memory, that is told, and the run of the
+/// same store goes on.
+fn carry_on<R: Threads + Wait + Sync + AllocGlobal + Print>(
+    rt: &R,
+    store: &Mutex<WaveStore>,
+    design: &Design,
+    options: &Options,
+) -> Result<Finished, RunError> {
+    match run_in(rt, rt.alloc(), store, design, options, &Open) {
+        Err(RunError::Memory) => {
+            println!(rt; "! run_in: {:?}", RunError::Memory).map_err(|_unwritten| RunError::Write)?;
+            run_in(rt, rt.alloc(), store, design, options, &Open)
+        }
+        answer => answer,
+    }
+}
+
 /// Lists the run of a store under a lock.
 fn list_run_in<R: Threads + Wait + Sync + AllocGlobal + Print>(
     rt: &R,
@@ -54,7 +71,7 @@ fn list_run_in<R: Threads + Wait + Sync + AllocGlobal + Print>(
     options: &Options,
 ) -> Result<(), RunError> {
     let store = store_of(rt.alloc(), design, options)?;
-    let finished = run_in(rt, rt.alloc(), &store, design, options, &Open)?;
+    let finished = carry_on(rt, &store, design, options)?;
     write_listing(&finished, &mut writer(rt))
 }
 
@@ -98,13 +115,18 @@ fn list<R: Threads + Wait + Sync + AllocGlobal + Print>(
     }
 }
 
-/// Lists the run of a text by each call in turn.
+/// Lists the run of a text by each call in turn: under a lock by several workers, else by one.
 pub fn list_by_each<R: Threads + Wait + Sync + AllocGlobal + Print>(
     rt: &R,
     source: &[u8],
-    options: &Options,
+    alone: &Options,
+    shared: &Options,
 ) -> Result<()> {
     for (call, name) in CALLS.iter() {
+        let options = match call {
+            Call::RunIn => shared,
+            _ => alone,
+        };
         list(rt, source, options, *call, name)?;
     }
     Ok(())
