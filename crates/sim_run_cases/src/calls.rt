@@ -4,6 +4,7 @@
 //! memory is refused, the listing is that of a run with ample memory: `tests/refusals.py --calls`
 //! refuses each in turn.
 
+mod designs;
 mod elaboration;
 mod execution;
 mod job;

@@ -43,6 +43,7 @@ use crate::outcome::{Outcome, answered, compare};
 use crate::way::Way;
 use anyhow::{Context, Result};
 use sim_run::{Hints, session_with_hints};
+use std::alloc::Global;
 use std::process::ExitCode;
 use std::rt::Files;
 use std::sync::Wait;
@@ -188,29 +189,31 @@ fn are_handed_out(words: &[String]) -> bool {
     }
 }
 
-/// Is the program itself, with the words after the first, and each phase handed out.
-fn run_handed_out(rt: &HostRuntime, words: Vec<String>) -> Result<ExitCode> {
+/// The words that the program was given.
+fn words_of(rt: &HostRuntime) -> Result<Vec<String>> {
+    let words = env::args(rt).context("reading the words")?.skip(1);
+    Ok(words.collect(rt.alloc()).context("reading the words")?)
+}
+
+/// The words after the first.
+fn after_first(alloc: Global, words: Vec<String>) -> Result<Vec<String>> {
+    let words = words.into_iter().skip(1);
+    Ok(words.collect(alloc).context("reading the words")?)
+}
+
+/// Does what the words say: is the program itself, with each phase handed out, or runs cases.
+fn main(rt: HostRuntime) -> Result<ExitCode> {
+    let words = words_of(&rt)?;
+    if !are_handed_out(words.as_slice()) {
+        obey_all(&rt, words.as_slice())?;
+        return Ok(ExitCode::SUCCESS);
+    }
     let alloc = rt.alloc();
-    let words: Vec<String> = words
-        .into_iter()
-        .skip(1)
-        .collect(alloc)
-        .context("reading the words")?;
+    let words = after_first(alloc, words)?;
     let hints = Hints::all_handed_out();
     let mut input = rt.reader();
     let mut out = rt.stdout();
     let mut err = rt.stderr();
-    let status = session_with_hints(rt, alloc, words, hints, &mut input, &mut out, &mut err);
+    let status = session_with_hints(&rt, alloc, words, hints, &mut input, &mut out, &mut err);
     Ok(ExitCode::from(status))
-}
-
-/// Does what the words say.
-fn main(rt: HostRuntime) -> Result<ExitCode> {
-    let words = env::args(&rt).context("reading the words")?.skip(1);
-    let words: Vec<String> = words.collect(rt.alloc()).context("reading the words")?;
-    if are_handed_out(words.as_slice()) {
-        return run_handed_out(&rt, words);
-    }
-    obey_all(&rt, words.as_slice())?;
-    Ok(ExitCode::SUCCESS)
 }

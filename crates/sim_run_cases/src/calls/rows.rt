@@ -4,8 +4,12 @@
 ghost use Rattle.std.specs.Prelude.{◌≡◌, ◌≤◌, length, IfOk, OnOk};
 ghost use Rattle.sim_run_claims.specs.Seats.{IsOf, balance};
 
+use crate::calls::designs::{are_read, has_drivers, has_nets};
 use crate::calls::job::is_toggled;
-use crate::calls::stores::{refuses_results, refuses_strangers, tells_its_end};
+use crate::calls::stores::{
+    refuses_jobs, refuses_late_stops, refuses_more, refuses_results, refuses_strangers,
+    tells_its_end,
+};
 use anyhow::{Result, bail};
 use sim_exec_code::Code;
 use sim_flat_design::Process;
@@ -18,7 +22,7 @@ use sim_wave::{Delay, Driver, Transaction};
 use std::alloc::{AllocError, Global};
 
 /// A flip-flop that toggles at each rising edge.
-const TOGGLE: &str =
+pub const TOGGLE: &str =
     "entity t is end;architecture a of t is signal clk:std_logic:='0'; signal q:std_logic;begin \
 clk <= not clk after 5 ns; process (clk) variable v:std_logic:='0'; begin if rising_edge(clk) then v := not v; q <= v; end if; \
 end process; end;";
@@ -36,10 +40,16 @@ enum Row {
     Results,
     Strangers,
     End,
+    Jobs,
+    More,
+    LateStops,
+    Words,
+    Nets,
+    Drivers,
 }
 
 /// Each row with its name.
-static ROWS: [(Row, &str); 10] = [
+static ROWS: [(Row, &str); 16] = [
     (Row::Tokens, "tokens"),
     (Row::Pulse, "pulse"),
     (Row::Rejections, "rejections"),
@@ -50,6 +60,12 @@ static ROWS: [(Row, &str); 10] = [
     (Row::Results, "results"),
     (Row::Strangers, "strangers"),
     (Row::End, "end"),
+    (Row::Jobs, "jobs"),
+    (Row::More, "more"),
+    (Row::LateStops, "late stops"),
+    (Row::Words, "words"),
+    (Row::Nets, "nets"),
+    (Row::Drivers, "drivers"),
 ];
 
 /// Whether a token has the kind, the text and the places.
@@ -252,6 +268,12 @@ fn is_as_worked(alloc: Global, options: &Options, row: Row) -> Result<bool, RunE
         Row::Results => refuses_results(alloc, options),
         Row::Strangers => refuses_strangers(alloc, options),
         Row::End => tells_its_end(alloc, options),
+        Row::Jobs => refuses_jobs(alloc, options),
+        Row::More => refuses_more(alloc, options),
+        Row::LateStops => refuses_late_stops(alloc, options),
+        Row::Words => are_read(alloc),
+        Row::Nets => has_nets(alloc, options),
+        Row::Drivers => has_drivers(alloc, options),
     }
 }
 

@@ -1,5 +1,6 @@
 //! Rows of calls of a store.
 
+use crate::calls::rows::TOGGLE;
 use sim_exec::Done;
 use sim_run::{Options, RunError, WaveStore, elaborate};
 use sim_store::{Look, Step, StoreError};
@@ -17,6 +18,12 @@ const ONCE: &str =
 const CHOICE: &str =
     "entity t is end;architecture a of t is signal a,q:std_logic:='0';begin a <= '1' after 1 ns; \
 q <= '1' after 8 ns when a = '0' else '1' after 9 ns; end;";
+
+/// No process and no signal.
+const EMPTY: &str = "entity t is end;architecture a of t is begin end;";
+
+/// A time past the latest one.
+const TOO_LATE: u64 = 4_611_686_018_427_387_904;
 
 /// Want of memory as that of a run; no row has another refusal where it is made so.
 fn of_run(fault: StoreError) -> RunError {
@@ -183,4 +190,49 @@ fn tells(alloc: Global, store: &mut WaveStore) -> Result<bool, StoreError> {
 pub fn tells_its_end(alloc: Global, options: &Options) -> Result<bool, RunError> {
     let mut store = store_of(alloc, CHOICE, options)?;
     tells(alloc, &mut store).map_err(of_run)
+}
+
+/// Whether a store gives no job of a process that is not due.
+fn has_no_job(alloc: Global, store: &WaveStore) -> Result<bool, StoreError> {
+    match store.job(alloc, 0) {
+        Err(StoreError::Memory) => Err(StoreError::Memory),
+        Err(StoreError::NotDue) => Ok(store.due().is_empty()),
+        _ => Ok(false),
+    }
+}
+
+/// Whether there is no job once the flip-flop has changed, which nothing reads.
+fn comes_to_rest(alloc: Global, store: &mut WaveStore) -> Result<bool, StoreError> {
+    go_on(alloc, store)?;
+    go_on(alloc, store)?;
+    has_no_job(alloc, store)
+}
+
+/// Whether processes that are not due have no job.
+pub fn refuses_jobs(alloc: Global, options: &Options) -> Result<bool, RunError> {
+    let mut store = store_of(alloc, TOGGLE, options)?;
+    comes_to_rest(alloc, &mut store).map_err(of_run)
+}
+
+/// Whether a run without a process ends at once, and does not go on.
+fn ends(alloc: Global, store: &mut WaveStore) -> Result<bool, StoreError> {
+    let step = store.advance(alloc)?;
+    let after = refusal(alloc, store)?;
+    Ok(step == Step::Finished && after == Some(StoreError::Ended))
+}
+
+/// Whether a run that has ended does not go on.
+pub fn refuses_more(alloc: Global, options: &Options) -> Result<bool, RunError> {
+    let mut store = store_of(alloc, EMPTY, options)?;
+    ends(alloc, &mut store).map_err(of_run)
+}
+
+/// Whether no run stops past the latest time.
+pub fn refuses_late_stops(alloc: Global, options: &Options) -> Result<bool, RunError> {
+    let design = elaborate(alloc, EMPTY.as_bytes(), options)?;
+    match WaveStore::new(alloc, design, TOO_LATE, options.limit) {
+        Ok(_store) => Ok(false),
+        Err((StoreError::StopTooLate, _design)) => Ok(true),
+        Err((fault, _design)) => Err(of_run(fault)),
+    }
 }
