@@ -11,7 +11,7 @@ as many are tried, evenly apart. With --words the program is given these words, 
 With --calls or --rows the program is sim_run_cases, which makes the public calls one after another, on the design or on rows
 of its own, and each that finds no memory once more. Where one request is refused it prints what it does with ample memory,
 and for a whole call or a row, in a line that begins with `!`, which error came first: want of memory of the text, of the
-design or of the run, in this order. Only where it cannot read the text, it says so.
+design or of the run; of a whole call in this order. Only where it cannot read the text, it says so.
 
 With --gate each request of the designs below is refused alone, of the program and of all calls.
 
@@ -138,7 +138,8 @@ def out_of_order(answers, all_tried):
         known = error_of(found)
         if known:
             name, error = known
-            if error == len(ERRORS) or error < max(told.get(name, {0})):
+            # (a row may elaborate two designs)
+            if error == len(ERRORS) or name in WHOLE and error < max(told.get(name, {0})):
                 return f"request {number}: {found[1]!r}"
             told.setdefault(name, set()).add(error)
     missing = [name for name in WHOLE if name in told and len(told[name]) < len(ERRORS)] if all_tried else []
