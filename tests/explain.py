@@ -193,6 +193,9 @@ See Calling the program in docs/LANGUAGE.md.
 BUSIEST = "The nets that change most in the last 100 cycles, and how often:\n"
 LAST = "The last cycles, as a listing has them:\n"
 
+# words that ask for nothing, and the status
+USAGES = [(["--help"], 0), (["-h"], 0), ([], 2), (["--top"], 2)]
+
 
 def clock_lines(first, last):
     """Returns the lines of CLOCK from one cycle to another."""
@@ -410,8 +413,19 @@ def sections():
             yield f"{os.path.relpath(path, TOP)}: {found[0]}", None if known else "there is no such section"
 
 
+def fault_of_usage(program, words, status):
+    """Returns what is wrong with the line of usage of words that ask for nothing, if anything is."""
+    out, errors, got, _ = answer(program, words, b"")
+    said = errors if status else out
+    if got != status or "Usage: vsim_explain " not in said or "Usage: vsim " in said or (out and errors):
+        return f"wanted status {status} and its own line of usage\ngot with status {got}:\n{out}{errors}"
+    return None
+
+
 def faults(program):
     """Yields the name of each test, and what is wrong, if anything is."""
+    for words, status in USAGES:
+        yield f"the usage of {words}", fault_of_usage(program, words, status)
     yield from sections()
     for name, words, text, wanted in examples():
         yield name, fault_of_example(program, words, text, wanted)

@@ -15,7 +15,7 @@ use crate::request::{Request, read_request};
 use crate::runs::tell_run;
 use anyhow::{Context, Result, bail};
 use sim_run::{CliFault, FlatError, RunError, TextError, elaborate};
-use std::alloc::Global;
+use std::alloc::{AllocError, Global};
 use std::env;
 use std::io::{self, BufWriter, Read, Write, writer};
 use std::process::ExitCode;
@@ -131,22 +131,39 @@ fn answer_request<R: AllocGlobal + Input, W: Write>(
     answer_text(rt.alloc(), source.as_slice(), request, out)
 }
 
+/// What is said of words for `vsim`, with this program's name in the line of usage.
+fn renamed(alloc: Global, text: &str) -> Result<String, AllocError> {
+    text.replace(alloc, "Usage: vsim ", "Usage: vsim_explain ")
+}
+
 /// Writes the help.
-fn write_help<W: Write>(out: &mut W, text: &str) -> io::Result<()> {
+fn write_help<W: Write>(alloc: Global, out: &mut W, text: &str) -> io::Result<()> {
+    let text = renamed(alloc, text)?;
     out.write_all(text.as_bytes())?;
     out.write_all(HELP)
 }
 
+/// Tells that words are refused, and why.
+fn tell_refused<R: AllocGlobal + Eprint>(rt: &R, text: &str) -> Result<()> {
+    let text = renamed(rt.alloc(), text)?;
+    rt.eprint(text.as_str())?;
+    rt.eprint(REFUSED)?;
+    Ok(())
+}
+
 /// Answers words that ask for nothing.
-fn answer_fault<R: Eprint, W: Write>(rt: &R, fault: &CliFault, out: &mut W) -> Result<u8> {
+fn answer_fault<R: AllocGlobal + Eprint, W: Write>(
+    rt: &R,
+    fault: &CliFault,
+    out: &mut W,
+) -> Result<u8> {
     match fault {
         CliFault::Help(text) => {
-            write_help(out, text.as_str())?;
+            write_help(rt.alloc(), out, text.as_str())?;
             Ok(0)
         }
         CliFault::Refused(text) => {
-            rt.eprint(text.as_str())?;
-            rt.eprint(REFUSED)?;
+            tell_refused(rt, text.as_str())?;
             Ok(2)
         }
         CliFault::Memory => bail!("out of memory"),
