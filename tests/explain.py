@@ -417,6 +417,8 @@ def fault_of_usage(program, words, status):
     """Returns what is wrong with the line of usage of words that ask for nothing, if anything is."""
     out, errors, got, _ = answer(program, words, b"")
     said = errors if status else out
+    if not status and ("Says in plain words what vsim answers" not in said or "\n      --listing  " not in said):
+        return f"the help does not say what the program is, and its own word:\n{out}"
     if got != status or "Usage: vsim_explain " not in said or "Usage: vsim " in said or (out and errors):
         return f"wanted status {status} and its own line of usage\ngot with status {got}:\n{out}{errors}"
     return None

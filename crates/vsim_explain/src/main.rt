@@ -36,11 +36,21 @@ const NO_TEXT: &str = "error: invalid UTF-8 was detected in one or more argument
 For more information, try '--help'.
 ";
 
-/// What the help says of this program.
-const HELP: &[u8] = b"
-vsim_explain takes the same words and the same text, and says in plain words what vsim answers.
-With --listing it writes first what there is of the listing, also of a run that is cut short.
+/// What the help of `vsim` says of that program.
+const ABOUT_VSIM: &str =
+    "Reads a design in a subset of VHDL from standard input, simulates it, and lists
+every change of a signal on standard output.
 ";
+
+/// What the help says of this program.
+const ABOUT: &str = "Says in plain words what vsim answers to a design, which it reads from standard
+input. It takes the words of vsim.
+";
+
+/// Its own word, before that for the help.
+const LISTING_OPTION: &str = "
+      --listing      Write first what there is of the listing, also of a run that is cut short
+  -h, --help ";
 
 /// What is said of words that are refused.
 const REFUSED: &str = "
@@ -136,11 +146,17 @@ fn renamed(alloc: Global, text: &str) -> Result<String, AllocError> {
     text.replace(alloc, "Usage: vsim ", "Usage: vsim_explain ")
 }
 
+/// The help of `vsim`, with what this program is, and its own word.
+fn own_help(alloc: Global, text: &str) -> Result<String, AllocError> {
+    let text = renamed(alloc, text)?;
+    let text = text.replace(alloc, ABOUT_VSIM, ABOUT)?;
+    text.replace(alloc, "\n  -h, --help ", LISTING_OPTION)
+}
+
 /// Writes the help.
 fn write_help<W: Write>(alloc: Global, out: &mut W, text: &str) -> io::Result<()> {
-    let text = renamed(alloc, text)?;
-    out.write_all(text.as_bytes())?;
-    out.write_all(HELP)
+    let text = own_help(alloc, text)?;
+    out.write_all(text.as_bytes())
 }
 
 /// Tells that words are refused, and why.
