@@ -194,7 +194,7 @@ BUSIEST = "The nets that change most in the last 100 cycles, and how often:\n"
 LAST = "The last cycles, as a listing has them:\n"
 
 # words that ask for nothing, and the status
-USAGES = [(["--help"], 0), (["-h"], 0), ([], 2), (["--top"], 2)]
+USAGES = [(["--help"], 0), (["-h"], 0), ([], 2)]
 
 
 def clock_lines(first, last):
