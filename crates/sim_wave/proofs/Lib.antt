@@ -1,3 +1,4 @@
 pub mod Rising
 pub mod Comparing
 pub mod Storing
+pub mod Replacing

@@ -1,9 +1,10 @@
 //! The driver of a process for a signal (IEEE 1076-2008, 14.7.2).
 
-ghost use Rattle.std.specs.Prelude.{suc, ◌≡◌, ◌↔◌, ◌<◌, ◌≤◌, [], length, All, Some, IsTrue, IfOk, IsOk, OnOk, OnErr};
+ghost use Rattle.std.specs.Prelude.{suc, ◌∷◌, ◌≡◌, ◌↔◌, ◌<◌, ◌≤◌, [], length, All, Some, IsTrue, IfOk, IsOk, OnOk, OnErr};
 ghost use Rattle.sim_standard.specs.Drivers.{next_of, taken, RisesFrom, Transaction as transaction};
 ghost use Rattle.sim_standard.specs.Editing.{edited, first_element, IsWithin};
 ghost use Rattle.sim_logic.specs.Time.{largest_time};
+ghost use Rattle.sim_standard.specs.declared.delay.Delay.TheVariants as delays;
 
 use crate::edit::keeps;
 use crate::pending::Pending;
@@ -127,6 +128,24 @@ impl Driver {
         ensures { IsTrue result ↔ (self.now ≡ other.now) }
     {
         self.value == other.value && self.pending.as_slice() == other.pending.as_slice()
+    }
+
+    /// A signal assignment of one element with no delay at the time `now`: whatever was pending, it
+    /// alone is pending then (IEEE 1076-2008, 10.5.2.2). Where memory runs out, nothing changes.
+    #[inline(always)]
+    pub fn assign_now(&mut self, now: u64, value: Logic) -> Result<(), AllocError>
+        requires now { now ≤ largest_time }
+        requires later { RisesFrom now self.old.pending }
+        ensures ok { OnOk result (self.new ≡ record self.old { pending = (now, value) ∷ [] }) }
+        ensures same { edited self.old.pending now (delays.Inertial 0) ((0, value) ∷ []) ≡ (now, value) ∷ [] }
+        ensures err { OnErr result (self.new ≡ self.old) }
+        ensures later { RisesFrom now self.new.pending }
+    {
+        if let Pending::Many(_) = &self.pending {
+            return self.edit(now, Delay::Inertial { reject: 0 }, &[(0, value)]);
+        }
+        self.pending = Pending::One((now, value));
+        Ok(())
     }
 
     /// A signal assignment at the time `now`, whose elements are pairs of a delay and a value
