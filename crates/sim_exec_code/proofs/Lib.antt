@@ -10,6 +10,7 @@ pub mod FromTheEnd
 pub mod HeldVariables
 pub mod Executions
 pub mod EdgesMissing
+pub mod QuickBodies
 pub mod Assembled
 pub mod OperationsCounted
 pub mod SharedCodes

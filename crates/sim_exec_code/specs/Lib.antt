@@ -5,3 +5,4 @@ pub mod Codes
 pub mod Counts
 pub mod Fitting
 pub mod Needs
+pub mod Quick
