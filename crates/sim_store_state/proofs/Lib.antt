@@ -10,6 +10,7 @@ pub mod Reaching
 pub mod Due
 pub mod Putting
 pub mod Telling
+pub mod Assigned
 pub mod Updating
 pub mod Skips
 pub mod Ranges

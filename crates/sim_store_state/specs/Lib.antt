@@ -1,4 +1,5 @@
 pub mod Executions
+pub mod Assignments
 pub mod FlatState
 pub mod Sensitive
 pub mod Changes

@@ -17,7 +17,7 @@ use sim_wave::Driver;
 use std::alloc::{AllocError, Global};
 
 /// The first pending time of a driver.
-fn first_time(driver: &Driver) -> Option<u64>
+pub fn first_time(driver: &Driver) -> Option<u64>
     ensures { result ≡ spec.next_time (driver.now ∷ []) }
 {
     match driver.pending().first() {
@@ -48,7 +48,7 @@ pub fn bring_up_to_date(
 }
 
 /// Gives the queue the time of a driver. Where memory is refused the driver is stale.
-fn tell(queue: &mut TimeQueue, stale: &mut NumberSet, number: usize, time: Option<u64>)
+pub fn tell(queue: &mut TimeQueue, stale: &mut NumberSet, number: usize, time: Option<u64>)
     requires queue { number < length queue.old }
     requires stale { number < length stale.old }
     ensures queue { length queue.new ≡ length queue.old }

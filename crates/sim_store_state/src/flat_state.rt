@@ -3,16 +3,21 @@
 ghost use Rattle.std.specs.Prelude.{ℕ, ◌≡◌, ◌↔◌, IsTrue, ◌<◌, ◌≤◌, ◌^◌, ◌++◌, ◌∷◌, [], List, Some, length, map, slice_index_or, slice_set, MatchOption};
 ghost use Rattle.std.specs.Prelude.{IfOk, OnOk, OnErr};
 ghost use Rattle.std.specs.Bool.{Decides};
+ghost use Rattle.std.specs.List.{All};
 ghost use Rattle.sim_logic.specs.Time.{largest_time};
+ghost use Rattle.sim_flat_design.specs.Bodies.{Body as body_value};
 ghost use Rattle.sim_flat_design.specs.Designs.{Design as design_value};
 ghost use Rattle.sim_flat_design.specs.Processes.{Process as process_value};
 ghost use Rattle.sim_store_sets.specs.Numbers.{is_in};
 ghost use Rattle.sim_exec.specs.Jobs.{IsReady};
 ghost use Rattle.sim_exec_code.specs.Codes as code;
+ghost use Rattle.sim_exec_code.specs.Quick.{quick_executed};
 ghost use Rattle.sim_standard.specs.Processes.{object_net, process_at};
 ghost use Rattle.sim_standard.specs.State.{State, driver_values, net_at, owned_at};
 ghost use Rattle.sim_standard.specs.Statements.{executed};
 ghost use Rattle.sim_standard.specs.Drivers as spec;
+ghost use Rattle.sim_standard.specs.Drivers.{RisesFrom};
+ghost use Rattle.sim_store_state.specs.Assignments.{AreAssigned};
 ghost use Rattle.sim_standard.specs.State as states;
 ghost use Rattle.sim_standard.specs.Initialization.{first_state};
 ghost use Rattle.sim_standard.specs.Cycle.{updated};
@@ -20,6 +25,7 @@ ghost use Rattle.sim_store_state.specs.FlatState.{flat_state_of, held};
 ghost use Rattle.sim_store_state.specs.Changes.{IsHeld};
 ghost use Rattle.sim_standard.specs.Records.{changes_from, values_of};
 
+use crate::assignment::{assign_in_parts, tell_assigned};
 use crate::drivers::{
     are_same, bring_up_to_date, copied, forget, mark_stale, take_due, tell_changed,
 };
@@ -28,7 +34,7 @@ use crate::log::Log;
 use crate::nets::{ByNumber, Seen, SeenBy, are_views, resolve_touched, settle, views_at};
 use crate::start::{connections, first_contents, nothing_pending};
 use sim_exec::NetView;
-use sim_exec_code::{Codes, Frame};
+use sim_exec_code::{Codes, Frame, Quick};
 use sim_flat_design::{Design, Held, Process, Source};
 use sim_logic::Logic;
 use sim_store_sets::{DividedRows, NumberSet, RowArray, TimeQueue};
@@ -447,6 +453,55 @@ impl FlatState {
         as_done(done)
     }
 
+    /// Carries out the assignment of the process with a number, whose body is that alone, also where
+    /// its edge is missing. If allocation fails nothing changes.
+    #[inline(always)]
+    fn assign(&mut self, number: usize, quick: &Quick, time: u64) -> Result<(), AllocError>
+        requires at { number < length self.old.owned }
+        requires time { time ≤ largest_time }
+        requires pending { All (λ d. RisesFrom time d.pending) (owned_at self.old.owned number).drivers }
+        ensures alone { self.new ≡ record self.old { owned = slice_set self.old.owned number (owned_at self.new.owned number) } }
+        ensures assigned { AreAssigned (net_at self.old.nets) time quick.now result (owned_at self.old.owned number).drivers
+            (owned_at self.new.owned number).drivers }
+        ensures variables { (owned_at self.new.owned number).variables ≡ (owned_at self.old.owned number).variables }
+    {
+        let seen = ByNumber {
+            values: self.values.as_slice(),
+            last_values: self.last_values.as_slice(),
+        };
+        let done = assign_in_parts(&seen, time, quick, number, &mut self.drivers);
+        tell_assigned(
+            &mut self.queue,
+            &mut self.stale,
+            &self.drivers,
+            number,
+            quick.driver(),
+        );
+        done
+    }
+
+    /// Executes the process with a number, whose body is this assignment, in place, unless its edge is
+    /// missing. If allocation fails nothing changes.
+    #[inline(always)]
+    fn resume_quick(&mut self, number: usize, quick: &Quick, time: u64) -> Result<(), AllocError>
+        requires at { number < length self.old.owned }
+        requires time { time ≤ largest_time }
+        requires pending { All (λ d. RisesFrom time d.pending) (owned_at self.old.owned number).drivers }
+        ensures alone { self.new ≡ record self.old { owned = slice_set self.old.owned number (owned_at self.new.owned number) } }
+        ensures ok { OnOk result (owned_at self.new.owned number
+            ≡ quick_executed (net_at self.old.nets) time quick.now (owned_at self.old.owned number)) }
+        ensures ready { (body : body_value) → IsReady body time (owned_at self.old.owned number) → IsReady body time (owned_at self.new.owned number) }
+    {
+        let seen = ByNumber {
+            values: self.values.as_slice(),
+            last_values: self.last_values.as_slice(),
+        };
+        if quick.is_idle(&seen) {
+            return Ok(());
+        }
+        self.assign(number, quick, time)
+    }
+
     /// Executes a process, which has this number, in place, unless the edge is missing without which
     /// it does nothing. If allocation fails, what it owns must not be executed again.
     #[inline(always)]
@@ -473,6 +528,9 @@ impl FlatState {
         }) }
         ensures ready { IsReady process.now.body time (owned_at self.new.owned number) }
     {
+        if let Some(quick) = codes.quick(number) {
+            return self.resume_quick(number, quick, time);
+        }
         let seen = ByNumber {
             values: self.values.as_slice(),
             last_values: self.last_values.as_slice(),

@@ -1,6 +1,7 @@
 //! What a simulation holds between two cycles, in flat lists.
 #![tactic(auto)]
 
+mod assignment;
 mod drivers;
 mod execution;
 mod flat_state;

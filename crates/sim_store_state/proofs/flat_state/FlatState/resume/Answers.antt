@@ -1,7 +1,8 @@
 use Rattle.std.proofs.Common.{ℕ, List, ◌≡◌, refl, ap, sym, ◌∙◌, subst, get_or, set}
 use Rattle.std.proofs.lemmas.List.{set-get_or}
+use Rattle.std.proofs.lemmas.Result.{on_ok_weaker}
 use Rattle.sim_standard.specs.declared.net_view.NetView.{NetView}
-use Rattle.sim_standard.specs.State.{Owned, nothing_owned}
+use Rattle.sim_standard.specs.State.{Owned, net_at, nothing_owned}
 use Rattle.sim_standard.specs.Statements.{executed}
 use Rattle.sim_store_state.specs.FlatState.{FlatState, views_of}
 use Rattle.sim_store_state.proofs.Contents.{seen, sees}
@@ -26,3 +27,18 @@ returns-then-is_idle-clause-ok c =
     subst (λ (f : ℕ → NetView). executed f c.args.time process.body.statements own ≡ own) look
     (c.is_idle.ensures process.body nets c.args.time own c.if-is_idle.true c.requires.code c.requires.nets) in
     ap (with_all h) (sym (set-get_or h.owned n nothing_owned) ∙ ap (λ (o : Owned). set h.owned n o) (sym same))
+
+pub returns-in-Some-clause-ok : goal.returns-in-Some-clause-ok
+returns-in-Some-clause-ok c =
+    let n = c.args.number in
+    let h = c.args.self.now in
+    let process = c.args.process.now in
+    let own = get_or h.owned n nothing_owned in
+    let now = get_or c.resume_quick.new.self.owned n nothing_owned in
+    let known = rw c.in-Some.is at c.quick.ensures in
+    let does = known (net_at h.nets) process.body process.nets c.args.time own c.requires.code c.requires.nets c.requires.ready.variables in
+    on_ok_weaker c.resume_quick.result (λ (is : now ≡ _).
+    c.resume_quick.ensures.alone ∙ ap (λ (o : Owned). with_all h (set h.owned n o)) (is ∙ sym does)) c.resume_quick.ensures.ok
+
+pub returns-in-Some-clause-ready : goal.returns-in-Some-clause-ready
+returns-in-Some-clause-ready c = c.resume_quick.ensures.ready c.args.process.now.body c.requires.ready
