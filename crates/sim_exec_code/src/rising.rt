@@ -9,7 +9,7 @@ ghost use Rattle.sim_exec_code.specs.Fitting as spec;
 use sim_flat_design::statement::{Branch, ConditionalWaveform, SignalAssignment, Statement};
 use sim_flat_design::waveform::Waveform;
 
-/// Of a waveform.
+/// The times of a waveform rise.
 #[tactic(auto, using(crate::proofs::TimesRise::waveform_rises))]
 fn waveform_rises(waveform: &Waveform)
     ensures { rises waveform.now ≡ true }
@@ -17,7 +17,7 @@ fn waveform_rises(waveform: &Waveform)
     let _elements = waveform.elements();
 }
 
-/// Of waveforms with conditions.
+/// The times of each waveform that has a condition rise.
 fn conditionals_rise(conditionals: &[ConditionalWaveform])
     ensures { all (map spec.conditional_rises conditionals.now) ≡ true }
 {
@@ -26,7 +26,7 @@ fn conditionals_rise(conditionals: &[ConditionalWaveform])
     }
 }
 
-/// Of the waveform without a condition, if there is one.
+/// The times of the waveform without a condition rise, if there is one.
 fn last_rises(last: &Option<Waveform>)
     ensures { spec.last_rises last.now ≡ true }
 {
@@ -35,7 +35,7 @@ fn last_rises(last: &Option<Waveform>)
     }
 }
 
-/// Of a signal assignment.
+/// The times of each waveform of a signal assignment rise.
 #[tactic(auto, using(crate::proofs::TimesRise::assignment_is))]
 fn assignment_rises(assignment: &SignalAssignment)
     ensures { spec.assignment_rises assignment.now ≡ true }
@@ -44,7 +44,7 @@ fn assignment_rises(assignment: &SignalAssignment)
     last_rises(&assignment.otherwise);
 }
 
-/// Of a statement.
+/// The times of each waveform in a statement rise.
 #[cycle(rising)]
 #[tactic(auto, using(crate::proofs::TimesRise::statements_rise))]
 fn statement_rises(statement: &Statement)
@@ -63,7 +63,7 @@ fn statement_rises(statement: &Statement)
     }
 }
 
-/// Of branches.
+/// The times of each waveform in branches rise.
 #[cycle(rising)]
 fn branches_rise(branches: &[Branch])
     ensures { all (map spec.branch_rises branches.now) ≡ true }
@@ -73,7 +73,7 @@ fn branches_rise(branches: &[Branch])
     }
 }
 
-/// Of a branch.
+/// The times of each waveform in a branch rise.
 #[cycle(rising)]
 fn branch_rises(branch: &Branch)
     ensures { spec.branch_rises branch.now ≡ true }
@@ -81,7 +81,7 @@ fn branch_rises(branch: &Branch)
     all_rise(branch.statements.as_slice());
 }
 
-/// Of statements, one after another.
+/// The times of each waveform in a list of statements rise.
 #[cycle(rising)]
 #[tactic(auto, unfolding(crate::specs::Fitting::waveforms_rise))]
 pub fn all_rise(statements: &[Statement])
