@@ -2,7 +2,7 @@ pub mod Bits
 pub mod Places
 pub mod Ranges
 pub mod Sets
-pub mod Beside
+pub mod Stamped
 pub mod Heaps
 pub mod Taking
 pub mod Least

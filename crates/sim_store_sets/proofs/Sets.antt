@@ -6,9 +6,9 @@ use Rattle.std.proofs.lemmas.Bool.Decides.{nat_tests}
 use Rattle.std.proofs.lemmas.List.{ext_get_or, get_or-set_same, get_or-set_other, get_or_past, get_or-replicate, length-replicate, length-set}
 use Rattle.std.proofs.lemmas.List.FromFn.{length-map-range_with_len, get_or-map-range_with_len}
 use Rattle.sim_store_sets.specs.Words.{has, uses, AreTops, IsNext, NoneFrom}
-use Rattle.sim_store_sets.specs.Numbers.{is_in, set_of, IsNumberSet}
+use Rattle.sim_store_sets.specs.Numbers.{is_in, set_of, IsBitSet}
 use Rattle.sim_store_sets.proofs.Bits.{not_both}
-use Rattle.sim_store_sets.proofs.Places.{empty_word, unused, used_within}
+use Rattle.sim_store_sets.proofs.Places.{empty_word, unused}
 
 pub length_set_of : (words : List ℕ) (count : ℕ) → length (set_of words count) ≡ count
 length_set_of words count = length-map-range_with_len (has words) 0 count
@@ -23,11 +23,11 @@ side : (i n : ℕ) → (i < n) ⊎ (n ≤ i)
 side i n = grind arith
 
 -- none is beyond the bound
-beyond : (words tops : List ℕ) (count end : ℕ) → IsNumberSet words tops count end → (n : ℕ) → count ≤ n → has words n ≡ false
+beyond : (words tops : List ℕ) (count end : ℕ) → IsBitSet words tops count end → (n : ℕ) → count ≤ n → has words n ≡ false
 beyond words tops count end i n le = let w : end ≤ count = i.within in i.none n (omega arith)
 
 -- a member by the words
-pub read : (words tops : List ℕ) (count end : ℕ) (set' : List Bool) → IsNumberSet words tops count end → set_of words count ≡ set' → (n : ℕ)
+pub read : (words tops : List ℕ) (count end : ℕ) (set' : List Bool) → IsBitSet words tops count end → set_of words count ≡ set' → (n : ℕ)
     → has words n ≡ is_in set' n
 read words tops count end set' i e n = go (side n count)
   where
@@ -35,14 +35,14 @@ read words tops count end set' i e n = go (side n count)
     go (inl l) = sym (at_set_of words count n l) ∙ ap (λ (s : List Bool). is_in s n) e
     go (inr le) = let c = length_of_view words count set' e in beyond words tops count end i n le ∙ sym (get_or_past set' n false (omega arith))
 
-pub next_read : (words tops : List ℕ) (count end : ℕ) (set' : List Bool) → IsNumberSet words tops count end → set_of words count ≡ set'
+pub next_read : (words tops : List ℕ) (count end : ℕ) (set' : List Bool) → IsBitSet words tops count end → set_of words count ≡ set'
     → (from : ℕ) (o : Option ℕ) → MatchOption o (NoneFrom (has words) from) (IsNext (has words) from)
     → MatchOption o (NoneFrom (is_in set') from) (IsNext (is_in set') from)
 next_read words tops count end set' i e from o =
     subst (λ (p : ℕ → Bool). MatchOption o (NoneFrom p from) (IsNext p from)) (λ k n. read words tops count end set' i e n k)
 
 -- what is in the words is below the bound
-pub below_bound : (words tops : List ℕ) (count end : ℕ) → IsNumberSet words tops count end → (n : ℕ) → has words n ≡ true → n < 2 ^ 64
+pub below_bound : (words tops : List ℕ) (count end : ℕ) → IsBitSet words tops count end → (n : ℕ) → has words n ≡ true → n < 2 ^ 64
 below_bound words tops count end i n here = go (side n count)
   where
     go : (n < count) ⊎ (count ≤ n) → n < 2 ^ 64
@@ -50,7 +50,7 @@ below_bound words tops count end i n here = go (side n count)
     go (inr le) = absurd (not_both (has words n) (beyond words tops count end i n le) here)
 
 -- the words of a number
-pub in_room : (words tops : List ℕ) (count end n : ℕ) (set' : List Bool) → IsNumberSet words tops count end → set_of words count ≡ set' → n < length set'
+pub in_room : (words tops : List ℕ) (count end n : ℕ) (set' : List Bool) → IsBitSet words tops count end → set_of words count ≡ set' → n < length set'
     → (n < count) × (n / 64 < length words) × (n / 64 / 64 < length tops)
 in_room words tops count end n set' i e l =
     let c = length_of_view words count set' e in
@@ -92,7 +92,7 @@ tops_marked old new tops tops' n words here others same k = go (eqb k (n / 64)) 
 pub still_set : (old new tops tops' : List ℕ) (count end end' n : ℕ) → n < count → length new ≡ length old → length tops' ≡ length tops
     → ((m : ℕ) → m ≢ n → has new m ≡ has old m) → ((k : ℕ) → k ≢ n / 64 → get_or new k 0 ≡ get_or old k 0)
     → has tops' (n / 64) ≡ uses new (n / 64) → ((m : ℕ) → m ≢ n / 64 → has tops' m ≡ has tops m) → end ≤ end' → n < end' → end' ≤ count
-    → IsNumberSet old tops count end → IsNumberSet new tops' count end'
+    → IsBitSet old tops count end → IsBitSet new tops' count end'
 still_set old new tops tops' count end end' n l len tops_len others words here tops_others further past within i =
     record {
       room = len ∙ i.room;
@@ -105,7 +105,7 @@ still_set old new tops tops' count end end' n l len tops_len others words here t
     }
 
 -- none is beyond the end
-pub none_beyond : (words tops : List ℕ) (count end : ℕ) (set' : List Bool) → IsNumberSet words tops count end → set_of words count ≡ set'
+pub none_beyond : (words tops : List ℕ) (count end : ℕ) (set' : List Bool) → IsBitSet words tops count end → set_of words count ≡ set'
     → (n : ℕ) → end ≤ n → is_in set' n ≡ false
 none_beyond words tops count end set' i e n le = sym (read words tops count end set' i e n) ∙ i.none n le
 
@@ -140,37 +140,6 @@ none_up_to old new place here others before k l = go (eqb k place) refl
     go : (b : Bool) → eqb k place ≡ b → has new k ≡ false
     go true q = let at : k ≡ place = grind (arith, nat_tests) in ap (has new) at ∙ here
     go false q = let differ : k ≢ place = grind (arith, nat_tests) in others k differ ∙ before k (omega (arith, l, differ))
-
--- one more word that is copied, where those before it are not in use
-pub copied_more : (words others tops : List ℕ) (from place : ℕ) → length words ≡ length others → AreTops others tops → IsNext (has tops) from place
-    → ((k : ℕ) → k < from → get_or words k 0 ≡ get_or others k 0) → ((k : ℕ) → from ≤ k → get_or words k 0 ≡ 0)
-    → (k : ℕ) → k < place + 1 → get_or (set words place (get_or others place 0)) k 0 ≡ get_or others k 0
-copied_more words others tops from place len tops_are next same rest k l = go (eqb k place) refl
-  where
-    within : place < length others
-    within = used_within others place (sym (tops_are place) ∙ next.passes)
-
-    before : (k < from) ⊎ (from ≤ k) → k ≢ place → get_or words k 0 ≡ get_or others k 0
-    before (inl lt) differ = same k lt
-    before (inr le) differ = rest k le ∙ sym (empty_word others k (sym (tops_are k) ∙ next.first k le (omega (arith, l, differ))))
-
-    go : (b : Bool) → eqb k place ≡ b → get_or (set words place (get_or others place 0)) k 0 ≡ get_or others k 0
-    go true q =
-        let at : k ≡ place = grind (arith, nat_tests) in
-        ap (λ (j : ℕ). get_or (set words place (get_or others place 0)) j 0) at
-        ∙ (get_or-set_same words place (get_or others place 0) 0 (omega (arith, within, len)) ∙ ap (λ (j : ℕ). get_or others j 0) (sym at))
-    go false q =
-        let differ : k ≢ place = grind (arith, nat_tests) in
-        get_or-set_other words place k (get_or others place 0) 0 differ ∙ before (side k from) differ
-
--- the words of another set with the same bound
-pub copied_set : (new tops' words' tops'' : List ℕ) (count count' end' : ℕ) → length new ≡ length words'
-    → ((k : ℕ) → get_or new k 0 ≡ get_or words' k 0) → tops' ≡ tops'' → count ≡ count' → IsNumberSet words' tops'' count' end'
-    → IsNumberSet new tops' count end'
-copied_set new tops' words' tops'' count count' end' len same tops_same counts i =
-    let all : new ≡ words' = ext_get_or 0 new words' len (λ k _. same k) in
-    subst (λ (w : List ℕ). IsNumberSet w tops' count end') (sym all)
-    (subst (λ (t : List ℕ). IsNumberSet words' t count end') (sym tops_same) (subst (λ (c : ℕ). IsNumberSet words' tops'' c end') (sym counts) i))
 
 -- no member
 pub no_members : (words : List ℕ) (count : ℕ) → ((k : ℕ) → get_or words k 0 ≡ 0) → set_of words count ≡ replicate count false

@@ -1,6 +1,7 @@
 -- A set of numbers below a bound: for each of them whether it is a member.
 -- Of the implementation: what `simulate` promises does not rest on this file.
-use Rattle.std.specs.Prelude.{ℕ, ◌≡◌, ◌<◌, ◌≤◌, ◌+◌, ◌*◌, ◌/◌, ◌^◌, ◌&&◌, Bool, false, not, List, length, map, filter, slice_index, slice_index_or}
+use Rattle.std.specs.Prelude.{All, ◌==◌, [], true, replicate, ℕ, ◌≡◌, ◌<◌, ◌≤◌, ◌+◌, ◌*◌, ◌/◌, ◌^◌, ◌&&◌, Bool, false, not, List, length, map, filter}
+use Rattle.std.specs.Prelude.{slice_index, slice_index_or}
 use Rattle.std.specs.List.{range_with_len}
 use Rattle.sim_store_sets.specs.Words.{has, AreTops}
 
@@ -20,8 +21,8 @@ members set = filter (is_in set) (range_with_len 0 (length set))
 abbrev pub set_of : List ℕ → ℕ → List Bool
 set_of words count = map (has words) (range_with_len 0 count)
 
--- There is a bit for each number below the bound and a bit in the tops for each word; no bit is set from the end on, in the words after it neither.
-pub record IsNumberSet (words tops : List ℕ) (count end : ℕ) : Type 0 where
+-- Bits: there is a bit for each number below the bound and a bit in the tops for each word; no bit is set from the end on, in the words after it neither.
+pub record IsBitSet (words tops : List ℕ) (count end : ℕ) : Type 0 where
   pub room : length words ≡ count / 64 + 1
   pub tops_room : length tops ≡ count / 4096 + 1
   pub used : AreTops words tops
@@ -29,3 +30,24 @@ pub record IsNumberSet (words tops : List ℕ) (count end : ℕ) : Type 0 where
   pub none : (n : ℕ) → end ≤ n → has words n ≡ false
   pub empty : (k : ℕ) → end ≤ k * 64 → slice_index words k ≡ 0
   pub fits : count < 2 ^ 64
+
+-- by stamps: those are members that have the stamp of now
+abbrev pub stamped : ℕ → List ℕ → List Bool
+stamped now stamps = map (λ (s : ℕ). s == now) stamps
+
+-- No stamp is later than that of now, which is none of those that were never given.
+pub record AreStamps (now : ℕ) (stamps : List ℕ) : Type 0 where
+  pub begun : 0 < now
+  pub past : All (λ (s : ℕ). s ≤ now) stamps
+
+-- Either the list has the members, rising, and the bits have none, or the bits have them and the list none. There is room in the list for all
+-- numbers. No number from the end on is a member.
+pub record IsListed (set bits : List Bool) (list : List ℕ) (capacity : ℕ) (is_listed : Bool) (end : ℕ) : Type 0 where
+  pub listed : is_listed ≡ true → list ≡ members set
+  pub clear : is_listed ≡ true → bits ≡ replicate (length set) false
+  pub marked : is_listed ≡ false → bits ≡ set
+  pub unlisted : is_listed ≡ false → list ≡ []
+  pub room : length set ≤ capacity
+  pub within : end ≤ length set
+  pub none : (n : ℕ) → end ≤ n → is_in set n ≡ false
+  pub fits : length set < 2 ^ 64

@@ -1,6 +1,6 @@
 -- Numbers as bits, 64 in each word.
 -- Of the implementation: what `simulate` promises does not rest on this file.
-use Rattle.std.specs.Prelude.{ℕ, ◌≡◌, ◌<◌, ◌≤◌, ◌/◌, ◌%◌, ◌==◌, ◌&&◌, Bool, true, false, not, List, slice_index}
+use Rattle.std.specs.Prelude.{ℕ, ◌≡◌, ◌<◌, ◌≤◌, ◌/◌, ◌%◌, ◌==◌, Bool, true, false, not, List, slice_index}
 use Rattle.std.specs.Int.{bit_at}
 
 -- whether a word has a bit
@@ -10,10 +10,6 @@ has_bit word i = bit_at word i == 1
 -- whether the words have a number
 abbrev pub has : List ℕ → ℕ → Bool
 has words n = has_bit (slice_index words (n / 64)) (n % 64)
-
--- whether the words have a number that others have not
-abbrev pub has_beside : List ℕ → List ℕ → ℕ → Bool
-has_beside words others n = has words n && not (has others n)
 
 -- whether a word has any bit
 abbrev pub uses : List ℕ → ℕ → Bool

@@ -1,10 +1,12 @@
 //! Lists of lists held flat, sets of numbers, and the times at which drivers are due.
 #![tactic(auto)]
 
+mod bit_set;
 mod divided_rows;
 mod entries;
 mod numbers;
 mod row_array;
+mod stamps;
 mod times;
 mod words;
 

@@ -1,49 +1,57 @@
-//! Sets of numbers below a bound.
+//! Sets of numbers below a bound, with a list of their members.
 
-ghost use Rattle.std.specs.Prelude.{◌≡◌, ◌<◌, ◌≤◌, ◌↔◌, length, true, false, replicate, slice_set, vec_capacity, IfOk, IsTrue, MatchOption};
+ghost use Rattle.std.specs.Prelude.{ℕ, ◌≡◌, ◌<◌, ◌≤◌, ◌-◌, ◌↔◌, length, true, false, []};
+ghost use Rattle.std.specs.Prelude.{replicate, slice_set, slice_index_or, vec_capacity, vec_len, IfNone, IfOk, IfSome, IsTrue, MatchOption};
+ghost use Rattle.std.specs.List.{insert};
 ghost use Rattle.sim_store_sets.specs.Words.{IsNext, NoneFrom};
 ghost use Rattle.sim_store_sets.specs.Numbers.{is_beside, is_in, members};
 
-use crate::words::{
-    clear_used, copy_all, copy_used, has_number, mark, mark_other, next_beside, next_number, zeros,
-};
+use crate::bit_set::BitSet;
+use crate::stamps::Stamps;
 use std::alloc::{AllocError, Global};
 use std::marker::Model;
 
-/// A set of numbers below a bound; its contracts see for each of these whether it is a member. It
-/// is held as bits in words, beside which `tops` has a bit for each word, set where the word is not
-/// 0, so that a walk over the members passes over all others at once.
+/// Before how many members a number is put, at the most, so that the list stays whole.
+const NEAR: usize = 8;
+
+/// A set of numbers below a bound; its contracts see for each of these whether it is a member.
+/// Beside the marks stands a list, which has the members, rising, while `is_listed`; else they are
+/// in `bits`, which has none while there is a list. So a walk and a clear cost what the members
+/// cost, in whichever order they came.
 pub struct NumberSet {
-    words: Vec<u64>,
-    tops: Vec<u64>,
-    count: usize,
-    /// No number from this one on is a member, so that a walk ends after the last one at once.
+    marks: Stamps,
+    list: Vec<usize>,
+    is_listed: bool,
+    /// No number from this one on is a member.
     end: usize,
+    bits: BitSet,
 }
 
 /// By hand, so that crates which drop one need no proof of what is in it.
 impl Drop for NumberSet {
     fn drop(self) {
         let NumberSet {
-            words,
-            tops,
-            count: _,
+            marks,
+            list,
+            is_listed: _,
             end: _,
+            bits,
         } = self;
-        drop(words);
-        drop(tops);
+        drop(marks);
+        drop(list);
+        drop(bits);
     }
 }
 
 impl Model for NumberSet {
-    ghost use Rattle.std.specs.Prelude.{Bool, List};
-    ghost use Rattle.sim_store_sets.specs.Numbers.{set_of, IsNumberSet};
+    ghost use Rattle.std.specs.Prelude.{Bool, List, vec_capacity};
+    ghost use Rattle.sim_store_sets.specs.Numbers.{IsListed};
 
     ghost Value = { List Bool };
 
-    ghost view = { λ set. set_of set.words.items set.count };
+    ghost view = { λ set. set.marks };
 
-    ghost invariant = { λ set. IsNumberSet set.words.items set.tops.items set.count set.end };
+    ghost invariant = { λ set. IsListed set.marks set.bits set.list.items (vec_capacity set.list) set.is_listed set.end };
 }
 
 impl NumberSet {
@@ -51,13 +59,15 @@ impl NumberSet {
     pub fn new(alloc: Global, count: usize) -> Result<NumberSet, AllocError>
         ensures { IfOk result (λ set. set ≡ replicate count false) }
     {
-        let words = zeros(alloc, count / 64 + 1)?;
-        let tops = zeros(alloc, count / 4096 + 1)?;
+        let marks = Stamps::new(alloc, count)?;
+        let bits = BitSet::new(alloc, count)?;
+        let list = Vec::with_capacity(alloc, count)?;
         Ok(NumberSet {
-            words,
-            tops,
-            count,
+            marks,
+            list,
+            is_listed: true,
             end: 0,
+            bits,
         })
     }
 
@@ -74,14 +84,14 @@ impl NumberSet {
     pub fn len(&self) -> usize
         ensures { result ≡ length self.now }
     {
-        self.count
+        self.marks.len()
     }
 
     /// Whether there is no member.
     pub fn is_empty(&self) -> bool
         ensures { IsTrue result ↔ (self.now ≡ replicate (length self.now) false) }
     {
-        match self.next(0) {
+        match self.next_at(0, 0) {
             None => true,
             Some(_) => false,
         }
@@ -91,94 +101,173 @@ impl NumberSet {
     pub fn contains(&self, number: usize) -> bool
         ensures { result ≡ is_in self.now number }
     {
-        has_number(self.words.as_slice(), number)
+        self.marks.contains(number)
     }
 
-    /// Makes a number a member.
+    /// Makes a number a member. It takes no memory.
+    #[inline(always)]
     pub fn insert(&mut self, number: usize)
         requires { number < length self.old }
         ensures { self.new ≡ slice_set self.old number true }
     {
-        self.put(number, true);
+        if number >= self.end {
+            if self.is_listed {
+                list_last(&mut self.list, &self.marks, number);
+                self.marks.insert(number);
+                self.end = number + 1;
+                return;
+            }
+        }
+        self.insert_within(number);
+    }
+
+    /// The same, for a number that others may follow.
+    #[inline(never)]
+    fn insert_within(&mut self, number: usize)
+        requires { number < length self.old }
+        ensures { self.new ≡ slice_set self.old number true }
+    {
+        if self.marks.contains(number) {
+            return;
+        }
+        if self.is_listed {
+            if list_one(&mut self.list, &self.marks, number) {
+                self.marks.insert(number);
+                self.end = self.end.max(number + 1);
+                return;
+            }
+        }
+        self.insert_unlisted(number);
+    }
+
+    /// Makes a number a member of a set that is listed no more.
+    #[inline(always)]
+    fn insert_unlisted(&mut self, number: usize)
+        requires { number < length self.old }
+        ensures { self.new ≡ slice_set self.old number true }
+    {
+        spill(&mut self.bits, &mut self.list, &self.marks, self.is_listed);
+        self.is_listed = false;
+        self.bits.put(number, true);
+        self.marks.insert(number);
+        self.end = self.end.max(number + 1);
     }
 
     /// Makes a number no member.
+    #[inline(always)]
     pub fn remove(&mut self, number: usize)
         requires { number < length self.old }
         ensures { self.new ≡ slice_set self.old number false }
     {
-        self.put(number, false);
+        if number >= self.end {
+            return;
+        }
+        self.take_out(number);
     }
 
-    /// Makes a number a member or none. Where it is beyond all members and is to be none, it is so
-    /// already.
+    /// The same, for a number that may be a member.
+    #[inline(never)]
+    fn take_out(&mut self, number: usize)
+        requires { number < length self.old }
+        ensures { self.new ≡ slice_set self.old number false }
+    {
+        if !self.marks.contains(number) {
+            return;
+        }
+        spill(&mut self.bits, &mut self.list, &self.marks, self.is_listed);
+        self.is_listed = false;
+        self.bits.put(number, false);
+        self.marks.remove(number);
+    }
+
+    /// Makes a number a member or none.
     pub fn put(&mut self, number: usize, is_member: bool)
         requires { number < length self.old }
         ensures { self.new ≡ slice_set self.old number is_member }
     {
-        if !is_member && number >= self.end {
-            return;
+        if is_member {
+            self.insert(number);
+        } else {
+            self.remove(number);
         }
-        let was_used = self.words[number / 64] != 0;
-        mark(&mut self.words, number, is_member);
-        let is_used = self.words[number / 64] != 0;
-        mark_other(&mut self.tops, number / 64, was_used, is_used);
-        self.end = self.end.max(number + 1);
     }
 
     /// The least member that is not below `from`. A walk over the members is `while let
     /// Some(number) = set.next(from) { ..; from = number + 1; }`.
+    #[inline(never)]
     pub fn next(&self, from: usize) -> Option<usize>
+        ensures { MatchOption result (NoneFrom (is_in self.now) from) (IsNext (is_in self.now) from) }
+    {
+        if self.is_listed {
+            let place = place_from(self.list.as_slice(), from);
+            let found = at_place(self.list.as_slice(), place);
+            return found;
+        }
+        self.bits.next(from)
+    }
+
+    /// The same, which costs little where it is the member at a place of the list. A walk is
+    /// `while let Some(number) = set.next_at(place, from) { ..; place = place.wrapping_add(1);
+    /// from = number + 1; }`, with 0 for both at first.
+    #[inline(always)]
+    pub fn next_at(&self, place: usize, from: usize) -> Option<usize>
         ensures { MatchOption result (NoneFrom (is_in self.now) from) (IsNext (is_in self.now) from) }
     {
         if from >= self.end {
             return None;
         }
-        next_number(self.words.as_slice(), self.tops.as_slice(), from)
+        if is_place(self.list.as_slice(), place, from) {
+            return Some(self.list[place]);
+        }
+        self.next(from)
     }
 
-    /// The least member that is not below `from` and is no member of another set. It passes 64
-    /// numbers at once where there is none.
+    /// The least member that is not below `from` and is no member of another set.
     pub fn next_beside(&self, others: &NumberSet, from: usize) -> Option<usize>
         ensures { MatchOption result (NoneFrom (is_beside self.now others.now) from) (IsNext (is_beside self.now others.now) from) }
     {
-        if from >= self.end {
-            return None;
+        if from == 0 {
+            return find_beside(self, others, 0, 0);
         }
-        next_beside(
-            self.words.as_slice(),
-            self.tops.as_slice(),
-            others.words.as_slice(),
-            self.end / 64,
-            from,
-        )
+        let place = place_from(self.list.as_slice(), from);
+        find_beside(self, others, place, from)
     }
 
-    /// Makes no number a member. It touches only words in use.
+    /// Makes no number a member. It looks at none, but where their order was lost.
+    #[inline(always)]
     pub fn clear(&mut self)
         ensures { self.new ≡ replicate (length self.old) false }
     {
         if self.end == 0 {
             return;
         }
-        clear_used(&mut self.words, &mut self.tops, self.end / 64);
+        self.marks.clear();
+        self.list.clear();
+        clear_marked(&mut self.bits, self.is_listed);
+        self.is_listed = true;
         self.end = 0;
     }
 
-    /// Makes the members of another set its own, and no others. It touches only words in use.
+    /// Lists the members again, if their order was lost, so that walks cost little. It takes no
+    /// memory.
+    #[inline(always)]
+    pub fn arrange(&mut self)
+        ensures { self.new ≡ self.old }
+    {
+        if self.is_listed {
+            return;
+        }
+        relist(&mut self.list, &mut self.bits);
+        self.is_listed = true;
+    }
+
+    /// Makes the members of another set its own, and no others. It looks at members alone.
     pub fn copy_from(&mut self, others: &NumberSet)
         requires { length others.now ≡ length self.old }
         ensures { self.new ≡ others.now }
     {
-        clear_used(&mut self.words, &mut self.tops, self.end / 64);
-        copy_used(
-            &mut self.words,
-            others.words.as_slice(),
-            others.tops.as_slice(),
-            others.end / 64,
-        );
-        copy_all(&mut self.tops, others.tops.as_slice());
-        self.end = others.end;
+        self.clear();
+        insert_each(self, others);
     }
 
     /// Lists the members in place of what `numbers` holds. It takes no memory.
@@ -188,8 +277,219 @@ impl NumberSet {
         ensures capacity { vec_capacity numbers.new ≡ vec_capacity numbers.old }
     {
         numbers.clear();
-        push_members(numbers, self);
+        if self.is_listed {
+            push_each(numbers, self.list.as_slice());
+            return;
+        }
+        push_marked(numbers, &self.bits);
     }
+}
+
+/// The place in a rising list before which a number is to stand, if it is near the end.
+fn place_for(list: &[usize], number: usize) -> Option<usize>
+    ensures { IfSome result (λ k. (k ≤ length list.now)
+        × ((i : ℕ) → i < length list.now → k ≤ i → number ≤ slice_index_or list.now i 0)
+        × (0 < k → slice_index_or list.now (k - 1) 0 ≤ number)) }
+{
+    let mut place = list.len();
+    for _turn in 0..NEAR {
+        if place == 0 {
+            return Some(0);
+        }
+        if list[place - 1] <= number {
+            return Some(place);
+        }
+        place -= 1;
+    }
+    None
+}
+
+/// Puts a number before the place of a list that has room for it.
+fn put_before(list: &mut Vec<usize>, place: usize, number: usize)
+    requires place { place ≤ vec_len list.old }
+    requires room { vec_len list.old < vec_capacity list.old }
+    ensures items { list.new.items ≡ insert list.old.items place number }
+    ensures capacity { vec_capacity list.old ≤ vec_capacity list.new }
+{
+    if place == list.len() {
+        list.push_reserved(number);
+        return;
+    }
+    match list.insert(place, number) {
+        Ok(()) => {}
+        Err(_) => unreachable!(),
+    }
+}
+
+/// Lists one more member of a set in which none is from it on.
+#[inline(always)]
+fn list_last(list: &mut Vec<usize>, set: &Stamps, number: usize)
+    requires at { number < length set.now }
+    requires none { NoneFrom (is_in set.now) number }
+    requires listed { list.old.items ≡ members set.now }
+    requires room { length set.now ≤ vec_capacity list.old }
+    ensures listed { list.new.items ≡ members (slice_set set.now number true) }
+    ensures capacity { vec_capacity list.new ≡ vec_capacity list.old }
+{
+    let _count = set.len();
+    list.push_reserved(number);
+}
+
+/// Lists one more member of a set in which it is no member yet, if that is near the end; says
+/// whether it is.
+#[inline(never)]
+fn list_one(list: &mut Vec<usize>, set: &Stamps, number: usize) -> bool
+    requires at { number < length set.now }
+    requires fresh { is_in set.now number ≡ false }
+    requires listed { list.old.items ≡ members set.now }
+    requires room { length set.now ≤ vec_capacity list.old }
+    ensures listed { result ≡ true → list.new.items ≡ members (slice_set set.now number true) }
+    ensures same { result ≡ false → list.new.items ≡ list.old.items }
+    ensures capacity { vec_capacity list.old ≤ vec_capacity list.new }
+{
+    match place_for(list.as_slice(), number) {
+        Some(place) => {
+            put_before(list, place, number);
+            true
+        }
+        None => false,
+    }
+}
+
+/// Whether the members from a number on begin with the one at a place of a rising list.
+#[inline(always)]
+fn is_place(list: &[usize], place: usize, from: usize) -> bool
+    ensures within { result ≡ true → place < length list.now }
+    ensures from { result ≡ true → from ≤ slice_index_or list.now place 0 }
+    ensures before { result ≡ true → 0 < place → slice_index_or list.now (place - 1) 0 < from }
+{
+    if place >= list.len() {
+        return false;
+    }
+    if list[place] < from {
+        return false;
+    }
+    place == 0 || list[place - 1] < from
+}
+
+/// The place at which the members from a number on begin in a rising list.
+fn place_from(list: &[usize], from: usize) -> usize
+    ensures within { result ≤ length list.now }
+    ensures from { result < length list.now → from ≤ slice_index_or list.now result 0 }
+    ensures before { 0 < result → slice_index_or list.now (result - 1) 0 < from }
+{
+    let mut low = 0;
+    let mut high = list.len();
+    while low < high {
+        let middle = low + (high - low) / 2;
+        if list[middle] < from {
+            low = middle + 1;
+        } else {
+            high = middle;
+        }
+    }
+    low
+}
+
+/// What stands at a place of a list.
+#[inline(always)]
+fn at_place(list: &[usize], place: usize) -> Option<usize>
+    ensures some { IfSome result (λ n. (place < length list.now) × (n ≡ slice_index_or list.now place 0)) }
+    ensures none { IfNone result (length list.now ≤ place) }
+{
+    if place < list.len() {
+        Some(list[place])
+    } else {
+        None
+    }
+}
+
+/// Makes the members of a set those of the bits, in place of a list, if there is one.
+#[inline(always)]
+fn spill(bits: &mut BitSet, list: &mut Vec<usize>, set: &Stamps, is_listed: bool)
+    requires listed { is_listed ≡ true → list.old.items ≡ members set.now }
+    requires clear { is_listed ≡ true → bits.old ≡ replicate (length set.now) false }
+    requires marked { is_listed ≡ false → bits.old ≡ set.now }
+    requires unlisted { is_listed ≡ false → list.old.items ≡ [] }
+    ensures bits { bits.new ≡ set.now }
+    ensures list { list.new.items ≡ [] }
+    ensures capacity { vec_capacity list.new ≡ vec_capacity list.old }
+{
+    if !is_listed {
+        return;
+    }
+    put_each(bits, list.as_slice(), set);
+    list.clear();
+}
+
+/// Makes each of the members of a set, which are listed, a member of bits that have none.
+#[inline(never)]
+fn put_each(bits: &mut BitSet, numbers: &[usize], set: &Stamps)
+    requires listed { numbers.now ≡ members set.now }
+    requires clear { bits.old ≡ replicate (length set.now) false }
+    ensures { bits.new ≡ set.now }
+{
+    let _count = set.len();
+    for place in 0..numbers.len() {
+        bits.put(numbers[place], true);
+    }
+}
+
+/// Lists the numbers that bits have, and clears these.
+#[inline(never)]
+fn relist(list: &mut Vec<usize>, bits: &mut BitSet)
+    requires empty { length list.old.items ≡ 0 }
+    requires room { length bits.old ≤ vec_capacity list.old }
+    ensures items { list.new.items ≡ members bits.old }
+    ensures capacity { vec_capacity list.new ≡ vec_capacity list.old }
+    ensures bits { bits.new ≡ replicate (length bits.old) false }
+{
+    push_marked(list, bits);
+    bits.clear();
+}
+
+/// Appends the numbers that bits have to an empty list.
+fn push_marked(list: &mut Vec<usize>, bits: &BitSet)
+    requires empty { length list.old.items ≡ 0 }
+    requires room { length bits.now ≤ vec_capacity list.old }
+    ensures items { list.new.items ≡ members bits.now }
+    ensures capacity { vec_capacity list.new ≡ vec_capacity list.old }
+{
+    let mut from = 0;
+    while let Some(number) = bits.next(from) {
+        list.push_reserved(number);
+        from = number + 1;
+    }
+}
+
+/// Clears bits, of which it is known whether they are clear.
+#[inline(always)]
+fn clear_marked(bits: &mut BitSet, is_clear: bool)
+    requires { is_clear ≡ true → bits.old ≡ replicate (length bits.old) false }
+    ensures { bits.new ≡ replicate (length bits.old) false }
+{
+    if is_clear {
+        return;
+    }
+    bits.clear();
+}
+
+/// The least member of a set that is not below `from` and is no member of another, where a place of
+/// the list is that of the first from there on.
+fn find_beside(set: &NumberSet, others: &NumberSet, first: usize, from: usize) -> Option<usize>
+    ensures { MatchOption result (NoneFrom (is_beside set.now others.now) from) (IsNext (is_beside set.now others.now) from) }
+{
+    let _count = set.len();
+    let mut place = first;
+    let mut least = from;
+    while let Some(number) = set.next_at(place, least) {
+        if !others.contains(number) {
+            return Some(number);
+        }
+        place = place.wrapping_add(1);
+        least = number + 1;
+    }
+    None
 }
 
 /// Makes each number below the bound a member.
@@ -201,16 +501,29 @@ fn insert_all(set: &mut NumberSet)
     }
 }
 
-/// Appends the members to an empty list.
-fn push_members(numbers: &mut Vec<usize>, set: &NumberSet)
-    requires empty { length numbers.old.items ≡ 0 }
-    requires room { length set.now ≤ vec_capacity numbers.old }
-    ensures numbers { numbers.new.items ≡ members set.now }
-    ensures capacity { vec_capacity numbers.new ≡ vec_capacity numbers.old }
+/// Makes each member of another set a member.
+fn insert_each(set: &mut NumberSet, others: &NumberSet)
+    requires none { set.old ≡ replicate (length others.now) false }
+    ensures { set.new ≡ others.now }
 {
+    let _count = others.len();
+    let mut place = 0;
     let mut from = 0;
-    while let Some(number) = set.next(from) {
-        numbers.push_reserved(number);
+    while let Some(number) = others.next_at(place, from) {
+        set.insert(number);
+        place = place.wrapping_add(1);
         from = number + 1;
+    }
+}
+
+/// Appends numbers to an empty list.
+fn push_each(list: &mut Vec<usize>, numbers: &[usize])
+    requires empty { length list.old.items ≡ 0 }
+    requires room { length numbers.now ≤ vec_capacity list.old }
+    ensures items { list.new.items ≡ numbers.now }
+    ensures capacity { vec_capacity list.new ≡ vec_capacity list.old }
+{
+    for place in 0..numbers.len() {
+        list.push_reserved(numbers[place]);
     }
 }

@@ -178,9 +178,11 @@ fn clear_each(times: &mut Vec<Option<u64>>, taken: &NumberSet)
     requires { length taken.now ≡ length times.old.items }
     ensures { (time : ℕ) → taken.now ≡ those_at time times.old.items → times.new.items ≡ cleared time times.old.items }
 {
+    let mut place = 0;
     let mut from = 0;
-    while let Some(driver) = taken.next(from) {
+    while let Some(driver) = taken.next_at(place, from) {
         times[driver] = None;
+        place = place.wrapping_add(1);
         from = driver + 1;
     }
 }

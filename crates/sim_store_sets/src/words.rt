@@ -1,7 +1,7 @@
 //! Numbers as bits, 64 in each word.
 
-ghost use Rattle.std.specs.Prelude.{ℕ, ◌≡◌, ◌≢◌, ◌<◌, ◌/◌, ◌%◌, ◌^◌, length, true, false, not, slice_index, IfOk, MatchOption, ◌&&◌, ◌≤◌, ◌+◌, ◌*◌};
-ghost use Rattle.sim_store_sets.specs.Words.{has, has_beside, has_bit, uses, AreTops, IsNext, NoneFrom};
+ghost use Rattle.std.specs.Prelude.{ℕ, ◌≡◌, ◌≢◌, ◌<◌, ◌/◌, ◌%◌, ◌^◌, length, true, false, not, slice_index, IfOk, MatchOption, ◌≤◌, ◌*◌};
+ghost use Rattle.sim_store_sets.specs.Words.{has, has_bit, uses, AreTops, IsNext, NoneFrom};
 
 use std::alloc::{AllocError, Global};
 
@@ -28,14 +28,6 @@ fn with(word: u64, place: usize, is_set: bool) -> u64
     }
 }
 
-/// Whether the word has a bit.
-fn has_at(word: u64, place: usize) -> bool
-    requires { place < 64 }
-    ensures { result ≡ has_bit word place }
-{
-    word >> place & 1 == 1
-}
-
 /// The first bit from a place on.
 fn next_bit(word: u64, from: usize) -> Option<usize>
     requires { from < 64 }
@@ -46,16 +38,6 @@ fn next_bit(word: u64, from: usize) -> Option<usize>
         return None;
     }
     Some(from + lowest(rest))
-}
-
-/// Whether the words have a number.
-pub fn has_number(words: &[u64], number: usize) -> bool
-    ensures { result ≡ has words.now number }
-{
-    match words.get(number / 64) {
-        Some(word) => has_at(*word, number % 64),
-        None => false,
-    }
 }
 
 /// Adds a number or takes it out.
@@ -152,69 +134,6 @@ pub fn next_number(words: &[u64], tops: &[u64], from: usize) -> Option<usize>
     next_further(words, tops, from)
 }
 
-/// A word without the bits of another.
-fn without(word: u64, other: u64) -> u64
-    ensures { (i : ℕ) → i < 64 → has_bit result i ≡ (has_bit word i && not (has_bit other i)) }
-{
-    word & !other
-}
-
-/// The word at a place without the bits that other words have there.
-fn word_beside(words: &[u64], others: &[u64], place: usize) -> u64
-    requires { place < length words.now }
-    ensures { (i : ℕ) → i < 64 → has_bit result i
-        ≡ (has_bit (slice_index words.now place) i && not (has_bit (slice_index others.now place) i)) }
-{
-    match others.get(place) {
-        Some(other) => without(words[place], *other),
-        None => words[place],
-    }
-}
-
-/// The first number from one on that others have not, where that number's own word has none from
-/// there on.
-#[inline(never)]
-fn further_beside(words: &[u64], tops: &[u64], others: &[u64], from: usize) -> Option<usize>
-    requires fits { (n : ℕ) → has words.now n ≡ true → n < 2 ^ 64 }
-    requires tops { AreTops words.now tops.now }
-    requires rest { (m : ℕ) → from ≤ m → m / 64 < from / 64 + 1 → has_beside words.now others.now m ≡ false }
-    ensures { MatchOption result (NoneFrom (has_beside words.now others.now) from) (IsNext (has_beside words.now others.now) from) }
-{
-    let mut place = from / 64 + 1;
-    while let Some(used) = next_top(tops, place) {
-        if let Some(found) = next_bit(word_beside(words, others, used), 0) {
-            return Some(used * 64 + found);
-        }
-        place = used + 1;
-    }
-    None
-}
-
-/// The first number from one on that others have not, where the tops say which words are in use, and
-/// none after the last is.
-pub fn next_beside(
-    words: &[u64],
-    tops: &[u64],
-    others: &[u64],
-    last: usize,
-    from: usize,
-) -> Option<usize>
-    requires within { from / 64 < length words.now }
-    requires fits { (n : ℕ) → has words.now n ≡ true → n < 2 ^ 64 }
-    requires tops { AreTops words.now tops.now }
-    requires last { (k : ℕ) → last < k → slice_index words.now k ≡ 0 }
-    ensures { MatchOption result (NoneFrom (has_beside words.now others.now) from) (IsNext (has_beside words.now others.now) from) }
-{
-    let place = from / 64;
-    if let Some(found) = next_bit(word_beside(words, others, place), from % 64) {
-        return Some(place * 64 + found);
-    }
-    if place >= last {
-        return None;
-    }
-    further_beside(words, tops, others, from)
-}
-
 /// This number of words without a member.
 pub fn zeros(alloc: Global, count: usize) -> Result<Vec<u64>, AllocError>
     ensures len { IfOk result (λ words. length words.items ≡ count) }
@@ -245,33 +164,4 @@ pub fn clear_used(words: &mut Vec<u64>, tops: &mut Vec<u64>, last: usize)
             None => return,
         }
     }
-}
-
-/// Copies each word that is in use to words that are all clear; none after the last is.
-pub fn copy_used(words: &mut Vec<u64>, others: &[u64], tops: &[u64], last: usize)
-    requires sized { length words.old.items ≡ length others.now }
-    requires none { (k : ℕ) → slice_index words.old.items k ≡ 0 }
-    requires tops { AreTops others.now tops.now }
-    requires last { (k : ℕ) → last < k → slice_index others.now k ≡ 0 }
-    ensures len { length words.new.items ≡ length others.now }
-    ensures same { (k : ℕ) → slice_index words.new.items k ≡ slice_index others.now k }
-{
-    let mut from = 0;
-    while from <= last {
-        match next_top(tops, from) {
-            Some(place) => {
-                words[place] = others[place];
-                from = place + 1;
-            }
-            None => return,
-        }
-    }
-}
-
-/// Copies each word.
-pub fn copy_all(words: &mut Vec<u64>, others: &[u64])
-    requires { length words.old.items ≡ length others.now }
-    ensures { words.new.items ≡ others.now }
-{
-    words.as_mut_slice().copy_from_slice(others);
 }

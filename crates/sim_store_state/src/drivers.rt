@@ -39,9 +39,11 @@ pub fn bring_up_to_date(
     ensures ok { OnOk result (queue.new ≡ first_times (joined drivers.now)) }
 {
     let _count = stale.len();
+    let mut place = 0;
     let mut from = 0;
-    while let Some(number) = stale.next(from) {
+    while let Some(number) = stale.next_at(place, from) {
         queue.put(number, first_time(drivers.item(number)))?;
+        place = place.wrapping_add(1);
         from = number + 1;
     }
     Ok(())
@@ -290,13 +292,16 @@ pub fn take_due(
 {
     let _count = due.len();
     let mut told = true;
+    let mut place = 0;
     let mut from = 0;
-    while let Some(number) = due.next(from) {
+    while let Some(number) = due.next_at(place, from) {
         let nets = fan_out.row(number);
         let is_known = take_one(drivers, driving, number, time, nets, queue, touched);
         told = is_known & told;
+        place = place.wrapping_add(1);
         from = number + 1;
     }
+    touched.arrange();
     told
 }
 

@@ -47,9 +47,11 @@ fn append_changes(
     requires room { vec_len changes.old + length values.now ≤ vec_capacity changes.old }
     ensures { changes.new.items ≡ changes.old.items ++ changes_from 0 (views_of values.now last_values.now) }
 {
+    let mut place = 0;
     let mut from = 0;
-    while let Some(number) = touched.next(from) {
+    while let Some(number) = touched.next_at(place, from) {
         append_change(changes, number, values[number], last_values[number]);
+        place = place.wrapping_add(1);
         from = number + 1;
     }
 }

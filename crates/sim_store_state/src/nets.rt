@@ -62,9 +62,11 @@ pub fn settle(last_values: &mut [Logic], values: &[Logic], touched: &NumberSet)
     requires touched { AreTouched values.now last_values.old touched.now }
     ensures { last_values.new ≡ values.now }
 {
+    let mut place = 0;
     let mut from = 0;
-    while let Some(net) = touched.next(from) {
+    while let Some(net) = touched.next_at(place, from) {
         last_values[net] = values[net];
+        place = place.wrapping_add(1);
         from = net + 1;
     }
 }
@@ -82,9 +84,11 @@ pub fn resolve_touched(
         → value_at values.old n ≡ row_from driving.now (slice_index_or sources.now n []) }
     ensures { values.new ≡ map (row_from driving.now) sources.now }
 {
+    let mut place = 0;
     let mut from = 0;
-    while let Some(net) = touched.next(from) {
+    while let Some(net) = touched.next_at(place, from) {
         values[net] = net_value(sources.row(net), driving);
+        place = place.wrapping_add(1);
         from = net + 1;
     }
 }

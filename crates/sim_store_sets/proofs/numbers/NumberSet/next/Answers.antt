@@ -1,21 +1,20 @@
-use Rattle.std.proofs.Common.{◌≡◌, arith, ℕ, List, true, subst, MatchOption}
-use Rattle.sim_store_sets.specs.Words.{has, IsNext, NoneFrom}
-use Rattle.sim_store_sets.proofs.Sets.{below_bound, next_read, none_beyond}
+use Rattle.std.proofs.Common.{◌∙◌, ◌≡◌, ◌<◌, ◌≤◌, ap, length, get_or, sym, Bool, List, ℕ, subst, IfSome, IfNone, MatchOption}
+use Rattle.sim_store_sets.specs.Words.{IsNext, NoneFrom}
+use Rattle.sim_store_sets.specs.Numbers.{is_in, members}
+use Rattle.sim_store_sets.proofs.Ranges.{next_listed}
 use Rattle.sim_store_sets.proofs.numbers.NumberSet.next.Goals as goal
 
-pub returns-then-from-self : goal.returns-then-from-self
-returns-then-from-self c m le =
-    none_beyond c.self.inside.words.items c.self.inside.tops.items c.self.inside.count c.self.inside.end c.args.self.now c.self.invariant c.self.view_is m
-    (omega (arith, le, c.if-from-self.true))
-
-pub next_number-requires-clause-fits : goal.next_number-requires-clause-fits
-next_number-requires-clause-fits c n here =
-    below_bound c.self.inside.words.items c.self.inside.tops.items c.self.inside.count c.self.inside.end c.self.invariant n
-    (subst (λ (words : List ℕ). has words n ≡ true) c.as_slice.ensures.value here)
+pub returns-then-self : goal.returns-then-self
+returns-then-self c =
+    let whole : c.as_slice.result.now ≡ members c.args.self.now = c.as_slice.ensures.value ∙ (c.self.invariant.listed c.if-self.true
+    ∙ ap members c.self.view_is) in
+    let same : c.as_slice-then-self.result.now ≡ c.as_slice.result.now = c.as_slice-then-self.ensures.value ∙ sym c.as_slice.ensures.value in
+    next_listed c.args.self.now c.args.from c.place_from-place.result c.as_slice.result.now c.at_place-found.result whole
+    c.place_from-place.ensures.within c.place_from-place.ensures.from c.place_from-place.ensures.before
+    (subst (λ (xs : List ℕ). IfSome c.at_place-found.result (λ (n : ℕ). (c.place_from-place.result < length xs) × (n ≡ get_or xs c.place_from-place.result 0)))
+    same c.at_place-found.ensures.some)
+    (subst (λ (xs : List ℕ). IfNone c.at_place-found.result (length xs ≤ c.place_from-place.result)) same c.at_place-found.ensures.none)
 
 pub returns : goal.returns
-returns c =
-    next_read c.self.inside.words.items c.self.inside.tops.items c.self.inside.count c.self.inside.end c.args.self.now c.self.invariant c.self.view_is
-    c.args.from c.next_number.result (subst (λ (words : List ℕ). MatchOption c.next_number.result (NoneFrom (has words) c.args.from) (IsNext
-    (has words) c.args.from))
-    c.as_slice.ensures.value c.next_number.ensures)
+returns c = subst (λ (s : List Bool). MatchOption c.next.result (NoneFrom (is_in s) c.args.from) (IsNext (is_in s) c.args.from))
+    (c.self.invariant.marked c.if-self.false ∙ c.self.view_is) c.next.ensures
