@@ -121,6 +121,7 @@ impl Due {
     {
         find_resumed(&mut self.set, log.changes(log.len() - 1), sensitive);
         waiting.set_aside(&mut self.set);
+        self.set.arrange();
         self.set.list(&mut self.numbers);
     }
 
