@@ -1,40 +1,110 @@
--- Texts of two pieces: where the first ends, what is left is compared.
-use Rattle.std.proofs.Common.{◌≡◌, ◌≢◌, ℕ, ◌≤◌, ◌<◌, List, ◌++◌, length, take, drop, sym, ap, ◌∙◌, arith, append_assoc, length-append, take-append-drop}
-use Rattle.std.proofs.Math.Seq.{take-append_seam, drop-append_seam}
-use Rattle.std.proofs.lemmas.List.{append_cancel_left, take-append-le}
+-- Texts in pieces: where the shorter of two pieces ends, what is left is compared.
+use Rattle.std.proofs.Common.{
+  ◌≡◌,
+  ◌≢◌,
+  ℕ,
+  ◌+◌,
+  ◌-◌,
+  ◌≤◌,
+  ◌<◌,
+  List,
+  [],
+  ◌∷◌,
+  ◌++◌,
+  length,
+  take,
+  drop,
+  get_or,
+  refl,
+  sym,
+  ap,
+  ◌∙◌,
+  arith,
+  append_assoc,
+  append-nil,
+  length-append,
+  take-append-drop,
+}
+use Rattle.std.specs.List.{concat}
+use Rattle.std.proofs.Math.Seq.{take-append_seam}
+use Rattle.std.proofs.lemmas.List.{append_cancel_left, take-append-le, take_rest, take_more}
+use Rattle.std.proofs.lemmas.List.Folds.{concat-append}
 
--- no text is shorter than its first piece
-pub too_short : (first last whole : List ℕ) → length whole < length first → first ++ last ≢ whole
-too_short first last whole short e = absurd (omega (arith, short, ap length e, length-append first last))
+-- no text is shorter than its front
+pub too_short : (front rest whole : List ℕ) → length whole < length front → front ++ rest ≢ whole
+too_short front rest whole short e = absurd (omega (arith, short, ap length e, length-append front rest))
 
--- a text cut where its first piece ends
-module _ (first last whole front back : List ℕ) (fore : front ≡ take (length first) whole) (aft : back ≡ drop (length first) whole) where
-  whole_is : front ++ back ≡ whole
-  whole_is = ap (λ (l : List ℕ). l ++ back) fore ∙ (ap (λ (l : List ℕ). take (length first) whole ++ l) aft ∙ take-append-drop (length first) whole)
+-- a text cut where a front of its length ends
+module _ (front whole head rest : List ℕ) (fore : head ≡ take (length front) whole) (aft : rest ≡ drop (length front) whole) where
+  whole_is : head ++ rest ≡ whole
+  whole_is = ap (λ (l : List ℕ). l ++ rest) fore ∙ (ap (λ (l : List ℕ). take (length front) whole ++ l) aft ∙ take-append-drop (length front) whole)
 
-  pub front_is : first ++ last ≡ whole → first ≡ front
-  front_is e = sym (fore ∙ (ap (take (length first)) (sym e) ∙ take-append_seam first last))
+  pub head_is : (more : List ℕ) → front ++ more ≡ whole → front ≡ head
+  head_is more e = sym (fore ∙ (ap (take (length front)) (sym e) ∙ take-append_seam front more))
 
-  pub back_is : first ++ last ≡ whole → last ≡ back
-  back_is e = sym (aft ∙ (ap (drop (length first)) (sym e) ∙ drop-append_seam first last))
+  pub rest_is : front ≡ head → front ++ rest ≡ whole
+  rest_is f = ap (λ (l : List ℕ). l ++ rest) f ∙ whole_is
 
-  pub both_are : first ≡ front → last ≡ back → first ++ last ≡ whole
-  both_are f b = ap (λ (l : List ℕ). l ++ last) f ∙ (ap (λ (l : List ℕ). front ++ l) b ∙ whole_is)
+-- one more piece
+pub one_more : (pieces : List (List ℕ)) (piece : List ℕ) → concat (pieces ++ piece ∷ []) ≡ concat pieces ++ piece
+one_more pieces piece = concat-append pieces (piece ∷ []) ∙ ap (λ (l : List ℕ). concat pieces ++ l) (append-nil piece)
 
--- the first of two other pieces, cut where the first piece ends
-module _ (first last longer rest front back : List ℕ) (fore : front ≡ take (length first) longer) (aft : back ≡ drop (length first) longer) where
-  cut : longer ≡ front ++ back
-  cut = sym (ap (λ (l : List ℕ). l ++ back) fore ∙ (ap (λ (l : List ℕ). take (length first) longer ++ l) aft ∙ take-append-drop (length first) longer))
+-- a label added to the last piece
+pub to_last : (pieces before : List (List ℕ)) (last label : List ℕ) → pieces ≡ before ++ last ∷ [] → concat before ++ (last ++ label) ≡ concat pieces ++ label
+to_last pieces before last label e =
+    sym (append_assoc (concat before) last label) ∙ ap (λ (l : List ℕ). l ++ label) (sym (ap concat e ∙ one_more before last))
 
-  longer_is : longer ++ rest ≡ front ++ (back ++ rest)
-  longer_is = ap (λ (l : List ℕ). l ++ rest) cut ∙ append_assoc front back rest
+-- a text after its first piece
+module _ (first more last whole rest : List ℕ) (cut : first ++ rest ≡ whole) where
+  pub is_whole : more ++ last ≡ rest → (first ++ more) ++ last ≡ whole
+  is_whole e = append_assoc first more last ∙ (ap (λ (l : List ℕ). first ++ l) e ∙ cut)
 
-  pub front_same : length first ≤ length longer → first ++ last ≡ longer ++ rest → first ≡ front
-  front_same fits e =
-      sym (take-append_seam first last) ∙ (ap (take (length first)) e ∙ (take-append-le (length first) longer rest fits ∙ sym fore))
+  pub is_rest : (first ++ more) ++ last ≡ whole → more ++ last ≡ rest
+  is_rest e = append_cancel_left first (more ++ last) rest (sym (append_assoc first more last) ∙ (e ∙ sym cut))
 
-  pub back_same : first ≡ front → first ++ last ≡ longer ++ rest → back ++ rest ≡ last
-  back_same f e = sym (append_cancel_left first last (back ++ rest) (e ∙ (longer_is ∙ ap (λ (l : List ℕ). l ++ (back ++ rest)) (sym f))))
+-- no pieces
+pub no_pieces : (pieces : List (List ℕ)) → length pieces < 1 → concat pieces ≡ []
+no_pieces [] h = refl
+no_pieces (x ∷ xs) h = absurd (omega arith)
 
-  pub both_same : first ≡ front → back ++ rest ≡ last → first ++ last ≡ longer ++ rest
-  both_same f b = ap (λ (l : List ℕ). l ++ last) f ∙ (ap (λ (l : List ℕ). front ++ l) (sym b) ∙ sym longer_is)
+-- the pieces after the first
+abbrev pub behind_first : List (List ℕ) → List (List ℕ)
+behind_first pieces = take (length pieces - 1) (drop 1 pieces)
+
+-- the first of some pieces, and the others
+pub first_piece : (pieces : List (List ℕ)) (item first : List ℕ) → 1 ≤ length pieces → item ≡ get_or pieces 0 item → first ≡ item
+    → concat pieces ≡ first ++ concat (behind_first pieces)
+first_piece [] item first h e f = absurd (omega arith)
+first_piece (x ∷ xs) item first h e f =
+    ap (λ (l : List ℕ). l ++ concat xs) (sym (f ∙ e)) ∙ ap (λ (l : List (List ℕ)). first ++ concat l) (sym (take_rest (x ∷ xs) 1))
+
+-- one piece after another
+pub next_piece : (pieces : List (List ℕ)) (i : ℕ) (item old new : List ℕ) → i < length pieces → item ≡ get_or pieces i item
+    → old ≡ concat (take i pieces) → new ≡ old ++ item → new ≡ concat (take (i + 1) pieces)
+next_piece pieces i item old new lt is so_far e =
+    e ∙ (ap (λ (l : List ℕ). l ++ item) so_far
+    ∙ (sym (one_more (take i pieces) item)
+    ∙ ap concat (ap (λ (l : List ℕ). take i pieces ++ l ∷ []) is ∙ sym (take_more pieces i item lt))))
+
+-- of two texts that are the same, the shorter front is a front of the other
+pub is_front : (front more longer rest : List ℕ) → length front ≤ length longer → front ++ more ≡ longer ++ rest → front ++ drop (length front) longer ≡ longer
+is_front front more longer rest fits e =
+    ap (λ (l : List ℕ). l ++ drop (length front) longer)
+    (sym (take-append_seam front more) ∙ (ap (take (length front)) e ∙ take-append-le (length front) longer rest fits))
+    ∙ take-append-drop (length front) longer
+
+-- a text without a front that stands before both
+module _ (front one other : List ℕ) where
+  pub put_before : one ≡ other → front ++ one ≡ front ++ other
+  put_before e = ap (λ (l : List ℕ). front ++ l) e
+
+  pub left_out : front ++ one ≡ front ++ other → one ≡ other
+  left_out e = append_cancel_left front one other e
+
+-- a front is put together with what is behind it
+pub regrouped : (front rest whole more : List ℕ) → front ++ rest ≡ whole → whole ++ more ≡ front ++ (rest ++ more)
+regrouped front rest whole more cut = ap (λ (l : List ℕ). l ++ more) (sym cut) ∙ append_assoc front rest more
+
+-- the same of a text of which the front is the first piece
+pub first_apart : (all first others last : List ℕ) → all ≡ first ++ others → all ++ last ≡ first ++ (others ++ last)
+first_apart all first others last e = ap (λ (l : List ℕ). l ++ last) e ∙ append_assoc first others last

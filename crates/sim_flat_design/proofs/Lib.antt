@@ -1,4 +1,4 @@
 pub mod FirstNamed
-mod Joined
+pub mod Joined
 pub mod Fitting
 pub mod Crossing

@@ -3,8 +3,8 @@
 ghost use Rattle.std.specs.Prelude.{◌≡◌};
 ghost use Rattle.std.specs.Bool.{Decides};
 
-use crate::instance_path::InstancePath;
-use crate::pieces::{is_joined, joined, same_joined};
+use crate::instance_path::{InstancePath, PathPiece};
+use crate::pieces::{all_joined, are_joined, are_same_joined};
 use crate::process::Process;
 use sim_logic::Logic;
 use sqlite_items::Items;
@@ -39,6 +39,7 @@ impl Model for Net {
 
 impl Net {
     ghost use Rattle.std.specs.Prelude.{◌≡◌, ◌++◌, string_bytes, IfOk};
+    ghost use Rattle.std.specs.List.{concat};
     ghost use Rattle.std.specs.Bool.{Decides};
 
     /// The net with this simple name in the instance of this path, and with these sources.
@@ -59,40 +60,40 @@ impl Net {
         })
     }
 
-    /// The two pieces of its name: the labels of the instances in which it stands, each with a `.`
-    /// after it, and its simple name.
-    pub fn name_pieces(&self) -> (&str, &str)
-        ensures { result.0.now ++ result.1.now ≡ self.now.name }
+    /// The pieces of its name: those of the labels of the instances in which it stands, each label
+    /// with a `.` after it, and its simple name.
+    pub fn name_pieces(&self) -> (&[PathPiece], &str)
+        ensures { concat result.0.now ++ result.1.now ≡ self.now.name }
     {
-        (self.path.as_str(), self.simple_name.as_str())
+        (self.path.pieces(), self.simple_name.as_str())
     }
 
     /// Its whole name: the labels and its simple name, with a `.` between each two.
     pub fn to_name(&self, alloc: Global) -> Result<String, AllocError>
         ensures { IfOk result (λ name. string_bytes name ≡ self.now.name) }
     {
-        let (path, simple_name) = self.name_pieces();
-        joined(alloc, path, simple_name)
+        let (pieces, simple_name) = self.name_pieces();
+        all_joined(alloc, pieces, simple_name)
     }
 
     /// Whether this is its whole name. It takes no memory.
     pub fn is_named(&self, name: &str) -> bool
         ensures { Decides result (self.now.name ≡ name.now) }
     {
-        let (path, simple_name) = self.name_pieces();
-        is_joined(path.as_bytes(), simple_name.as_bytes(), name.as_bytes())
+        let (pieces, simple_name) = self.name_pieces();
+        are_joined(pieces, simple_name.as_bytes(), name.as_bytes())
     }
 
     /// Whether its name is that of another net.
     fn is_namesake(&self, other: &Net) -> bool
         ensures { Decides result (self.now.name ≡ other.now.name) }
     {
-        let (path, simple_name) = self.name_pieces();
-        let (other_path, other_name) = other.name_pieces();
-        same_joined(
-            path.as_bytes(),
+        let (pieces, simple_name) = self.name_pieces();
+        let (others, other_name) = other.name_pieces();
+        are_same_joined(
+            pieces,
             simple_name.as_bytes(),
-            other_path.as_bytes(),
+            others,
             other_name.as_bytes(),
         )
     }

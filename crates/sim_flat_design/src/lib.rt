@@ -15,5 +15,5 @@ pub mod waveform;
 pub use body::Body;
 pub use design::{Design, DriverOf, Net, Source};
 pub use held::Held;
-pub use instance_path::InstancePath;
+pub use instance_path::{InstancePath, PathPiece};
 pub use process::Process;

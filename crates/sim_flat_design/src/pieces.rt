@@ -1,8 +1,10 @@
-//! Texts of two pieces.
+//! Texts in pieces.
 
-ghost use Rattle.std.specs.Prelude.{◌≡◌, ◌++◌, ◌≤◌, length, string_bytes, IfOk};
+ghost use Rattle.std.specs.Prelude.{◌≡◌, ◌≢◌, ◌++◌, ℕ, List, string_bytes, IfOk, OnOk, MatchOption};
 ghost use Rattle.std.specs.Bool.{Decides};
+ghost use Rattle.std.specs.List.{concat};
 
+use crate::instance_path::PathPiece;
 use std::alloc::{AllocError, Global};
 
 /// The text of two pieces, one after the other.
@@ -15,39 +17,83 @@ pub fn joined(alloc: Global, first: &str, last: &str) -> Result<String, AllocErr
     Ok(whole)
 }
 
-/// Whether two pieces, one after the other, are this text.
-pub fn is_joined(first: &[u8], last: &[u8], whole: &[u8]) -> bool
-    ensures { Decides result (first.now ++ last.now ≡ whole.now) }
+/// The text of the pieces of a path and a last one, one after another.
+pub fn all_joined(alloc: Global, pieces: &[PathPiece], last: &str) -> Result<String, AllocError>
+    ensures { IfOk result (λ whole. string_bytes whole ≡ concat pieces.now ++ last.now) }
 {
-    if whole.len() < first.len() {
-        return false;
+    let mut whole = String::new(alloc);
+    for piece in pieces {
+        whole.push_str(piece.as_str())?;
     }
-    let (front, back) = whole.split_at(first.len());
-    if first != front {
-        return false;
-    }
-    last == back
+    whole.push_str(last)?;
+    Ok(whole)
 }
 
-/// Whether two pieces, one after the other, are the same text as two others, of which the first is
-/// no shorter.
-fn same_as_longer(first: &[u8], last: &[u8], longer: &[u8], rest: &[u8]) -> bool
-    requires { length first.now ≤ length longer.now }
-    ensures { Decides result (first.now ++ last.now ≡ longer.now ++ rest.now) }
+/// What a text has after this front; `None` where it does not begin so.
+fn after<'a>(front: &[u8], text: &'a [u8]) -> Option<&'a [u8]>
+    ensures { MatchOption result ((rest : List ℕ) → front.now ++ rest ≢ text.now) (λ rest. front.now ++ rest.now ≡ text.now) }
 {
-    let (front, back) = longer.split_at(first.len());
-    if first != front {
-        return false;
+    if text.len() < front.len() {
+        return None;
     }
-    is_joined(back, rest, last)
+    let (head, rest) = text.split_at(front.len());
+    if front != head {
+        return None;
+    }
+    Some(rest)
 }
 
-/// Whether two pieces, one after the other, are the same text as two others.
-pub fn same_joined(first: &[u8], last: &[u8], other: &[u8], other_last: &[u8]) -> bool
-    ensures { Decides result (first.now ++ last.now ≡ other.now ++ other_last.now) }
+/// Whether the pieces of a path and a last one, one after another, are this text.
+pub fn are_joined(pieces: &[PathPiece], last: &[u8], whole: &[u8]) -> bool
+    ensures { Decides result (concat pieces.now ++ last.now ≡ whole.now) }
 {
-    if first.len() <= other.len() {
-        return same_as_longer(first, last, other, other_last);
+    match pieces {
+        [] => last == whole,
+        [first, pieces @ ..] => match after(first.as_str().as_bytes(), whole) {
+            Some(rest) => are_joined(pieces, last, rest),
+            None => false,
+        },
     }
-    same_as_longer(other, other_last, first, last)
+}
+
+/// Whether a front, the pieces of a path and a last one are the same text as the pieces of another
+/// path and its last one. Where the shorter of two pieces ends, what is left of the longer is a front.
+fn same_behind(
+    front: &[u8],
+    pieces: &[PathPiece],
+    last: &[u8],
+    others: &[PathPiece],
+    other_last: &[u8],
+) -> bool
+    ensures { Decides result (front.now ++ (concat pieces.now ++ last.now) ≡ concat others.now ++ other_last.now) }
+{
+    let [first, others @ ..] = others else {
+        return match after(front, other_last) {
+            Some(rest) => are_joined(pieces, last, rest),
+            None => false,
+        };
+    };
+    let first = first.as_str().as_bytes();
+    if front.len() <= first.len() {
+        return match after(front, first) {
+            Some(rest) => same_behind(rest, others, other_last, pieces, last),
+            None => false,
+        };
+    }
+    match after(first, front) {
+        Some(rest) => same_behind(rest, pieces, last, others, other_last),
+        None => false,
+    }
+}
+
+/// Whether the pieces of a path and a last one are the same text as those of another.
+pub fn are_same_joined(
+    pieces: &[PathPiece],
+    last: &[u8],
+    others: &[PathPiece],
+    other_last: &[u8],
+) -> bool
+    ensures { Decides result (concat pieces.now ++ last.now ≡ concat others.now ++ other_last.now) }
+{
+    same_behind(&[], pieces, last, others, other_last)
 }

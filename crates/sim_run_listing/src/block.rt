@@ -2,10 +2,12 @@
 ghost use Rattle.std.specs.Prelude.{◌≡◌, ◌<◌, ◌++◌, [], OnOk, OnErr, flat_map};
 ghost use Rattle.std.specs.Io.KnownBytes.{Appends};
 ghost use Rattle.arrayvec.specs.ArrayVec.{array_vec_len};
+ghost use Rattle.sim_run_listing.specs.Listing.{joined};
 ghost use Rattle.sim_run_listing.specs.Writing.{AppendsPart, Gathers};
 
 use crate::error::WriteError;
 use arrayvec::ArrayVec;
+use sim_flat_design::PathPiece;
 use std::io::Write;
 
 /// How many bytes a full block has.
@@ -75,6 +77,21 @@ pub fn put_all<W: Write>(out: &mut W, block: &mut Block, pieces: &[&[u8]]) -> Re
 {
     for piece in pieces {
         put(out, block, piece)?;
+    }
+    Ok(())
+}
+
+/// Gathers the pieces of a path, one after another.
+pub fn put_path<W: Write>(
+    out: &mut W,
+    block: &mut Block,
+    pieces: &[PathPiece],
+) -> Result<(), WriteError>
+    ensures ok { OnOk result (Gathers (W.contents out.old) block.old.items (W.contents out.new) block.new.items (joined pieces.now)) }
+    ensures part { OnErr result (AppendsPart (W.contents out.old) (W.contents out.new) (block.old.items ++ joined pieces.now)) }
+{
+    for piece in pieces {
+        put(out, block, piece.as_str().as_bytes())?;
     }
     Ok(())
 }

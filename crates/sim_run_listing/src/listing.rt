@@ -1,5 +1,6 @@
 //! The listing of a run.
-ghost use Rattle.std.specs.Prelude.{◌≡◌, ◌++◌, ◌<◌, ◌≤◌, ◌+◌, length, true, OnOk, OnErr, All, map, flat_map, decimal, codes, ℕ};
+ghost use Rattle.std.specs.Prelude.{◌≡◌, ◌++◌, ◌<◌, ◌≤◌, ◌+◌, length, true, IfSome, OnOk, OnErr, All, map, flat_map, decimal, codes, ℕ};
+ghost use Rattle.std.specs.List.{concat};
 ghost use Rattle.std.specs.Io.KnownBytes.{Appends};
 ghost use Rattle.arrayvec.specs.ArrayVec.{array_vec_len};
 ghost use Rattle.sim_logic.specs.declared.logic.Logic as logic;
@@ -8,12 +9,13 @@ ghost use Rattle.sim_standard.specs.Histories.{IsHistory, IsNamed, event_count};
 ghost use Rattle.sim_run_listing.specs.Listing.{line_of, pieces_of, lines_of, end_of, listing};
 ghost use Rattle.sim_run_listing.specs.Writing.{AppendsPart, Gathers};
 
-use crate::block::{Block, SIZE, put_all, write_out};
+use crate::block::{Block, SIZE, put, put_all, put_path, write_out};
 use crate::error::WriteError;
 use crate::history::{Change, Records};
 use crate::named::Named;
 use arrayvec::ArrayVec;
 use itoa::Buffer;
+use sim_flat_design::PathPiece;
 use sim_logic::Logic;
 use std::io::Write;
 
@@ -101,6 +103,36 @@ fn put_named<W: Write>(
     Ok(())
 }
 
+/// The text of a path of one piece at the most; `None` for more.
+fn undivided(path: &[PathPiece]) -> Option<&[u8]>
+    ensures { IfSome result (λ text. text.now ≡ concat path.now) }
+{
+    match path {
+        [] => Some(&[]),
+        [piece] => Some(piece.as_str().as_bytes()),
+        _ => None,
+    }
+}
+
+/// A line of how it begins, a path of several pieces, the simple name, and a value.
+fn put_divided<W: Write>(
+    out: &mut W,
+    block: &mut Block,
+    head: &Head,
+    path: &[PathPiece],
+    simple_name: &[u8],
+    value: Logic,
+) -> Result<(), WriteError>
+    ensures ok { OnOk result (Gathers (W.contents out.old) block.old.items (W.contents out.new) block.new.items
+        (pieces_of head.now.items (concat path.now ++ simple_name.now) value)) }
+    ensures part { OnErr result (AppendsPart (W.contents out.old) (W.contents out.new) (block.old.items ++
+        pieces_of head.now.items (concat path.now ++ simple_name.now) value)) }
+{
+    put(out, block, head.as_slice())?;
+    put_path(out, block, path)?;
+    put_pieces(out, block, &[], &[], simple_name, value)
+}
+
 /// The line of a change: `TIME DELTA NAME VALUE`.
 fn put_line<N: Named, W: Write>(
     out: &mut W,
@@ -117,7 +149,10 @@ fn put_line<N: Named, W: Write>(
         line_of head.now.items (map N.name_of names.now) (net, value))) }
 {
     let (path, simple_name) = names[net].name_pieces();
-    put_named(out, block, head, path, simple_name, value)
+    match undivided(path) {
+        Some(path) => put_named(out, block, head, path, simple_name, value),
+        None => put_divided(out, block, head, path, simple_name, value),
+    }
 }
 
 /// The lines of a cycle's changes.

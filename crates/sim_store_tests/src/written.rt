@@ -28,12 +28,19 @@ fn put_source(line: &mut Line, source: Source) {
     }
 }
 
+/// The name of a net.
+fn put_name(line: &mut Line, net: &Net) {
+    let (path, simple_name) = net.name_pieces();
+    for piece in path {
+        line.put(piece.as_str());
+    }
+    line.put(simple_name);
+}
+
 /// A name, and the sources in their order.
 fn put_net(line: &mut Line, net: &Net) {
     line.put("net ");
-    let (path, simple_name) = net.name_pieces();
-    line.put(path);
-    line.put(simple_name);
+    put_name(line, net);
     line.put(" has");
     for source in net.sources() {
         put_source(line, *source);

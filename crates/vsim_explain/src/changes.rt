@@ -1,5 +1,6 @@
 //! The nets that change most.
 
+use crate::cycles::write_name;
 use anyhow::Result;
 use sim_run::{Design, Record, WaveStore};
 use std::alloc::{AllocError, Global};
@@ -50,13 +51,9 @@ fn busiest(counts: &[u64]) -> Option<usize> {
 
 /// Writes the name of a net and how often it changes.
 fn write_net<W: Write>(out: &mut W, design: &Design, net: usize, changes: u64) -> io::Result<()> {
-    match design.nets().get(net) {
-        Some(it) => {
-            let (path, simple_name) = it.name_pieces();
-            writeln!(out, "{changes:>10} {path}{simple_name}")
-        }
-        None => Ok(()),
-    }
+    write!(out, "{changes:>10} ")?;
+    write_name(out, design, net)?;
+    out.write_all(b"\n")
 }
 
 /// Writes the nets that change most, the first of them first, and forgets how often they do.

@@ -4,6 +4,18 @@ use sim_logic::Logic;
 use sim_run::{Design, Record};
 use std::io::{self, Write};
 
+/// Writes the name of a net.
+pub fn write_name<W: Write>(out: &mut W, design: &Design, net: usize) -> io::Result<()> {
+    let Some(it) = design.nets().get(net) else {
+        return Ok(());
+    };
+    let (path, simple_name) = it.name_pieces();
+    for piece in path {
+        out.write_all(piece.as_str().as_bytes())?;
+    }
+    out.write_all(simple_name.as_bytes())
+}
+
 /// Writes the line of a change.
 fn write_change<W: Write>(
     out: &mut W,
@@ -12,13 +24,10 @@ fn write_change<W: Write>(
     net: usize,
     value: Logic,
 ) -> io::Result<()> {
-    let Some(it) = design.nets().get(net) else {
-        return Ok(());
-    };
     let (time, delta) = (record.time, record.delta);
-    let (path, simple_name) = it.name_pieces();
-    write!(out, "{time} {delta} {path}{simple_name} ")?;
-    out.write_all(&[value.to_byte(), b'\n'])
+    write!(out, "{time} {delta} ")?;
+    write_name(out, design, net)?;
+    out.write_all(&[b' ', value.to_byte(), b'\n'])
 }
 
 /// Writes the lines of the first changes of a cycle, so many at the most.
