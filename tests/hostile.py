@@ -5,7 +5,8 @@
 
 - Each proper prefix of three designs is refused as a text, but for the one that ends after its entity.
 - A zero byte in place of each byte of these designs is refused at its place, or at the token that it breaks.
-- Texts of 1 MiB, each of one thing over and over, and one of a byte more: each is answered as the manual says, in at most 20 s of a processor.
+- Texts of 1 MiB, each of one thing over and over, and one of a byte more: each is answered as the manual says, in at most 20 s
+  of a processor and 200 MiB; so is a design of 8,000 instances below one long label.
 - In little memory a run answers `vsim: Memory`, and in more its listing, by one worker and by three. Where work is handed out,
   runs by 4 and 16 workers answer what one worker does, in address spaces from that which one needs up to ample.
 - Standard output is full, closed, or a pipe that nobody reads; standard input is closed, a folder or a terminal; standard error
@@ -23,6 +24,8 @@ import tempfile
 
 MOST = 1 << 20
 LONGEST = 60
+# processor seconds, and MiB, of a text of 1 MiB at the most
+SECONDS, MEBIBYTES = 20, 200
 WORDS = ["--top", "t"]
 DESIGN = (
     b"entity t is end;architecture a of t is signal s_1,q:std_logic:='0';begin s_1<='1' after 5 ns;"
@@ -140,6 +143,13 @@ def with_signals(count, statements):
     return f"entity t is end;architecture a of t is signal {','.join(of_all)}:std_logic;begin {of_all[0]}<='1';{body}end;".encode()
 
 
+def below_a_label(letters, count):
+    """A design of so many instances within one that has a label of so many letters."""
+    instances = "".join(f"i{number}:entity work.n;" for number in range(count))
+    return (f"entity t is end;architecture a of t is begin {'l' * letters}:entity work.m;end;entity m is end;"
+            f"architecture a of m is begin {instances}end;entity n is end;architecture a of n is begin end;").encode()
+
+
 def texts():
     """Yields the name of a text, the text, its status, and its refusal or the last line of its listing."""
     yield "blanks", filled(b"", b" "), 1, "Syntax at 1048576"
@@ -163,6 +173,7 @@ def texts():
     yield "assignments, as many as there is room for", filled(BEGIN, b"s<='0';", b"end;"), 1, "TooMany at 7"
     yield "65,536 signals, each with an assignment", with_signals(1 << 16, "{0}<={1};"), 0, "done 2 65536"
     yield "65,537 signals, each with an assignment", with_signals((1 << 16) + 1, "{0}<={1};"), 1, "TooMany at 7"
+    yield "8,000 instances below a label of 200,000 letters", below_a_label(200_000, 8000), 0, "done 0 0"
     yield "entities of one name", filled(b"", b"entity t is end;"), 1, "Duplicate at 23"
     yield "context clauses", filled(b"", b"use a.b;", b"entity t is end;architecture a of t is begin end;"), 0, "done 0 0"
 
@@ -174,7 +185,7 @@ def huge(program, tally):
         said = (answer.err or answer.out).decode().splitlines()[-1]
         print(f"| {name} | `{said}` | {answer.seconds:.2f} | {answer.mebibytes} |")
         ended = answer.status == status and said == (f"vsim: {wanted}" if status else wanted) and not (status and answer.out)
-        tally.note(ended and answer.seconds < 20, name, answer)
+        tally.note(ended and answer.seconds < SECONDS and answer.mebibytes < MEBIBYTES, name, answer)
 
 
 def limited(program, text, words, kibibytes):

@@ -8,6 +8,30 @@ const OPEN: &str = "entity t is end;architecture a of t is begin \
 u:entity work.l port map(i=>'1',o=>open); end;entity l is port(i:in std_logic;o:out std_logic);end;\
 architecture a of l is begin o<=i;end;";
 
+/// An instance within another, whose labels are too long to stand in one piece of a path.
+const LONG: &str = "entity t is end;architecture a of t is begin \
+a_label_that_takes_more_than_half_a_piece:entity work.m; end;entity m is end;\
+architecture a of m is begin another_label_with_more_than_forty_letters:entity work.n; end;\
+entity n is end;architecture a of n is signal q:std_logic; begin end;";
+
+/// Names, and the numbers of their nets in that design.
+static NAMES: [(&str, Option<usize>); 5] = [
+    (
+        "a_label_that_takes_more_than_half_a_piece.another_label_with_more_than_forty_letters.q",
+        Some(0),
+    ),
+    (
+        "a_label_that_takes_more_than_half_a_piece.another_label_with_more_than_forty_letters.",
+        None,
+    ),
+    (
+        "a_label_that_takes_more_than_half_a_piece.another_label_with_more_than_forty_letterz.q",
+        None,
+    ),
+    ("a_label_that_takes_more_than_half_a_piece.q", None),
+    ("another_label_with_more_than_forty_letters.q", None),
+];
+
 /// A signal with two ports that drive it, each by a process of one.
 const TWO_PORTS: &str = "entity t is end;architecture a of t is signal s:std_logic;begin \
 u:entity work.e port map(s,s); end;entity e is port(p,q:out std_logic);end;architecture a of e is \
@@ -50,6 +74,18 @@ fn is_named(design: &Design) -> Result<bool, AllocError> {
 pub fn has_nets(alloc: Global, options: &Options) -> Result<bool, RunError> {
     let design = elaborate(alloc, OPEN.as_bytes(), options)?;
     Ok(is_named(&design)?)
+}
+
+/// Whether a net is found by its whole name alone, and a copy is the same design.
+fn is_named_in_pieces(design: &Design) -> Result<bool, AllocError> {
+    let copy = design.try_copy()?;
+    Ok(copy.same(design) && NAMES.iter().all(|row| design.net_named(row.0) == row.1))
+}
+
+/// Whether the net below long labels is found in its design.
+pub fn has_long_names(alloc: Global, options: &Options) -> Result<bool, RunError> {
+    let design = elaborate(alloc, LONG.as_bytes(), options)?;
+    Ok(is_named_in_pieces(&design)?)
 }
 
 /// Whether each port that drives has a driver.

@@ -4,7 +4,7 @@
 ghost use Rattle.std.specs.Prelude.{◌≡◌, ◌≤◌, length, IfOk, OnOk};
 ghost use Rattle.sim_run_claims.specs.Seats.{IsOf, balance};
 
-use crate::calls::designs::{are_read, has_drivers, has_nets};
+use crate::calls::designs::{are_read, has_drivers, has_long_names, has_nets};
 use crate::calls::job::is_toggled;
 use crate::calls::stores::{
     refuses_jobs, refuses_late_stops, refuses_more, refuses_results, refuses_strangers,
@@ -45,11 +45,12 @@ enum Row {
     LateStops,
     Words,
     Nets,
+    LongNames,
     Drivers,
 }
 
 /// Each row with its name.
-static ROWS: [(Row, &str); 16] = [
+static ROWS: [(Row, &str); 17] = [
     (Row::Tokens, "tokens"),
     (Row::Pulse, "pulse"),
     (Row::Rejections, "rejections"),
@@ -65,6 +66,7 @@ static ROWS: [(Row, &str); 16] = [
     (Row::LateStops, "late stops"),
     (Row::Words, "words"),
     (Row::Nets, "nets"),
+    (Row::LongNames, "long names"),
     (Row::Drivers, "drivers"),
 ];
 
@@ -273,6 +275,7 @@ fn is_as_worked(alloc: Global, options: &Options, row: Row) -> Result<bool, RunE
         Row::LateStops => refuses_late_stops(alloc, options),
         Row::Words => are_read(alloc),
         Row::Nets => has_nets(alloc, options),
+        Row::LongNames => has_long_names(alloc, options),
         Row::Drivers => has_drivers(alloc, options),
     }
 }
