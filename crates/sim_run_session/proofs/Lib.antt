@@ -1,3 +1,4 @@
 pub mod Finishing
+pub mod OkGives
 pub mod Programs
 pub mod Simulations
