@@ -1,10 +1,10 @@
 #!/usr/bin/env python3
-"""Does what vsim_explain advises, and compares what then happens with what was meant.
+"""Follows the advice of vsim_explain, and compares the result with what was meant.
 
     advice.py VSIM_EXPLAIN
 
-Each row of ADVICE is a design with a fault, what is advised (a part of a sentence), the same design once the advice is followed, and
-its listing, worked out by hand. The faulty one has to be refused with that advice, the other one to have that listing. The last line
+Each row of ADVICE is a design with a fault, the advice (a part of a sentence), the same design with the advice followed, and its
+listing, worked out by hand. The faulty design must be refused with that advice, the other one must have that listing. The last line
 is `N passed, M failed`.
 """
 import os
@@ -120,7 +120,7 @@ def explained(program, text, *words):
 
 
 def fault_of(program, advised, wrong, right, listing):
-    """Returns what is wrong with an advice, if anything is."""
+    """Returns what is wrong with a piece of advice, if anything."""
     said, status = explained(program, wrong)
     if status != 1 or advised not in " ".join(said.split()):
         return f"{wrong}is not refused with that advice, but with status {status}:\n{said}"

@@ -1,18 +1,18 @@
 #!/usr/bin/env python3
-"""Compares what vsim_explain says of the examples with what they say themselves, and of common mistakes with the manual.
+"""Compares what vsim_explain says about the examples with what they say themselves, and about common mistakes with the manual.
 
     explain.py VSIM_EXPLAIN
 
-The examples are all that examples/check runs: the designs there, those of docs/*.md, and each row of docs/LEFT_OUT.md. Of each
-that is refused at a place, the program has to tell that refusal, its line and column, the line with a mark below, and at least
-one sentence. Of each run it has to tell the cycles and events, the longest run of delta cycles, and the nets that change most,
-as the listing has them; and with --listing that listing before. The status is that of vsim.
+The examples are all that examples/check runs: the designs there, those of docs/*.md, and each row of docs/LEFT_OUT.md. For each
+that is refused at a place, the program must print that refusal, its line and column, the line with a mark below, and at least
+one sentence. For each run it must print the cycles and events, the longest sequence of delta cycles, and the nets that change
+most, as in the listing; and with --listing that listing before. The status is that of vsim.
 
-The mistakes are the rows of MISTAKES: DESIGN with one line replaced, the line at which the manual lets it be refused, how, and
-what has to be said of it. RUNS are designs that are cut short, and words that are refused, with all that has to be said. Each
-answer has a second. Where a text says `See SECTION in docs/PAGE`, there has to be such a section.
+The mistakes are the rows of MISTAKES: DESIGN with one line replaced, the line at which it is refused according to the manual, the
+refusal, and what must be said about it. RUNS are designs that are cut short, and words that are refused, with all that must be
+said. Each answer may take a second. If a text says `See SECTION in docs/PAGE`, there must be such a section.
 
-What differs is told, and the last line is `N passed, M failed`.
+Differences are printed, and the last line is `N passed, M failed`.
 """
 import collections
 import glob
@@ -25,7 +25,7 @@ import sys
 import time
 
 TOP = os.path.dirname(os.path.dirname(os.path.realpath(__file__)))
-# what is shown of a line on either side of a place
+# how much of a line is shown on either side of a place
 MOST_SHOWN = 100
 MOST_NETS = 10
 MOST_SECONDS = 1
@@ -59,9 +59,9 @@ begin
 end;
 """
 
-# what stands in the place of which line of DESIGN; at which line that is refused, and how; what is said of it
+# which line of DESIGN is replaced, and by what; at which line it is refused, and how; what is said about it
 MISTAKES = [
-    # something is missing
+    # something missing
     (16, "clk <= '1' after 5 ns, '0' after 10 ns", 17, "Syntax", "cannot go on here with u1"),
     (16, "clk <= '1' after 5 ns, '0' after 10 ns", 17, "Syntax", "at the end of what stands before: a ;"),
     (14, "signal clk, p, q : std_logic := '0'", 15, "Syntax", "at the end of what stands before: a ;"),
@@ -81,7 +81,7 @@ MISTAKES = [
     (18, "process", 19, "Syntax", "A process has a sensitivity list"),
     (17, "u1 : entity inverter port map (clk, p);", 17, "Syntax", "entity work.NAME"),
     (9, "/* the design under test", 9, "OpenComment", "ends at the next */"),
-    # one thing for another
+    # one thing instead of another
     (16, "clk = '1' after 5 ns;", 16, "Syntax", "A signal is assigned by <="),
     (16, "clk => '1' after 5 ns;", 16, "Syntax", "=> is for port maps"),
     (16, "clk := '1' after 5 ns;", 16, "Syntax", "A signal is assigned by <="),
@@ -146,7 +146,7 @@ MISTAKES = [
     (23, 'q <= "10";', 23, "BadByte", "a signal for each element of"),
     (17, "u1 : entity work.inverter port map (i => not clk, o => p);", 17, "Syntax", "An actual is a signal, a port, a value or open"),
     (17, "u1 : entity work.inverter port map (clk and q, p);", 17, "Syntax", "An actual is a signal, a port, a value or open"),
-    # a word of the text that may have been meant otherwise
+    # a word of the text that may have been meant differently
     (24, "endif;", 24, "Syntax", "An if ends by two words, end if."),
     (12, "architectur a of t is", 12, "Syntax", "architectur is no reserved word; architecture is."),
     (14, "singal clk, p, q : std_logic := '0';", 14, "Syntax", "singal is no reserved word; signal is."),
@@ -154,7 +154,7 @@ MISTAKES = [
     (1, "module inverter (input i, output o);", 1, "Syntax", "This looks like Verilog"),
     (1, "// an inverter", 1, "BadByte", "This looks like Verilog"),
     (1, '{"creator": "Yosys"}', 1, "BadByte", "This looks like Verilog"),
-    # a port that has no actual
+    # a port without an actual
     (17, "u1 : entity work.inverter port map (o => p);", 17, "PortMissing", "The port is i of inverter."),
     (17, "u1 : entity work.inverter port map (ii => clk, o => p);", 17, "PortMissing", "ii is none of its ports; the nearest is i."),
     # a waveform that is too long
@@ -193,7 +193,7 @@ See Calling the program in docs/LANGUAGE.md.
 BUSIEST = "The nets that change most in the last 100 cycles, and how often:\n"
 LAST = "The last cycles, as a listing has them:\n"
 
-# words that ask for nothing, and the status
+# words that ask for no run, and the status
 USAGES = [(["--help"], 0), (["-h"], 0), ([], 2)]
 
 
@@ -208,7 +208,7 @@ def loop_lines(first, last):
 
 
 def cut_short(limit, came, events, meaning, counts, lines):
-    """Returns what is said of a run that is cut short: the nets that change most and how often, and the last lines."""
+    """Returns what is said about a run that is cut short: the nets that change most and how often, and the last lines."""
     far = f"CycleLimit {limit}\nThe run came to {came}, with {events} events.\n"
     return far + meaning + BUSIEST + "".join(f"{count:>10} {name}\n" for count, name in counts) + (f"{LAST}{lines}" if lines else "")
 
@@ -220,7 +220,7 @@ WIDE_LINES = (
     + "1000000 1 and 1 more\n2000000 0 a 0\n"
 )
 AT_200_NS = "200000000 fs and there to delta cycle 0"
-# words, a text, the status, and all that is said
+# words, a text, the status, and the whole answer
 RUNS = [
     (
         "--top t --limit 300",
@@ -304,7 +304,7 @@ def examples():
 
 
 def head_of_refusal(text, refusal):
-    """Returns the first lines that tell a refusal."""
+    """Returns the first lines of the answer to a refused text."""
     at = re.search(r" at (\d+)$", refusal)
     if not at:
         return [refusal]
@@ -318,7 +318,7 @@ def head_of_refusal(text, refusal):
 
 
 def lines_of_run(listing):
-    """Returns the lines that tell a finished run."""
+    """Returns the lines of the answer to a finished run."""
     *changes, done = listing.splitlines()
     _, cycles, events = done.split()
     told = [f"The run is finished after {cycles} cycles with {events} events."]
@@ -334,7 +334,7 @@ def lines_of_run(listing):
 
 
 def answer(program, words, text):
-    """Returns the output, the errors and the status of a run, and how long it took."""
+    """Returns the output, the errors and the status of a run, and the time that it takes."""
     began = time.monotonic()
     ran = subprocess.run([program, *words], input=text, stdout=subprocess.PIPE, stderr=subprocess.PIPE, timeout=120)
     took = time.monotonic() - began
@@ -342,14 +342,14 @@ def answer(program, words, text):
 
 
 def without_deepest(said, listing):
-    """Returns what is said of a run without its longest run of delta cycles, if that is not less than the listing shows."""
+    """Returns what is said about a run without its longest sequence of delta cycles, if that is at least as long as the listing shows."""
     most = max(int(line.split()[1]) for line in listing.splitlines()[:-1]) if listing.count("\n") > 1 else 0
     found = re.fullmatch(r"No time has a delta cycle\.|The longest run of delta cycles is (\d+), at \d+ fs\.", said[1])
     return said[:1] + said[2:] if found and int(found[1] or 0) >= most else said
 
 
 def fault_of_example(program, words, text, wanted):
-    """Returns what is wrong with what is said of an example, if anything is."""
+    """Returns what is wrong with what is said about an example, if anything."""
     out, err, status = wanted
     if status in (2, 3) or b"--help" in out or "--help" in words:
         return None
@@ -369,7 +369,7 @@ def fault_of_example(program, words, text, wanted):
 
 
 def told_in_pages():
-    """Yields the place of each run of vsim_explain in the pages, its words, its design and what it says there."""
+    """Yields for each run of vsim_explain in the pages its place, its words, its design and the answer there."""
     for path in sorted(glob.glob(f"{TOP}/docs/*.md")):
         with open(path, encoding="utf-8") as file:
             text = file.read()
@@ -379,14 +379,14 @@ def told_in_pages():
 
 
 def with_line(number, line):
-    """Returns DESIGN with another line."""
+    """Returns DESIGN with one line replaced."""
     lines = DESIGN.splitlines(keepends=True)
     lines[number - 1] = f"{line}\n"
     return "".join(lines)
 
 
 def fault_of_mistake(program, number, line, at, refusal, wanted):
-    """Returns what is wrong with what is said of a mistake, if anything is."""
+    """Returns what is wrong with what is said about a mistake, if anything."""
     said, errors, status, took = answer(program, ["--top", "t"], with_line(number, line).encode())
     found = re.match(rf"{at}:\d+: {refusal}( |$)", said, re.M)
     if status != 1 or errors or not found or wanted not in " ".join(said.split()) or took > MOST_SECONDS:
@@ -395,7 +395,7 @@ def fault_of_mistake(program, number, line, at, refusal, wanted):
 
 
 def fault_of_run(program, words, text, status, wanted):
-    """Returns what is wrong with what is said of a run, if anything is."""
+    """Returns what is wrong with what is said about a run, if anything."""
     said, errors, got, took = answer(program, words.split(), text.encode())
     if (said, got) != (wanted, status) or bool(errors) != (not wanted) or took > MOST_SECONDS:
         return f"wanted status {status}:\n{wanted}got after {took:.1f} s with status {got}:\n{said}{errors}"
@@ -403,7 +403,7 @@ def fault_of_run(program, words, text, status, wanted):
 
 
 def sections():
-    """Yields the place of each name of a section in the texts of the program, and the fault with it, if there is one."""
+    """Yields the place of each section named in the texts of the program, and what is wrong with it, if anything."""
     for path in sorted(glob.glob(f"{TOP}/crates/vsim_explain*/src/*.rt")):
         with open(path, encoding="utf-8") as file:
             text = re.sub(r"\\n\\\n *", " ", file.read())
@@ -414,7 +414,7 @@ def sections():
 
 
 def fault_of_usage(program, words, status):
-    """Returns what is wrong with the line of usage of words that ask for nothing, if anything is."""
+    """Returns what is wrong with the usage printed for words that ask for no run, if anything."""
     out, errors, got, _ = answer(program, words, b"")
     said = errors if status else out
     if not status and ("Says in plain words what vsim answers" not in said or "\n      --listing  " not in said):
@@ -425,7 +425,7 @@ def fault_of_usage(program, words, status):
 
 
 def faults(program):
-    """Yields the name of each test, and what is wrong, if anything is."""
+    """Yields the name of each test, and what is wrong, if anything."""
     for words, status in USAGES:
         yield f"the usage of {words}", fault_of_usage(program, words, status)
     yield from sections()

@@ -6,7 +6,7 @@ use sim_run::{Design, Record, WaveStore};
 use std::alloc::{AllocError, Global};
 use std::io::{self, Write};
 
-/// How many nets are told.
+/// The number of nets that are listed.
 const MOST_NETS: usize = 10;
 
 /// Counts the changes of a record.
@@ -18,7 +18,7 @@ fn count(counts: &mut Vec<u64>, record: &Record) {
     }
 }
 
-/// How often each of so many nets changes in these records.
+/// For each net, the number of its changes in these records.
 fn count_changes(alloc: Global, nets: usize, records: &[Record]) -> Result<Vec<u64>, AllocError> {
     let mut counts = vec![in alloc; 0; nets]?;
     for record in records {
@@ -27,7 +27,7 @@ fn count_changes(alloc: Global, nets: usize, records: &[Record]) -> Result<Vec<u
     Ok(counts)
 }
 
-/// How often each net of a run changed after the initialization.
+/// For each net of a run, the number of its changes after the initialization.
 fn totals_of(alloc: Global, store: &WaveStore) -> Result<Vec<u64>, AllocError> {
     let mut counts = Vec::new(alloc);
     for net in 0..store.design().nets().len() {
@@ -36,7 +36,7 @@ fn totals_of(alloc: Global, store: &WaveStore) -> Result<Vec<u64>, AllocError> {
     Ok(counts)
 }
 
-/// The net that changes most, if one does: of several the first.
+/// The net that changes most, if any changes; the first of several.
 fn busiest(counts: &[u64]) -> Option<usize> {
     let mut found = None;
     let mut most = 0;
@@ -49,14 +49,14 @@ fn busiest(counts: &[u64]) -> Option<usize> {
     found
 }
 
-/// Writes the name of a net and how often it changes.
+/// Writes the name of a net, and the number of its changes.
 fn write_net<W: Write>(out: &mut W, design: &Design, net: usize, changes: u64) -> io::Result<()> {
     write!(out, "{changes:>10} ")?;
     write_name(out, design, net)?;
     out.write_all(b"\n")
 }
 
-/// Writes the nets that change most, the first of them first, and forgets how often they do.
+/// Writes the nets that change most, in order, and clears their counts.
 fn write_busiest<W: Write>(out: &mut W, design: &Design, counts: &mut Vec<u64>) -> io::Result<()> {
     for _turn in 0..MOST_NETS {
         let Some(net) = busiest(counts.as_slice()) else {
@@ -71,7 +71,7 @@ fn write_busiest<W: Write>(out: &mut W, design: &Design, counts: &mut Vec<u64>) 
     Ok(())
 }
 
-/// Writes which nets change most in these records, but for the first.
+/// Writes the nets that change most in these records, the first record excluded.
 pub fn write_changes<W: Write>(
     alloc: Global,
     out: &mut W,
@@ -87,7 +87,7 @@ pub fn write_changes<W: Write>(
     Ok(())
 }
 
-/// Writes which nets change most in a run.
+/// Writes the nets that change most in a run.
 pub fn write_totals<W: Write>(alloc: Global, out: &mut W, store: &WaveStore) -> Result<()> {
     let mut counts = totals_of(alloc, store)?;
     write_busiest(out, store.design(), &mut counts)?;

@@ -1,4 +1,4 @@
-//! What is told of a run that is cut short.
+//! The explanation of a run that is cut short.
 
 use crate::changes::write_changes;
 use crate::cycles::write_cycles;
@@ -10,50 +10,50 @@ use sim_store::Step;
 use std::alloc::Global;
 use std::io::{self, Write};
 
-/// In how many of the last cycles changes are counted.
+/// The number of last cycles in which changes are counted.
 const COUNTED: usize = 100;
 
-/// How many of the last cycles are shown.
+/// The number of last cycles that are shown.
 const SHOWN: usize = 6;
 
-/// How many changes are shown of each of them.
+/// The number of changes that are shown for each of them.
 const MOST_SHOWN: usize = 5;
 
-/// So few cycles at one time are nothing unusual.
+/// Fewer cycles at one time than this are nothing unusual.
 const FEW: u64 = 10;
 
-/// So many cycles at one time hardly come to an end.
+/// This many cycles at one time hardly ever end.
 const MANY: u64 = 100;
 
-/// What a time means that stands still.
+/// The explanation of a time that does not advance.
 const CIRCLE: &[u8] = b"\
     The time stands still: signals drive one another in a circle without delay. Break the\n\
     circle, or give one of its assignments a delay. See Time and cycles in docs/LANGUAGE.md.\n";
 
-/// What a limit means that is so small that nothing can be told.
+/// The explanation of a limit that is too small to say anything.
 const EARLY: &[u8] = b"\
     So few cycles do not tell whether the time goes on. Give a larger number by --limit.\n\
     See Time and cycles in docs/LANGUAGE.md.\n";
 
-/// What a run without stop time means.
+/// The explanation of a run without a stop time.
 const NO_STOP: &[u8] = b"\
     The time goes on, and no --stop is given: a clock that runs on needs one, as in\n\
     --stop 1000000 for 1 ns. Else give a larger number by --limit.\n\
     See Calling the program in docs/LANGUAGE.md.\n";
 
-/// What a run means that has not come to its stop time.
+/// The explanation of a run that did not reach its stop time.
 const STOP_NOT_REACHED: &[u8] = b"\
     The time goes on, and has not come to that of --stop. Give an earlier --stop, or a larger\n\
     number by --limit, which is 10000 where it is not given and at most 1000000.\n\
     See Calling the program in docs/LANGUAGE.md.\n";
 
-/// What it means that a postponed process makes a delta cycle follow.
+/// The explanation of a postponed process that makes a delta cycle follow.
 const POSTPONED_DELTA: &[u8] = b"\
     A postponed process, or a postponed assignment, assigns to a signal without a delay. It is\n\
     executed once the time has settled, so that no delta cycle may follow: give the assignment\n\
     a delay. See Postponed processes in docs/LANGUAGE.md.\n";
 
-/// What it means that a run came no further.
+/// Why a run came no further.
 fn meaning(options: &Options, cycles: u64, delta: u64) -> &'static [u8] {
     let most_are_here = delta >= cycles.saturating_sub(delta);
     if delta >= MANY || (delta >= FEW && most_are_here) {
@@ -93,7 +93,7 @@ fn write_look<W: Write>(out: &mut W, options: &Options, store: &WaveStore) -> io
     }
 }
 
-/// The last records of a store, so many at the most.
+/// The last records of a store, at most `most`.
 fn last_records(alloc: Global, store: &WaveStore, most: usize) -> Result<Vec<Record>> {
     let first = store.look().records.saturating_sub(most);
     match store.records_since(alloc, first) {
@@ -102,7 +102,7 @@ fn last_records(alloc: Global, store: &WaveStore, most: usize) -> Result<Vec<Rec
     }
 }
 
-/// Writes which nets change most in the last cycles.
+/// Writes the nets that change most in the last cycles.
 fn write_last_changes<W: Write>(alloc: Global, out: &mut W, store: &WaveStore) -> Result<()> {
     out.write_all(b"The nets that change most in the last 100 cycles, and how often:\n")?;
     let records = last_records(alloc, store, COUNTED + 1)?;
@@ -124,7 +124,7 @@ fn write_all_cycles<W: Write>(alloc: Global, out: &mut W, store: &WaveStore) -> 
     Ok(())
 }
 
-/// Writes how far a run came, and which nets change most.
+/// Writes how far a run came, and the nets that change most.
 fn write_state<W: Write>(
     alloc: Global,
     out: &mut W,
@@ -135,7 +135,7 @@ fn write_state<W: Write>(
     write_last_changes(alloc, out, store)
 }
 
-/// Writes how far a run came, and what its nets did last: in all cycles, where the listing is
+/// Writes how far a run came, and the last changes of its nets, or all of them if the listing is
 /// wanted.
 pub fn write_cut_short<W: Write>(
     alloc: Global,

@@ -1,4 +1,4 @@
-//! Cycles, as a listing has them.
+//! Cycles, in the form of a listing.
 
 use sim_logic::Logic;
 use sim_run::{Design, Record};
@@ -30,7 +30,7 @@ fn write_change<W: Write>(
     out.write_all(&[b' ', value.to_byte(), b'\n'])
 }
 
-/// Writes the lines of the first changes of a cycle, so many at the most.
+/// Writes the lines of the first changes of a cycle, at most `most`.
 fn write_first<W: Write>(
     out: &mut W,
     design: &Design,
@@ -43,7 +43,7 @@ fn write_first<W: Write>(
     Ok(())
 }
 
-/// Writes the lines of a cycle, so many at the most, and how many more there are.
+/// Writes the lines of a cycle, at most `most`, and how many more there are.
 fn write_cycle<W: Write>(
     out: &mut W,
     design: &Design,
@@ -59,7 +59,7 @@ fn write_cycle<W: Write>(
     writeln!(out, "{time} {delta} and {more} more")
 }
 
-/// Writes cycles as a listing has them, of each so many lines at the most.
+/// Writes cycles in the form of a listing, with at most `most` lines each.
 pub fn write_cycles<W: Write>(
     out: &mut W,
     design: &Design,

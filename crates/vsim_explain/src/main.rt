@@ -1,6 +1,6 @@
-//! Says what `vsim` answers: `vsim_explain --top NAME < design.vhd`, with the words and the text of
-//! `vsim`. Of a refusal it tells the line and column, shows the line, and says in plain words what
-//! such a fault means there and what to do; of a run, how far it came and which nets change most.
+//! Explains the answer of `vsim`: `vsim_explain --top NAME < design.vhd`, called as `vsim` is. For
+//! a refusal it shows the line and column, and says in plain words what the fault means and how to
+//! mend it; for a run, how far it came and which nets change most.
 #![tactic(auto)]
 
 mod changes;
@@ -27,37 +27,37 @@ use vsim_explain_refusals::{
 /// One byte more than a text may have: enough to see that it is too long.
 const MOST_BYTES: u64 = 1_048_577;
 
-/// What `--version` says. The script `build` writes into its copy of this line what it builds of.
+/// The text of `--version`. The script `build` fills in the sources and the toolchain in its copy.
 const VERSION: &str = "vsim_explain 1.0.0, sources unknown, toolchain unknown";
 
-/// What is said of words that are no text, as clap says it.
+/// The message for words that are not valid UTF-8, as `clap` words it.
 const NO_TEXT: &str = "error: invalid UTF-8 was detected in one or more arguments
 
 For more information, try '--help'.
 ";
 
-/// What the help of `vsim` says of that program.
+/// The first lines of the help of `vsim`.
 const ABOUT_VSIM: &str =
     "Reads a design in a subset of VHDL from standard input, simulates it, and lists
 every change of a signal on standard output.
 ";
 
-/// What the help says of this program.
+/// The same lines of this program's help.
 const ABOUT: &str = "Says in plain words what vsim answers to a design, which it reads from standard
 input. It takes the words of vsim.
 ";
 
-/// Its own word, before that for the help.
+/// This program's own option, placed before that for the help.
 const LISTING_OPTION: &str = "
       --listing      Write first what there is of the listing, also of a run that is cut short
   -h, --help ";
 
-/// What is said of words that are refused.
+/// The message for words that are refused, after that of `clap`.
 const REFUSED: &str = "
 The text comes by standard input: vsim_explain --top NAME < design.vhd
 ";
 
-/// Writes what a fault of a text means.
+/// Writes an explanation of a fault of a text.
 fn write_text_fault<W: Write>(
     alloc: Global,
     out: &mut W,
@@ -68,7 +68,7 @@ fn write_text_fault<W: Write>(
     write_more_of_text(alloc, out, source, fault)
 }
 
-/// Writes what a fault of a design means under a top.
+/// Writes an explanation of a fault of a design under a top.
 fn write_design_fault<W: Write>(
     alloc: Global,
     out: &mut W,
@@ -80,7 +80,7 @@ fn write_design_fault<W: Write>(
     write_more_of_design(alloc, out, source, top, fault)
 }
 
-/// Writes what a refusal of a text means under a top.
+/// Writes an explanation of a refusal of a text under a top.
 fn write_refusal<W: Write>(
     alloc: Global,
     out: &mut W,
@@ -111,7 +111,7 @@ fn read_source<R: AllocGlobal + Input>(rt: &R) -> io::Result<Vec<u8>> {
     Ok(source)
 }
 
-/// Says what comes of a text, and answers the exit status.
+/// Writes the answer to a text, and returns the exit status.
 fn answer_text<W: Write>(
     alloc: Global,
     source: &[u8],
@@ -127,7 +127,7 @@ fn answer_text<W: Write>(
     }
 }
 
-/// Says what comes of the text on standard input.
+/// Writes the answer to the text on standard input, and returns the exit status.
 fn answer_request<R: AllocGlobal + Input, W: Write>(
     rt: &R,
     request: &Request,
@@ -141,12 +141,12 @@ fn answer_request<R: AllocGlobal + Input, W: Write>(
     answer_text(rt.alloc(), source.as_slice(), request, out)
 }
 
-/// What is said of words for `vsim`, with this program's name in the line of usage.
+/// A message of `vsim` about its words, with this program's name in the line of usage.
 fn renamed(alloc: Global, text: &str) -> Result<String, AllocError> {
     text.replace(alloc, "Usage: vsim ", "Usage: vsim_explain ")
 }
 
-/// The help of `vsim`, with what this program is, and its own word.
+/// The help of `vsim`, adapted to this program and with its own option.
 fn own_help(alloc: Global, text: &str) -> Result<String, AllocError> {
     let text = renamed(alloc, text)?;
     let text = text.replace(alloc, ABOUT_VSIM, ABOUT)?;
@@ -159,7 +159,7 @@ fn write_help<W: Write>(alloc: Global, out: &mut W, text: &str) -> io::Result<()
     out.write_all(text.as_bytes())
 }
 
-/// Tells that words are refused, and why.
+/// Prints that words are refused, and why.
 fn tell_refused<R: AllocGlobal + Eprint>(rt: &R, text: &str) -> Result<()> {
     let text = renamed(rt.alloc(), text)?;
     rt.eprint(text.as_str())?;
@@ -167,7 +167,7 @@ fn tell_refused<R: AllocGlobal + Eprint>(rt: &R, text: &str) -> Result<()> {
     Ok(())
 }
 
-/// Answers words that ask for nothing.
+/// Answers words that give no options.
 fn answer_fault<R: AllocGlobal + Eprint, W: Write>(
     rt: &R,
     fault: &CliFault,
@@ -192,7 +192,7 @@ fn words<R: AllocGlobal + Env>(rt: &R) -> io::Result<Vec<String>> {
     Ok(words)
 }
 
-/// Answers the words, and gives the exit status.
+/// Answers the words, and returns the exit status.
 fn answer_words<R: AllocGlobal + Input + Print + Eprint>(rt: &R, words: Vec<String>) -> Result<u8> {
     let mut out = BufWriter::new(rt.alloc(), writer(rt))?;
     let status = match read_request(rt.alloc(), words) {
@@ -211,7 +211,7 @@ fn ask_for_version(words: &[String]) -> bool {
     }
 }
 
-/// Answers words that are texts, and gives the exit status.
+/// Answers words that are valid UTF-8, and returns the exit status.
 fn answer_texts<R: AllocGlobal + Input + Print + Eprint>(rt: &R, words: Vec<String>) -> Result<u8> {
     if ask_for_version(words.as_slice()) {
         drop(words);
@@ -221,13 +221,13 @@ fn answer_texts<R: AllocGlobal + Input + Print + Eprint>(rt: &R, words: Vec<Stri
     answer_words(rt, words)
 }
 
-/// Says that the words are no text.
+/// Prints that the words are not valid UTF-8.
 fn answer_no_text<R: Eprint>(rt: &R) -> Result<u8> {
     rt.eprint(NO_TEXT)?;
     Ok(2)
 }
 
-/// Answers what the program was called with, and gives the exit status.
+/// Answers the command line, and returns the exit status.
 fn answer<R: AllocGlobal + Input + Print + Eprint + Env>(rt: &R) -> Result<u8> {
     match words(rt) {
         Ok(words) => answer_texts(rt, words),

@@ -1,4 +1,4 @@
-//! Options that are out of their ranges.
+//! Options out of range.
 
 use sim_logic::LATEST;
 use sim_run::{Options, RunError};
@@ -15,7 +15,7 @@ fn write_stop<W: Write>(out: &mut W, stop: u64) -> io::Result<()> {
     )
 }
 
-/// Writes a line for a limit that is out of its range.
+/// Writes a line for a limit that is out of range.
 fn write_limit<W: Write>(out: &mut W, limit: u32) -> io::Result<()> {
     if (1..=1_000_000).contains(&limit) {
         return Ok(());
@@ -26,7 +26,7 @@ fn write_limit<W: Write>(out: &mut W, limit: u32) -> io::Result<()> {
     )
 }
 
-/// Writes a line for a number of workers that is out of its range.
+/// Writes a line for a number of workers that is out of range.
 fn write_workers<W: Write>(out: &mut W, workers: usize) -> io::Result<()> {
     if (1..=16).contains(&workers) {
         return Ok(());
@@ -37,7 +37,7 @@ fn write_workers<W: Write>(out: &mut W, workers: usize) -> io::Result<()> {
     )
 }
 
-/// Writes the refusal, and a line for each option that is out of its range.
+/// Writes the refusal, and a line for each option that is out of range.
 pub fn write_ranges<W: Write>(out: &mut W, options: &Options) -> io::Result<()> {
     let refusal = RunError::Options;
     writeln!(out, "{refusal}")?;

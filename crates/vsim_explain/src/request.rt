@@ -1,4 +1,4 @@
-//! What the words ask for.
+//! The words of the command line.
 
 use sim_run::{CliFault, Options, read_options};
 use std::alloc::Global;
@@ -6,12 +6,12 @@ use std::alloc::Global;
 /// The word that asks for the listing.
 const LISTING: &str = "--listing";
 
-/// What is asked for.
+/// What the words ask for.
 #[derive(Drop)]
 pub struct Request {
-    /// The words of `vsim`.
+    /// The options of `vsim`.
     pub options: Options,
-    /// Whether the listing is wanted too.
+    /// Whether the listing is wanted as well.
     pub listing: bool,
 }
 

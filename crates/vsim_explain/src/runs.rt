@@ -1,4 +1,4 @@
-//! What is told of a run.
+//! The explanation of a run.
 
 use crate::changes::write_totals;
 use crate::cut_short::write_cut_short;
@@ -9,7 +9,7 @@ use sim_store::{Look, Step};
 use std::alloc::Global;
 use std::io::{self, Write};
 
-/// The longest run of delta cycles, and when it was.
+/// The longest sequence of delta cycles, and its time.
 #[derive(Clone, Copy)]
 struct Deepest {
     delta: u64,
@@ -25,7 +25,7 @@ impl Deepest {
         }
     }
 
-    /// Writes how long it was, and when.
+    /// Writes its length and time.
     fn write<W: Write>(&self, out: &mut W) -> io::Result<()> {
         let (delta, time) = (self.delta, self.time);
         if delta == 0 {
@@ -45,7 +45,7 @@ fn write_lines<W: Write>(alloc: Global, out: &mut W, store: &WaveStore) -> Resul
     Ok(())
 }
 
-/// Writes how many cycles and events a run had.
+/// Writes the numbers of cycles and events of a run.
 fn write_counts<W: Write>(out: &mut W, look: Look) -> io::Result<()> {
     let (cycles, events) = (look.records.saturating_sub(1), look.events);
     writeln!(
@@ -54,7 +54,7 @@ fn write_counts<W: Write>(out: &mut W, look: Look) -> io::Result<()> {
     )
 }
 
-/// Writes which nets changed most.
+/// Writes the nets that changed most.
 fn write_nets<W: Write>(alloc: Global, out: &mut W, store: &WaveStore) -> Result<()> {
     if store.look().events == 0 {
         out.write_all(b"No net changes.\n")?;
@@ -64,7 +64,7 @@ fn write_nets<W: Write>(alloc: Global, out: &mut W, store: &WaveStore) -> Result
     write_totals(alloc, out, store)
 }
 
-/// Writes what a finished run had.
+/// Writes the summary of a finished run.
 fn write_finished<W: Write>(
     alloc: Global,
     out: &mut W,
@@ -84,7 +84,7 @@ fn begun(alloc: Global, design: Design, options: &Options) -> Result<WaveStore> 
     }
 }
 
-/// Carries out one cycle: executes what is due, and goes on.
+/// Carries out one phase of a cycle: executes the processes that are due, and goes on.
 fn go_on(alloc: Global, store: WaveStore) -> Result<WaveStore> {
     let mut store = store.execute_due(alloc)?;
     match store.advance(alloc) {
@@ -93,7 +93,7 @@ fn go_on(alloc: Global, store: WaveStore) -> Result<WaveStore> {
     }
 }
 
-/// Carries a run on to its end, and notes its longest run of delta cycles.
+/// Carries a run to its end, and notes its longest sequence of delta cycles.
 fn carried_on(alloc: Global, store: WaveStore, deepest: &mut Deepest) -> Result<WaveStore> {
     let mut store = store;
     for _turn in 0..u64::MAX {
@@ -106,7 +106,7 @@ fn carried_on(alloc: Global, store: WaveStore, deepest: &mut Deepest) -> Result<
     Ok(store)
 }
 
-/// Writes what came of a run that has ended, and answers the exit status.
+/// Writes the explanation of a run that has ended, and returns the exit status.
 fn tell_end<W: Write>(
     alloc: Global,
     store: &WaveStore,
@@ -125,7 +125,7 @@ fn tell_end<W: Write>(
     Ok(0)
 }
 
-/// Runs a design, writes what came of that, and answers the exit status.
+/// Runs a design, writes the explanation of its run, and returns the exit status.
 pub fn tell_run<W: Write>(
     alloc: Global,
     design: Design,

@@ -1,4 +1,4 @@
-//! What the faults of a design mean.
+//! Explanations of the faults of a design.
 
 use crate::explanation::{Explanation, at, nowhere};
 use crate::hints;
@@ -111,7 +111,7 @@ const TOO_MANY: &str = "\
     instances, or more than 32 levels of them. Leave a part out.\n\
     See Limits in docs/REFERENCE.md.";
 
-/// What a limit means that is exceeded at this place: the name of the top, or an element.
+/// The explanation of a limit exceeded at this place: the name of the top, or an element.
 fn explain_limit(source: &[u8], place: usize) -> Explanation {
     let (before, _) = source.split_at(place.min(source.len()));
     if is_one_of(&["entity"], last_word(without_comments(before))) {
@@ -121,7 +121,7 @@ fn explain_limit(source: &[u8], place: usize) -> Explanation {
     }
 }
 
-/// What a fault of the design means.
+/// The explanation of a fault of the design.
 pub fn explain_design(source: &[u8], fault: FlatError) -> Explanation {
     match fault {
         FlatError::Memory => nowhere(MEMORY),

@@ -1,20 +1,20 @@
-//! What is told of a refusal.
+//! Explanations of refusals.
 
 use crate::places::place_at;
 use crate::tokens::token_at;
 use std::fmt::Display;
 use std::io::{self, Write};
 
-/// What a refusal means.
+/// The explanation of a refusal.
 #[derive(Clone, Copy)]
 pub struct Explanation {
-    /// How many bytes stand before the place of the fault, if it has one.
+    /// The offset of the place of the fault in bytes, if it has one.
     at: Option<usize>,
-    /// Whether the token at that place is told.
+    /// Whether the token at that place is named.
     is_at_token: bool,
-    /// What such a fault means at its place, and what to do.
+    /// What such a fault means at its place, and how to mend it.
     text: &'static str,
-    /// What more is known of this one.
+    /// What else is known of this fault.
     hint: Option<&'static str>,
 }
 
@@ -28,7 +28,7 @@ pub(crate) fn at(place: usize, text: &'static str) -> Explanation {
     }
 }
 
-/// An explanation of a token with which a text cannot go on.
+/// An explanation of a fault at a token that cannot follow.
 pub(crate) fn at_token(place: usize, text: &'static str) -> Explanation {
     Explanation {
         at: Some(place),
@@ -38,7 +38,7 @@ pub(crate) fn at_token(place: usize, text: &'static str) -> Explanation {
     }
 }
 
-/// An explanation of a refusal that has no place.
+/// An explanation of a refusal without a place.
 pub fn nowhere(text: &'static str) -> Explanation {
     Explanation {
         at: None,
@@ -48,7 +48,7 @@ pub fn nowhere(text: &'static str) -> Explanation {
     }
 }
 
-/// Writes the token with which a text cannot go on.
+/// Writes the token that cannot follow.
 fn write_found<W: Write>(out: &mut W, found: &[u8]) -> io::Result<()> {
     if found.is_empty() {
         return out.write_all(b"The text ends here, before the design does.\n");
@@ -59,7 +59,7 @@ fn write_found<W: Write>(out: &mut W, found: &[u8]) -> io::Result<()> {
 }
 
 impl Explanation {
-    /// The same explanation and a hint.
+    /// The same explanation with a hint.
     pub(crate) fn with(self, hint: Option<&'static str>) -> Explanation {
         Explanation {
             at: self.at,
@@ -69,7 +69,7 @@ impl Explanation {
         }
     }
 
-    /// Writes a refusal as the program tells it, with its line and column, and the line itself.
+    /// Writes a refusal as `vsim` prints it, with its line and column, and the line itself.
     fn write_place<W: Write, F: Display>(
         &self,
         out: &mut W,
@@ -87,7 +87,7 @@ impl Explanation {
         write_found(out, token_at(source, at))
     }
 
-    /// Writes a refusal as the program tells it, and where it has a place, what stands there.
+    /// Writes a refusal as `vsim` prints it and, if it has a place, the line there.
     fn write_head<W: Write, F: Display>(
         &self,
         out: &mut W,

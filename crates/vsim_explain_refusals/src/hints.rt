@@ -1,4 +1,4 @@
-//! What more is known of a fault, by the words and signs at its place.
+//! Hints on a fault, from the words and signs at its place.
 
 use crate::left_out::{
     self, ARITHMETIC, BASED, CALL, EXTENDED, JOINING, NAMES, ORDER, STRING, TICK,
@@ -13,7 +13,7 @@ use crate::tokens::{
     last_statement, last_word, without_comments, word_before_last,
 };
 
-/// Whether a text ends so that its last line may be complete.
+/// Whether the last line of a text may be complete.
 fn is_complete(before: &[u8]) -> bool {
     match before.last() {
         None | Some(b';' | b'(' | b',') => true,
@@ -21,7 +21,7 @@ fn is_complete(before: &[u8]) -> bool {
     }
 }
 
-/// What a word tells that begins with a digit, and stands before the place of a `Syntax`.
+/// The hint on a word that begins with a digit just before a `Syntax`.
 fn of_number(before: &[u8]) -> Option<&'static str> {
     match last_word(before).first() {
         Some(b'0'..=b'9') => Some(UNIT_OF_TIME),
@@ -29,7 +29,7 @@ fn of_number(before: &[u8]) -> Option<&'static str> {
     }
 }
 
-/// Whether a text ends by a tick, which is an apostrophe that ends no value.
+/// Whether a text ends with a tick, which is an apostrophe that does not end a literal.
 fn ends_by_tick(text: &[u8]) -> bool {
     match text {
         [.., b'\'', _, b'\''] => false,
@@ -38,7 +38,7 @@ fn ends_by_tick(text: &[u8]) -> bool {
     }
 }
 
-/// What the sign at the place of a `Syntax` tells, and the byte before it.
+/// The hint on the sign at the place of a `Syntax` and the byte before it.
 fn of_signs(before: &[u8], after: &[u8]) -> Option<&'static str> {
     match (before.last(), first_token(after)) {
         (Some(b';'), b")") => Some(LAST_PORT),
@@ -54,7 +54,7 @@ fn of_signs(before: &[u8], after: &[u8]) -> Option<&'static str> {
     }
 }
 
-/// What stands at the end of the line before.
+/// The hint on the end of the line before.
 fn of_line(before: &[u8], is_first: bool) -> Option<&'static str> {
     if is_first && !is_complete(before) {
         Some(LINE_BEFORE)
@@ -63,7 +63,7 @@ fn of_line(before: &[u8], is_first: bool) -> Option<&'static str> {
     }
 }
 
-/// What a declaration tells where a process is to begin.
+/// The hint on a declaration where a process should begin.
 fn of_head(before: &[u8], after: &[u8]) -> Option<&'static str> {
     if before.ends_with(b")") && is_one_of(&["signal"], first_word(after)) {
         Some(SIGNAL)
@@ -72,12 +72,12 @@ fn of_head(before: &[u8], after: &[u8]) -> Option<&'static str> {
     }
 }
 
-/// What is left out by the words around the place of a `Syntax`.
+/// The hint on what the subset leaves out, by the words around a `Syntax`.
 fn of_left_out(before: &[u8], after: &[u8]) -> Option<&'static str> {
     find(&left_out::AT, first_word(after)).or(find(&left_out::AFTER, last_word(before)))
 }
 
-/// What a slip tells by the words and signs around the place of a `Syntax`.
+/// The hint on a slip, by the words and signs around a `Syntax`.
 fn of_slips(before: &[u8], after: &[u8]) -> Option<&'static str> {
     if let Some(text) = find(&slips::AFTER, last_word(before)) {
         return Some(text);
@@ -91,7 +91,7 @@ fn of_slips(before: &[u8], after: &[u8]) -> Option<&'static str> {
     of_number(before).or(of_signs(before, after))
 }
 
-/// What an operator tells in a port map.
+/// The hint on an operator in a port map.
 fn of_actual(before: &[u8], after: &[u8]) -> Option<&'static str> {
     if is_one_of(&OPERATORS, first_word(after)) && has_word(last_statement(before), "map") {
         Some(ACTUAL)
@@ -100,7 +100,7 @@ fn of_actual(before: &[u8], after: &[u8]) -> Option<&'static str> {
     }
 }
 
-/// What `else if` tells in a process whose end is not understood.
+/// The hint on `else if` in a process without a proper end.
 fn of_else_if(before: &[u8]) -> Option<&'static str> {
     if is_one_of(&["end"], last_word(before)) && has_pair_since(before, "process", "else", "if") {
         Some(ELSE_IF)
@@ -109,7 +109,7 @@ fn of_else_if(before: &[u8]) -> Option<&'static str> {
     }
 }
 
-/// Whether a text begins as Verilog and netlists do.
+/// Whether a text begins like Verilog or a netlist.
 pub fn is_foreign(source: &[u8]) -> bool {
     let text = source.trim_ascii_start();
     is_one_of(&["module"], first_word(text))
@@ -120,7 +120,7 @@ pub fn is_foreign(source: &[u8]) -> bool {
         || text.starts_with(b".")
 }
 
-/// What is known of a `Syntax` between what stands before it and after it.
+/// The hint on a `Syntax` between the text before it and the text after it.
 fn of_place(before: &[u8], after: &[u8], is_first: bool) -> Option<&'static str> {
     if is_one_of(&["end"], word_before_last(before)) {
         return of_line(before, is_first).or(Some(CLOSING_NAME));
@@ -134,7 +134,7 @@ fn of_place(before: &[u8], after: &[u8], is_first: bool) -> Option<&'static str>
         .or(if is_first { Some(BEGIN) } else { None })
 }
 
-/// What is known where a `Syntax` is told.
+/// The hint on a `Syntax` at this place.
 pub fn of_syntax(source: &[u8], at: usize) -> Option<&'static str> {
     let (before, after) = source.split_at(at.min(source.len()));
     if after.is_empty() {
@@ -143,7 +143,7 @@ pub fn of_syntax(source: &[u8], at: usize) -> Option<&'static str> {
     of_place(without_comments(before), after, is_at_line_start(before))
 }
 
-/// What is known where a `BadByte` is told.
+/// The hint on a `BadByte` at this place.
 pub fn of_byte(source: &[u8], at: usize) -> Option<&'static str> {
     match source.get(at).copied()? {
         b'"' => Some(STRING),
@@ -159,12 +159,12 @@ pub fn of_byte(source: &[u8], at: usize) -> Option<&'static str> {
     }
 }
 
-/// What is known where an `Unknown` is told.
+/// The hint on an `Unknown` at this place.
 pub fn of_name(source: &[u8], at: usize) -> Option<&'static str> {
     find(&NAMES, first_word(source.get(at..)?))
 }
 
-/// What is known where a `WrongKind` is told.
+/// The hint on a `WrongKind` at this place.
 pub fn of_kind(source: &[u8], at: usize) -> Option<&'static str> {
     find(&KINDS, first_word(source.get(at..)?))
 }

@@ -1,4 +1,4 @@
-//! What of VHDL the subset leaves out, and what to write in its place.
+//! What the subset leaves out of VHDL, and what to write instead.
 
 pub const SUBPROGRAM: &str = "\
     Subprograms are left out. Write a process, or an entity with ports, for what it does.\n\
@@ -118,7 +118,7 @@ pub const BASED: &str = "\
     Numbers in another base are left out. Write it in decimals.\n\
     See Values in docs/LEFT_OUT.md.";
 
-/// What begins with a word that stands at the place of a `Syntax`.
+/// What a word at the place of a `Syntax` begins.
 pub static AT: [(&str, &str); 20] = [
     ("generic", GENERIC),
     ("constant", CONSTANT),
@@ -142,7 +142,7 @@ pub static AT: [(&str, &str); 20] = [
     ("srl", SHIFT),
 ];
 
-/// What begins with a word that stands before the place of a `Syntax`.
+/// What a word before the place of a `Syntax` begins.
 pub static AFTER: [(&str, &str); 21] = [
     ("wait", WAIT),
     ("case", CASE),

@@ -1,4 +1,4 @@
-//! What the refusals of a text mean, in plain words.
+//! Explanations of the refusals of a text, in plain words.
 #![tactic(auto)]
 
 mod design_faults;

@@ -1,4 +1,4 @@
-//! What the text itself tells of a fault.
+//! What the text itself says about a fault.
 
 use crate::nearest::{meant, nearest};
 use crate::ports::write_missing;
@@ -25,7 +25,7 @@ fn entities<'a>(alloc: Global, file: &'a DesignFile) -> Result<Vec<&'a str>, All
     Ok(found)
 }
 
-/// Writes some names, first the one that is said, each but that behind a comma.
+/// Writes names separated by commas, with `first` in front.
 fn write_names<W: Write>(out: &mut W, names: &[&str], first: &str) -> io::Result<()> {
     write!(out, "The entities of the text, the nearest first: {first}")?;
     for name in names {
@@ -36,7 +36,7 @@ fn write_names<W: Write>(out: &mut W, names: &[&str], first: &str) -> io::Result
     out.write_all(b".\n")
 }
 
-/// Writes which entities there are, first the one that is nearest to the top's name.
+/// Writes the entities of a file, the one with the name nearest to the top's first.
 fn write_entities<W: Write>(
     alloc: Global,
     out: &mut W,
@@ -50,7 +50,7 @@ fn write_entities<W: Write>(
     }
 }
 
-/// Writes what the text tells of a fault of its design under this top, where it tells more.
+/// Writes what the text says about a fault of its design under this top, if anything.
 pub fn write_more_of_design<W: Write>(
     alloc: Global,
     out: &mut W,
@@ -68,7 +68,7 @@ pub fn write_more_of_design<W: Write>(
     }
 }
 
-/// Writes which reserved word may have been meant by a word, and whether there is one.
+/// Writes the reserved word that may have been meant by a word; returns whether there is one.
 fn write_meant<W: Write>(alloc: Global, out: &mut W, word: &[u8]) -> io::Result<bool> {
     if is_one_of(&OTHER_WORDS, word) {
         return Ok(false);
@@ -83,8 +83,8 @@ fn write_meant<W: Write>(alloc: Global, out: &mut W, word: &[u8]) -> io::Result<
     Ok(true)
 }
 
-/// Writes what the text tells of a fault of its own, where it tells more: a word just before the place
-/// of a `Syntax`, or at it, that is nearly a reserved one.
+/// Writes what the text says about its own fault, if anything: a word just before a `Syntax`, or at
+/// it, that is nearly a reserved one.
 pub fn write_more_of_text<W: Write>(
     alloc: Global,
     out: &mut W,

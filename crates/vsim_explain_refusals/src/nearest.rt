@@ -1,14 +1,14 @@
-//! The name that somebody may have meant.
+//! The name that was probably meant.
 
 use std::alloc::{AllocError, Global};
 use strsim::osa_distance;
 
-/// How many letters of a name may be wrong: a third, and two at most.
+/// The number of letters of a name that may be wrong: a third, but at most two.
 fn most_wrong(name: &str) -> usize {
     (name.len() / 3).min(2)
 }
 
-/// Of two names the one that is nearer, with its distance; the first where both are as near.
+/// The nearer of two names, with its distance; the first if both are equally near.
 fn nearer<'a>(
     alloc: Global,
     name: &str,
@@ -22,8 +22,8 @@ fn nearer<'a>(
     }
 }
 
-/// Of some names the one that is nearest to another, however far away; none where there are none. A
-/// letter that is missing, too many, another one, or exchanged with its neighbour counts one.
+/// The nearest of some names, however far away; `None` if there are no names. A missing letter, an
+/// extra letter, a wrong letter and two letters exchanged count one each.
 pub fn nearest<'a>(
     alloc: Global,
     name: &str,
@@ -39,8 +39,7 @@ pub fn nearest<'a>(
     }
 }
 
-/// Of some names the one that may have been meant by another: the nearest, where few letters are
-/// wrong.
+/// The one of some names that was probably meant: the nearest, if few letters are wrong.
 pub fn meant<'a>(
     alloc: Global,
     name: &str,

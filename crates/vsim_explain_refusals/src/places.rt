@@ -6,7 +6,7 @@ use std::io::{self, Write};
 /// The most bytes of a line that are shown on either side of a place.
 const MOST_SHOWN: usize = 100;
 
-/// A place in a text, and what is shown of its line.
+/// A place in a text, and the part of its line that is shown.
 #[derive(Clone, Copy)]
 pub struct Place<'a> {
     /// The number of its line, from 1.
@@ -17,32 +17,32 @@ pub struct Place<'a> {
     after: &'a [u8],
 }
 
-/// Whether this byte goes on with a character of UTF-8.
+/// Whether a byte continues a character of UTF-8.
 fn is_continuation(byte: u8) -> bool {
     (128..192).contains(&byte)
 }
 
-/// How many lines end in this text.
+/// The number of line ends in a text.
 fn line_ends(text: &[u8]) -> usize {
     text.iter().filter(|byte| **byte == b'\n').count()
 }
 
-/// How many characters this text has.
+/// The number of characters of a text.
 fn characters(text: &[u8]) -> usize {
     text.iter().filter(|byte| !is_continuation(**byte)).count()
 }
 
-/// What is shown of the part of a line that ends at a place.
+/// What is shown of a line before a place.
 fn shown_before(line: &[u8]) -> &[u8] {
     &line[line.len().saturating_sub(MOST_SHOWN)..]
 }
 
-/// What is shown of the part of a line that begins at a place.
+/// What is shown of a line from a place on.
 fn shown_after(line: &[u8]) -> &[u8] {
     &line[..line.len().min(MOST_SHOWN)]
 }
 
-/// The place before which this many bytes stand; the end, where there are fewer.
+/// The place after this many bytes; the end, if there are fewer.
 pub fn place_at(source: &[u8], at: usize) -> Place<'_> {
     let (before, after) = source.split_at(at.min(source.len()));
     let start = last_line(before);
@@ -54,7 +54,7 @@ pub fn place_at(source: &[u8], at: usize) -> Place<'_> {
     }
 }
 
-/// A byte as it is shown: `?` in place of what moves the cursor.
+/// A byte as it is shown: `?` in place of a byte that moves the cursor.
 fn shown(byte: u8) -> u8 {
     match byte {
         b'\t' => b'\t',

@@ -1,4 +1,4 @@
-//! Which port of an instance has no actual, and which name that is associated is no port.
+//! The port of an instance that has no actual, and the formal that names no port.
 
 use crate::nearest::nearest;
 use sim_text_tree::DesignFile;
@@ -9,7 +9,7 @@ use sim_text_tree::unit::{
 use std::alloc::{AllocError, Global};
 use std::io::{self, Write};
 
-/// The instance whose label stands at a place, among the statements of an architecture.
+/// The instance whose label is at a place, among the statements of an architecture.
 fn instance_among(statements: &[Concurrent], at: usize) -> Option<&Instance> {
     for statement in statements {
         if let Concurrent::Instance(instance) = statement {
@@ -21,7 +21,7 @@ fn instance_among(statements: &[Concurrent], at: usize) -> Option<&Instance> {
     None
 }
 
-/// The instance whose label stands at a place.
+/// The instance whose label is at a place.
 fn instance_at(file: &DesignFile, at: usize) -> Option<&Instance> {
     for unit in file.units() {
         if let LibraryUnit::Architecture(architecture) = &unit.library_unit {
@@ -46,7 +46,7 @@ fn entity_named<'a>(file: &'a DesignFile, name: &str) -> Option<&'a Entity> {
     None
 }
 
-/// The entity of which an instance is made.
+/// The entity of an instance.
 fn entity_of<'a>(file: &'a DesignFile, instance: &Instance) -> Option<&'a Entity> {
     match &instance.unit {
         Instantiated::Component { component, .. } => entity_named(file, component.as_str()),
@@ -54,7 +54,7 @@ fn entity_of<'a>(file: &'a DesignFile, instance: &Instance) -> Option<&'a Entity
     }
 }
 
-/// Whether the ports of a declaration want an actual.
+/// Whether the ports of a declaration need an actual.
 fn is_wanted(ports: &PortDeclaration) -> bool {
     let is_in = match ports.mode {
         None | Some(Mode::In) => true,
@@ -63,7 +63,7 @@ fn is_wanted(ports: &PortDeclaration) -> bool {
     is_in && ports.initial.is_none()
 }
 
-/// Whether an association is of the port with a name and a place.
+/// Whether an association is that of the port with a name and a position.
 fn is_of(association: &Association, index: usize, name: &str, place: usize) -> bool {
     match &association.formal {
         Some(formal) => formal.as_str() == name,
@@ -71,7 +71,7 @@ fn is_of(association: &Association, index: usize, name: &str, place: usize) -> b
     }
 }
 
-/// Whether a port has an actual: the first association of it counts.
+/// Whether a port has an actual: its first association counts.
 fn has_actual(associations: &[Association], name: &str, place: usize) -> bool {
     for (index, association) in associations.iter().enumerate() {
         if is_of(association, index, name, place) {
@@ -84,7 +84,7 @@ fn has_actual(associations: &[Association], name: &str, place: usize) -> bool {
     false
 }
 
-/// The names of ports, in order, and of each whether it wants an actual.
+/// The names of ports, in order, and for each whether it needs an actual.
 fn ports_of<'a>(alloc: Global, entity: &'a Entity) -> Result<Vec<(&'a str, bool)>, AllocError> {
     let mut found = Vec::new(alloc);
     for ports in entity.ports.as_slice() {
@@ -98,7 +98,7 @@ fn ports_of<'a>(alloc: Global, entity: &'a Entity) -> Result<Vec<(&'a str, bool)
     Ok(found)
 }
 
-/// The first port that wants an actual and has none.
+/// The first port that needs an actual and has none.
 fn missing<'a>(ports: &[(&'a str, bool)], associations: &[Association]) -> Option<&'a str> {
     for (place, (name, wanted)) in ports.iter().enumerate() {
         if *wanted && !has_actual(associations, name, place) {
@@ -121,7 +121,7 @@ fn stranger<'a>(ports: &[(&str, bool)], associations: &'a [Association]) -> Opti
     None
 }
 
-/// Writes which port has no actual, and what may have been meant by a name that is no port.
+/// Writes the port that has no actual, and what a formal that names no port may have meant.
 fn write_ports<W: Write>(
     alloc: Global,
     out: &mut W,
@@ -140,7 +140,7 @@ fn write_ports<W: Write>(
     }
 }
 
-/// Writes that a name is no port, and the port that is nearest to it.
+/// Writes that a name is no port, and the port with the nearest name.
 fn write_stranger<W: Write>(
     alloc: Global,
     out: &mut W,
@@ -154,7 +154,7 @@ fn write_stranger<W: Write>(
     }
 }
 
-/// Writes which port of the instance at a place has no actual.
+/// Writes the port without an actual of the instance at a place.
 pub fn write_missing<W: Write>(
     alloc: Global,
     out: &mut W,

@@ -1,4 +1,4 @@
-//! Common slips in writing what the subset has.
+//! Common slips in the use of what the subset has.
 
 pub const COMPARISON: &str = "\
     = compares two values, and one = does. A signal is assigned by <= and a variable by :=.\n\
@@ -111,7 +111,7 @@ pub const CONVERSION: &str = "\
     A type is no value, and conversions are left out: signals of std_logic and std_ulogic are\n\
     assigned to one another as they are. See Values in docs/LEFT_OUT.md.";
 
-/// What a word at the place of a `Syntax` tells.
+/// The hint on a word at the place of a `Syntax`.
 pub static AT: [(&str, &str); 16] = [
     ("and", MIXED),
     ("or", MIXED),
@@ -131,7 +131,7 @@ pub static AT: [(&str, &str); 16] = [
     ("component", COMPONENT),
 ];
 
-/// What a word before the place of a `Syntax` tells.
+/// The hint on a word before the place of a `Syntax`.
 pub static AFTER: [(&str, &str); 6] = [
     ("end", ENDS),
     ("endif", END_IF),
@@ -141,7 +141,7 @@ pub static AFTER: [(&str, &str); 6] = [
     ("reject", UNIT_OF_TIME),
 ];
 
-/// What a name of the wrong kind tells.
+/// The hint on a name of the wrong kind.
 pub static KINDS: [(&str, &str); 3] = [
     ("boolean", NO_BOOLEAN),
     ("std_logic", CONVERSION),
@@ -151,5 +151,5 @@ pub static KINDS: [(&str, &str); 3] = [
 /// The operators that are words.
 pub static OPERATORS: [&str; 7] = ["not", "and", "or", "nand", "nor", "xor", "xnor"];
 
-/// The words after which a line may go on.
+/// The words with which a line may end.
 pub static OPEN: [&str; 4] = ["is", "begin", "then", "else"];

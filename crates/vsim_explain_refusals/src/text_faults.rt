@@ -1,4 +1,4 @@
-//! What the faults of a text mean.
+//! Explanations of the faults of a text.
 
 use crate::explanation::{Explanation, at, at_token, nowhere};
 use crate::hints;
@@ -42,7 +42,7 @@ const UNFINISHED: &str = "\
     Each if, process, architecture and entity ends by end and ; and one of these is missing.\n\
     A text without any entity or architecture is no design. See Grammar in docs/REFERENCE.md.";
 
-/// What a `Syntax` means at this place.
+/// The explanation of a `Syntax` at this place.
 fn explain_syntax(source: &[u8], place: usize) -> Explanation {
     if place >= source.len() {
         return at_token(place, UNFINISHED);
@@ -53,7 +53,7 @@ fn explain_syntax(source: &[u8], place: usize) -> Explanation {
     }
 }
 
-/// What a fault means of a text that is no VHDL.
+/// The explanation of a fault of a text that is not VHDL.
 fn explain_foreign(fault: TextError) -> Explanation {
     match fault {
         TextError::Memory => nowhere(MEMORY),
@@ -67,7 +67,7 @@ fn explain_foreign(fault: TextError) -> Explanation {
     }
 }
 
-/// What a fault of the text means.
+/// The explanation of a fault of the text.
 pub fn explain_text(source: &[u8], fault: TextError) -> Explanation {
     if hints::is_foreign(source) {
         return explain_foreign(fault);

@@ -1,17 +1,17 @@
 //! Words, signs and lines around a place in a text.
 
-/// The most comments that stand after one another and are passed over.
+/// The most comments in a row that are skipped.
 const MOST_COMMENTS: usize = 100;
 
 /// The signs of two bytes.
 static SIGNS: [&[u8]; 6] = [b"<=", b"=>", b":=", b"/=", b"??", b"**"];
 
-/// Whether words have this byte.
+/// Whether words may contain this byte.
 fn is_of_word(byte: u8) -> bool {
     byte.is_ascii_alphanumeric() || byte == b'_'
 }
 
-/// Whether two words are the same, in any case.
+/// Whether two words are equal, in any case.
 fn is_same(word: &[u8], other: &str) -> bool {
     word.len() == other.len()
         && word
@@ -30,7 +30,7 @@ pub fn is_one_of(words: &[&str], word: &[u8]) -> bool {
     false
 }
 
-/// What a table says of a word.
+/// The entry of a word in a table.
 pub fn find(table: &[(&'static str, &'static str)], word: &[u8]) -> Option<&'static str> {
     for (name, text) in table {
         if is_same(word, name) {
@@ -40,7 +40,7 @@ pub fn find(table: &[(&'static str, &'static str)], word: &[u8]) -> Option<&'sta
     None
 }
 
-/// The word that a text begins with; empty where it begins otherwise.
+/// The word at the start of a text; empty if there is none.
 pub fn first_word(text: &[u8]) -> &[u8] {
     match text.split(|byte| !is_of_word(*byte)).next() {
         Some(word) => word,
@@ -48,7 +48,7 @@ pub fn first_word(text: &[u8]) -> &[u8] {
     }
 }
 
-/// The word that a text ends with; empty where it ends otherwise.
+/// The word at the end of a text; empty if there is none.
 pub fn last_word(text: &[u8]) -> &[u8] {
     match text.rsplit(|byte| !is_of_word(*byte)).next() {
         Some(word) => word,
@@ -56,14 +56,14 @@ pub fn last_word(text: &[u8]) -> &[u8] {
     }
 }
 
-/// The word before the one that a text ends with.
+/// The word before the last one.
 pub fn word_before_last(text: &[u8]) -> &[u8] {
     let start = text.len().saturating_sub(last_word(text).len());
     let (before, _) = text.split_at(start.min(text.len()));
     last_word(before.trim_ascii_end())
 }
 
-/// What stands after the last semicolon.
+/// The text after the last semicolon.
 pub fn last_statement(text: &[u8]) -> &[u8] {
     match text.rsplit(|byte| *byte == b';').next() {
         Some(statement) => statement,
@@ -71,7 +71,7 @@ pub fn last_statement(text: &[u8]) -> &[u8] {
     }
 }
 
-/// Whether a text has a word.
+/// Whether a text contains a word.
 pub fn has_word(text: &[u8], word: &str) -> bool {
     for it in text.split(|byte| !is_of_word(*byte)) {
         if is_same(it, word) {
@@ -81,7 +81,7 @@ pub fn has_word(text: &[u8], word: &str) -> bool {
     false
 }
 
-/// Whether a word is followed by another after the last place of a third.
+/// Whether `word` is followed by `next` after the last occurrence of `since`.
 pub fn has_pair_since(text: &[u8], since: &str, word: &str, next: &str) -> bool {
     let (mut found, mut is_behind) = (false, false);
     for it in text.split(|byte| !is_of_word(*byte)) {
@@ -93,7 +93,7 @@ pub fn has_pair_since(text: &[u8], since: &str, word: &str, next: &str) -> bool 
     found
 }
 
-/// What stands after the last end of a line.
+/// The text after the last line feed.
 pub fn last_line(text: &[u8]) -> &[u8] {
     match text.rsplit(|byte| *byte == b'\n').next() {
         Some(line) => line,
@@ -101,7 +101,7 @@ pub fn last_line(text: &[u8]) -> &[u8] {
     }
 }
 
-/// What stands before the first end of a line.
+/// The text before the first line feed.
 pub fn first_line(text: &[u8]) -> &[u8] {
     match text.split(|byte| *byte == b'\n').next() {
         Some(line) => line,
@@ -109,19 +109,19 @@ pub fn first_line(text: &[u8]) -> &[u8] {
     }
 }
 
-/// Whether what follows a text begins a line, but for blanks.
+/// Whether the end of a text is at the start of a line, apart from blanks.
 pub fn is_at_line_start(text: &[u8]) -> bool {
     last_line(text).trim_ascii().is_empty()
 }
 
-/// Where a comment begins in the last line of a text, if there is one.
+/// The start of a comment in the last line of a text, if there is one.
 fn comment_start(text: &[u8]) -> Option<usize> {
     let line = last_line(text);
     let at = line.windows(2).position(|pair| pair == b"--".as_slice())?;
     Some(text.len().saturating_sub(line.len()).saturating_add(at))
 }
 
-/// A text without the blanks and comments of its last lines.
+/// A text without blanks and comments at its end.
 pub fn without_comments(text: &[u8]) -> &[u8] {
     let mut text = text.trim_ascii_end();
     for _turn in 0..MOST_COMMENTS {
@@ -134,7 +134,7 @@ pub fn without_comments(text: &[u8]) -> &[u8] {
     text
 }
 
-/// How many bytes the sign has that a text begins with.
+/// The number of bytes of the sign at the start of a text.
 fn sign_length(text: &[u8]) -> usize {
     for sign in &SIGNS {
         if text.starts_with(sign) {
@@ -144,13 +144,13 @@ fn sign_length(text: &[u8]) -> usize {
     if text.first() == Some(&b'\'') { 3 } else { 1 }
 }
 
-/// The token before which this many bytes stand; empty at the end.
+/// The token after this many bytes; empty at the end.
 pub fn token_at(source: &[u8], at: usize) -> &[u8] {
     let (_, after) = source.split_at(at.min(source.len()));
     first_token(after)
 }
 
-/// The token that a text begins with; empty where there is none.
+/// The token at the start of a text; empty if there is none.
 pub fn first_token(text: &[u8]) -> &[u8] {
     let word = first_word(text);
     if !word.is_empty() {
