@@ -62,42 +62,42 @@ end;
 # which line of DESIGN is replaced, and by what; at which line it is refused, and how; what is said about it
 MISTAKES = [
     # something missing
-    (16, "clk <= '1' after 5 ns, '0' after 10 ns", 17, "Syntax", "cannot go on here with u1"),
-    (16, "clk <= '1' after 5 ns, '0' after 10 ns", 17, "Syntax", "at the end of what stands before: a ;"),
-    (14, "signal clk, p, q : std_logic := '0'", 15, "Syntax", "at the end of what stands before: a ;"),
-    (14, "signal clk, p, q : std_logic := '0' -- no semicolon;", 15, "Syntax", "at the end of what stands before: a ;"),
-    (24, "end if", 25, "Syntax", "at the end of what stands before: a ;"),
-    (14, "signal clk, p, q std_logic;", 14, "Syntax", "Between the names and their type stands a colon"),
-    (10, "entity t", 11, "Syntax", "a word as is, then or begin"),
-    (15, "", 16, "Syntax", "Between declarations and statements stands begin"),
-    (21, "if clk = '1'", 22, "Syntax", "a word as is, then or begin"),
-    (24, "", 25, "Syntax", "An if ends by end if"),
-    (25, "", 26, "Syntax", "a process by end process"),
-    (26, "", 27, "Syntax", "ends by end and ; and one of these is missing"),
-    (26, "end", 27, "Syntax", "The text ends here, before the design does."),
+    (16, "clk <= '1' after 5 ns, '0' after 10 ns", 17, "Syntax", "Unexpected token: u1"),
+    (16, "clk <= '1' after 5 ns, '0' after 10 ns", 17, "Syntax", "at the end of the line before: a ; or )"),
+    (14, "signal clk, p, q : std_logic := '0'", 15, "Syntax", "at the end of the line before: a ; or )"),
+    (14, "signal clk, p, q : std_logic := '0' -- no semicolon;", 15, "Syntax", "at the end of the line before: a ; or )"),
+    (24, "end if", 25, "Syntax", "at the end of the line before: a ; or )"),
+    (14, "signal clk, p, q std_logic;", 14, "Syntax", "A colon separates the names from their type"),
+    (10, "entity t", 11, "Syntax", "a word such as is, then or begin"),
+    (15, "", 16, "Syntax", "begin is missing between declarations and statements"),
+    (21, "if clk = '1'", 22, "Syntax", "a word such as is, then or begin"),
+    (24, "", 25, "Syntax", "An if ends with end if"),
+    (25, "", 26, "Syntax", "a process with end process"),
+    (26, "", 27, "Syntax", "is closed by end and a semicolon, and one of these is missing"),
+    (26, "end", 27, "Syntax", "The text ends here, but the design is not complete."),
     (21, "if (clk = '1' then", 21, "Syntax", "a ; or ) or end may be missing there"),
     (23, "q <= v after 5;", 23, "Syntax", "A time is a whole number and a unit"),
     (23, "q <= v after 2.5 ns;", 23, "Syntax", "A time is a whole number and a unit"),
-    (18, "process", 19, "Syntax", "A process has a sensitivity list"),
+    (18, "process", 19, "Syntax", "A process needs a sensitivity list"),
     (17, "u1 : entity inverter port map (clk, p);", 17, "Syntax", "entity work.NAME"),
     (9, "/* the design under test", 9, "OpenComment", "ends at the next */"),
     # one thing instead of another
-    (16, "clk = '1' after 5 ns;", 16, "Syntax", "A signal is assigned by <="),
+    (16, "clk = '1' after 5 ns;", 16, "Syntax", "Assign a signal with <="),
     (16, "clk => '1' after 5 ns;", 16, "Syntax", "=> is for port maps"),
-    (16, "clk := '1' after 5 ns;", 16, "Syntax", "A signal is assigned by <="),
-    (23, "q := v;", 23, "WrongKind", "<= assigns signals and ports, and := variables"),
-    (22, "v <= p;", 22, "WrongKind", "<= assigns signals and ports, and := variables"),
-    (21, "if clk == '1' then", 21, "Syntax", "one = does"),
-    (21, "if clk != '1' then", 21, "BadByte", "/= asks whether two values differ"),
-    (17, "u1 : entity work.inverter port map (i <= clk, o => p);", 17, "Syntax", "In a port map it is =>"),
-    (2, "port (i : in std_logic, o : out std_logic);", 2, "Syntax", "Between ports stands ;"),
+    (16, "clk := '1' after 5 ns;", 16, "Syntax", "Assign a signal with <="),
+    (23, "q := v;", 23, "WrongKind", "the target of <= is a signal or port, that of := a variable"),
+    (22, "v <= p;", 22, "WrongKind", "the target of <= is a signal or port, that of := a variable"),
+    (21, "if clk == '1' then", 21, "Syntax", "(not ==)"),
+    (21, "if clk != '1' then", 21, "BadByte", "/= tests whether two values differ"),
+    (17, "u1 : entity work.inverter port map (i <= clk, o => p);", 17, "Syntax", "In a port map write =>"),
+    (2, "port (i : in std_logic, o : out std_logic);", 2, "Syntax", "Ports are separated by ;"),
     (2, "port (i : in std_logic; o : out std_logic;);", 2, "Syntax", "The last port has no ;"),
     (24, "else if p = '1' then q <= '0'; end if;", 25, "Syntax", "elsif was meant"),
     (24, "elseif p = '1' then q <= '0'; end if;", 24, "Syntax", "The word is elsif."),
-    (25, "end process main;", 25, "Syntax", "A closing name is that of what it closes."),
-    (26, "end architecture b;", 26, "Syntax", "A closing name is that of what it closes."),
+    (25, "end process main;", 25, "Syntax", "A name after end must be that of what it closes"),
+    (26, "end architecture b;", 26, "Syntax", "A name after end must be that of what it closes"),
     (23, "q <= v; // the next value", 23, "BadByte", "A comment begins with two hyphens."),
-    (19, "signal v : std_logic;", 19, "Syntax", "a process declares variables alone"),
+    (19, "signal v : std_logic;", 19, "Syntax", "a process declares only variables"),
     (14, "variable clk, p, q : std_logic;", 14, "Syntax", "Variables are declared in a process"),
     (23, "q <= p and v or clk;", 23, "Syntax", "only with parentheses"),
     (1, "\ufeffentity inverter is", 1, "BadByte", "byte order mark"),
@@ -107,8 +107,8 @@ MISTAKES = [
     (23, "q <= '2';", 23, "BadLiteral", "one of the nine values"),
     (23, "q <= 'x';", 23, "BadLiteral", "in upper case"),
     (23, "q <= clk = '1';", 23, "TypeClash", "'1' when .. else '0'"),
-    (21, "if '1' = '1' then", 21, "Ambiguous", "Name a signal or variable in it"),
-    (21, "if '1' then", 21, "Ambiguous", "Name a signal or variable in it"),
+    (21, "if '1' = '1' then", 21, "Ambiguous", "Use a signal or variable in it"),
+    (21, "if '1' then", 21, "Ambiguous", "Use a signal or variable in it"),
     (21, "if ?? rising_edge(clk) then", 21, "TypeClash", "or ?? is applied to a boolean"),
     (16, "clk <= '1' after 10 ns, '0' after 5 ns;", 16, "NotAscending", "in the order of their times"),
     (16, "clk <= '1' after 2 hr;", 16, "TimeRange", "Write a shorter one."),
@@ -116,49 +116,49 @@ MISTAKES = [
     (23, "q <= vv;", 23, "Unknown", "Compare it with its declaration."),
     (5, "architecture gate of invertor is", 5, "Unknown", "Compare it with its declaration."),
     (17, "u1 : inverter port map (clk, p);", 17, "Unknown", "units of this file as entity work.NAME"),
-    (17, "u1 : entity work.inverter port map (i => clk, x => p);", 17, "Unknown", "Nothing that can be named here has this name."),
-    (17, "u1 : entity work.inverter port map (clk, p, q);", 17, "Unknown", "there are more of them than ports"),
-    (17, "u1 : entity work.inverter port map (o => p);", 17, "PortMissing", "neither an actual nor a first value"),
-    (17, "u1 : entity work.inverter port map (i => clk, i => q, o => p);", 17, "PortTwice", "has an actual in the same port map already"),
-    (17, "u1 : entity work.inverter port map (i => clk, o => '1');", 17, "ModeClash", "an out port no in port and no literal"),
-    (17, "u1 : entity work.t;", 17, "Recursive", "so the hierarchy has no end"),
-    (14, "signal clk, p, q, p : std_logic;", 14, "Duplicate", "is declared before"),
-    (14, "signal clk, p, q, true : std_logic;", 14, "Predefined", "Take another name."),
+    (17, "u1 : entity work.inverter port map (i => clk, x => p);", 17, "Unknown", "Nothing visible here has this name."),
+    (17, "u1 : entity work.inverter port map (clk, p, q);", 17, "Unknown", "there may be more actuals than ports"),
+    (17, "u1 : entity work.inverter port map (o => p);", 17, "PortMissing", "neither an actual nor a default value"),
+    (17, "u1 : entity work.inverter port map (i => clk, i => q, o => p);", 17, "PortTwice", "already has an actual in this port map"),
+    (17, "u1 : entity work.inverter port map (i => clk, o => '1');", 17, "ModeClash", "nor an out port to an in port or a literal"),
+    (17, "u1 : entity work.t;", 17, "Recursive", "so the hierarchy never ends"),
+    (14, "signal clk, p, q, p : std_logic;", 14, "Duplicate", "is already declared"),
+    (14, "signal clk, p, q, true : std_logic;", 14, "Predefined", "Choose another name."),
     (7, "o <= not o after 1 ns;", 7, "ReadOut", "Drive a signal, read that, and assign it to the port."),
-    (7, "i <= o;", 7, "WriteIn", "Make it out or inout, or assign a signal."),
+    (7, "i <= o;", 7, "WriteIn", "Make it out or inout, or assign a signal instead."),
     # what is left out
-    (23, "wait for 5 ns;", 23, "Syntax", "There is no wait."),
+    (23, "wait for 5 ns;", 23, "Syntax", "Wait statements are left out."),
     (23, "case v is when '0' => q <= v; end case;", 23, "Syntax", "Write if, elsif and else."),
     (14, "signal clk, p, q : std_logic_vector(7 downto 0);", 14, "Syntax", "Vectors are left out."),
     (10, "entity t is generic (n : natural := 8);", 10, "Syntax", "Generics are left out."),
-    (14, "signal clk, p, q : integer;", 14, "Unknown", "numbers are left out"),
-    (14, "signal clk, p, q : integer range 0 to 7;", 14, "Syntax", "numbers are left out"),
-    (14, "signal clk, p, q : boolean;", 14, "WrongKind", "boolean is for variables alone"),
+    (14, "signal clk, p, q : integer;", 14, "Unknown", "Numbers, user-defined types and all others are left out"),
+    (14, "signal clk, p, q : integer range 0 to 7;", 14, "Syntax", "Numbers, user-defined types and all others are left out"),
+    (14, "signal clk, p, q : boolean;", 14, "WrongKind", "only variables can be boolean"),
     (14, "constant zero : std_logic := '0';", 14, "Syntax", "Constants are left out."),
     (23, "q <= v + '1';", 23, "BadByte", "Arithmetic is left out"),
     (23, "q <= v when clk = '1' else p;", 23, "Syntax", "Write an if statement."),
-    (23, "for k in 0 to 7 loop q <= v; end loop;", 23, "Syntax", "Loops and generate are left out."),
-    (17, "g : for k in 0 to 7 generate end generate;", 17, "Syntax", "Loops and generate are left out."),
+    (23, "for k in 0 to 7 loop q <= v; end loop;", 23, "Syntax", "Loops and generate statements are left out."),
+    (17, "g : for k in 0 to 7 generate end generate;", 17, "Syntax", "Loops and generate statements are left out."),
     (23, "assert q = v;", 23, "Syntax", "Assertions and reports are left out."),
     (23, "q <= p(0);", 23, "Syntax", "signals have no elements"),
-    (18, "process begin", 18, "Syntax", "There is no wait"),
+    (18, "process begin", 18, "Syntax", "wait is left out"),
     (14, "constant period : time := 10 ns;", 14, "Syntax", "write the delay itself"),
     (23, 'q <= "10";', 23, "BadByte", "a signal for each element of"),
-    (17, "u1 : entity work.inverter port map (i => not clk, o => p);", 17, "Syntax", "An actual is a signal, a port, a value or open"),
-    (17, "u1 : entity work.inverter port map (clk and q, p);", 17, "Syntax", "An actual is a signal, a port, a value or open"),
+    (17, "u1 : entity work.inverter port map (i => not clk, o => p);", 17, "Syntax", "An actual is a signal, a port, a literal or open"),
+    (17, "u1 : entity work.inverter port map (clk and q, p);", 17, "Syntax", "An actual is a signal, a port, a literal or open"),
     # a word of the text that may have been meant differently
-    (24, "endif;", 24, "Syntax", "An if ends by two words, end if."),
-    (12, "architectur a of t is", 12, "Syntax", "architectur is no reserved word; architecture is."),
-    (14, "singal clk, p, q : std_logic := '0';", 14, "Syntax", "singal is no reserved word; signal is."),
-    (18, "Proces (clk)", 18, "Syntax", "Proces is no reserved word; process is."),
+    (24, "endif;", 24, "Syntax", "An if ends with two words, end if."),
+    (12, "architectur a of t is", 12, "Syntax", "architectur is not a reserved word; did you mean architecture?"),
+    (14, "singal clk, p, q : std_logic := '0';", 14, "Syntax", "singal is not a reserved word; did you mean signal?"),
+    (18, "Proces (clk)", 18, "Syntax", "Proces is not a reserved word; did you mean process?"),
     (1, "module inverter (input i, output o);", 1, "Syntax", "This looks like Verilog"),
     (1, "// an inverter", 1, "BadByte", "This looks like Verilog"),
     (1, '{"creator": "Yosys"}', 1, "BadByte", "This looks like Verilog"),
     # a port without an actual
-    (17, "u1 : entity work.inverter port map (o => p);", 17, "PortMissing", "The port is i of inverter."),
-    (17, "u1 : entity work.inverter port map (ii => clk, o => p);", 17, "PortMissing", "ii is none of its ports; the nearest is i."),
+    (17, "u1 : entity work.inverter port map (o => p);", 17, "PortMissing", "The port without an actual is i of inverter."),
+    (17, "u1 : entity work.inverter port map (ii => clk, o => p);", 17, "PortMissing", "No port is named ii; the nearest is i."),
     # a waveform that is too long
-    (16, "clk <= " + ", ".join(f"'{n % 2}' after {n} ns" for n in range(17)) + ";", 16, "TooMany", "further assignments in the same"),
+    (16, "clk <= " + ", ".join(f"'{n % 2}' after {n} ns" for n in range(17)) + ";", 16, "TooMany", "several assignments in a process that is executed only once"),
 ]
 
 LOOP = "entity t is end; architecture a of t is signal s : std_logic := '0'; begin s <= not s; end;"
@@ -173,25 +173,25 @@ begin
 end;
 """
 STANDS = """\
-The time stands still: signals drive one another in a circle without delay. Break the
-circle, or give one of its assignments a delay. See Time and cycles in docs/LANGUAGE.md.
+Time does not advance: signals drive one another in a loop without delay. Break the
+loop, or give one of its assignments a delay. See Time and cycles in docs/LANGUAGE.md.
 """
 EARLY = """\
-So few cycles do not tell whether the time goes on. Give a larger number by --limit.
+So few cycles do not show whether time advances. Set a larger --limit.
 See Time and cycles in docs/LANGUAGE.md.
 """
 NO_STOP = """\
-The time goes on, and no --stop is given: a clock that runs on needs one, as in
---stop 1000000 for 1 ns. Else give a larger number by --limit.
+Time advances, and there is no --stop: a free-running clock needs one, such as
+--stop 1000000 for 1 ns. Otherwise set a larger --limit.
 See Calling the program in docs/LANGUAGE.md.
 """
 STOP_NOT_REACHED = """\
-The time goes on, and has not come to that of --stop. Give an earlier --stop, or a larger
-number by --limit, which is 10000 where it is not given and at most 1000000.
+Time advances, but has not reached --stop. Set an earlier --stop or a larger --limit,
+which is 10000 by default and at most 1000000.
 See Calling the program in docs/LANGUAGE.md.
 """
 BUSIEST = "The nets that change most in the last 100 cycles, and how often:\n"
-LAST = "The last cycles, as a listing has them:\n"
+LAST = "The last cycles of the listing:\n"
 
 # words that ask for no run, and the status
 USAGES = [(["--help"], 0), (["-h"], 0), ([], 2)]
@@ -209,7 +209,7 @@ def loop_lines(first, last):
 
 def cut_short(limit, came, events, meaning, counts, lines):
     """Returns what is said about a run that is cut short: the nets that change most and how often, and the last lines."""
-    far = f"CycleLimit {limit}\nThe run came to {came}, with {events} events.\n"
+    far = f"CycleLimit {limit}\nThe run reached {came}, with {events} events.\n"
     return far + meaning + BUSIEST + "".join(f"{count:>10} {name}\n" for count, name in counts) + (f"{LAST}{lines}" if lines else "")
 
 
@@ -219,26 +219,26 @@ WIDE_LINES = (
     + "".join(f"1000000 1 {it} 1\n" for it in "bcdef")
     + "1000000 1 and 1 more\n2000000 0 a 0\n"
 )
-AT_200_NS = "200000000 fs and there to delta cycle 0"
+AT_200_NS = "200000000 fs, delta cycle 0"
 # words, a text, the status, and the whole answer
 RUNS = [
     (
         "--top t --limit 300",
         LOOP,
         3,
-        cut_short(300, "0 fs and there to delta cycle 300", 300, STANDS, [(100, "s")], loop_lines(295, 300)),
+        cut_short(300, "0 fs, delta cycle 300", 300, STANDS, [(100, "s")], loop_lines(295, 300)),
     ),
     (
         "--top t --limit 20 --listing",
         LOOP,
         3,
-        loop_lines(0, 20) + cut_short(20, "0 fs and there to delta cycle 20", 20, STANDS, [(20, "s")], ""),
+        loop_lines(0, 20) + cut_short(20, "0 fs, delta cycle 20", 20, STANDS, [(20, "s")], ""),
     ),
     (
         "--top t --limit 2",
         LOOP,
         3,
-        cut_short(2, "0 fs and there to delta cycle 2", 2, EARLY, [(2, "s")], loop_lines(0, 2)),
+        cut_short(2, "0 fs, delta cycle 2", 2, EARLY, [(2, "s")], loop_lines(0, 2)),
     ),
     (
         "--top t --limit 40",
@@ -256,13 +256,13 @@ RUNS = [
         "--top t --limit 4",
         WIDE,
         3,
-        cut_short(4, "2000000 fs and there to delta cycle 0", 8, NO_STOP, [(2, "a"), *((1, it) for it in "bcdefg")], WIDE_LINES),
+        cut_short(4, "2000000 fs, delta cycle 0", 8, NO_STOP, [(2, "a"), *((1, it) for it in "bcdefg")], WIDE_LINES),
     ),
     (
         "--top t --stop 2000000",
         WIDE,
         0,
-        "The run is finished after 5 cycles with 14 events.\nThe longest run of delta cycles is 1, at 0 fs.\n"
+        "The run finished after 5 cycles with 14 events.\nThe longest sequence of delta cycles is 1, at 0 fs.\n"
         + "The nets that change most, and how often:\n"
         + "".join(f"         2 {it}\n" for it in "abcdefg"),
     ),
@@ -270,21 +270,21 @@ RUNS = [
         "--top t --limit 0 --workers 17",
         CLOCK,
         2,
-        "Options\n--limit is 0, and has to be 1 to 1000000, in cycles.\n--workers is 17, and has to be 1 to 16, in threads.\n",
+        "Options\n--limit is 0, but must be from 1 to 1000000 cycles.\n--workers is 17, but must be from 1 to 16 threads.\n",
     ),
     (
         "--top t --stop 4611686018427387904",
         CLOCK,
         2,
-        "Options\n--stop is 4611686018427387904, and at most 4611686018427387903, in femtoseconds.\n",
+        "Options\n--stop is 4611686018427387904, but must be at most 4611686018427387903 femtoseconds.\n",
     ),
     (
         "--top u",
         CLOCK,
         1,
-        "NoTop\nNo entity of the text has the name that was given by --top. Compare the two; the case of\n"
-        "letters makes no difference.\nSee Calling the program in docs/LANGUAGE.md.\n"
-        "The entities of the text, the nearest first: t.\n",
+        "NoTop\nNo entity in the text has the name given by --top. Check the spelling; case makes no\n"
+        "difference.\nSee Calling the program in docs/LANGUAGE.md.\n"
+        "The entities in the text, nearest name first: t.\n",
     ),
     ("design.vhd", CLOCK, 2, ""),
 ]
@@ -321,9 +321,9 @@ def lines_of_run(listing):
     """Returns the lines of the answer to a finished run."""
     *changes, done = listing.splitlines()
     _, cycles, events = done.split()
-    told = [f"The run is finished after {cycles} cycles with {events} events."]
+    told = [f"The run finished after {cycles} cycles with {events} events."]
     if events == "0":
-        return [*told, "No net changes."]
+        return [*told, "No net changes its value."]
     counts = collections.OrderedDict()
     for line in changes:
         time, delta, name, _ = line.split()
@@ -344,7 +344,7 @@ def answer(program, words, text):
 def without_deepest(said, listing):
     """Returns what is said about a run without its longest sequence of delta cycles, if that is at least as long as the listing shows."""
     most = max(int(line.split()[1]) for line in listing.splitlines()[:-1]) if listing.count("\n") > 1 else 0
-    found = re.fullmatch(r"No time has a delta cycle\.|The longest run of delta cycles is (\d+), at \d+ fs\.", said[1])
+    found = re.fullmatch(r"There are no delta cycles\.|The longest sequence of delta cycles is (\d+), at \d+ fs\.", said[1])
     return said[:1] + said[2:] if found and int(found[1] or 0) >= most else said
 
 
@@ -362,7 +362,7 @@ def fault_of_example(program, words, text, wanted):
     else:
         head, said = lines_of_run(out.decode()), without_deepest(said, out.decode())
         if answer(program, [*words, "--listing"], text)[0] != out.decode() + text_said:
-            return "with --listing it is not the listing and then the same"
+            return "with --listing it is not the listing followed by the same answer"
     if said[: len(head)] != head or (len(said) > len(head)) != bool(status):
         return "wanted:\n" + "\n".join(head) + "\ngot:\n" + "\n".join(said)
     return None
@@ -417,8 +417,8 @@ def fault_of_usage(program, words, status):
     """Returns what is wrong with the usage printed for words that ask for no run, if anything."""
     out, errors, got, _ = answer(program, words, b"")
     said = errors if status else out
-    if not status and ("Says in plain words what vsim answers" not in said or "\n      --listing  " not in said):
-        return f"the help does not say what the program is, and its own word:\n{out}"
+    if not status and ("Explains in plain words what vsim answers" not in said or "\n      --listing  " not in said):
+        return f"the help does not say what the program is, or lacks its own option:\n{out}"
     if got != status or "Usage: vsim_explain " not in said or "Usage: vsim " in said or (out and errors):
         return f"wanted status {status} and its own line of usage\ngot with status {got}:\n{out}{errors}"
     return None

@@ -27,31 +27,31 @@ const MANY: u64 = 100;
 
 /// The explanation of a time that does not advance.
 const CIRCLE: &[u8] = b"\
-    The time stands still: signals drive one another in a circle without delay. Break the\n\
-    circle, or give one of its assignments a delay. See Time and cycles in docs/LANGUAGE.md.\n";
+    Time does not advance: signals drive one another in a loop without delay. Break the\n\
+    loop, or give one of its assignments a delay. See Time and cycles in docs/LANGUAGE.md.\n";
 
 /// The explanation of a limit that is too small to say anything.
 const EARLY: &[u8] = b"\
-    So few cycles do not tell whether the time goes on. Give a larger number by --limit.\n\
+    So few cycles do not show whether time advances. Set a larger --limit.\n\
     See Time and cycles in docs/LANGUAGE.md.\n";
 
 /// The explanation of a run without a stop time.
 const NO_STOP: &[u8] = b"\
-    The time goes on, and no --stop is given: a clock that runs on needs one, as in\n\
-    --stop 1000000 for 1 ns. Else give a larger number by --limit.\n\
+    Time advances, and there is no --stop: a free-running clock needs one, such as\n\
+    --stop 1000000 for 1 ns. Otherwise set a larger --limit.\n\
     See Calling the program in docs/LANGUAGE.md.\n";
 
 /// The explanation of a run that did not reach its stop time.
 const STOP_NOT_REACHED: &[u8] = b"\
-    The time goes on, and has not come to that of --stop. Give an earlier --stop, or a larger\n\
-    number by --limit, which is 10000 where it is not given and at most 1000000.\n\
+    Time advances, but has not reached --stop. Set an earlier --stop or a larger --limit,\n\
+    which is 10000 by default and at most 1000000.\n\
     See Calling the program in docs/LANGUAGE.md.\n";
 
 /// The explanation of a postponed process that makes a delta cycle follow.
 const POSTPONED_DELTA: &[u8] = b"\
-    A postponed process, or a postponed assignment, assigns to a signal without a delay. It is\n\
-    executed once the time has settled, so that no delta cycle may follow: give the assignment\n\
-    a delay. See Postponed processes in docs/LANGUAGE.md.\n";
+    A postponed process or assignment assigns a signal without a delay. It is executed in\n\
+    the last delta cycle at its time, and must not cause another: give the assignment a\n\
+    delay. See Postponed processes in docs/LANGUAGE.md.\n";
 
 /// Why a run came no further.
 fn meaning(options: &Options, cycles: u64, delta: u64) -> &'static [u8] {
@@ -84,7 +84,7 @@ fn write_look<W: Write>(out: &mut W, options: &Options, store: &WaveStore) -> io
     let refusal = refusal_of(store);
     writeln!(
         out,
-        "{refusal}\nThe run came to {time} fs and there to delta cycle {delta}, with {events} events."
+        "{refusal}\nThe run reached {time} fs, delta cycle {delta}, with {events} events."
     )?;
     let cycles = look.records.saturating_sub(1) as u64;
     match refusal {
@@ -111,7 +111,7 @@ fn write_last_changes<W: Write>(alloc: Global, out: &mut W, store: &WaveStore) -
 
 /// Writes the last cycles.
 fn write_last_cycles<W: Write>(alloc: Global, out: &mut W, store: &WaveStore) -> Result<()> {
-    out.write_all(b"The last cycles, as a listing has them:\n")?;
+    out.write_all(b"The last cycles of the listing:\n")?;
     let records = last_records(alloc, store, SHOWN)?;
     write_cycles(out, store.design(), records.as_slice(), MOST_SHOWN)?;
     Ok(())

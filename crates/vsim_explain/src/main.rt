@@ -43,18 +43,18 @@ every change of a signal on standard output.
 ";
 
 /// The same lines of this program's help.
-const ABOUT: &str = "Says in plain words what vsim answers to a design, which it reads from standard
-input. It takes the words of vsim.
+const ABOUT: &str = "Explains in plain words what vsim answers to a design on standard input.
+It takes the options of vsim.
 ";
 
 /// This program's own option, placed before that for the help.
 const LISTING_OPTION: &str = "
-      --listing      Write first what there is of the listing, also of a run that is cut short
+      --listing      Write the listing first, as far as it goes if the run is cut short
   -h, --help ";
 
 /// The message for words that are refused, after that of `clap`.
 const REFUSED: &str = "
-The text comes by standard input: vsim_explain --top NAME < design.vhd
+The design is read from standard input: vsim_explain --top NAME < design.vhd
 ";
 
 /// Writes an explanation of a fault of a text.

@@ -11,7 +11,7 @@ fn write_stop<W: Write>(out: &mut W, stop: u64) -> io::Result<()> {
     }
     writeln!(
         out,
-        "--stop is {stop}, and at most {LATEST}, in femtoseconds."
+        "--stop is {stop}, but must be at most {LATEST} femtoseconds."
     )
 }
 
@@ -22,7 +22,7 @@ fn write_limit<W: Write>(out: &mut W, limit: u32) -> io::Result<()> {
     }
     writeln!(
         out,
-        "--limit is {limit}, and has to be 1 to 1000000, in cycles."
+        "--limit is {limit}, but must be from 1 to 1000000 cycles."
     )
 }
 
@@ -33,7 +33,7 @@ fn write_workers<W: Write>(out: &mut W, workers: usize) -> io::Result<()> {
     }
     writeln!(
         out,
-        "--workers is {workers}, and has to be 1 to 16, in threads."
+        "--workers is {workers}, but must be from 1 to 16 threads."
     )
 }
 

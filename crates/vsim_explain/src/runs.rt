@@ -29,11 +29,11 @@ impl Deepest {
     fn write<W: Write>(&self, out: &mut W) -> io::Result<()> {
         let (delta, time) = (self.delta, self.time);
         if delta == 0 {
-            return out.write_all(b"No time has a delta cycle.\n");
+            return out.write_all(b"There are no delta cycles.\n");
         }
         writeln!(
             out,
-            "The longest run of delta cycles is {delta}, at {time} fs."
+            "The longest sequence of delta cycles is {delta}, at {time} fs."
         )
     }
 }
@@ -50,14 +50,14 @@ fn write_counts<W: Write>(out: &mut W, look: Look) -> io::Result<()> {
     let (cycles, events) = (look.records.saturating_sub(1), look.events);
     writeln!(
         out,
-        "The run is finished after {cycles} cycles with {events} events."
+        "The run finished after {cycles} cycles with {events} events."
     )
 }
 
 /// Writes the nets that changed most.
 fn write_nets<W: Write>(alloc: Global, out: &mut W, store: &WaveStore) -> Result<()> {
     if store.look().events == 0 {
-        out.write_all(b"No net changes.\n")?;
+        out.write_all(b"No net changes its value.\n")?;
         return Ok(());
     }
     out.write_all(b"The nets that change most, and how often:\n")?;

@@ -9,106 +9,106 @@ const MEMORY: &str = "\
     There is not enough memory to elaborate the design.";
 
 const NO_TOP: &str = "\
-    No entity of the text has the name that was given by --top. Compare the two; the case of\n\
-    letters makes no difference.\n\
+    No entity in the text has the name given by --top. Check the spelling; case makes no\n\
+    difference.\n\
     See Calling the program in docs/LANGUAGE.md.";
 
 const DUPLICATE: &str = "\
-    The same name is declared before, in this entity, architecture or process, or as a unit\n\
-    of this file. Give one of the two another name; the case of letters makes no difference.\n\
+    This name is already declared in the same entity, component, architecture or process, or\n\
+    as another unit of this file. Rename one of the two; case makes no difference.\n\
     See Names and scopes in docs/LANGUAGE.md.";
 
 const PREDEFINED: &str = "\
-    This name is predefined, as std_logic, true and rising_edge are, and the text declares\n\
-    it again. Take another name.\n\
+    This name is predefined, like std_logic, true and rising_edge, and cannot be declared\n\
+    again. Choose another name.\n\
     See Names and scopes in docs/LANGUAGE.md.";
 
 const UNKNOWN: &str = "\
-    Nothing that can be named here has this name. Compare it with its declaration. An\n\
-    instance knows components of its architecture, and units of this file as entity\n\
-    work.NAME; at an actual, there are more of them than ports.\n\
+    Nothing visible here has this name. Compare it with its declaration. An instance can\n\
+    name components of its architecture, and units of this file as entity work.NAME. If this\n\
+    is an actual, there may be more actuals than ports.\n\
     See Names and scopes in docs/LANGUAGE.md.";
 
 const WRONG_KIND: &str = "\
-    This name means something of another kind than what can stand here. A declaration wants\n\
-    a type, an expression a signal, port or variable; <= assigns signals and ports, and :=\n\
-    variables.\n\
+    This name denotes something that cannot be used here. A declaration needs a type, an\n\
+    expression a signal, port or variable; the target of <= is a signal or port, that of :=\n\
+    a variable.\n\
     See Names and scopes in docs/LANGUAGE.md.";
 
 const TYPE_CLASH: &str = "\
-    A value of std_logic and a boolean meet here, or ?? is applied to a boolean. s = '1' and\n\
-    ?? s make a boolean of a signal, and '1' when .. else '0' a value of a boolean.\n\
+    std_logic and boolean are mixed here, or ?? is applied to a boolean. s = '1' and ?? s\n\
+    turn a signal into a boolean, and '1' when .. else '0' turns a boolean into std_logic.\n\
     See Expressions in docs/LANGUAGE.md.";
 
 const AMBIGUOUS: &str = "\
-    A comparison, a condition or the operand of ?? is made of literals alone here, which\n\
-    leaves its type open. Name a signal or variable in it, or write the result.\n\
+    A comparison, a condition or the operand of ?? consists only of literals here, which\n\
+    leaves its type open. Use a signal or variable in it, or write the result instead.\n\
     See Expressions in docs/LANGUAGE.md.";
 
 const READ_OUT: &str = "\
-    A port of mode out is written in its architecture and not read. Drive a signal, read\n\
-    that, and assign it to the port.\n\
+    In vsim an architecture cannot read its ports of mode out, though VHDL-2008 allows it.\n\
+    Drive a signal, read that, and assign it to the port.\n\
     See Modes in docs/INSTANCES.md.";
 
 const WRITE_IN: &str = "\
-    A port of mode in is read in its architecture and not assigned. Make it out or inout, or\n\
-    assign a signal.\n\
+    A port of mode in can be read in its architecture, but not assigned. Make it out or\n\
+    inout, or assign a signal instead.\n\
     See Modes in docs/INSTANCES.md.";
 
 const PORT_MISSING: &str = "\
-    A port of mode in of this instance has neither an actual nor a first value. Associate\n\
-    it, or give it a first value where its entity declares it.\n\
+    A port of mode in of this instance has neither an actual nor a default value. Associate\n\
+    it with a signal or literal, or declare it like i : in std_logic := '0'.\n\
     See Modes in docs/INSTANCES.md.";
 
 const PORT_TWICE: &str = "\
-    This port has an actual in the same port map already. Take one of the two out.\n\
+    This port already has an actual in this port map. Remove one of the two.\n\
     See Faults of the design in docs/REFERENCE.md.";
 
 const MODE_CLASH: &str = "\
-    The mode of the port forbids this actual: an in port takes no out port, an out port no\n\
-    in port and no literal, and an inout port only signals and inout ports. Connect a\n\
-    signal, or change a mode.\n\
+    The mode of the port forbids this actual. An in port cannot be connected to an out port,\n\
+    nor an out port to an in port or a literal; an inout port can be connected only to a\n\
+    signal or an inout port. Connect a signal, or change a mode.\n\
     See Modes in docs/INSTANCES.md.";
 
 const COMPONENT_DIFFERS: &str = "\
-    The component and the entity of its name have not the same ports. Make their names,\n\
-    order, modes and types alike, or write entity work.NAME in place of the component's\n\
-    name.\n\
+    The component and the entity of its name differ in their ports. Make names, order, modes\n\
+    and types equal, or write entity work.NAME instead of the component's name.\n\
     See Which architecture in docs/INSTANCES.md.";
 
 const NO_ARCHITECTURE: &str = "\
-    This entity has no architecture, or none of the name that stands here. Write one, or\n\
-    name one that the text has.\n\
+    This entity has no architecture, or none with the name given here. Write one, or name\n\
+    one that exists.\n\
     See Which architecture in docs/INSTANCES.md.";
 
 const RECURSIVE: &str = "\
-    What this instance brings contains the architecture in which it stands, so the hierarchy\n\
-    has no end. Make it an instance of another entity.\n\
+    This instance leads back to the architecture that it is in, directly or through others,\n\
+    so the hierarchy never ends. Instantiate another entity.\n\
     See Which fault is reported in docs/LANGUAGE.md.";
 
 const MANY_SOURCES: &str = "\
-    A signal or port of type std_ulogic has one source at most, and this one has several.\n\
-    Declare it as std_logic, which is resolved, or leave it one source.\n\
+    A signal or port of type std_ulogic may have only one source, and this one has several.\n\
+    Declare it as std_logic, which is resolved, or keep only one source.\n\
     See Resolution in docs/LANGUAGE.md.";
 
 const NOT_ASCENDING: &str = "\
-    The times of a waveform rise from one element to the next, and this one is not later\n\
-    than the one before. Put the elements in the order of their times.\n\
+    Each element of a waveform must be later than the one before it, and this one is not.\n\
+    Put the elements in the order of their times, with no two the same.\n\
     See Waveforms in docs/LANGUAGE.md.";
 
 const REJECT_TOO_LONG: &str = "\
-    The time after reject is at most that of the first element of each waveform. Make it\n\
-    shorter, or that delay longer.\n\
+    The time after reject must not exceed the first delay of any waveform of the assignment.\n\
+    Shorten it, or lengthen that delay.\n\
     See Transport, inertial and reject in docs/LANGUAGE.md.";
 
 const TOO_MANY_ELEMENTS: &str = "\
-    A waveform has 16 elements at most. Assign the others by further assignments in the same\n\
-    process, which is executed once, as in s <= transport '0' after 16 ns, '1' after 17 ns;\n\
+    A waveform may have at most 16 elements. Use several assignments in a process that is\n\
+    executed only once, with transport from the second on, as in\n\
+    s <= transport '0' after 16 ns, '1' after 17 ns;\n\
     See Stimuli longer than sixteen elements in docs/LANGUAGE.md.";
 
 const TOO_MANY: &str = "\
     The design of this top has more than 65,536 nets, processes or drivers, more than 16,384\n\
-    instances, or more than 32 levels of them. Leave a part out.\n\
+    instances, or more than 32 levels of instances. Leave part of it out.\n\
     See Limits in docs/REFERENCE.md.";
 
 /// The explanation of a limit exceeded at this place: the name of the top, or an element.

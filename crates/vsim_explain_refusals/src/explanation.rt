@@ -51,9 +51,9 @@ pub fn nowhere(text: &'static str) -> Explanation {
 /// Writes the token that cannot follow.
 fn write_found<W: Write>(out: &mut W, found: &[u8]) -> io::Result<()> {
     if found.is_empty() {
-        return out.write_all(b"The text ends here, before the design does.\n");
+        return out.write_all(b"The text ends here, but the design is not complete.\n");
     }
-    out.write_all(b"The text cannot go on here with ")?;
+    out.write_all(b"Unexpected token: ")?;
     out.write_all(found)?;
     out.write_all(b"\n")
 }

@@ -1,27 +1,27 @@
 //! What the subset leaves out of VHDL, and what to write instead.
 
 pub const SUBPROGRAM: &str = "\
-    Subprograms are left out. Write a process, or an entity with ports, for what it does.\n\
+    Subprograms are left out. Write a process, or an entity with ports, instead.\n\
     See Declarations in docs/LEFT_OUT.md.";
 
 pub const LOOP: &str = "\
-    Loops and generate are left out. Write the statements or instances one by one.\n\
-    See Sequential statements in docs/LEFT_OUT.md.";
+    Loops and generate statements are left out. Write the statements or instances one by\n\
+    one. See Sequential statements in docs/LEFT_OUT.md.";
 
 pub const ASSERTION: &str = "\
-    Assertions and reports are left out. Let a signal show the fault, and look for it in the\n\
-    listing. See Sequential statements in docs/LEFT_OUT.md.";
+    Assertions and reports are left out. Let a signal show the failure, and look for it in\n\
+    the listing. See Sequential statements in docs/LEFT_OUT.md.";
 
 pub const TYPES: &str = "\
-    The types are std_logic and std_ulogic, and for variables boolean; numbers are left out,\n\
-    and so are types of one's own. See Declarations in docs/LEFT_OUT.md.";
+    The only types are std_logic, std_ulogic and, for variables, boolean. Numbers,\n\
+    user-defined types and all others are left out. See Declarations in docs/LEFT_OUT.md.";
 
 pub const DECLARATION: &str = "\
-    Such declarations are left out. An architecture declares signals and components, a\n\
-    process declares variables. See Declarations in docs/LEFT_OUT.md.";
+    Declarations of this kind are left out. An architecture declares signals and components,\n\
+    a process declares variables. See Declarations in docs/LEFT_OUT.md.";
 
 pub const UNIT: &str = "\
-    The units of a file are entities and architectures. Leave out what is of another kind.\n\
+    The only units of a file are entities and architectures. Leave out all others.\n\
     See Units in docs/LEFT_OUT.md.";
 
 pub const VECTOR: &str = "\
@@ -29,93 +29,93 @@ pub const VECTOR: &str = "\
     See Declarations in docs/LEFT_OUT.md.";
 
 pub const SHIFT: &str = "\
-    Shifts are left out, as vectors are. See Values in docs/LEFT_OUT.md.";
+    Shift operators are left out, as vectors are. See Values in docs/LEFT_OUT.md.";
 
 pub const MODES: &str = "\
-    The modes of ports are in, out and inout. See Entities in docs/LEFT_OUT.md.";
+    The only modes of ports are in, out and inout. See Entities in docs/LEFT_OUT.md.";
 
 pub const GENERIC: &str = "\
-    Generics are left out. Write the values where they are used, or an entity for each\n\
+    Generics are left out. Write the values where they are used, or one entity for each\n\
     value. See Entities in docs/LEFT_OUT.md.";
 
 pub const CONSTANT: &str = "\
-    Constants are left out. Take a signal with a first value that nothing assigns; in the\n\
-    place of a constant of type time write the delay itself, as in after 5 ns.\n\
+    Constants are left out. Use a signal with an initial value and no assignments; instead\n\
+    of a constant of type time, write the delay itself, as in after 5 ns.\n\
     See Declarations in docs/LEFT_OUT.md.";
 
 pub const CONDITIONAL: &str = "\
-    In a process there are no conditional assignments. Write an if statement.\n\
+    Conditional assignments are left out in processes. Write an if statement.\n\
     See Sequential statements in docs/LEFT_OUT.md.";
 
 pub const WAIT: &str = "\
-    There is no wait. Give the process a sensitivity list, and write stimuli as a waveform,\n\
-    as in s <= '0', '1' after 5 ns, '0' after 10 ns;\n\
+    Wait statements are left out. Give the process a sensitivity list, and write stimuli as\n\
+    a waveform, as in s <= '0', '1' after 5 ns, '0' after 10 ns;\n\
     See Sequential statements in docs/LEFT_OUT.md.";
 
 pub const CASE: &str = "\
-    There is no case. Write if, elsif and else.\n\
+    Case statements are left out. Write if, elsif and else.\n\
     See Sequential statements in docs/LEFT_OUT.md.";
 
 pub const BLOCK: &str = "\
-    Blocks are left out. Write what is in it into the architecture, or into an entity of its\n\
-    own. See Concurrent statements in docs/LEFT_OUT.md.";
+    Blocks are left out. Write their contents in the architecture, or in a separate entity.\n\
+    See Concurrent statements in docs/LEFT_OUT.md.";
 
 pub const PROCESS: &str = "\
-    A process has a sensitivity list, as process (s) or process (all). There is no wait:\n\
-    stimuli are written as a waveform, as in s <= '0', '1' after 5 ns, '0' after 10 ns;\n\
+    A process needs a sensitivity list: process (s) or process (all); wait is left out.\n\
+    Write stimuli as a waveform, as in s <= '0', '1' after 5 ns, '0' after 10 ns;\n\
     See Processes in docs/LANGUAGE.md.";
 
 pub const FOREIGN: &str = "\
-    This looks like Verilog, or like a netlist. vsim reads a subset of VHDL: units begin\n\
-    with entity or architecture. See A first design in docs/LANGUAGE.md.";
+    This looks like Verilog or a netlist. vsim reads a subset of VHDL, in which each unit is\n\
+    an entity or an architecture. See A first design in docs/LANGUAGE.md.";
 
 pub const SELECTED: &str = "\
-    Selected assignments are left out. Write '1' when .. else '0'.\n\
+    Selected assignments are left out. Write a conditional assignment: '1' when .. else '0'.\n\
     See Concurrent statements in docs/LEFT_OUT.md.";
 
 pub const AGGREGATE: &str = "\
     Aggregates are left out, as vectors are. See Values in docs/LEFT_OUT.md.";
 
 pub const UNAFFECTED: &str = "\
-    There is no unaffected. Leave the last else out: where no condition holds, nothing is\n\
-    assigned. See Conditional assignments in docs/LANGUAGE.md.";
+    unaffected is left out. Omit the last else: if no condition holds, nothing is assigned.\n\
+    See Conditional assignments in docs/LANGUAGE.md.";
 
 pub const RELEASE: &str = "\
-    There is no force and no release. See Sequential statements in docs/LEFT_OUT.md.";
+    force and release are left out. See Sequential statements in docs/LEFT_OUT.md.";
 
 pub const FUNCTION: &str = "\
-    Of functions there are rising_edge and falling_edge alone.\n\
-    See Edges in docs/LANGUAGE.md.";
+    The only functions are rising_edge and falling_edge. See Edges in docs/LANGUAGE.md.";
 
 pub const TICK: &str = "\
-    The one attribute is 'event, as in s'event, and nothing else follows an apostrophe after\n\
+    The only attribute is 'event, as in s'event; nothing else may follow an apostrophe after\n\
     a name. See Values in docs/LEFT_OUT.md.";
 
 pub const CALL: &str = "\
-    Of calls there are rising_edge (s) and falling_edge (s) alone, and signals have no\n\
-    elements, since vectors are left out. See Values in docs/LEFT_OUT.md.";
+    The only calls are rising_edge (s) and falling_edge (s); signals have no elements, since\n\
+    vectors are left out. See Values in docs/LEFT_OUT.md.";
 
 pub const STRING: &str = "\
-    Strings are left out, since vectors and reports are. Declare a signal for each element of\n\
-    a vector, and assign each a value of its own, which has apostrophes, as '1'.\n\
+    Strings are left out, since vectors and reports are. Declare a signal for each element\n\
+    of a vector, and assign each one a value in apostrophes, such as '1'.\n\
     See Values in docs/LEFT_OUT.md.";
 
 pub const EXTENDED: &str = "\
-    Extended identifiers are left out. Take a name of letters, digits and single\n\
-    underscores. See Declarations in docs/LEFT_OUT.md.";
+    Extended identifiers are left out. Use a name of letters, digits and single underscores.\n\
+    See Declarations in docs/LEFT_OUT.md.";
 
 pub const ORDER: &str = "\
-    Comparisons of order are left out; there are = and /=. See Values in docs/LEFT_OUT.md.";
+    Ordering and matching operators are left out; the only comparisons are = and /=.\n\
+    See Values in docs/LEFT_OUT.md.";
 
 pub const ARITHMETIC: &str = "\
-    Arithmetic is left out; the operators are and, or, nand, nor, xor, xnor, not, = and /=.\n\
-    A comment begins with two hyphens. See Values in docs/LEFT_OUT.md.";
+    Arithmetic is left out; the operators are and, or, nand, nor, xor, xnor, not, ??,\n\
+    = and /=. A comment begins with two hyphens. See Values in docs/LEFT_OUT.md.";
 
 pub const JOINING: &str = "\
     Concatenation is left out, as vectors are. See Values in docs/LEFT_OUT.md.";
 
 pub const BASED: &str = "\
-    Numbers in another base are left out. Write it in decimals.\n\
+    Based literals are left out. Write the number in decimal.\n\
     See Values in docs/LEFT_OUT.md.";
 
 /// What a word at the place of a `Syntax` begins.

@@ -27,7 +27,7 @@ fn entities<'a>(alloc: Global, file: &'a DesignFile) -> Result<Vec<&'a str>, All
 
 /// Writes names separated by commas, with `first` in front.
 fn write_names<W: Write>(out: &mut W, names: &[&str], first: &str) -> io::Result<()> {
-    write!(out, "The entities of the text, the nearest first: {first}")?;
+    write!(out, "The entities in the text, nearest name first: {first}")?;
     for name in names {
         if *name != first {
             write!(out, ", {name}")?;
@@ -46,7 +46,7 @@ fn write_entities<W: Write>(
     let names = entities(alloc, file)?;
     match nearest(alloc, top, names.as_slice())? {
         Some(first) => write_names(out, names.as_slice(), first),
-        None => out.write_all(b"The text has no entity.\n"),
+        None => out.write_all(b"The text has no entities.\n"),
     }
 }
 
@@ -79,7 +79,7 @@ fn write_meant<W: Write>(alloc: Global, out: &mut W, word: &[u8]) -> io::Result<
     let Some(found) = meant(alloc, word, &WORDS)? else {
         return Ok(false);
     };
-    writeln!(out, "{word} is no reserved word; {found} is.")?;
+    writeln!(out, "{word} is not a reserved word; did you mean {found}?")?;
     Ok(true)
 }
 

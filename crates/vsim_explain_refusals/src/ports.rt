@@ -133,7 +133,7 @@ fn write_ports<W: Write>(
         return Ok(());
     };
     let of = entity.name.as_str();
-    writeln!(out, "The port is {name} of {of}.")?;
+    writeln!(out, "The port without an actual is {name} of {of}.")?;
     match stranger(ports.as_slice(), associations) {
         Some(formal) => write_stranger(alloc, out, ports.as_slice(), formal),
         None => Ok(()),
@@ -149,7 +149,7 @@ fn write_stranger<W: Write>(
 ) -> io::Result<()> {
     let names: Vec<&str> = ports.iter().map(|port| port.0).collect(alloc)?;
     match nearest(alloc, formal, names.as_slice())? {
-        Some(name) => writeln!(out, "{formal} is none of its ports; the nearest is {name}."),
+        Some(name) => writeln!(out, "No port is named {formal}; the nearest is {name}."),
         None => Ok(()),
     }
 }

@@ -1,115 +1,118 @@
 //! Common slips in the use of what the subset has.
 
 pub const COMPARISON: &str = "\
-    = compares two values, and one = does. A signal is assigned by <= and a variable by :=.\n\
+    = compares values, as in s = '1' (not ==). Assign a signal with <=, a variable with :=.\n\
     See Assignments and delays in docs/LANGUAGE.md.";
 
 pub const ARROW: &str = "\
-    => is for port maps. A signal is assigned by <= and a variable by :=.\n\
+    => is for port maps. Assign a signal with <=, and a variable with :=.\n\
     See Assignments and delays in docs/LANGUAGE.md.";
 
 pub const ASSIGNMENT: &str = "\
-    := assigns variables, in a process, and gives first values. A signal is assigned by <=.\n\
+    := assigns variables in a process, and gives initial values. Assign a signal with <=.\n\
     See Assignments and delays in docs/LANGUAGE.md.";
 
 pub const SIGNAL_ASSIGNMENT: &str = "\
-    <= assigns a signal, in a statement of its own. In a port map it is =>; comparisons of\n\
-    order are left out. See Assignments and delays in docs/LANGUAGE.md.";
+    <= assigns a signal, in a statement of its own. In a port map write =>; ordering\n\
+    operators are left out. See Assignments and delays in docs/LANGUAGE.md.";
 
 pub const UNEQUAL: &str = "\
-    /= asks whether two values differ, and not negates. See Expressions in docs/LANGUAGE.md.";
+    /= tests whether two values differ; not inverts a value.\n\
+    See Expressions in docs/LANGUAGE.md.";
 
 pub const NUMBER: &str = "\
-    A number stands before a unit of time alone, as in 5 ns. A value has apostrophes, as '1'.\n\
-    See Values in docs/LEFT_OUT.md.";
+    Numbers occur only before a unit of time, as in 5 ns. A value has apostrophes, as in\n\
+    '1'. See Values in docs/LEFT_OUT.md.";
 
 pub const UNIT_OF_TIME: &str = "\
     A time is a whole number and a unit: fs, ps, ns, us, ms, sec, min or hr, as in 5 ns.\n\
     See Times in docs/REFERENCE.md.";
 
 pub const MIXED: &str = "\
-    Different logical operators stand together only with parentheses, as in (p and q) or r;\n\
-    nand and nor are not repeated without them. See Expressions in docs/LANGUAGE.md.";
+    Different logical operators can be combined only with parentheses, as in (p and q) or r;\n\
+    nand and nor cannot be repeated without them. See Expressions in docs/LANGUAGE.md.";
 
 pub const ENDS: &str = "\
-    What is open here does not end so. An if ends by end if, a process by end process, and a\n\
-    name behind end is that of what it closes. An end may be missing before, or else if stand\n\
-    where elsif was meant. See Processes in docs/LANGUAGE.md.";
+    This end does not match what is open here. An if ends with end if, a process with end\n\
+    process, and a name after end must be that of what it closes. Perhaps an end is missing\n\
+    before this, or else if should be elsif. See Processes in docs/LANGUAGE.md.";
 
 pub const ELSIF: &str = "\
     The word is elsif. See Processes in docs/LANGUAGE.md.";
 
 pub const END_IF: &str = "\
-    An if ends by two words, end if. See Processes in docs/LANGUAGE.md.";
+    An if ends with two words, end if. See Processes in docs/LANGUAGE.md.";
 
 pub const ELSE_IF: &str = "\
-    else if opens an if of its own, which wants an end if of its own: elsif was meant.\n\
+    else if opens another if, which needs its own end if; probably elsif was meant.\n\
     See Processes in docs/LANGUAGE.md.";
 
 pub const ACTUAL: &str = "\
-    An actual is a signal, a port, a value or open, and no expression. Assign the expression\n\
-    to a signal, and associate that. See Modes in docs/INSTANCES.md.";
+    An actual is a signal, a port, a literal or open, not an expression. Assign the\n\
+    expression to a signal, and associate that. See Modes in docs/INSTANCES.md.";
 
 pub const SIGNAL: &str = "\
-    Signals are declared in an architecture, between is and begin, and a process declares\n\
-    variables alone. See Processes in docs/LANGUAGE.md.";
+    Signals are declared in an architecture, between is and begin; a process declares only\n\
+    variables. See Processes in docs/LANGUAGE.md.";
 
 pub const VARIABLE: &str = "\
     Variables are declared in a process, between its sensitivity list and begin.\n\
     See Variables in docs/LANGUAGE.md.";
 
 pub const PORT: &str = "\
-    Before port stands is, in an entity; an instance of an entity is of entity work.NAME.\n\
-    See docs/INSTANCES.md.";
+    In an entity declaration write is before port; in an instance write entity work.NAME\n\
+    before port map. See docs/INSTANCES.md.";
 
 pub const SEQUENTIAL: &str = "\
-    if and null stand in a process, between its begin and its end; generate is left out.\n\
-    See Processes in docs/LANGUAGE.md.";
+    if and null belong in a process, between its begin and its end; generate statements are\n\
+    left out. See Processes in docs/LANGUAGE.md.";
 
 pub const CONCURRENT: &str = "\
-    A process stands in an architecture, between its begin and its end. That begin may be\n\
-    missing before, or the end of the process before. See Processes in docs/LANGUAGE.md.";
+    A process belongs in an architecture, between its begin and its end. That begin may be\n\
+    missing, or the end of the previous process. See Processes in docs/LANGUAGE.md.";
 
 pub const COMPONENT: &str = "\
     Components are declared in an architecture, between is and begin. See docs/INSTANCES.md.";
 
 pub const COLON: &str = "\
-    Between the names and their type stands a colon, as in signal p, q : std_logic;\n\
+    A colon separates the names from their type, as in signal p, q : std_logic;\n\
     See Signals and their values in docs/LANGUAGE.md.";
 
 pub const COMMA: &str = "\
-    Between ports stands ; and between names, actuals and elements of a waveform a comma.\n\
+    Ports are separated by ; and names, actuals and elements of a waveform by commas.\n\
     See Grammar in docs/REFERENCE.md.";
 
 pub const LAST_PORT: &str = "\
-    The last port has no ; behind it, before the ) of the list. See docs/INSTANCES.md.";
+    The last port has no ; before the closing ). See docs/INSTANCES.md.";
 
 pub const CLOSING_NAME: &str = "\
-    A closing name is that of what it closes. See Text in docs/LANGUAGE.md.";
+    A name after end must be that of what it closes; a process or if without a label has\n\
+    none. See Text in docs/LANGUAGE.md.";
 
 pub const NOT_ASCII: &str = "\
-    Outside of comments a text is ASCII. Some editors write a byte order mark at the\n\
-    beginning, or put other quotes in the place of '. See Text in docs/LANGUAGE.md.";
+    Outside comments, a text must be ASCII. Some editors put a byte order mark at the\n\
+    beginning, or other quotes in place of '. See Text in docs/LANGUAGE.md.";
 
 pub const UNDERSCORE: &str = "\
-    An underscore stands between letters or digits, and not beside another one.\n\
+    An underscore must be between letters or digits, not next to another underscore.\n\
     See Tokens in docs/REFERENCE.md.";
 
 pub const LINE_BEFORE: &str = "\
-    Here a line begins, so something may be missing at the end of what stands before: a ;\n\
-    or a ), or a word as is, then or begin. See Grammar in docs/REFERENCE.md.";
+    A line begins here, so something may be missing at the end of the line before: a ; or ),\n\
+    or a word such as is, then or begin. See Grammar in docs/REFERENCE.md.";
 
 pub const BEGIN: &str = "\
-    What stands before is complete. Between declarations and statements stands begin; or an\n\
-    end is missing or one too many; or a word is misspelt. See Grammar in docs/REFERENCE.md.";
+    What comes before is complete. Perhaps begin is missing between declarations and\n\
+    statements, an end is missing or one too many, or a word is misspelled.\n\
+    See Grammar in docs/REFERENCE.md.";
 
 pub const NO_BOOLEAN: &str = "\
-    Signals and ports are of std_logic or std_ulogic; boolean is for variables alone.\n\
+    Signals and ports are of std_logic or std_ulogic; only variables can be boolean.\n\
     See Declarations in docs/LEFT_OUT.md.";
 
 pub const CONVERSION: &str = "\
-    A type is no value, and conversions are left out: signals of std_logic and std_ulogic are\n\
-    assigned to one another as they are. See Values in docs/LEFT_OUT.md.";
+    A type is not a value, and conversions are left out: signals of std_logic and std_ulogic\n\
+    can be assigned to one another directly. See Values in docs/LEFT_OUT.md.";
 
 /// The hint on a word at the place of a `Syntax`.
 pub static AT: [(&str, &str); 16] = [

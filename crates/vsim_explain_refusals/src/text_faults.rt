@@ -9,38 +9,39 @@ const MEMORY: &str = "\
     There is not enough memory to read the text.";
 
 const TOO_LONG: &str = "\
-    A text has at most 1,048,576 bytes. Leave out the units that the top does not need.\n\
+    A text may have at most 1,048,576 bytes. Leave out units that the top does not need.\n\
     See Limits in docs/REFERENCE.md.";
 
 const BAD_BYTE: &str = "\
-    No word, number, value or sign of the subset begins here. Take this character out, or\n\
-    make what it belongs to a comment. See Tokens in docs/REFERENCE.md.";
+    No token of the subset begins with this character. Remove it, or comment out what it\n\
+    belongs to. See Tokens in docs/REFERENCE.md.";
 
 const OPEN_COMMENT: &str = "\
-    A comment that begins with /* ends at the next */, and there is none. Write it where the\n\
-    comment is to end. See Text in docs/LANGUAGE.md.";
+    A comment that begins with /* ends at the next */, which is missing here. Write it where\n\
+    the comment should end. See Text in docs/LANGUAGE.md.";
 
 const BAD_LITERAL: &str = "\
     An apostrophe begins one of the nine values, in upper case: 'U' 'X' '0' '1' 'Z' 'W' 'L'\n\
-    'H' '-'. None of them stands here. Right behind a name it is a tick, as in s'event.\n\
+    'H' '-'. This is not one of them. After a name an apostrophe is a tick, as in s'event.\n\
     See Signals and their values in docs/LANGUAGE.md.";
 
 const TIME_RANGE: &str = "\
-    The largest time is 4,611,686,018,427,387,903 fs, some 76 minutes. Write a shorter one.\n\
-    See Time and cycles in docs/LANGUAGE.md.";
+    The largest time is 4,611,686,018,427,387,903 fs, almost 77 minutes. Write a shorter\n\
+    one. See Time and cycles in docs/LANGUAGE.md.";
 
 const TOO_DEEP: &str = "\
-    64 parentheses of this expression, or 64 if statements of this process, are open here\n\
-    already. Give an inner part a signal or variable of its own.\n\
+    64 parentheses of this expression, or 64 if statements of this process, are already open\n\
+    here, which is the limit. Move an inner part to a signal or variable of its own.\n\
     See Limits in docs/REFERENCE.md.";
 
 const SYNTAX: &str = "\
-    Look also at what stands just before: a ; or ) or end may be missing there, or a word be\n\
-    too many. See Grammar in docs/REFERENCE.md.";
+    Look also at what comes just before: a ; or ) or end may be missing there, or there may\n\
+    be a word too many. See Grammar in docs/REFERENCE.md.";
 
 const UNFINISHED: &str = "\
-    Each if, process, architecture and entity ends by end and ; and one of these is missing.\n\
-    A text without any entity or architecture is no design. See Grammar in docs/REFERENCE.md.";
+    Every if, process, architecture and entity is closed by end and a semicolon, and one of\n\
+    these is missing; or the text has neither entities nor architectures.\n\
+    See Grammar in docs/REFERENCE.md.";
 
 /// The explanation of a `Syntax` at this place.
 fn explain_syntax(source: &[u8], place: usize) -> Explanation {
