@@ -91,7 +91,7 @@ MISTAKES = [
     (21, "if clk != '1' then", 21, "BadByte", "/= tests whether two values differ"),
     (17, "u1 : entity work.inverter port map (i <= clk, o => p);", 17, "Syntax", "In a port map write =>"),
     (2, "port (i : in std_logic, o : out std_logic);", 2, "Syntax", "Ports are separated by ;"),
-    (2, "port (i : in std_logic; o : out std_logic;);", 2, "Syntax", "The last port has no ;"),
+    (2, "port (i : in std_logic; o : out std_logic;);", 2, "Syntax", "There must be no ; after the last port"),
     (24, "else if p = '1' then q <= '0'; end if;", 25, "Syntax", "elsif was meant"),
     (24, "elseif p = '1' then q <= '0'; end if;", 24, "Syntax", "The word is elsif."),
     (25, "end process main;", 25, "Syntax", "A name after end must be that of what it closes"),

@@ -50,8 +50,8 @@ const STOP_NOT_REACHED: &[u8] = b"\
 /// The explanation of a postponed process that makes a delta cycle follow.
 const POSTPONED_DELTA: &[u8] = b"\
     A postponed process or assignment assigns a signal without a delay. It is executed in\n\
-    the last delta cycle at its time, and must not cause another: give the assignment a\n\
-    delay. See Postponed processes in docs/LANGUAGE.md.\n";
+    the last cycle at its time, and must not cause another: give the assignment a delay.\n\
+    See Postponed processes in docs/LANGUAGE.md.\n";
 
 /// Why a run came no further.
 fn meaning(options: &Options, cycles: u64, delta: u64) -> &'static [u8] {

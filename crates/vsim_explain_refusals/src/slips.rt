@@ -83,7 +83,7 @@ pub const COMMA: &str = "\
     See Grammar in docs/REFERENCE.md.";
 
 pub const LAST_PORT: &str = "\
-    The last port has no ; before the closing ). See docs/INSTANCES.md.";
+    There must be no ; after the last port, before the closing ). See docs/INSTANCES.md.";
 
 pub const CLOSING_NAME: &str = "\
     A name after end must be that of what it closes; a process or if without a label has\n\

@@ -13,8 +13,8 @@ const TOO_LONG: &str = "\
     See Limits in docs/REFERENCE.md.";
 
 const BAD_BYTE: &str = "\
-    No token of the subset begins with this character. Remove it, or comment out what it\n\
-    belongs to. See Tokens in docs/REFERENCE.md.";
+    No token of the subset begins with this character. Replace or remove it, or comment out\n\
+    what it belongs to. See Tokens in docs/REFERENCE.md.";
 
 const OPEN_COMMENT: &str = "\
     A comment that begins with /* ends at the next */, which is missing here. Write it where\n\
