@@ -1,12 +1,12 @@
 #!/usr/bin/env python3
-"""Measures vsim, and GHDL where it is installed, on the designs of shapes.py, in one run: whole processor seconds, from the
-text to all changes in a file.
+"""Measures vsim, and GHDL if it is installed, on the designs of shapes.py, in one run: total processor seconds, from the text
+to all changes in a file.
 
     beside_ghdl.py PROGRAM [--workers N] [--repeat N] [--ghdl COMMAND].. [--root FOLDER] [SHAPE ..]
 
-Of vsim that is one process, with its listing. Of GHDL it is the analysis, the elaboration (and what it compiles), and the run
+For vsim that is one process, with its listing. For GHDL it is the analysis, the elaboration (and what it compiles), and the run
 with a VCD. The least of N runs counts (3), and of several GHDLs the fastest. COMMAND is by default each of ghdl-mcode,
-ghdl-llvm and ghdl-gcc that is there; with --root those of the system in that folder, by chroot, are measured too.
+ghdl-llvm and ghdl-gcc that is installed; with --root those of the system in that folder are measured too, by chroot.
 """
 import argparse
 import os
@@ -22,7 +22,7 @@ LONGEST = 300
 
 
 class Failed(Exception):
-    """A command that did not end well."""
+    """A command that failed."""
 
 
 def seconds(words, folder, source=None, output=subprocess.DEVNULL):
@@ -65,7 +65,7 @@ def of_ghdl(command, root, text, stop):
 
 
 def least(count, measure):
-    """The least of some measurements; None where one fails."""
+    """The least of some measurements; None if one fails."""
     try:
         return min(measure() for _ in range(count))
     except Failed as why:

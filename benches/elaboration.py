@@ -1,8 +1,8 @@
 #!/usr/bin/env python3
-"""Measures elaboration: `elaboration.py PROGRAM FOLDER [NAME ..]`, of `sim_run_bench` and the texts that texts.py wrote into the folder.
+"""Measures elaboration: `elaboration.py PROGRAM FOLDER [NAME ..]`, with `sim_run_bench` and the texts that texts.py wrote into the folder.
 
-Of each text: the least of ten times in one process, in ms, of `parse` and of `flatten`; the most memory that a process with one
-of each held, in MiB; and the answer.
+For each text: the least of ten times in one process, in ms, of `parse` and of `flatten`; the most memory of a process with one
+of each, in MiB; and the answer.
 """
 import re
 import subprocess
@@ -11,7 +11,7 @@ from texts import TOPS
 
 
 def called(program, folder, name, count, before=()):
-    """What the program writes to standard output and to standard error."""
+    """The lines that the program writes to standard output, and what it writes to standard error."""
     words = [*before, program, "elaboration", str(count), TOPS[name]]
     with open(f"{folder}/{name}.vhdl", "rb") as text:
         ran = subprocess.run(words, stdin=text, capture_output=True, text=True, check=True)

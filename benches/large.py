@@ -1,11 +1,11 @@
 #!/usr/bin/env python3
-"""Measures designs at 16,000 and at 65,000 processes, as many as a text of 1 MiB holds by instances of four: `large.py PROGRAM`.
+"""Measures designs of 16,000 and of 65,000 processes, as many as a text of 1 MiB can have with instances of four: `large.py PROGRAM`.
 
 shift     a shift register on one clock: at each rising edge every process assigns a signal
-together  signals that all change at one time, again and again
-token     a ring round which one change goes: one process in a cycle
+together  signals that all change at the same time, again and again
+token     a ring around which one change goes: one process in a cycle
 
-Each is run to two stop times. Of the difference: nanoseconds of a processor for each process that is resumed. Of the longer
+Each is run to two stop times. From the difference: nanoseconds of a processor for each process that resumes. From the longer
 run: the most memory, in bytes for each process. The least of three.
 """
 import os
@@ -42,7 +42,7 @@ def token(count):
 
 
 def once(program, source, stop):
-    """Processor seconds and MiB of a run whose listing is thrown away."""
+    """Processor seconds and memory in bytes of a run whose listing is discarded."""
     words = [program, "--top", "t", "--stop", str(stop), "--limit", "1000000"]
     with open(source, "rb") as file, open(os.devnull, "wb") as listing:
         process = subprocess.Popen(words, stdin=file, stdout=listing, stderr=subprocess.PIPE)
@@ -58,7 +58,7 @@ def least(program, source, stop):
     return min(run[0] for run in runs), min(run[1] for run in runs)
 
 
-# of each: its text, how many processes of how many are resumed in a nanosecond, and how many in all
+# for each: its text, how many of its processes resume in a nanosecond, and how many in all
 SHAPES = {
     "shift": (shift, lambda processes: processes / 5, 8_000_000),
     "together": (together, lambda processes: processes / 5, 8_000_000),

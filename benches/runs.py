@@ -1,6 +1,6 @@
 #!/usr/bin/env python3
-"""Measures whole runs: `runs.py PROGRAM [WORKERS [DESIGN ..]]`, of vsim. Of each design the least of three processor times and of three wall times in seconds, the
-most memory in MiB, cycles and events.
+"""Measures whole runs: `runs.py PROGRAM [WORKERS [DESIGN ..]]`, with vsim. For each design the least of three processor times and of
+three wall times in seconds, the most memory in MiB, cycles and events.
 
 clock        one signal that changes a million times
 ten          ten signals that change together a million times: ten million lines
@@ -8,7 +8,7 @@ shift_1024   a shift register of 1,024 flip-flops, for 2,000 rising edges
 shift_8000   one of 8,000, for 250
 one_of_10    a clock of 10,000 cycles beside 10 idle signals
 one_of_16000 the same beside 16,000
-together     8,000 signals that all change at one time, again and again, for 250 times
+together     8,000 signals that all change at the same time, again and again, 250 times
 """
 import os
 import subprocess
@@ -22,7 +22,7 @@ FLIP_FLOP = "process (clk) begin if rising_edge(clk) then q{0} <= {1}; end if; e
 
 
 def design(names, statements):
-    """A design of these signals, all '0' at first."""
+    """A design with these signals, all '0' at first."""
     return f"entity t is end; architecture a of t is signal {','.join(names)}: std_logic := '0'; begin {' '.join(statements)} end;"
 
 
@@ -39,7 +39,7 @@ def beside(idle):
     return design(["clk", *(f"s{i}" for i in range(idle))], [CLOCK])
 
 
-# of each its text, and its stop time in femtoseconds
+# for each its text, and its stop time in femtoseconds
 RUNS = {
     "clock": (design(["clk"], [CLOCK]), 500_000 * PERIOD - 1),
     "ten": (together(10), 500_000 * PERIOD - 1),
@@ -52,7 +52,7 @@ RUNS = {
 
 
 def measured(program, workers, text, stop):
-    """Processor seconds, wall seconds, MiB and the last line of one run, whose listing is thrown away."""
+    """Processor seconds, wall seconds, MiB and the last line of one run, whose listing is discarded."""
     with tempfile.TemporaryFile() as source, tempfile.TemporaryFile() as listing:
         source.write(text.encode())
         source.seek(0)

@@ -1,5 +1,5 @@
-"""The designs of whole runs, each of a shape of its own: how wide a cycle is, how deep its delta cycles go, how heavy its
-bodies are. Each is lawful for vsim and for any VHDL-2008 simulator.
+"""The designs of whole runs, each with its own shape: how wide a cycle is, how deep its delta cycles go, how heavy its bodies
+are. Each is legal for vsim and for any VHDL-2008 simulator.
 
     shapes.py FOLDER        writes each as NAME.vhd, for top `t`, and its stop time in femtoseconds as NAME.stop
 """
@@ -34,7 +34,7 @@ def clock(edges):
 
 
 def deltas(edges):
-    """A clock, and nine inverters without delay after it: ten cycles of one event an edge."""
+    """A clock, followed by nine inverters without delay: ten cycles of one event for each edge."""
     names = ["clk", *numbered("z", 9)]
     stages = [f"{target} <= not {source};\n" for source, target in zip(names, names[1:])]
     return design(declared(names), [CLOCK, *stages]), edges * EDGE
@@ -60,7 +60,7 @@ def counters(count, bits, edges):
 
 
 class Gates:
-    """Gates of two inputs, each a concurrent assignment to a signal of its own."""
+    """Gates with two inputs, each a concurrent assignment to its own signal."""
 
     def __init__(self, delays):
         self.statements, self.chance, self.delays = [], random.Random(42), delays
@@ -106,7 +106,7 @@ def multiplier(bits, delays, changes):
 
 
 def token(count, steps):
-    """A ring of signals, round which one change goes: one event a cycle."""
+    """A ring of signals, around which one change goes: one event a cycle."""
     stages = [f"s{i} <= {'' if i else 'not '}s{i - 1 if i else count - 1} after 1 ns;\n" for i in range(count)]
     return design(declared(numbered("s", count)), stages), steps * NS
 
@@ -115,7 +115,7 @@ OPERATORS = ("and", "or", "xor", "nand", "nor", "xnor")
 
 
 def expression(chance, depth, names):
-    """A full tree of operators over names."""
+    """A full tree of operators on names."""
     if depth == 0:
         return chance.choice(names)
     left, right = (expression(chance, depth - 1, names) for _ in range(2))
@@ -148,7 +148,7 @@ def heavy(count, edges):
 
 
 def bus(count, edges):
-    """A signal of many drivers, of which one at a time drives and the others are at 'Z'."""
+    """A signal with many drivers, of which one at a time drives and the others are at 'Z'."""
     names = numbered("e", count)
     first = "signal e0: std_logic := '1';\n" + declared(names[1:]) + "signal b: std_logic;\n"
     stages = [

@@ -1,29 +1,29 @@
 #!/usr/bin/env python3
-"""Writes the benchmark texts, each of 1,048,576 bytes at most, into a folder: `texts.py FOLDER`.
+"""Writes the benchmark texts, each of at most 1,048,576 bytes, into a folder: `texts.py FOLDER`.
 
-Long texts, for the lexer and the parser, of which the first three are designs too:
+Long texts, for the lexer and the parser, of which the first three are also designs:
 
-flip_flops      8,000 processes, each a flip-flop with a reset, after one another
-assignments     16,000 concurrent assignments after one another
+flip_flops      8,000 processes, one after another, each a flip-flop with a reset
+assignments     16,000 concurrent assignments, one after another
 instances       31 levels of one instance, below which one architecture has 13,000 instances
-one_character   1,048,576 tokens of one byte: lexical input alone, no design file
+one_character   1,048,576 tokens of one byte: lexical input only, not a design file
 
-Designs that are hard to elaborate, and texts with a fault that is to be found soon:
+Designs that are hard to elaborate, and texts with a fault that should be found soon:
 
-copies          16,384 instances of one entity after one another
+copies          16,384 instances of one entity, one after another
 processes       12,000 signals and as many processes
-tree            a binary tree of instances that reaches each limit but that of depth
-variables       a process of 60,000 variables
-one_signal      an instance of 4,000 ports, all on one signal
+tree            a binary tree of instances that reaches each limit except that of depth
+variables       a process with 60,000 variables
+one_signal      an instance with 4,000 ports, all on one signal
 doubling        31 levels of two instances each: TooMany
 ring            9,000 entities, each with an instance of the next and the last with one of the first: Recursive
-equal_names     a declaration of 500,000 signals of one name: Duplicate
+equal_names     a declaration of 500,000 signals with the same name: Duplicate
 
 Short texts whose elaboration is a product of two of their numbers:
 
 chain           12,000 entities, each with an instance of the next: TooMany
-architectures   1,000 architectures of one entity of 2,000 ports
-open_ports      4,000 instances of one entity of 4,000 ports, all of them open: TooMany
+architectures   1,000 architectures of one entity with 2,000 ports
+open_ports      4,000 instances of one entity with 4,000 ports, all of them open: TooMany
 linked_ports    a binary tree of instances with 8,192 leaves of 1,000 ports, all on one signal
 """
 import sys
@@ -123,7 +123,7 @@ def processes(count=12_000):
 
 
 def tree(levels=13):
-    """Each level but the last has two signals and two instances of the next, whose outputs it joins.
+    """Each level except the last has two signals and two instances of the next, whose outputs it joins.
 
     Two ports and 16,382 signals are 16,384 nets; 16,382 instances, and two more at the top, which have nothing
     in them; 8,192 processes at the leaves, 8,191 above them, and one more at the top."""
@@ -216,7 +216,7 @@ def filled(text):
 
 
 def texts():
-    """Each text, by its name."""
+    """The texts, by name."""
     long = [flip_flops, assignments, instances, processes]
     short = [copies, tree, variables, one_signal, doubling, ring, equal_names]
     short += [chain, architectures, open_ports, linked_ports]

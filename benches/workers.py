@@ -1,11 +1,11 @@
 #!/usr/bin/env python3
-"""Measures what threads gain: whole runs of vsim by one worker and by several, whose listing is thrown away.
+"""Measures what threads gain: whole runs of vsim with one worker and with several, whose listing is discarded.
 
     workers.py PROGRAM [--workers N ..] [--repeat N] [--load N] [SHAPE ..]
 
-The shapes are those of shapes.py, and `wide`: a shift register of 60,000 flip-flops on one clock. Of each shape and number of
-workers (1, 2, 3 and 4) the least wall seconds of N runs (3), and the processor seconds of that run. The listing of each has to be
-the same, byte for byte. With --load so many processes that never wait run beside them.
+The shapes are those of shapes.py, and `wide`: a shift register of 60,000 flip-flops on one clock. For each shape and number of
+workers (1, 2, 3 and 4) the least wall seconds of N runs (3), and the processor seconds of that run. All listings of a shape must be
+the same, byte for byte. With --load this many processes that never wait run at the same time.
 """
 import argparse
 import hashlib
@@ -63,7 +63,7 @@ def measure(program, given):
         with tempfile.NamedTemporaryFile("w", suffix=".vhd") as source:
             source.write(text)
             source.flush()
-            # in turn, so that what else the machine does meets all alike
+            # in turn, so that other load on the machine affects all alike
             runs = [[once(program, count, source.name, stop) for count in given.workers] for _ in range(given.repeat)]
         if len({run[2] for turn in runs for run in turn}) != 1:
             sys.exit(f"workers: {name}: the listings differ")

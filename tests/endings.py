@@ -1,11 +1,11 @@
 #!/usr/bin/env python3
-"""Runs small designs by several workers very often, beside processes that never wait: each run has to end.
+"""Runs small designs by several workers very often, beside processes that never wait: each run must end.
 
     endings.py PROGRAM [--handed-out] [--runs N] [--workers N] [--load N]
 
-The designs of examples/ whose run is finished are run in turn, 10,000 times in all, with 3 workers, beside 8 busy processes. Each
-run has to end within a minute, with the status and the listing that it has by one worker. A worker gets an order only where there
-is work enough for it. To try the threads themselves the program is sim_run_cases with --handed-out: it then is vsim, but that each
+The designs of examples/ whose run finishes are run in turn, 10,000 times in all, with 3 workers, beside 8 busy processes. Each
+run must end within a minute, with the status and the listing that it has with one worker. A worker gets an order only if there is
+enough work for it. To test the threads themselves, use sim_run_cases with --handed-out as the program: it is vsim, except that each
 phase is handed out. The last line is `N passed, M failed`.
 """
 import argparse
@@ -21,7 +21,7 @@ BUSY = [sys.executable, "-c", "while True: pass"]
 
 
 def answer(program, workers, text):
-    """The status of a run and its standard output, or None where it does not end."""
+    """The status of a run and its standard output, or None if it does not end."""
     words = [*program, "--top", "t", "--workers", str(workers)]
     try:
         ran = subprocess.run(words, input=text, capture_output=True, timeout=LONGEST)

@@ -4,15 +4,15 @@
     fuzz.py PROGRAM [--seed N] [--seconds N] [--workers N ..] [--ghdl COMMAND]
 
 In turn, until the time is over (60 s):
-- a lawful design is run with one worker and with 2, 7 and 16, or as many as are given: the same bytes each time. A third of the
-  designs are wide: hundreds of instances read the same few signals, so that a cycle resumes hundreds of processes. Where GHDL is
-  installed (ghdl-mcode), it runs the designs that are not wide too, and each net has the same value at the end of each time. It is
-  not asked where no statement drives the port q: GHDL 2.0.0 does not count such a port among the sources of its signal, and the
-  standard does (IEEE 1076-2008, 14.7.3.2).
-- its text is damaged: the program ends by itself with a status of 0 to 4, with 1 and with 7 workers it says the same, and with
-  a refusal it writes one line to standard error and nothing to standard output.
+- a legal design is run with one worker and with 2, 7 and 16, or as many as are given: the output is the same, byte for byte. A
+  third of the designs are wide: hundreds of instances read the same few signals, so that hundreds of processes resume in a cycle.
+  If GHDL is installed (ghdl-mcode), it runs the designs that are not wide too, and each net has the same value at the end of each
+  time. Designs in which no statement drives the port q are excepted: GHDL 2.0.0 does not count such a port among the sources of its
+  signal, as the standard does (IEEE 1076-2008, 14.7.3.2).
+- its text is damaged: the program ends by itself with a status of 0 to 4, its answers with 1 and with 7 workers are the same, and
+  with a refusal it writes one line to standard error and nothing to standard output.
 
-What differs is told, and its text kept as fuzz-SEED-NUMBER.vhd in the present folder.
+Differences are printed, and the text is kept as fuzz-SEED-NUMBER.vhd in the present folder.
 """
 import argparse
 import os
@@ -58,7 +58,7 @@ class Writer:
         return self.chance.choice((name, f"(not {name})", f"({name} {self.chance.choice(OPERATORS)} {self.value(names, 1)})"))
 
     def condition(self, names, signals, depth):
-        """What stands after when, if and elsif."""
+        """What follows when, if and elsif."""
         return self.named(names) if self.chance.random() < 0.2 else self.truth(names, signals, depth)
 
     def truth(self, names, signals, depth):
@@ -126,7 +126,7 @@ class Writer:
 
 
 def lawful(chance, wide=False):
-    """A design of one or two entities, for top `t`; a wide one has hundreds of instances, each with an output of its own."""
+    """A design of one or two entities, for top `t`; a wide one has hundreds of instances, each with its own output."""
     signals = [f"s{i}" for i in range(chance.randint(2, 6))]
     outputs = [f"w{i}" for i in range(chance.randint(100, 400) if wide else 0)]
     declared = "".join(f"signal {it}: std_logic := '{chance.choice(VALUES + '0101')}';\n" for it in signals)
@@ -146,13 +146,13 @@ def lawful(chance, wide=False):
 
 
 def drives_its_port(text):
-    """Whether the entity with a port of mode out, where there is one, drives that port."""
+    """Whether the entity with a port of mode out, if there is one, drives that port."""
     inner, _, _ = text.partition("entity t ")
     return "entity e " not in inner or " q <= " in inner.replace("\n", " ")
 
 
 def damaged(chance, text):
-    """The text with a few bytes, words or stretches other than they were."""
+    """The text with a few bytes, words or stretches changed."""
     found = bytearray(text.encode())
     for _ in range(chance.choice((1, 1, 2, 5))):
         at = chance.randrange(len(found))
@@ -173,12 +173,12 @@ def answer(program, workers, text):
 
 
 def of_listing(listing):
-    """What each net has at the end of each time at which one has another value than before."""
+    """For each time at which a net changes: the nets whose value at its end is new, with that value."""
     return settled((int(time), name, value) for time, _, name, value in (line.split() for line in listing.decode().splitlines()[:-1]))
 
 
 def of_vcd(path):
-    """The same of a VCD."""
+    """The same for a VCD."""
 
     def changes():
         scopes, names, now = [], {}, 0
@@ -211,7 +211,7 @@ def settled(changes):
 
 
 def of_ghdl(command, text):
-    """What GHDL says of a design, or None where it ends in another way than well."""
+    """The waves of a design in GHDL, or None if it fails."""
     with tempfile.TemporaryDirectory() as folder:
         with open(f"{folder}/t.vhd", "w", encoding="ascii") as file:
             file.write(text)
@@ -223,7 +223,7 @@ def of_ghdl(command, text):
 
 
 def fault_of_lawful(program, workers, ghdl, text):
-    """What is wrong with the answers to a lawful design."""
+    """What is wrong with the answers to a legal design, if anything."""
     answers = [answer(program, it, text.encode()) for it in ("1", *workers)]
     if any(it != answers[0] for it in answers):
         return "the workers differ"
@@ -240,7 +240,7 @@ def fault_of_lawful(program, workers, ghdl, text):
 
 
 def fault_of_damaged(program, text):
-    """What is wrong with the answers to a damaged text."""
+    """What is wrong with the answers to a damaged text, if anything."""
     first, second = answer(program, "1", text), answer(program, "7", text)
     if first != second:
         return "the workers differ"

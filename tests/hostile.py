@@ -3,16 +3,17 @@
 
     hostile.py PROGRAM [--texts]
 
-- Each proper prefix of three designs is refused as a text, but for the one that ends after its entity.
+- Each proper prefix of three designs is refused as a text, except the one that ends after its entity.
 - A zero byte in place of each byte of these designs is refused at its place, or at the token that it breaks.
-- Texts of 1 MiB, each of one thing over and over, and one of a byte more: each is answered as the manual says, in at most 20 s
-  of a processor and 200 MiB; so is a design of 8,000 instances below one long label.
-- In little memory a run answers `vsim: Memory`, and in more its listing, by one worker and by three. Where work is handed out,
-  runs by 4 and 16 workers answer what one worker does, in address spaces from that which one needs up to ample.
-- Standard output is full, closed, or a pipe that nobody reads; standard input is closed, a folder or a terminal; standard error
-  is closed. The status and the line are those of the manual.
+- Texts of 1 MiB that repeat one thing, and one with a byte more, are answered as the manual says, in at most 20 s of processor
+  time and 200 MiB; so is a design of 8,000 instances below one long label.
+- In little memory a run answers `vsim: Memory`, and in more its listing, with one worker and with three. If work is handed out,
+  runs with 4 and 16 workers answer like one worker, in address spaces from what one worker needs up to ample.
+- Standard output is full, closed, or a pipe without a reader; standard input is closed, a folder or a terminal; standard error is
+  closed. The status and the line are those of the manual.
 
-With --texts the streams are left out. What differs is told. A table has time and memory of the huge texts. The last line is `N passed, M failed`.
+With --texts the streams are left out. Differences are printed. A table has the time and memory of the huge texts. The last line
+is `N passed, M failed`.
 """
 import itertools
 import os
@@ -24,7 +25,7 @@ import tempfile
 
 MOST = 1 << 20
 LONGEST = 60
-# processor seconds, and MiB, of a text of 1 MiB at the most
+# the most processor seconds and MiB for a text of 1 MiB
 SECONDS, MEBIBYTES = 20, 200
 WORDS = ["--top", "t"]
 DESIGN = (
@@ -32,7 +33,7 @@ DESIGN = (
     b"process(s_1)begin if s_1/='0' then q<=not s_1 after 2 ns;end if;end process;end;"
 )
 LISTING = b"0 0 s_1 0\n0 0 q 0\n5000000 0 s_1 1\ndone 2 1\n"
-# each begins with an entity of as many bytes
+# each begins with an entity of the same number of bytes
 DESIGNS = (
     b"entity t is end;architecture a of t is signal s:std_logic:='0';begin s <= '1' after 5 ns; end;",
     b"entity t is end;architecture a of t is signal clk:std_logic:='0'; signal q:std_logic;begin clk <= not clk after 5 ns; "
@@ -44,7 +45,7 @@ OF_A_TEXT = re.compile(rb"vsim: (BadByte|OpenComment|BadLiteral|Syntax|TooDeep|T
 
 
 class Answer:
-    """How a run ended: its status, what it wrote, and what it took."""
+    """The result of a run: its status, what it wrote, and what it took."""
 
     def __init__(self, status, out, err, seconds=0.0, mebibytes=0):
         self.status, self.out, self.err, self.seconds, self.mebibytes = status, out, err, seconds, mebibytes
@@ -100,8 +101,8 @@ def prefixes(program, tally):
 def of_a_zero(design, place):
     """The refusal of a design with a zero byte at a place.
 
-    A literal is at fault where it begins; `<` and `/` are no tokens without their `=`, nor is an underscore without a letter
-    or digit after it.
+    A literal is at fault at its start; `<` and `/` are not tokens without their `=`, and neither is an underscore without a
+    letter or digit after it.
     """
     literal = next((first for first in (place - 2, place - 1) if first >= 0 and re.match(rb"'.'", design[first:])), None)
     if literal is not None:
@@ -119,7 +120,7 @@ def zeros(program, tally):
 
 
 def filled(begin, again, end=b""):
-    """As often again as a text may hold, and blanks up to its limit."""
+    """`begin`, `again` as often as a text has room for it, and blanks up to the limit."""
     times = (MOST - len(begin) - len(end)) // len(again)
     text = begin + again * times
     return text + b" " * (MOST - len(text) - len(end)) + end
@@ -130,21 +131,21 @@ PROCESS = BEGIN + b"process(s)begin "
 
 
 def names(count):
-    """So many short names: a letter, a digit, and up to two letters or digits."""
+    """This many short names: a letter, a digit, and up to two letters or digits."""
     letters, digits = "abcdefghijklmnopqrstuvwxyz", "0123456789"
     ends = ["", *letters, *digits, *map("".join, itertools.product(letters + digits, repeat=2))]
     return ["".join(it) for it in itertools.islice(itertools.product(letters, digits, ends), count)]
 
 
 def with_signals(count, statements):
-    """A design of so many signals, and a statement for each but the first."""
+    """A design of this many signals, with a statement for each but the first."""
     of_all = names(count)
     body = "".join(statements.format(name, of_all[0]) for name in of_all[1:])
     return f"entity t is end;architecture a of t is signal {','.join(of_all)}:std_logic;begin {of_all[0]}<='1';{body}end;".encode()
 
 
 def below_a_label(letters, count):
-    """A design of so many instances within one that has a label of so many letters."""
+    """A design of this many instances within one whose label has this many letters."""
     instances = "".join(f"i{number}:entity work.n;" for number in range(count))
     return (f"entity t is end;architecture a of t is begin {'l' * letters}:entity work.m;end;entity m is end;"
             f"architecture a of m is begin {instances}end;entity n is end;architecture a of n is begin end;").encode()
@@ -189,14 +190,14 @@ def huge(program, tally):
 
 
 def limited(program, text, words, kibibytes):
-    """A run that has an address space of so many KiB."""
+    """A run with an address space of this many KiB."""
     ran = subprocess.run(["sh", "-c", 'ulimit -v "$1"; shift; exec "$@"', "sh", str(kibibytes), program, *words],
                          input=text, capture_output=True, timeout=LONGEST)
     return Answer(ran.returncode, ran.stdout, ran.stderr)
 
 
 def memory(program, tally):
-    """From what the program needs to start, up to ample."""
+    """Runs with memory from what the program needs to start, up to ample."""
     text = with_signals(2000, "{0}<={1};")
     least = next(it for it in range(0, 1 << 20, 64) if limited(program, b"", WORDS, it).err == b"vsim: Syntax at 0\n")
     for workers in ("1", "3"):
@@ -211,7 +212,7 @@ def memory(program, tally):
 
 
 def worked(processes, statements):
-    """A design in which a clock resumes so many processes of so many statements each."""
+    """A design in which a clock resumes this many processes of this many statements each."""
     body = "v:=v xor clk;" * (statements - 1)
     of_all = [f"s{number}" for number in range(processes)]
     every = "".join(f"process(clk) variable v:std_logic:='0'; begin {body}{name}<=v and '0';end process;" for name in of_all)
@@ -219,7 +220,7 @@ def worked(processes, statements):
 
 
 def shared(program, tally):
-    """Each thread has a stack and a heap of its own, for which there is no room in small address spaces."""
+    """Runs in small address spaces, which have no room for the stack and the heap of each thread."""
     text, words = worked(600, 20), [*WORDS, "--stop", "20000000", "--workers"]
     ample = run(program, text, [*words, "1"])
     tally.note(ample.status == 0 and ample.out.endswith(b"\ndone 41 20\n"), "600 processes by 1", ample)
@@ -248,7 +249,7 @@ def streams(program, tally):
             ("nobody reads", f"{{ {program} --top t < {name}; echo $? >&2; }} | true", (0, b"vsim: Write\n4\n")),
         ]
         for what, line, wanted in lines:
-            # whoever does not read has ended before anything is written
+            # the reader has ended before anything is written
             ran = subprocess.run(["sh", "-c", line.replace("{ ", "{ sleep 0.2; ", 1) if "| true" in line else line],
                                  capture_output=True, timeout=LONGEST, stdin=subprocess.DEVNULL)
             answer = Answer(ran.returncode, ran.stdout, ran.stderr)
@@ -256,7 +257,7 @@ def streams(program, tally):
 
 
 def terminal(program, tally):
-    """The text is typed, with an end of file after it."""
+    """A text that is typed, followed by an end of file."""
     ours, theirs = pty.openpty()
     process = subprocess.Popen([program, *WORDS], stdin=theirs, stdout=subprocess.PIPE, stderr=subprocess.PIPE)
     os.close(theirs)

@@ -1,11 +1,11 @@
 #!/usr/bin/env python3
-"""Runs all examples side by side by GNU parallel, as docs/RECIPES.md does with hundreds of designs.
+"""Runs all examples side by side with GNU parallel, as docs/RECIPES.md does with hundreds of designs.
 
     many.py PROGRAM [--jobs N]
 
-Each design of examples/ that has a listing is run and its listing compared by `cmp`, all of them by one call of `parallel`, whose
-status is how many failed. Then one listing is damaged in a copy, and that one has to be told. The last line is `N passed, M failed`.
-Where there is no `parallel`, that is said, and nothing is tried.
+Each design of examples/ that has a listing is run, and its listing is compared by `cmp`, all in one call of `parallel`, whose
+status is the number of failures. Then one listing is damaged in a copy, which must be reported. The last line is
+`N passed, M failed`. If there is no `parallel`, this is printed, and nothing is tried.
 """
 import argparse
 import glob
@@ -20,9 +20,9 @@ EXAMPLES = os.path.join(os.path.dirname(os.path.dirname(os.path.realpath(__file_
 
 
 def failed(program, folder, jobs):
-    """Returns how many runs failed of the designs in a folder, as `parallel` says."""
+    """Returns the number of designs with a listing in a folder, and how many of their runs failed, by the status of `parallel`."""
     designs = sorted(it for it in glob.glob(f"{folder}/*.vhd") if os.path.exists(f"{it[:-4]}.listing"))
-    # (a design that wants other words than these has them in a file beside it)
+    # (a design that needs other words than these has them in a file beside it)
     run = f"{shlex.quote(program)} $(cat {{.}}.words 2> /dev/null || echo --top t) < {{}} | cmp -s - {{.}}.listing"
     return len(designs), subprocess.run(["parallel", "--jobs", str(jobs), run, ":::", *designs], stdin=subprocess.DEVNULL).returncode
 

@@ -1,21 +1,21 @@
 #!/usr/bin/env python3
-"""Refuses each request for memory of a run in turn, and checks what the program says.
+"""Refuses each request for memory of a run in turn, and checks the answers of the program.
 
     refusals.py PROGRAM [--calls] [--rows] [--words WORDS] [--workers N] [--most N] [DESIGN.vhd ..]    default: those of examples/
     refusals.py VSIM --gate SIM_RUN_CASES
 
 A run answers `vsim: Memory`, with status 4 and nothing written, or what it answers with ample memory, and nothing else; and
-it ends. Each request is refused alone, and then with all that come after it. Of a run with more than MOST requests (4,000),
-as many are tried, evenly apart. With --words the program is given these words, whatever the design.
+it ends. Each request is refused alone, and then together with all later ones. If a run makes more than MOST requests (4,000),
+this many are tried, evenly spaced. With --words the program is given these words for every design.
 
 With --calls or --rows the program is sim_run_cases, which makes the public calls one after another, on the design or on rows
-of its own, and each that finds no memory once more. Where one request is refused it prints what it does with ample memory,
-and for a whole call or a row, in a line that begins with `!`, which error came first: want of memory of the text, of the
-design or of the run; of a whole call in this order. Only where it cannot read the text, it says so.
+of its own, and repeats once each that finds no memory. If one request is refused, it prints what it prints with ample memory,
+and for a whole call or a row, in a line that begins with `!`, which error came first: lack of memory for the text, for the
+design or for the run; for a whole call in this order. Only if it cannot read the text, it says so.
 
-With --gate each request of the designs below is refused alone, of the program and of all calls.
+With --gate each request of the designs below is refused alone, for the program and for all calls.
 
-refuse.c is made a library by the clang that rt has, or else by `cc`.
+refuse.c is compiled to a library with the clang of rt, or else with `cc`.
 """
 import argparse
 import concurrent.futures
@@ -32,7 +32,7 @@ EXAMPLES = f"{os.path.dirname(HERE)}/examples"
 MEMORY = (4, b"", b"vsim: Memory\n")
 LONGEST = 60
 AT_ONCE = 4
-# errors for want of memory in the order in which a whole run meets them
+# errors for lack of memory, in the order in which a whole run meets them
 ERRORS = [b"Text(Memory)", b"Flat(Memory)", b"Memory"]
 # the calls that meet all of them
 WHOLE = [b"simulate", b"run", b"run_in"]
@@ -40,7 +40,7 @@ WHOLE = [b"simulate", b"run", b"run_in"]
 LEAF = "entity l is port(i:in std_logic;o:out std_logic);end;architecture a of l is begin o<=i;end;"
 TOGGLE = "process (clk) variable v:std_logic:='0'; begin if rising_edge(clk) then v := not v; q <= v; end if; end process;"
 TAKEN = "process(clk) begin if rising_edge(clk) then {0} <= {1}; end if; end process;"
-# what is declared, what is in the architecture, what follows it, and more words than `--top t`
+# the declarations, the statements of the architecture, what follows it, and words beside `--top t`
 DESIGNS = [
     ("signal s:std_logic:='0';", "s <= '1' after 5 ns;", "", ""),
     ("", "", "", ""),
@@ -99,22 +99,22 @@ def answer(program, words, text, settings):
 
 
 def requests(program, words, text, shim):
-    """How many requests for memory a run makes."""
+    """The number of requests for memory that a run makes."""
     with tempfile.NamedTemporaryFile("r") as counts:
         answer(program, words, text, {"LD_PRELOAD": shim, "REFUSE_COUNT": counts.name})
         return int(counts.read().split()[-1])
 
 
 def apart(written):
-    """What was written of the listing, and the lines that tell an error."""
+    """What was written of the listing, and the lines that report an error."""
     lines = written.splitlines(True)
     return b"".join(line for line in lines if not line.startswith(b"! ")), [line for line in lines if line.startswith(b"! ")]
 
 
 def is_right(found, ample, calls, alone):
-    """Whether a run with a refused request has an answer that it may have."""
+    """Whether a run with a refused request has an allowed answer."""
     if not calls:
-        # (sim_run_cases says so of the words themselves)
+        # (sim_run_cases reports this for the words themselves)
         return found in (ample, MEMORY) or b"Error: reading the words" in found[2]
     listing, told = apart(found[1])
     refused = found[0] == 1 and found[2].startswith(b"Error: ")
@@ -124,7 +124,7 @@ def is_right(found, ample, calls, alone):
 
 
 def error_of(found):
-    """The call or row that told an error, and the place of that error; none where none was told."""
+    """The call or row that reported an error, and the position of that error; None if none did."""
     for line in apart(found[1])[1]:
         name, _, error = line[2:].strip().partition(b": ")
         return name, ERRORS.index(error) if error in ERRORS else len(ERRORS)
@@ -132,7 +132,7 @@ def error_of(found):
 
 
 def out_of_order(answers, all_tried):
-    """What is wrong with the errors that were told, as the requests were refused from the first to the last."""
+    """What is wrong with the reported errors, as the requests were refused from the first to the last."""
     told = {}
     for number, found in answers:
         known = error_of(found)
@@ -147,7 +147,7 @@ def out_of_order(answers, all_tried):
 
 
 def tries(program, words, text, shim, most, with_later):
-    """Of each refusal its number, whether it was alone, and the answer, in the order of the requests."""
+    """For each refusal its number, whether it was alone, and the answer, in the order of the requests."""
     count = requests(program, words, text, shim)
     kinds = [({}, True), ({"REFUSE_ON": "1"}, False)] if with_later else [({}, True)]
     planned = [(number, more, alone) for number in range(1, count + 1, max(1, count // most)) for more, alone in kinds]
@@ -161,7 +161,7 @@ def tries(program, words, text, shim, most, with_later):
 
 
 def faults(program, words, text, shim, most, calls, with_later=True):
-    """How many runs had a refused request, how many of these had another answer than with ample memory, and what is wrong."""
+    """The number of runs with a refused request, how many of these answered differently than with ample memory, and what is wrong."""
     ample = answer(program, words, text, {})
     ran = tries(program, words, text, shim, most, with_later)
     wrong = [f"request {number}{'' if alone else ' and on'}: {found}" for number, alone, found in ran if not is_right(found, ample, calls, alone)]
@@ -171,7 +171,7 @@ def faults(program, words, text, shim, most, calls, with_later=True):
 
 
 def library(folder):
-    """The library that refuses, made in this folder."""
+    """The library that refuses, built in this folder."""
     made, source = f"{folder}/refuse.so", f"{HERE}/refuse.c"
     rt = shutil.which("rt")
     clang = f"{os.path.dirname(os.path.dirname(os.path.realpath(rt)))}/toolchain/bin/clang" if rt else ""
@@ -181,7 +181,7 @@ def library(folder):
 
 
 def gate(vsim, cases, shim):
-    """Each request of the designs above refused alone: how many designs and calls are right, and how many are not."""
+    """Refuses each request of the designs above alone: prints how many designs and calls are right, and how many are not."""
     passed = failed = tried = 0
     plans = [(cases, ["--rows"], b"", True)]
     for declared, inside, behind, more in DESIGNS:
@@ -190,7 +190,7 @@ def gate(vsim, cases, shim):
         if "--limit" not in more:
             plans.append((cases, ["--calls"], text, True))
         if declared.count("signal") > 1:
-            # (several processes, by three workers to whom each phase is handed out)
+            # (several processes, with three workers to which each phase is handed out)
             plans.append((cases, ["--handed-out", "--top", "t", *more.split(), "--workers", "3"], text, False))
     for program, words, text, calls in plans:
         runs, _, wrong = faults(os.path.abspath(program), words, text, shim, 1 << 30, calls, False)

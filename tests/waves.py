@@ -1,17 +1,17 @@
 #!/usr/bin/env python3
-"""Reads back the waves that vsim_waves makes of listings.
+"""Reads back the waves that vsim_waves makes from listings.
 
     waves.py VSIM VSIM_WAVES
 
-Listings are those of examples/*.vhd, which VSIM runs, and one of many nets, deep in a hierarchy. Each is made a VCD, with and
-without `--deltas`, and read by a reader that knows the rules of a VCD alone. Then
+The listings are those of examples/*.vhd, which VSIM runs, and one of many nets, deep in a hierarchy. Each is made a VCD, with and
+without `--deltas`, and read by a reader that knows only the rules of a VCD. Then
 - the nets are those of the listing, by their paths below the scope top;
-- the times are those of the listing; with `--deltas` one for each delta cycle, later than the one before it in any case;
+- the times are those of the listing; with `--deltas` one for each delta cycle, always later than the one before it;
 - at each time each net has the value that the listing gives it by then.
 
-Listings with a fault, and wrong words, are refused with a line on standard error.
+Faulty listings and wrong words are refused with a line on standard error.
 
-What differs is told, and the last line is `N passed, M failed`.
+Differences are printed, and the last line is `N passed, M failed`.
 """
 import glob
 import os
@@ -48,7 +48,7 @@ REFUSED = [
 
 
 class Fault(Exception):
-    """What a VCD, or an answer of the program, has that it may not have."""
+    """A fault of a VCD, or of an answer of the program."""
 
 
 def demand(holds, text):
@@ -62,7 +62,7 @@ def run(program, words, text):
 
 
 class Waves:
-    """A VCD: for each path of a variable its identifier, and for each time the values that identifiers take then."""
+    """A VCD: for each path of a variable its identifier, and for each time the values that identifiers get then."""
 
     def __init__(self, text):
         self.words, self.variables, self.times = iter(text.split()), {}, []
@@ -128,7 +128,7 @@ class Waves:
 
 
 def moments(listing):
-    """Returns for each moment of a listing the values that nets take then."""
+    """Returns for each moment of a listing the values that nets get then."""
     found = {}
     for line in listing.splitlines()[:-1]:
         time, delta, name, value = line.split(" ")
@@ -145,7 +145,7 @@ def by_time(found):
 
 
 def by_delta(found):
-    """Returns the same with a time for each delta cycle."""
+    """Returns the same with a separate time for each delta cycle."""
     spread, last = {}, -1
     for (time, delta), values in found.items():
         last = max(time + delta, last + 1)
@@ -223,7 +223,7 @@ def listings(vsim):
 
 
 def checks(vsim, program):
-    """Yields the name of each check, and what makes it."""
+    """Yields the name of each check, and the check."""
     for name, listing in listings(vsim):
         yield name, lambda: check(program, [], by_time, listing)
         yield f"{name} --deltas", lambda: check(program, ["--deltas"], by_delta, listing)

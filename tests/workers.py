@@ -1,16 +1,16 @@
 #!/usr/bin/env python3
-"""Runs designs by several workers, to whom the work is really handed out.
+"""Runs designs by several workers, to which the work is really handed out.
 
     workers.py VSIM [CASES]
 
-CASES is sim_run_cases, which with the word --handed-out is vsim, but that each phase is handed out; without it the examples are left out.
+CASES is sim_run_cases, which with the word --handed-out is vsim, except that each phase is handed out; without it the examples are left out.
 
-- Each example that examples/check runs and whose run is finished has its listing by 2, 3, 4, 8 and 16 workers, with each phase handed out.
-- 600 processes of twenty statements, by VSIM itself with three workers: the listing is that of the rules, and each of three threads takes
-  processor time. A thread that is given no order sleeps, so this shows that work is handed out. It is tried five times at the most, since
-  beside other load a thread may find no processor.
+- Each example that examples/check runs and whose run finishes has its listing with 2, 3, 4, 8 and 16 workers, with each phase handed out.
+- 600 processes of twenty statements run in VSIM itself with three workers: the listing follows the rules, and each of three threads takes
+  processor time. A thread without an order sleeps, so this shows that work is handed out. It is tried at most five times, since under
+  other load a thread may find no processor.
 
-Each run has a minute, so one that does not end is told. The last line is `N passed, M failed`.
+Each run has a minute, so one that does not end is reported. The last line is `N passed, M failed`.
 """
 import glob
 import importlib.machinery
@@ -45,7 +45,7 @@ def examples():
 
 
 def answer(words, text):
-    """Standard output, standard error and status, or None where a run does not end."""
+    """Standard output, standard error and status, or None if a run does not end."""
     try:
         ran = subprocess.run(words, input=text, stdout=subprocess.PIPE, stderr=subprocess.PIPE, timeout=LONGEST)
     except subprocess.TimeoutExpired:
@@ -62,12 +62,12 @@ def small(cases):
 
 
 def large():
-    """A design in which a clock resumes all processes but its own, its stop time and its listing."""
+    """A design in which a clock resumes all processes except its own, its stop time and its listing."""
     names = [f"s{number}" for number in range(PROCESSES)]
     body = "v:=v xor clk;" * (STATEMENTS - 1)
     processes = "".join(f"process(clk) variable v:std_logic:='0'; begin {body}{name}<=v and '0';end process;" for name in names)
     text = f"entity t is end;architecture a of t is signal clk,{','.join(names)}:std_logic:='0';begin clk<=not clk after 1 ns;{processes}end;"
-    # no signal but the clock changes; each edge is a cycle, and what the processes assign is the next
+    # only the clock changes; each edge is a cycle, and the assignments of the processes are the next one
     lines = [*(f"0 0 {name} 0" for name in ["clk", *names]), *(f"{edge}000000 0 clk {edge % 2}" for edge in range(1, EDGES + 1))]
     lines.append(f"done {2 * EDGES + 1} {EDGES}")
     return text.encode(), f"{EDGES}000000", "".join(f"{line}\n" for line in lines).encode()
@@ -86,7 +86,7 @@ def spent(process):
 
 
 def watched(words, text):
-    """What a run answers, and the processor time of each of its threads; None where it does not end."""
+    """The answer of a run, and the processor time of each of its threads; None if it does not end."""
     with tempfile.TemporaryFile() as source, tempfile.TemporaryFile() as out:
         source.write(text)
         source.seek(0)
@@ -104,7 +104,7 @@ def watched(words, text):
 
 
 def handed_out(vsim):
-    """Yields a name, and whether a large design has its listing by one worker and three, and three threads take part."""
+    """Yields a name, and whether a large design has its listing with one worker and with three, and three threads take part."""
     text, stop, listing = large()
     words = [vsim, "--top", "t", "--limit", "1000000", "--stop", stop, "--workers"]
     yield f"{PROCESSES} processes by 1", answer([*words, "1"], text) == (listing, b"", 0)

@@ -1,4 +1,4 @@
--- What a run answers once its store is finished: the history that is copied from it, or want of memory.
+-- What a run answers once its store is finished: the history copied from it, or lack of memory.
 use Rattle.std.proofs.Common.{◌≡◌, true, Result, Ok, Err, sym, subst, ◌∙◌}
 use Rattle.std.specs.Prelude.{IfOk, IfErr}
 use Rattle.sim_store.specs.WaveStore.{WaveStore}

@@ -1,5 +1,5 @@
--- The cycle takes the same value for a source as elaboration's law does: a driver's current value, or a constant. So what that law says for all
--- values of the drivers holds for the values of a cycle.
+-- The cycle and elaboration's law take the same value for a source: the current value of a driver, or a constant. So what that law says for all values of
+-- drivers holds for the values in a cycle.
 use Rattle.std.proofs.Common.{◌≡◌, List, [], ◌∷◌, map, refl, ap, ◌∙◌}
 use Rattle.std.specs.List.{AllZip}
 use Rattle.sim_logic.specs.declared.logic.Logic.{Logic}

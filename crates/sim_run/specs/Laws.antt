@@ -1,4 +1,4 @@
--- What elaboration and the cycle say together: the cycle gives each net the value of the ports and signals that it is (IEEE 1076-2008, 14.7.3).
+-- Elaboration and the cycle together: the cycle gives each net the value of its ports and signals (IEEE 1076-2008, 14.7.3).
 use Rattle.std.specs.Prelude.{◌≡◌, List}
 use Rattle.sim_logic.specs.Sources.{SourceTree, nested}
 use Rattle.sim_flat_design.specs.Designs.{Net}
@@ -6,6 +6,6 @@ use Rattle.sim_standard.specs.Drivers.{Waveform}
 use Rattle.sim_standard.specs.State.{driver_at}
 use Rattle.sim_standard.specs.Nets.{net_value}
 
--- The value that the cycle gives a net, where the drivers are these, is that of its source tree, in which each port has the value of its own sources.
+-- With these drivers, the cycle gives a net the value of its source tree, in which each port has the value of its own sources.
 abbrev pub HasNestedValue : List Waveform → SourceTree → Net → Type 0
 HasNestedValue drivers t n = net_value drivers n ≡ nested (λ d. (driver_at drivers d).value) t

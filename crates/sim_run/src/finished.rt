@@ -1,4 +1,4 @@
-//! A run that came to its end.
+//! A run that has finished.
 
 ghost use Rattle.std.specs.Prelude.{◌≡◌, map, string_bytes, Err, IfOk, OnOk, OnErr};
 ghost use Rattle.std.specs.Io.KnownBytes.{Appends};
@@ -31,7 +31,7 @@ pub struct Finished {
     events: u64,
 }
 
-/// By hand, so that crates which drop one need no proof of what is in it.
+/// Written by hand so that code which drops it needs no proof about its contents.
 impl Drop for Finished {
     fn drop(self) {
         let Finished {
@@ -61,7 +61,7 @@ impl Finished {
     ghost use Rattle.sim_standard.specs.Histories.{IsHistory, event_count};
     ghost use Rattle.sim_run_session.specs.declared.error.RunError.TheVariants as refusal;
 
-    /// The run with these names and records, which had this many events after the initialization.
+    /// The run with these names and records, with this many events after the initialization.
     pub fn new(names: Vec<String>, records: Vec<Record>, events: u64) -> Finished
         requires history { IsHistory (map string_bytes names.items) records.items }
         requires events { events ≡ event_count records.items }
@@ -75,7 +75,7 @@ impl Finished {
         }
     }
 
-    /// The history of a store as it is now, copied from its log.
+    /// The present history of a store, copied from its log.
     pub fn of(alloc: Global, run: &WaveStore) -> Result<Finished, RunError>
         ensures names { IfOk result (λ f. f.names ≡ (behaviour_of run.now.simulation.design).names) }
         ensures records { IfOk result (λ f. f.records ≡ (behaviour_of run.now.simulation.design).records run.now.simulation.cycles) }
@@ -84,12 +84,12 @@ impl Finished {
         let names = names_of(alloc, run.design().nets())?;
         match run.records_since(alloc, 0) {
             Ok(records) => Ok(Finished::new(names, records, run.look().events)),
-            // There is a record 0, so only memory was short.
+            // There is a record 0, so memory ran out.
             Err(_refusal) => Err(RunError::Memory),
         }
     }
 
-    /// The records, from the initialization on.
+    /// The records, beginning with the initialization.
     pub fn records(&self) -> &[Record]
         ensures records { result.now ≡ self.now.records }
         ensures named { IsHistory self.now.names result.now }
@@ -97,21 +97,21 @@ impl Finished {
         self.records.as_slice()
     }
 
-    /// The nets' names, by number.
+    /// The names of the nets, by number.
     pub fn names(&self) -> &[String]
         ensures { map string_bytes result.now ≡ self.now.names }
     {
         self.names.as_slice()
     }
 
-    /// How many cycles followed the initialization.
+    /// The number of cycles after the initialization.
     pub fn cycles(&self) -> u64
         ensures { result + 1 ≡ length self.now.records }
     {
         self.records.len() as u64 - 1
     }
 
-    /// How many events they had in all.
+    /// The number of events in these cycles.
     pub fn events(&self) -> u64
         ensures { result ≡ event_count self.now.records }
     {
@@ -120,9 +120,9 @@ impl Finished {
 }
 
 /// Writes the listing of a run: for each record, in order, a line `TIME DELTA NAME VALUE` for each
-/// of its changes, with the time in femtoseconds, and last `done CYCLES EVENTS`. The lines are
-/// gathered and go out in blocks of some KiB; nothing is allocated. `RunError::Write` comes where a
-/// write fails or takes nothing; a prefix of the listing is then written.
+/// of its changes, with the time in femtoseconds, and finally `done CYCLES EVENTS`. The lines are
+/// written in blocks of 8 KiB; nothing is allocated. `RunError::Write` if a write fails or writes
+/// nothing: then a prefix of the listing has been written.
 pub fn write_listing<W: Write>(finished: &Finished, out: &mut W) -> Result<(), RunError>
     ensures ok { OnOk result (Appends (W.contents out.old) (W.contents out.new) (listing finished.now.names finished.now.records)) }
     ensures part { OnErr result (AppendsPart (W.contents out.old) (W.contents out.new) (listing finished.now.names finished.now.records)) }

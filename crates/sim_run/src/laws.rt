@@ -10,8 +10,9 @@ ghost use Rattle.sim_flat.specs.Hierarchies.{IsFlat};
 ghost use Rattle.sim_flat.specs.Laws.{trees};
 ghost use Rattle.sim_run.specs.Laws.{HasNestedValue};
 
-/// In each cycle of a design without fault, a net has the value of its source tree, in which each
-/// associated port is resolved by itself, whatever its drivers hold (IEEE 1076-2008, 14.7.3).
+/// In each cycle of a design without faults, a net has the value of its source tree, in which each
+/// associated port is resolved by itself, whatever the values of its drivers
+/// (IEEE 1076-2008, 14.7.3).
 pub fn the_cycle_resolves_nets_as_the_nested_names()
     ensures { (blocks : List Block) (top : Top) (design : Design) (drivers : List Waveform) →
         IsFlat blocks top design → AllZip (HasNestedValue drivers) (trees blocks top.block) design.nets }

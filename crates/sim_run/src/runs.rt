@@ -1,4 +1,4 @@
-//! A whole run of a design by threads that share its store under a lock.
+//! A whole run of a design, by threads that share its store under a lock.
 ghost use Rattle.std.specs.Prelude.{◌≡◌, ◌≢◌, ◌≤◌, ◌⊎◌, ◌↔◌, IsTrue, None, Some, IfOk, IfErr, MatchOption, MatchResult, false};
 ghost use Rattle.sim_logic.specs.Time.{largest_time};
 ghost use Rattle.sim_standard.specs.Behaviour.{behaviour_of};
@@ -16,7 +16,7 @@ use std::alloc::Global;
 use std::sync::{Mutex, Wait};
 use std::thread::Threads;
 
-/// Whether a store is that of the run of a design with these options.
+/// Whether a store is the store of the run of a design with these options.
 fn is_run_of(run: &WaveStore, design: &Design, options: &Options) -> bool
     ensures { IsTrue result ↔ IsRunOf design.now options.now run.now }
 {
@@ -29,7 +29,7 @@ fn is_run_of(run: &WaveStore, design: &Design, options: &Options) -> bool
     run.design().same(design)
 }
 
-/// A store that came out of a lock, if it is that of this run and has ended.
+/// A store that came out of a lock, if it is that of this run and the run has ended.
 fn own_run(run: WaveStore, design: &Design, options: &Options) -> Result<WaveStore, RunError>
     ensures ok { IfOk result (λ r. IsRunOf design.now options.now r × (r.ended ≢ None)) }
     ensures err { IfErr result (λ e. (e ≡ refusal.Stranger) × (IsRunOf design.now options.now run → run.ended ≡ None)) }
@@ -43,8 +43,8 @@ fn own_run(run: WaveStore, design: &Design, options: &Options) -> Result<WaveSto
     }
 }
 
-/// What is in the lock once workers have carried a store on to its end: by what is known here, any
-/// store.
+/// The store in the lock once workers have carried a store to its end. It may be any store, as far
+/// as is known here.
 fn carried_on<R: Threads + Wait + Sync, G: Gate + Sync>(
     rt: &R,
     alloc: Global,
@@ -61,8 +61,7 @@ fn carried_on<R: Threads + Wait + Sync, G: Gate + Sync>(
     }
 }
 
-/// The store of a run that has ended, by the workers of the options, who are reported of by the
-/// gate.
+/// The store of a run carried to its end by the workers of the options, which report to the gate.
 fn run_shared<R: Threads + Wait + Sync, G: Gate + Sync>(
     rt: &R,
     alloc: Global,
@@ -80,8 +79,8 @@ fn run_shared<R: Threads + Wait + Sync, G: Gate + Sync>(
     own_run(run, design, options)
 }
 
-/// The run of a design by several workers, up to the stop time and within the limit: its store,
-/// once it is finished.
+/// The store of a finished run of a design, carried out by several workers, up to the stop time and
+/// within the limit.
 pub fn run_by_workers<R: Threads + Wait + Sync, G: Gate + Sync>(
     rt: &R,
     alloc: Global,
@@ -97,9 +96,9 @@ pub fn run_by_workers<R: Threads + Wait + Sync, G: Gate + Sync>(
     finished_run(run)
 }
 
-/// The history of a store under a lock, if its run has ended; none where it goes on. It is compared
-/// with the design and the options first: `Stranger` comes where it is not of this run, and there
-/// alone.
+/// The history of a store under a lock if its run has ended, `None` if it goes on. `Stranger` if,
+/// and only if, the store is not that of the run of this design with these options, which is
+/// checked first.
 fn answer_of(
     alloc: Global,
     run: &WaveStore,
@@ -126,8 +125,8 @@ fn answer_of(
     }
 }
 
-/// The run of a design: by workers who share its store where the gate watches, else by a team where
-/// there are several workers, else on the calling thread: its store, once it is finished.
+/// The store of a finished run of a design, carried out by workers that share the store if the gate
+/// watches, otherwise by a team if there are several workers, otherwise on the calling thread.
 fn run_either<R: Threads + Wait + Sync, G: Gate + Sync>(
     rt: &R,
     alloc: Global,
@@ -146,13 +145,12 @@ fn run_either<R: Threads + Wait + Sync, G: Gate + Sync>(
     run_by_workers(rt, alloc, copy, options, gate)
 }
 
-/// Runs a design from its initialization to the end of its run, and answers its history. Its
-/// processes are executed by as many workers as the options say; the gate is reported of each
-/// execution where it watches. With a gate that does not watch no lock is taken: each worker
-/// executes a share of what a cycle resumes, or with one worker all is done on the calling thread.
-/// The refusals: `Options` where an option is out of its range,
-/// `CycleLimit` where the run needs more cycles than the limit, `PostponedDelta` where a postponed
-/// process makes a delta cycle follow, `Memory`.
+/// Runs a design from its initialization to the end of its run, and returns its history. Its
+/// processes are executed by as many workers as the options say; each execution is reported to the
+/// gate if it watches. If it does not, no lock is taken: each worker executes a share of the
+/// processes that resume in a cycle; a single worker executes all on the calling thread. The
+/// refusals: `Options` if an option is out of its range, `CycleLimit` if the run needs more cycles
+/// than the limit, `PostponedDelta` if a postponed process makes a delta cycle follow, `Memory`.
 pub fn run<R: Threads + Wait + Sync, G: Gate + Sync>(
     rt: &R,
     alloc: Global,
@@ -169,13 +167,13 @@ pub fn run<R: Threads + Wait + Sync, G: Gate + Sync>(
     Finished::of(alloc, &run)
 }
 
-/// Carries on the run of a store under a lock from where it stands to its end, and answers its
-/// history. Others may look at the store meanwhile, or carry it on as well; it stays in the lock.
-/// Its design, stop time and limit are compared with the caller's under the first lock and under
-/// the last. The refusals: `Options` where an option is out of its range, `Stranger` where the
-/// store is not that of this run, `CycleLimit` where the run needs more cycles than the limit,
-/// `PostponedDelta` where a postponed process makes a delta cycle follow, and `Memory`, after which
-/// the call may be made again.
+/// Carries on the run of a store under a lock from its present state to its end, and returns its
+/// history. Other threads may look at the store meanwhile, or carry it on as well; it stays in the
+/// lock. Its design, stop time and limit are compared with the caller's under the first lock and
+/// under the last. The refusals: `Options` if an option is out of its range, `Stranger` if the
+/// store is not that of this run, `CycleLimit` if the run needs more cycles than the limit,
+/// `PostponedDelta` if a postponed process makes a delta cycle follow, and `Memory`, after which
+/// the call may be repeated.
 pub fn run_in<R: Threads + Wait + Sync, G: Gate + Sync>(
     rt: &R,
     alloc: Global,

@@ -6,7 +6,7 @@ use Rattle.std.proofs.lemmas.List.Sums.{sum_by-append}
 use Rattle.sim_standard.specs.declared.record.Record.{Record}
 use Rattle.sim_standard.specs.Histories.{IsNamed, event_count}
 
--- the records are of one net, and after the first there are n of them with this many changes
+-- all records are about one net; after the first there are `n` of them, with `each` changes
 pub record IsGrown (records : List Record) (n each : ℕ) : Type 0 where
   pub begun : 0 < length records
   pub named : All (IsNamed 1) records

@@ -1,6 +1,6 @@
 //! `drivers N`: N steps on one driver, in each of several ways and with each of several numbers of
 //! pending transactions. In a step the driver takes its first transactions and is assigned as many
-//! new ones, so that the number of those pending stays.
+//! new ones, so that the number of pending transactions stays the same.
 
 ghost use Rattle.std.specs.Prelude.{◌≤◌, IfSome};
 ghost use Rattle.sim_standard.specs.Drivers.{RisesFrom};
@@ -20,26 +20,26 @@ const PENDING: [u64; 4] = [1, 2, 16, 100_000];
 /// The most pending transactions.
 const MOST: u64 = 1_000_000;
 
-/// What is assigned in a step.
+/// The assignments of a step.
 #[derive(Clone, Copy)]
 enum Way {
     /// One element with transport delay, of the other value.
     Transport,
-    /// One element with inertial delay, of the value of all that is pending, so that all of it
+    /// One element with inertial delay, of the same value as all that is pending, so that all of it
     /// stays.
     Equal,
-    /// A pulse with transport delay, and then an element that rejects both its edges.
+    /// A pulse with transport delay, then an element that rejects both its edges.
     Rejection,
-    /// A pulse with transport delay, and then an element that rejects its rise and keeps its fall:
-    /// a gap closes. Two transactions are taken.
+    /// A pulse with transport delay, then an element that rejects its rising edge and keeps its
+    /// falling edge, which leaves a gap to close. Two transactions are taken.
     Gap,
 }
 
-/// The ways that need no more than one pending transaction.
+/// The ways that need only one pending transaction.
 static WAYS: [Way; 3] = [Way::Transport, Way::Equal, Way::Rejection];
 
 impl Way {
-    /// What the line of the way begins with.
+    /// The start of the line of this way.
     fn name(self) -> &'static str {
         match self {
             Way::Transport => "transport",
@@ -50,7 +50,7 @@ impl Way {
     }
 }
 
-/// A driver with transactions of the value '1' at 4, 8, 12 and so on.
+/// A driver with transactions of the value '1' at 4 fs, 8 fs, 12 fs and so on.
 fn filled(alloc: Global, count: u64) -> Result<Driver, AllocError>
     requires { count ≤ MOST }
 {
@@ -61,7 +61,7 @@ fn filled(alloc: Global, count: u64) -> Result<Driver, AllocError>
     Ok(driver)
 }
 
-/// Takes the first transaction and answers its time; `None` where there is none up to `LATEST`.
+/// Takes the first transaction, and returns its time; `None` if there is none up to `LATEST`.
 fn take_next(driver: &mut Driver) -> Option<u64>
     ensures time { IfSome result (λ now. now ≤ LATEST) }
     ensures later { IfSome result (λ now. RisesFrom now driver.new.pending) }
@@ -74,7 +74,7 @@ fn take_next(driver: &mut Driver) -> Option<u64>
     Some(now)
 }
 
-/// One element in each step, of the value that was taken or of the other.
+/// One element in each step, of the value that was taken or of the opposite one.
 fn assign_each(
     driver: &mut Driver,
     mechanism: Delay,
@@ -99,7 +99,7 @@ fn assign_each(
     Ok(())
 }
 
-/// A pulse in each step, and an element after it that rejects both its edges.
+/// A pulse in each step, then an element that rejects both its edges.
 fn reject_pulses(driver: &mut Driver, delay: u64, count: u64) -> Result<(), AllocError>
     requires above { 4 ≤ delay }
     requires delay { delay ≤ LATEST }
@@ -114,7 +114,7 @@ fn reject_pulses(driver: &mut Driver, delay: u64, count: u64) -> Result<(), Allo
     Ok(())
 }
 
-/// A pulse in each step, and an element after it that rejects its first edge and keeps its second.
+/// A pulse in each step, then an element that rejects its first edge and keeps its second.
 fn close_gaps(driver: &mut Driver, delay: u64, count: u64) -> Result<(), AllocError>
     requires above { 8 ≤ delay }
     requires delay { delay ≤ LATEST }
@@ -154,7 +154,7 @@ fn make_steps(driver: &mut Driver, way: Way, pending: u64, count: u64) -> Result
     }
 }
 
-/// How long it takes to make the steps.
+/// The time that the steps take.
 fn timed<R: Clock>(
     rt: &R,
     driver: &mut Driver,
@@ -171,7 +171,7 @@ fn timed<R: Clock>(
     Ok(took)
 }
 
-/// Prints how long it took, and what is left in the driver.
+/// Prints the time, and what is left in the driver.
 fn print_times<R: Print + Eprint>(
     rt: &R,
     way: Way,

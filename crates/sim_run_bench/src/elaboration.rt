@@ -1,5 +1,5 @@
-//! `elaboration N TOP`: N times the text on standard input is read as a design file and flattened
-//! under its entity TOP, and what was made of it is dropped.
+//! `elaboration N TOP`: N times, reads the text on standard input as a design file, flattens it
+//! under its entity TOP, and drops the results.
 
 use crate::reading::source;
 use anyhow::{Result, bail};
@@ -10,7 +10,7 @@ use std::alloc::Global;
 use std::rt::Clock;
 use std::time::Instant;
 
-/// How much there is in a flat design.
+/// The size of a flat design.
 #[derive(Clone, Copy)]
 struct Size {
     nets: usize,
@@ -28,7 +28,7 @@ fn flattened(alloc: Global, file: &DesignFile, top: &str) -> Result<Size, FlatEr
     })
 }
 
-/// Prints what was made of a file.
+/// Prints the size of the design of a file, or its fault.
 fn print_size<R: Print>(rt: &R, found: Result<Size, FlatError>) -> Result<()> {
     match found {
         Ok(size) => println!(rt;
@@ -40,7 +40,7 @@ fn print_size<R: Print>(rt: &R, found: Result<Size, FlatError>) -> Result<()> {
     Ok(())
 }
 
-/// Times the flattening of a file, and prints what was made of it.
+/// Times the flattening of a file, and prints the size of the design or its fault.
 fn report_flattening<R: Print + Eprint + Clock + AllocGlobal>(
     rt: &R,
     file: &DesignFile,
@@ -53,7 +53,7 @@ fn report_flattening<R: Print + Eprint + Clock + AllocGlobal>(
     print_size(rt, found)
 }
 
-/// Times the flattening of a file whose reading was begun at this time.
+/// Times the flattening of a file whose reading began at this time.
 fn report_file<R: Print + Eprint + Clock + AllocGlobal>(
     rt: &R,
     start: Instant,
@@ -65,8 +65,8 @@ fn report_file<R: Print + Eprint + Clock + AllocGlobal>(
     report_flattening(rt, file, top)
 }
 
-/// Times one reading and one flattening, each by itself. The design is dropped within its time, the
-/// tree after both.
+/// Times one reading and one flattening, each by itself. The design is dropped within the time of
+/// the flattening, the tree after both.
 fn report<R: Print + Eprint + Clock + AllocGlobal>(rt: &R, text: &[u8], top: &str) -> Result<()> {
     let start = Instant::now(rt)?;
     match parse(rt.alloc(), text) {
@@ -75,7 +75,7 @@ fn report<R: Print + Eprint + Clock + AllocGlobal>(rt: &R, text: &[u8], top: &st
     }
 }
 
-/// Times the parser and elaboration after it.
+/// Times the parser, and elaboration after it.
 pub fn run<R: Print + Eprint + Input + Clock + AllocGlobal>(
     rt: &R,
     count: u64,

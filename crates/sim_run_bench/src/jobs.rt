@@ -1,5 +1,5 @@
-//! `jobs N TOP`: the design in the text on standard input is carried on for N cycles by jobs, as
-//! workers do it, on one thread and without a lock. The time of each call of the store is told.
+//! `jobs N TOP`: carries on the design in the text on standard input for N cycles by jobs, as
+//! workers do, but on one thread and without a lock. Prints the time of each call of the store.
 
 use crate::reading::source;
 use anyhow::{Result, bail};
@@ -13,7 +13,7 @@ use std::alloc::{AllocError, Global};
 use std::rt::Clock;
 use std::time::Instant;
 
-/// Nanoseconds of all calls of a kind, and how many executions and cycles there were.
+/// The nanoseconds of all calls of each kind, and the numbers of executions and cycles.
 #[derive(Clone, Copy)]
 struct Spent {
     job: u128,
@@ -48,7 +48,7 @@ fn results(alloc: Global, jobs: Vec<Job>) -> Result<Vec<Done>, AllocError> {
     Ok(results)
 }
 
-/// Hands all results to the store.
+/// Gives all results to the store.
 fn deposit(store: &mut WaveStore, results: Vec<Done>) -> Result<(), StoreError> {
     for done in results {
         if let Err((error, _done)) = store.deposit(done) {
@@ -70,7 +70,7 @@ fn design(alloc: Global, text: &[u8], top: &str) -> Result<Design> {
     }
 }
 
-/// The store of the design of a text, which may go on for long.
+/// The store of the design of a text, with no limit in practice.
 fn store_of(alloc: Global, text: &[u8], top: &str) -> Result<WaveStore> {
     let design = design(alloc, text, top)?;
     match WaveStore::new(alloc, design, LATEST, u32::MAX) {
@@ -79,7 +79,7 @@ fn store_of(alloc: Global, text: &[u8], top: &str) -> Result<WaveStore> {
     }
 }
 
-/// Nanoseconds since a time, which is then now.
+/// The nanoseconds since a time, which becomes the present time.
 fn lap<R: Clock>(rt: &R, since: &mut Instant) -> Result<u128> {
     let took = since.elapsed(rt)?.as_nanos();
     *since = Instant::now(rt)?;
@@ -111,7 +111,7 @@ fn run_jobs<R: Clock + AllocGlobal>(
     Ok(results)
 }
 
-/// Hands all results to the store; their time.
+/// Gives all results to the store, and takes the time.
 fn deposit_all<R: Clock>(
     rt: &R,
     store: &mut WaveStore,
@@ -124,7 +124,7 @@ fn deposit_all<R: Clock>(
     Ok(())
 }
 
-/// Goes on to the next cycle; its time.
+/// Goes on to the next cycle, and takes the time.
 fn advance<R: Clock + AllocGlobal>(
     rt: &R,
     store: &mut WaveStore,
@@ -137,7 +137,7 @@ fn advance<R: Clock + AllocGlobal>(
     Ok(step)
 }
 
-/// Executes all that are due, by jobs, and goes on to the next cycle.
+/// Executes all processes that are due, by jobs, and goes on to the next cycle.
 fn go_on<R: Clock + AllocGlobal>(
     rt: &R,
     store: &mut WaveStore,
@@ -150,7 +150,7 @@ fn go_on<R: Clock + AllocGlobal>(
     advance(rt, store, spent, since)
 }
 
-/// Carries a store on for as many cycles, or to the end of its run.
+/// Carries on a store for this many cycles, or to the end of its run.
 fn carry_on<R: Clock + AllocGlobal>(rt: &R, store: &mut WaveStore, count: u64) -> Result<Spent> {
     let mut spent = Spent {
         job: 0,
@@ -169,7 +169,7 @@ fn carry_on<R: Clock + AllocGlobal>(rt: &R, store: &mut WaveStore, count: u64) -
     Ok(spent)
 }
 
-/// Prints how long the calls took, each by itself, and how much was done.
+/// Prints the time of the calls, kind by kind, and how much was done.
 fn print_times<R: Print + Eprint>(rt: &R, spent: Spent) -> Result<()> {
     let executions = u128::from(spent.executions.max(1));
     let cycles = u128::from(spent.cycles.max(1));

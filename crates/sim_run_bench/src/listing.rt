@@ -1,5 +1,5 @@
-//! `listing N`: the listing of N changes is written to a writer that keeps nothing, with one change
-//! a record and with 1,000.
+//! `listing N`: writes the listing of N changes to a writer that keeps nothing, with one change per
+//! record and with 1,000.
 
 ghost use Rattle.std.specs.Prelude.{◌≡◌, ◌*◌, ◌<◌, ◌≤◌, length, All, IfOk, ℕ};
 ghost use Rattle.sim_logic.specs.declared.logic.Logic as logic;
@@ -35,7 +35,7 @@ impl Write for Counting {
     }
 }
 
-/// As many changes of net 0.
+/// This many changes of net 0.
 fn changes(alloc: Global, count: usize) -> Result<Items<(usize, Logic)>, AllocError>
     ensures length { IfOk result (λ found. length found ≡ count) }
     ensures named { IfOk result (λ found. All (λ (c : ℕ × logic.Logic). c.0 < 1) found) }
@@ -47,7 +47,7 @@ fn changes(alloc: Global, count: usize) -> Result<Items<(usize, Logic)>, AllocEr
     Ok(found)
 }
 
-/// A record with as many changes of net 0.
+/// A record with this many changes of net 0.
 fn record(alloc: Global, time: u64, count: usize) -> Result<Record, AllocError>
     ensures length { IfOk result (λ r. length r.changes ≡ count) }
     ensures named { IfOk result (λ r. IsNamed 1 r) }
@@ -69,7 +69,7 @@ fn first_record(alloc: Global) -> Result<Vec<Record>, AllocError>
     Ok(found)
 }
 
-/// The initialization and this many records, a nanosecond apart, with `each` changes.
+/// The initialization, and `count` records at intervals of a nanosecond with `each` changes.
 fn records(alloc: Global, count: u64, each: usize) -> Result<Vec<Record>, AllocError>
     requires { count ≤ MOST }
     ensures begun { IfOk result (λ v. 0 < length v.items) }
@@ -83,7 +83,7 @@ fn records(alloc: Global, count: u64, each: usize) -> Result<Vec<Record>, AllocE
     Ok(found)
 }
 
-/// A finished run with this many changes a record.
+/// A finished run with `each` changes per record.
 fn finished(alloc: Global, count: u64, each: usize) -> Result<Finished, AllocError>
     requires many { count ≤ MOST }
     requires few { each ≤ 1_000 }
@@ -94,7 +94,7 @@ fn finished(alloc: Global, count: u64, each: usize) -> Result<Finished, AllocErr
     Ok(Finished::new(names, records, count * each as u64))
 }
 
-/// How long a listing takes, and how many bytes it has.
+/// The time that a listing takes, and its number of bytes.
 fn timed<R: Clock>(rt: &R, finished: &Finished) -> Result<(Duration, u64)> {
     let mut out = Counting { bytes: 0 };
     let start = Instant::now(rt)?;
@@ -105,7 +105,7 @@ fn timed<R: Clock>(rt: &R, finished: &Finished) -> Result<(Duration, u64)> {
     Ok((took, out.bytes))
 }
 
-/// Prints how many bytes a listing has.
+/// Prints the number of bytes of a listing.
 fn print_size<R: Print>(rt: &R, each: usize, bytes: u64) -> Result<()> {
     println!(rt; "{each} a record: {bytes} bytes")?;
     Ok(())

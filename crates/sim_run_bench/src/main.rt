@@ -1,5 +1,5 @@
-//! Times parts of the simulator: `sim_run_bench SUBJECT COUNT`, and of `elaboration`
-//! and `jobs` also the top. The times go to standard error, and what was computed to standard output.
+//! Times parts of the simulator: `sim_run_bench SUBJECT COUNT`, for `elaboration` and `jobs`
+//! followed by the top. The times go to standard error, the results to standard output.
 #![tactic(auto)]
 
 mod drivers;
@@ -38,7 +38,7 @@ fn run<R: Print + Eprint + Input + Clock + AllocGlobal>(
     }
 }
 
-/// Times the subject of the words as many times as they say.
+/// Times the subject, as often as the words say.
 fn main(rt: HostRuntime) -> Result<()> {
     let mut words = env::args(&rt)?.skip(1);
     let subject = words.next().context("no subject")?;

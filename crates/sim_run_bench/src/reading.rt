@@ -1,5 +1,5 @@
-//! `tokens N` and `parse N`: N times the text on standard input is cut into its tokens, or read as
-//! a design file, and what was made of it is dropped.
+//! `tokens N` and `parse N`: N times, cuts the text on standard input into its tokens, or reads it
+//! as a design file, and drops the result.
 
 use anyhow::Result;
 use sim_text::{TextError, parse, tokens};
@@ -8,14 +8,14 @@ use std::io::Read;
 use std::rt::Clock;
 use std::time::Instant;
 
-/// What stands on standard input.
+/// The text on standard input.
 pub fn source<R: Input + AllocGlobal>(rt: &R) -> Result<Vec<u8>> {
     let mut text = Vec::new(rt.alloc());
     rt.reader().read_to_end(&mut text)?;
     Ok(text)
 }
 
-/// What is timed, and what is counted of it.
+/// A step that is timed, and what it counts.
 #[derive(Clone, Copy)]
 pub enum Step {
     /// the lexer: tokens
@@ -33,7 +33,7 @@ impl Step {
         }
     }
 
-    /// What the count is of.
+    /// The name of what is counted.
     fn counted(self) -> &'static str {
         match self {
             Step::Tokens => "tokens",
@@ -41,7 +41,7 @@ impl Step {
         }
     }
 
-    /// Reads a text so, and counts what came of it.
+    /// Takes the step on a text, and counts the result.
     fn count(self, alloc: Global, text: &[u8]) -> Result<usize, TextError> {
         match self {
             Step::Tokens => count_tokens(alloc, text),
@@ -50,19 +50,19 @@ impl Step {
     }
 }
 
-/// How many tokens a text has.
+/// The number of tokens of a text.
 fn count_tokens(alloc: Global, text: &[u8]) -> Result<usize, TextError> {
     let found = tokens(alloc, text)?;
     Ok(found.len())
 }
 
-/// How many design units a text has.
+/// The number of design units of a text.
 fn count_units(alloc: Global, text: &[u8]) -> Result<usize, TextError> {
     let found = parse(alloc, text)?;
     Ok(found.units().len())
 }
 
-/// What a step counts, and how many microseconds it took.
+/// What a step counts, and the microseconds that it takes.
 fn timed<R: Clock + AllocGlobal>(rt: &R, step: Step, text: &[u8]) -> Result<(usize, u128)> {
     let start = Instant::now(rt)?;
     let found = step.count(rt.alloc(), text)?;
@@ -78,7 +78,7 @@ fn report<R: Print + Eprint + Clock + AllocGlobal>(rt: &R, step: Step, text: &[u
     Ok(())
 }
 
-/// Times a step, so many times over the same text.
+/// Times a step `count` times, on the same text.
 pub fn run<R: Print + Eprint + Input + Clock + AllocGlobal>(
     rt: &R,
     step: Step,

@@ -1,8 +1,8 @@
-//! Carries a text through the public calls, one after another.
+//! The public calls, one after another, on a text.
 //!
-//! A call that finds no memory is made once more, with what it gave back. So where one request for
+//! A call that finds no memory is repeated once, with what it gave back. So if a single request for
 //! memory is refused, the listing is that of a run with ample memory: `tests/refusals.py --calls`
-//! refuses each in turn.
+//! refuses each request in turn.
 
 mod designs;
 mod elaboration;
@@ -40,7 +40,7 @@ fn begin(alloc: Global, source: &[u8]) -> Result<WaveStore> {
     store_of(alloc, design)
 }
 
-/// Carries a run on to its end, and writes its listing.
+/// Carries a run to its end, and writes its listing.
 fn list<R: AllocGlobal + Print>(rt: &R, mut store: WaveStore) -> Result<()> {
     make_codes(rt.alloc(), store.design())?;
     run(rt.alloc(), &mut store)?;
@@ -67,7 +67,7 @@ fn options(alloc: Global, workers: usize) -> Result<Options, AllocError> {
     })
 }
 
-/// The options of a run by one worker, and of one by several.
+/// The options of a run by one worker, and those of a run by several.
 fn options_of_each(alloc: Global) -> Result<(Options, Options), AllocError> {
     let alone = options(alloc, 1)?;
     let shared = options(alloc, 2)?;
@@ -75,7 +75,7 @@ fn options_of_each(alloc: Global) -> Result<(Options, Options), AllocError> {
 }
 
 /// Prints the listing of the text on standard input, for its top `t`: by single calls, and then by
-/// each of the calls that carry a whole run.
+/// each of the calls that carry out a whole run.
 pub fn list_by_calls<R: Threads + Wait + Sync + AllocGlobal + Input + Print>(rt: &R) -> Result<()> {
     let source = read_source(rt).context("reading")?;
     let source = source.as_slice();
@@ -84,7 +84,7 @@ pub fn list_by_calls<R: Threads + Wait + Sync + AllocGlobal + Input + Print>(rt:
     list_by_each(rt, source, &alone, &shared)
 }
 
-/// Works rows of calls that are made alone.
+/// Makes rows of calls that are made alone.
 pub fn work_rows<R: AllocGlobal + Print>(rt: &R) -> Result<()> {
     let options = options(rt.alloc(), 1).context("reading")?;
     work_each(rt, &options)

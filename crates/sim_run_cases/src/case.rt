@@ -1,10 +1,10 @@
-//! A case: what the program is given, and what it is to answer.
+//! A case: what the program is given, and what it should answer.
 
 use crate::repeated::{number, put_blanks, put_line, put_numbered, put_times};
 use std::alloc::{AllocError, Global};
 use std::str;
 
-/// What the program is given, and what it is to answer.
+/// What the program is given, and what it should answer.
 #[derive(Drop)]
 pub struct Case {
     pub name: String,
@@ -17,13 +17,13 @@ pub struct Case {
     pub status: u32,
 }
 
-/// A word of a command line.
+/// Adds a word of a command line.
 fn push_word(alloc: Global, words: &mut Vec<String>, word: &str) -> Result<(), AllocError> {
     words.push(String::from_str(alloc, word)?)?;
     Ok(())
 }
 
-/// The words that a line has, parted by blanks; bytes that are no text are no words.
+/// The words of a line, separated by blanks. A line that is not valid UTF-8 has none.
 fn words_of(alloc: Global, line: &[u8]) -> Result<Vec<String>, AllocError> {
     let mut words = Vec::new(alloc);
     if let Ok(line) = str::from_utf8(line) {
@@ -35,7 +35,7 @@ fn words_of(alloc: Global, line: &[u8]) -> Result<Vec<String>, AllocError> {
 }
 
 impl Case {
-    /// The case of an empty text that has no listing, for the top `t`.
+    /// A case with an empty text and no listing, for the top `t`.
     pub fn new(alloc: Global, name: &[u8]) -> Result<Case, AllocError> {
         let name = match str::from_utf8(name) {
             Ok(name) => String::from_str(alloc, name)?,
@@ -61,19 +61,19 @@ impl Case {
         self.put_more(line)
     }
 
-    /// Goes on with the last line of the text.
+    /// Extends the last line of the text.
     fn put_more(&mut self, line: &[u8]) -> Result<bool, AllocError> {
         self.text.extend_from_slice(line)?;
         Ok(true)
     }
 
-    /// What the words are.
+    /// Sets the words.
     fn put_words(&mut self, alloc: Global, line: &[u8]) -> Result<bool, AllocError> {
         self.words = words_of(alloc, line)?;
         Ok(true)
     }
 
-    /// What the status is to be.
+    /// Sets the expected status.
     fn put_status(&mut self, line: &[u8]) -> bool {
         match number(line) {
             Some(status) => {
@@ -84,7 +84,7 @@ impl Case {
         }
     }
 
-    /// What is not to be compared.
+    /// Sets what is not compared.
     fn put_spared(&mut self, line: &[u8]) -> bool {
         match line {
             b">" => self.compares_output = false,
@@ -94,12 +94,12 @@ impl Case {
         true
     }
 
-    /// Whether its run is finished, so that there is a listing to compare.
+    /// Whether its run finishes, so that there is a listing to compare.
     pub fn is_listed(&self) -> bool {
         self.status == 0 && self.compares_output
     }
 
-    /// Asks for so many workers, unless its words say how many there are.
+    /// Asks for this many workers, unless the words say how many.
     pub fn put_workers(&mut self, alloc: Global, workers: &str) -> Result<(), AllocError> {
         for word in &self.words {
             if word.starts_with("--workers") {
@@ -110,8 +110,8 @@ impl Case {
         push_word(alloc, &mut self.words, workers)
     }
 
-    /// Reads a line of the case: its mark, and what follows the blank after it. `false` where it is
-    /// none.
+    /// Reads a line of the case: its mark, and what follows the blank after it. `false` if it is
+    /// not one.
     pub fn put(&mut self, alloc: Global, mark: u8, line: &[u8]) -> Result<bool, AllocError> {
         match mark {
             b'$' => self.put_words(alloc, line),

@@ -25,7 +25,7 @@ fn put(alloc: Global, cases: &mut Vec<Case>, line: &[u8]) -> Result<bool> {
     }
 }
 
-/// The cases of a file. An empty line, and one that begins with `#`, says nothing.
+/// The cases of a file. An empty line, or one that begins with `#`, is ignored.
 pub fn cases(alloc: Global, file: &[u8]) -> Result<Vec<Case>> {
     let mut found = Vec::new(alloc);
     for (index, line) in file.split(|byte| *byte == b'\n').enumerate() {

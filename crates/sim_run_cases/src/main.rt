@@ -1,31 +1,31 @@
-//! Gives the program each case of the files that its words name, and prints the number of cases and
-//! each that is answered in another way than the case says: `sim_run_cases FILE ..`. After a word
-//! `--by=N` it does so with each case whose run is finished, by N workers, where the case does not
-//! say how many, to whom each phase is handed out. For a word `--calls` it prints the listing of the
-//! text on standard input, by the public calls one after another; for a word `--rows` it works rows of
-//! calls that are made alone.
+//! Runs the program on each case of the files that its words name, and prints the number of cases,
+//! and each case whose answer is not the expected one: `sim_run_cases FILE ..`. After a word
+//! `--by=N` it does so for each case whose run finishes, with N workers unless the case says how
+//! many, and with each phase handed out to them. For a word `--calls` it prints the listing of the
+//! text on standard input, by the public calls one after another; for a word `--rows` it makes rows
+//! of calls that are made alone.
 //!
-//! Where the first word is `--handed-out`, it is the program itself: the others are its words, the
-//! streams and the status are its own, and each phase is handed out. One program, since each that
-//! holds a whole run proves and links all of it.
+//! If the first word is `--handed-out`, it is the program itself: the other words are the
+//! program's, and so are the streams and the status, and each phase is handed out. All this is one
+//! program because each program that contains a whole run proves and links all of it.
 //!
-//! A file has lines. An empty one, and one that begins with `#`, says nothing. Each other begins
-//! with a mark and a blank:
+//! A file consists of lines. An empty line, or one that begins with `#`, is ignored. Every other
+//! line begins with a mark and a blank:
 //!
-//! | Mark | What stands after the blank |
+//! | Mark | What follows the blank |
 //! |---|---|
 //! | `=` | the name of a case, which begins here |
-//! | `$` | the words, parted by blanks; where there is no such line, `--top t` |
-//! | `<` | a line of the text; no line feed stands after the last |
+//! | `$` | the words, separated by blanks; without such a line, `--top t` |
+//! | `<` | a line of the text; the last one has no line feed |
 //! | `+` | more of the text's last line |
-//! | `*` | a number, and after a blank more of that line, as many times |
-//! | `_` | a number: as many blanks more in that line |
+//! | `*` | a number, and after a blank more of that line, repeated as many times |
+//! | `_` | a number: this many more blanks in that line |
 //! | `@` | two numbers, and after a blank more of that line for each number from the first to the
 //! second: `{n}` in it is that number, `{n+1}` the next |
-//! | `>` | a line that is to be written to standard output |
-//! | `&` | as `@`, a line that is to be written to standard output for each number |
-//! | `!` | a line that is to be written to standard error |
-//! | `?` | the status; where there is no such line, 0 |
+//! | `>` | a line that is written to standard output |
+//! | `&` | as `@`, a line that is written to standard output for each number |
+//! | `!` | a line that is written to standard error |
+//! | `?` | the status; without such a line, 0 |
 //! | `~` | `>` or `!`: what is written there is not compared |
 #![tactic(auto)]
 
@@ -50,14 +50,14 @@ use std::sync::Wait;
 use std::thread::Threads;
 use std::{env, fs};
 
-/// How many cases there were.
+/// The numbers of cases with the expected answer and with another one.
 #[derive(Clone, Copy)]
 struct Counts {
     same: u64,
     differ: u64,
 }
 
-/// Tells in which way a case differs.
+/// Prints how the answer to a case differs.
 fn tell<R: Print>(rt: &R, name: &str, outcome: Outcome) -> Result<()> {
     match outcome {
         Outcome::Same => {}
@@ -68,7 +68,7 @@ fn tell<R: Print>(rt: &R, name: &str, outcome: Outcome) -> Result<()> {
     Ok(())
 }
 
-/// Gives the program a case.
+/// Runs the program on a case.
 fn run_case<R: Threads + Wait + Sync + AllocGlobal>(
     rt: &R,
     case: Case,
@@ -81,7 +81,7 @@ fn run_case<R: Threads + Wait + Sync + AllocGlobal>(
     Ok((case.name, outcome))
 }
 
-/// The counts after one case more.
+/// The counts after one more case.
 fn counted(counts: Counts, outcome: Outcome) -> Counts {
     match outcome {
         Outcome::Same => Counts {
@@ -101,7 +101,7 @@ fn cases_of<R: AllocGlobal + Files>(rt: &R, name: &str) -> Result<Vec<Case>> {
     cases(rt.alloc(), file.as_slice())
 }
 
-/// Gives the program a case, if it is run in this way, and adds it to the counts.
+/// Runs the program on a case, if it is run in this way, and adds it to the counts.
 fn count_case<R: Threads + Wait + Sync + AllocGlobal + Print>(
     rt: &R,
     case: Case,
@@ -117,7 +117,7 @@ fn count_case<R: Threads + Wait + Sync + AllocGlobal + Print>(
     Ok(counted(counts, outcome))
 }
 
-/// Gives the program those of these cases that are run in this way.
+/// Runs the program on those cases that are run in this way.
 fn run_cases<R: Threads + Wait + Sync + AllocGlobal + Print>(
     rt: &R,
     cases: Vec<Case>,
@@ -130,7 +130,7 @@ fn run_cases<R: Threads + Wait + Sync + AllocGlobal + Print>(
     Ok(counts)
 }
 
-/// Tells how many cases of a file there were.
+/// Prints the number of cases of a file.
 fn tell_counts<R: Print>(rt: &R, name: &str, way: &Way, counts: Counts) -> Result<()> {
     let Counts { same, differ } = counts;
     match &way.workers {
@@ -142,7 +142,7 @@ fn tell_counts<R: Print>(rt: &R, name: &str, way: &Way, counts: Counts) -> Resul
     Ok(())
 }
 
-/// Gives the program the cases of a file.
+/// Runs the program on the cases of a file.
 fn run_file<R: Threads + Wait + Sync + AllocGlobal + Files + Print>(
     rt: &R,
     name: &str,
@@ -153,7 +153,7 @@ fn run_file<R: Threads + Wait + Sync + AllocGlobal + Files + Print>(
     tell_counts(rt, name, way, counts)
 }
 
-/// Does what a word says.
+/// Carries out a word.
 fn obey<R: Threads + Wait + Sync + AllocGlobal + Files + Input + Print>(
     rt: &R,
     word: &str,
@@ -166,7 +166,7 @@ fn obey<R: Threads + Wait + Sync + AllocGlobal + Files + Input + Print>(
     }
 }
 
-/// Does what each word says, in turn.
+/// Carries out each word, in order.
 fn obey_all<R: Threads + Wait + Sync + AllocGlobal + Files + Input + Print>(
     rt: &R,
     words: &[String],
@@ -201,7 +201,7 @@ fn after_first(alloc: Global, words: Vec<String>) -> Result<Vec<String>> {
     Ok(words.collect(alloc).context("reading the words")?)
 }
 
-/// Does what the words say: is the program itself, with each phase handed out, or runs cases.
+/// Carries out the words: as the program itself with each phase handed out, or by running cases.
 fn main(rt: HostRuntime) -> Result<ExitCode> {
     let words = words_of(&rt)?;
     if !are_handed_out(words.as_slice()) {

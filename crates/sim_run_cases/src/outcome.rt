@@ -1,4 +1,4 @@
-//! What the program makes of a case.
+//! The program's answer to a case.
 
 use crate::case::Case;
 use sim_run::{Hints, session_with_hints};
@@ -6,7 +6,7 @@ use std::alloc::Global;
 use std::sync::Wait;
 use std::thread::Threads;
 
-/// How the program's answer and that of the case compare.
+/// How the program's answer compares with the expected one.
 #[derive(Clone, Copy, PartialEq, Eq)]
 pub enum Outcome {
     Same,
@@ -23,7 +23,7 @@ pub struct Answer {
     pub error: Vec<u8>,
 }
 
-/// Gives the program the words and the text of a case; work is handed out by the hints.
+/// Runs the program on the words and the text of a case. The hints say when work is handed out.
 pub fn answered<R: Threads + Wait + Sync>(
     rt: &R,
     alloc: Global,
@@ -42,7 +42,7 @@ pub fn answered<R: Threads + Wait + Sync>(
     }
 }
 
-/// Compares the answer to a case with that of the case.
+/// Compares the answer to a case with the expected one.
 pub fn compare(case: &Case, answer: &Answer) -> Outcome {
     if answer.status != case.status {
         Outcome::OtherStatus(answer.status)

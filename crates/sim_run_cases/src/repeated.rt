@@ -1,5 +1,5 @@
-//! Lines of a case that are written once, or again and again. Each function answers `false` where
-//! the line is not of its form.
+//! Lines of a case that are written once or repeatedly. Each function returns `false` if a line
+//! does not have its form.
 
 use std::alloc::{AllocError, Global};
 use std::str;
@@ -22,7 +22,7 @@ pub fn put_line(lines: &mut Vec<u8>, line: &[u8]) -> Result<bool, AllocError> {
     Ok(true)
 }
 
-/// Adds these bytes so many times.
+/// Adds these bytes this many times.
 fn put_copies(text: &mut Vec<u8>, count: u32, piece: &[u8]) -> Result<bool, AllocError> {
     for _turn in 0..count {
         text.extend_from_slice(piece)?;
@@ -30,7 +30,7 @@ fn put_copies(text: &mut Vec<u8>, count: u32, piece: &[u8]) -> Result<bool, Allo
     Ok(true)
 }
 
-/// A number, and after a blank what is added as many times.
+/// A number, and after a blank what is added this many times.
 pub fn put_times(text: &mut Vec<u8>, line: &[u8]) -> Result<bool, AllocError> {
     match counted(line) {
         Some((count, piece)) => put_copies(text, count, piece),
@@ -38,7 +38,7 @@ pub fn put_times(text: &mut Vec<u8>, line: &[u8]) -> Result<bool, AllocError> {
     }
 }
 
-/// A number: as many blanks are added.
+/// A number: this many blanks are added.
 pub fn put_blanks(text: &mut Vec<u8>, line: &[u8]) -> Result<bool, AllocError> {
     match number(line) {
         Some(count) => put_copies(text, count, b" "),
@@ -46,8 +46,8 @@ pub fn put_blanks(text: &mut Vec<u8>, line: &[u8]) -> Result<bool, AllocError> {
     }
 }
 
-/// Two numbers, and after a blank what is added for each number from the first to the second, with
-/// an end each time.
+/// Two numbers, and after a blank what is added for each number from the first to the second, each
+/// time followed by `end`.
 pub fn put_numbered(
     alloc: Global,
     text: &mut Vec<u8>,
@@ -63,7 +63,7 @@ pub fn put_numbered(
     put_turns(alloc, text, first, last, piece, end)
 }
 
-/// Adds a piece for each number from the first to the last, with an end each time.
+/// Adds a piece for each number from the first to the last, each time followed by `end`.
 fn put_turns(
     alloc: Global,
     text: &mut Vec<u8>,
@@ -79,7 +79,7 @@ fn put_turns(
     Ok(true)
 }
 
-/// Adds a piece, in which `{n}` stands for the turn's number, and `{n+1}` for the next.
+/// Adds a piece, in which `{n}` is the number of the turn, and `{n+1}` the next.
 fn put_turn(alloc: Global, text: &mut Vec<u8>, turn: u32, piece: &[u8]) -> Result<(), AllocError> {
     for part in piece.split(|byte| *byte == b'{') {
         put_part(alloc, text, turn, part)?;
@@ -87,7 +87,7 @@ fn put_turn(alloc: Global, text: &mut Vec<u8>, turn: u32, piece: &[u8]) -> Resul
     Ok(())
 }
 
-/// Adds what stands between two braces that open.
+/// Adds what is between two opening braces.
 fn put_part(alloc: Global, text: &mut Vec<u8>, turn: u32, part: &[u8]) -> Result<(), AllocError> {
     match part {
         [b'n', b'}', rest @ ..] => put_number(alloc, text, turn, rest),

@@ -1,19 +1,19 @@
-//! In which way cases are run.
+//! The ways in which cases are run.
 
 use crate::case::Case;
 use sim_run::Hints;
 use std::alloc::{AllocError, Global};
 
-/// By how many workers, where a case does not say it, and from when on work is handed out.
+/// The number of workers, unless a case says it, and when work is handed out.
 #[derive(Drop)]
 pub struct Way {
-    /// None where the program's default stands. Else only cases whose run is finished are run.
+    /// `None` for the program's default. Otherwise only cases whose run finishes are run.
     pub workers: Option<String>,
     pub hints: Hints,
 }
 
 impl Way {
-    /// As the program runs a case.
+    /// The way in which the program runs a case.
     pub fn measured() -> Way {
         Way {
             workers: None,
@@ -21,7 +21,7 @@ impl Way {
         }
     }
 
-    /// By so many workers, to whom each phase is handed out.
+    /// With this many workers, to whom each phase is handed out.
     pub fn handed_out(alloc: Global, workers: &str) -> Result<Way, AllocError> {
         Ok(Way {
             workers: Some(String::from_str(alloc, workers)?),
@@ -29,7 +29,7 @@ impl Way {
         })
     }
 
-    /// Whether a case is run in this way; its words then say by how many workers.
+    /// Whether a case is run in this way. Its words then say the number of workers.
     pub fn takes(&self, alloc: Global, case: &mut Case) -> Result<bool, AllocError> {
         let Some(workers) = &self.workers else {
             return Ok(true);

@@ -1,4 +1,4 @@
--- Runs that have ended, and listings of which a part was written.
+-- Runs that have ended, and listings that were written in part.
 use Rattle.std.proofs.Common.{◌≡◌, ◌∙◌, ℕ, List, Option, Result, Ok, Err, inl, inr, refl, ap, sym, subst}
 use Rattle.std.specs.Prelude.{◌⊎◌, IfErr, IfOk, OnOk}
 use Rattle.std.specs.Io.KnownBytes.{Appends}
@@ -33,7 +33,7 @@ finishes design options run (Ok s) of (same, end) =
     }))
 finishes design options run (Err e) of h = tt
 
--- a store that was cut short has the refusal of the run
+-- a store that was cut short gives the refusal of the run
 module _ (design : Design) (options : Options) (run : WaveStore) (of : IsRunOf design options run) where
   abbrev IsEnd : RunError → Type 0
   IsEnd e = ((e ≡ refusal.CycleLimit run.limit) × HasEnd run step.LimitReached) ⊎ ((e ≡ refusal.PostponedDelta) × HasEnd run step.PostponedDelta)
@@ -59,7 +59,7 @@ module _ (design : Design) (options : Options) (run : WaveStore) (of : IsRunOf d
   refuses_among (Ok s) h = tt
   refuses_among (Err e) h = inr (inr (cut_short e h))
 
--- the part that was written is of the listing of the run
+-- what was written is part of the run's listing
 pub part_listed : (text : List ℕ) (options : Options) (run : WaveStore) (old new : Option (List ℕ))
     → HasDesign text options (λ design. Finishes design options (history_of run))
     → AppendsPart old new (listing (history_of run).names (history_of run).records) → HasDesign text options (λ design. ListsPart design options old new)
@@ -69,7 +69,7 @@ part_listed text options run old new d written = record {
   holds = record { history = history_of run; finishes = d.holds; written = written };
 }
 
--- the listing that was written is of the run
+-- what was written is the run's listing
 pub listed : (text : List ℕ) (options : Options) (run : WaveStore) (r : Result (Unit {0}) RunError) (old new : Option (List ℕ))
     → HasDesign text options (λ design. Finishes design options (history_of run))
     → OnOk r (Appends old new (listing (history_of run).names (history_of run).records))

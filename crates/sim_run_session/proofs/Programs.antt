@@ -21,7 +21,7 @@ use Rattle.sim_run_session.specs.Simulation.{HasDesign, HasNoDesign, IsRefusal, 
 
 -- ---- the source
 
--- the text that the reader had: it is what was read, or both are too long
+-- the text that the reader had: it was read, or what was read is too long, and so is the text
 source_text : (unread left : Option (List ℕ)) (source : List ℕ) → ReadsSource unread left source
     → (text : List ℕ) × IsWhole unread text × ((source ≡ text) ⊎ ((most_bytes < length source) × (most_bytes < length text)))
 source_text None left source r = (source, tt, inl refl)
@@ -34,7 +34,7 @@ source_text (Some xs) (Some ys) source r = elim r.enough [
 too_much : (source : List ℕ) → most_bytes < length source → length source ≤ most_bytes → ⊥
 too_much source long short = absurd (omega arith)
 
--- what is true of a text that is not too long is true of that which the reader had
+-- what holds for a text that is not too long holds for the text that the reader had
 pub read_text : (unread left : Option (List ℕ)) (source : List ℕ) (Holds : List ℕ → Type 0) → ReadsSource unread left source
     → length source ≤ most_bytes → Holds source → HasText unread Holds
 read_text unread left source Holds r short p =
@@ -44,14 +44,14 @@ read_text unread left source Holds r short p =
       | inr (long, _) ↦ absurd (too_much source long short)
     ]
 
--- a text of which something is true, beside what is true of all texts
+-- a text for which something holds, with what holds for all texts
 pub with_range : (unread : Option (List ℕ)) {Holds : List ℕ → Type 0} {Range : Type 0} → Range → HasText unread Holds
     → HasText unread (λ text. Range × Holds text)
 with_range unread in_range t = record { text = t.text; whole = t.whole; holds = (in_range, t.holds) }
 
 -- ---- failures
 
--- a refusal of a text that is too long is one of every such text
+-- a refusal of a text that is too long is a refusal of every such text
 refusal_of : (source text : List ℕ) (options : Options) (e : RunError) → most_bytes < length source → most_bytes < length text
     → IsRefusal source options e → IsRefusal text options e
 refusal_of source text options refusal.Options long longer p = p
@@ -117,7 +117,7 @@ text_not_words (fault.Syntax at) e = absurd (omega arith)
 text_not_words (fault.TooDeep at) e = absurd (omega arith)
 text_not_words (fault.TimeRange at) e = absurd (omega arith)
 
--- a fault of elaboration has status 1, and want of memory 4
+-- a fault of elaboration has status 1, and lack of memory 4
 abbrev FlatStatus : FlatError → Type 0
 FlatStatus e = ((e ≡ flat.Memory) × (status_of (failure.Run (refusal.Flat e)) ≡ 4)) ⊎ ((e ≢ flat.Memory) × (status_of (failure.Run (refusal.Flat e)) ≡ 1))
 

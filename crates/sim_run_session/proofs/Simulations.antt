@@ -31,17 +31,17 @@ module _ (text : List ℕ) (options : Options) (design : Design) where
   text_run_found (Ok (Some run)) d f e = record { design = design; is_design = d; holds = f }
   text_run_found (Err e) d f why = stopped text options design e d (inr why)
 
--- A listing is refused for a failed write alone.
+-- A listing is refused only for a failed write.
 pub write_failed : (r : Result (Unit {0}) RunError) (Why : RunError → Type 0) → IfErr r (λ e. e ≡ refusal.Write)
     → IfErr r (λ e. e ≢ refusal.Write → Why e)
 write_failed (Ok done) Why is = tt
 write_failed (Err e) Why is = λ other. absurd (other is)
 
--- what is known where it failed
+-- what is known after a failure
 pub where_failed : (r : Result (Unit {0}) RunError) (e : RunError) (P : Type 0) → OnErr r P → r ≡ Err e → P
 where_failed r e P part failed = subst (λ (s : Result (Unit {0}) RunError). OnErr s P) failed part
 
--- what is not refused for its options has them in range
+-- if a run is not refused for its options, they are in range
 pub in_range : (r : Result (Unit {0}) RunError) (b : Bool) → (r ≡ Err refusal.Options) ↔ (b ≡ false) → OnOk r (b ≡ true)
 in_range (Ok done) true h = refl
 in_range (Ok done) false h = let is = h.1 refl in absurd cc

@@ -1,4 +1,4 @@
--- A run, whatever the design, by how the design behaves.
+-- A run of any design, given the design's behaviour.
 use Rattle.std.specs.Prelude.{◌≡◌, ◌⊎◌, ◌+◌, ◌-◌, ◌*◌, ℕ, List, Option, Some, None}
 use Rattle.sim_flat_design.specs.Designs.{Design}
 use Rattle.sim_store.specs.WaveStore.{WaveStore}
@@ -35,7 +35,7 @@ abbrev pub IsCut : Behaviour → Options → RunError → Type 0
 IsCut design options e =
     ((e ≡ refusal.CycleLimit options.limit) × ReachesLimit design options) ⊎ ((e ≡ refusal.PostponedDelta) × MakesPostponedDelta design options)
 
--- Why a run on one thread has no history: there was no memory, or it is cut short.
+-- Why a run on one thread has no history: memory ran out, or it is cut short.
 abbrev pub IsRefusalAlone : Behaviour → Options → RunError → Type 0
 IsRefusalAlone design options e = (e ≡ refusal.Memory) ⊎ IsCut design options e
 
@@ -55,7 +55,7 @@ pub record ListsPart (design : Behaviour) (options : Options) (old new : Option 
   pub finishes : Finishes design options history
   pub written : AppendsPart old new (listing history.names history.records)
 
--- what a store has recorded: its design's names, and its records up to as many cycles as it has had
+-- what a store has recorded: the names of its design, and its records up to its present cycle
 abbrev pub history_of : WaveStore → History
 history_of run =
     let design = behaviour_of run.simulation.design in
@@ -67,18 +67,18 @@ pub record IsRunOf (design : Design) (options : Options) (run : WaveStore) : Typ
   pub stop : run.stop ≡ options.stop
   pub limit : run.limit ≡ options.limit
 
--- These are of the run of one design with the same options.
+-- These are stores of runs of the same design with the same options.
 pub record IsSameRun (run other : WaveStore) : Type 0 where
   pub design : other.simulation.design ≡ run.simulation.design
   pub stop : other.stop ≡ run.stop
   pub limit : other.limit ≡ run.limit
 
--- how many phases of a cycle there may still be
+-- the most phases of a cycle that are left
 abbrev pub phases_left : Phase → ℕ
 phases_left phase.AtOnce = 2
 phases_left phase.Postponed = 1
 
--- how many steps there may still be: two phases for each cycle up to the limit
+-- the most steps that are left: two phases for each cycle up to the limit
 abbrev pub steps_from : ℕ → ℕ → Phase → Option Step → ℕ
 steps_from limit cycles f None = 2 * (limit - cycles) + phases_left f
 steps_from limit cycles f (Some s) = 0

@@ -1,4 +1,4 @@
--- What the program promises of its words, its input and its output.
+-- What the program promises about its words, its input and its output.
 use Rattle.std.specs.Prelude.{◌≡◌, ℕ, ◌+◌, List, length, Option, Some, None, ◌⊎◌}
 use Rattle.std.specs.String.{string_bytes}
 use Rattle.std.specs.Io.KnownBytes.{Appends, Keeps, Consumes, IsAtEnd}
@@ -15,7 +15,7 @@ use Rattle.sim_run_session.specs.declared.program.Failure.TheVariants as failure
 use Rattle.sim_run_session.specs.Simulation.{IsRefusal}
 use Rattle.sim_run_listing.specs.Writing.{AppendsPart}
 
--- the bytes that a reader had were these, if they are known
+-- these are the bytes that a reader had, if those are known
 abbrev pub IsWhole : Option (List ℕ) → List ℕ → Type 0
 IsWhole None text = Unit {0}
 IsWhole (Some bytes) text = bytes ≡ text
@@ -25,38 +25,38 @@ pub record ReadsSource (old new : Option (List ℕ)) (text : List ℕ) : Type 0 
   pub consumed : Consumes old new text
   pub enough : (length text ≡ most_bytes + 1) ⊎ IsAtEnd new
 
--- The reader had a text of which this is true.
+-- The reader had a text for which this holds.
 pub record HasText (unread : Option (List ℕ)) (Holds : List ℕ → Type 0) : Type 0 where
   pub text : List ℕ
   pub whole : IsWhole unread text
   pub holds : Holds text
 
--- The words ask for a run of the text that the reader had, and of that text and the options this is true.
+-- The words ask for a run of the text that the reader had, and this holds for the text and the options.
 pub record HasRun (words : List (List ℕ)) (unread : Option (List ℕ)) (Holds : List ℕ → Options → Type 0) : Type 0 where
   pub options : Options
   pub asked : Asks words options
   pub read : HasText unread (λ text. Holds text options)
 
--- The words ask for a run with options of which this is true.
+-- The words ask for a run with options for which this holds.
 pub record HasOptions (words : List (List ℕ)) (Holds : Options → Type 0) : Type 0 where
   pub options : Options
   pub asked : Asks words options
   pub holds : Holds options
 
--- The words ask for help, and a text was written of which this is true.
+-- The words ask for help, and a text was written for which this holds.
 pub record HasHelp (words : List (List ℕ)) (Holds : List ℕ → Type 0) : Type 0 where
   pub asked : AsksForHelp words
   pub text : List ℕ
   pub holds : Holds text
 
--- What the program answers and writes where the words are no options: the text of the help with status 0, or a proper prefix of it with 4, where
--- a write failed; for other words nothing, with status 2, or with 4 where memory was short.
+-- What the program answers and writes if the words give no options: the text of the help with status 0, or a proper prefix of it with status 4 if a write
+-- failed; for other words nothing, with status 2, or with 4 if memory ran out.
 abbrev pub IsAnswerTo : CliFault → ℕ → Option (List ℕ) → Option (List ℕ) → Type 0
 IsAnswerTo (cli.Help text) status old new = ((status ≡ 0) × Appends old new (string_bytes text)) ⊎ ((status ≡ 4) × AppendsPart old new (string_bytes text))
 IsAnswerTo (cli.Refused text) status old new = (status ≡ 2) × Keeps old new
 IsAnswerTo cli.Memory status old new = (status ≡ 4) × Keeps old new
 
--- Why the program failed, in a run with these options of the text that the reader had.
+-- Why the program failed, in a run of the text that the reader had, with these options.
 abbrev pub IsFailure : Option (List ℕ) → Options → Failure → Type 0
 IsFailure unread options (failure.Run refusal.Write) = Unit {0}
 IsFailure unread options (failure.Run e) = HasText unread (λ text. IsRefusal text options e)

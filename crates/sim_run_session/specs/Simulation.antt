@@ -1,4 +1,4 @@
--- What is simulated of a text, and why a text is not.
+-- The design that is simulated for a text, and the refusals of a text.
 use Rattle.std.specs.Prelude.{◌≡◌, ◌≢◌, ◌⊎◌, ℕ, List, false}
 use Rattle.std.specs.String.{string_bytes}
 use Rattle.sim_text_tree.specs.DesignFile.{DesignFile}
@@ -21,7 +21,7 @@ pub record IsDesignOf (text : List ℕ) (options : Options) (design : Design) : 
   pub is_text : IsText text file
   pub elaborated : elaboration.IsDesign (library_of file.units) (string_bytes options.top) design
 
--- The text has a design, and of how it behaves this is true.
+-- The text has a design, and this holds for its behaviour.
 pub record HasDesign (text : List ℕ) (options : Options) (Holds : Behaviour → Type 0) : Type 0 where
   pub design : Design
   pub is_design : IsDesignOf text options design

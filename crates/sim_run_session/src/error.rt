@@ -1,4 +1,4 @@
-//! Why a run has no listing.
+//! The refusals of a run.
 
 ghost use Rattle.std.specs.Prelude.{◌≡◌};
 ghost use Rattle.sim_run_session.specs.declared.error.RunError.TheVariants as refusal;
@@ -9,16 +9,16 @@ use sim_text::TextError;
 use std::alloc::{AllocError, AllocFailed};
 use thiserror::Error;
 
-/// A refusal of a run. Its text is that of the program's line on standard error.
+/// A refusal of a run. Its text is the one in the program's line on standard error.
 #[derive(Clone, Copy, Debug, PartialEq, Eq, Error)]
 pub enum RunError {
     /// The stop time, the cycle limit or the number of workers is out of its range.
     #[error("Options")]
     Options,
-    /// The text is at fault, or there was no memory to read it.
+    /// The text is at fault, or memory ran out while it was read.
     #[error("{0}")]
     Text(TextError),
-    /// The design is at fault, or there was no memory to elaborate it.
+    /// The design is at fault, or memory ran out while it was elaborated.
     #[error("{0}")]
     Flat(FlatError),
     /// The run needs more cycles than the limit.
@@ -27,14 +27,14 @@ pub enum RunError {
     /// A postponed process makes a delta cycle follow.
     #[error("PostponedDelta")]
     PostponedDelta,
-    /// The store under the lock is not that of this run: its design, its stop time or its limit is
-    /// another.
+    /// The store under the lock is not the store of this run: it has another design, stop time or
+    /// limit.
     #[error("Stranger")]
     Stranger,
-    /// A write failed, or took nothing.
+    /// A write failed, or wrote nothing.
     #[error("Write")]
     Write,
-    /// No memory.
+    /// Memory ran out.
     #[error("Memory")]
     Memory,
 }

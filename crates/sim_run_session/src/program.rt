@@ -1,4 +1,4 @@
-//! The program, over any reader and two writers.
+//! The program, for any reader and two writers.
 ghost use Rattle.std.specs.Prelude.{◌≡◌, ◌≢◌, ◌≤◌, ◌<◌, ◌⊎◌, true, false, codes, OnOk, IfOk, IfErr, [], ◌∷◌, map, string_bytes};
 ghost use Rattle.std.specs.Io.KnownBytes.{Appends, Keeps};
 ghost use Rattle.std.specs.Str.Parse.{starts_with_minus};
@@ -26,13 +26,13 @@ use std::sync::Wait;
 use std::thread::Threads;
 use thiserror::Error;
 
-/// One byte more than a text may have: enough to see that it is too long.
+/// One byte more than a text may have: enough to see that a text is too long.
 const MOST_BYTES: usize = 1_048_577;
 
-/// The most reads. Each gives a byte at the least, so fewer are enough.
+/// The most reads. Each gives at least one byte, so fewer suffice.
 const MOST_READS: u32 = 2_097_154;
 
-/// How many bytes are asked of a read.
+/// The number of bytes that a read asks for.
 const CHUNK: usize = 16_384;
 
 /// More bytes than any line on standard error has.
@@ -44,7 +44,7 @@ pub enum Failure {
     /// A read failed, or there were too many of them.
     #[error("Read")]
     Read,
-    /// No memory.
+    /// Memory ran out.
     #[error("Memory")]
     Memory,
     /// A refusal of the run.
@@ -52,8 +52,8 @@ pub enum Failure {
     Run(RunError),
 }
 
-/// The exit status: 1 for a fault of the text or design, 2 for the options, 3 for the limit of
-/// cycles, 4 for memory and streams.
+/// The exit status: 1 for a fault of the text or design, 2 for the options, 3 for a run that is cut
+/// short, 4 for memory and streams.
 fn status_of_failure(failure: Failure) -> u8
     ensures { result ≡ status_of failure }
 {
@@ -67,7 +67,7 @@ fn status_of_failure(failure: Failure) -> u8
     }
 }
 
-/// What the reader has left, up to one byte more than a text may have.
+/// The remaining input, up to one byte more than a text may have.
 fn read_source<R: Read>(alloc: Global, input: &mut R) -> Result<Vec<u8>, Failure>
     ensures source { IfOk result (λ text. ReadsSource (R.remaining input.old) (R.remaining input.new) text.items) }
     ensures failed { IfErr result (λ f. (f ≡ Failure.Read) ⊎ (f ≡ Failure.Memory)) }
@@ -92,7 +92,7 @@ fn read_source<R: Read>(alloc: Global, input: &mut R) -> Result<Vec<u8>, Failure
     Err(Failure::Read)
 }
 
-/// Reads the source and writes the listing of its run.
+/// Reads the source, and writes the listing of its run.
 fn carry_out<T: Threads + Wait + Sync, R: Read, W: Write>(
     rt: &T,
     alloc: Global,
@@ -116,14 +116,14 @@ fn carry_out<T: Threads + Wait + Sync, R: Read, W: Write>(
     }
 }
 
-/// The line on standard error. A fault in writing it is ignored.
+/// Writes the line on standard error. A failure to write it is ignored.
 fn tell<E: Write>(err: &mut E, failure: Failure) {
     let mut line = ArrayVec::<u8, LONGEST_LINE>::new();
     let _ = writeln!(line, "vsim: {failure}");
     let _ = write_whole(err, line.as_slice());
 }
 
-/// Writes the text of the help; a write that fails is told as that of a listing.
+/// Writes the text of the help. A failed write is reported like that of a listing.
 fn show<W: Write, E: Write>(out: &mut W, err: &mut E, text: &str) -> u8
     ensures { ((result ≡ 0) × Appends (W.contents out.old) (W.contents out.new) text.now)
         ⊎ ((result ≡ 4) × AppendsPart (W.contents out.old) (W.contents out.new) text.now) }
@@ -135,7 +135,7 @@ fn show<W: Write, E: Write>(out: &mut W, err: &mut E, text: &str) -> u8
     4
 }
 
-/// Answers words that are no options.
+/// Answers words that give no options.
 fn explain<W: Write, E: Write>(fault: &CliFault, out: &mut W, err: &mut E) -> u8
     ensures { IsAnswerTo fault.now result (W.contents out.old) (W.contents out.new) }
 {
@@ -152,15 +152,15 @@ fn explain<W: Write, E: Write>(fault: &CliFault, out: &mut W, err: &mut E) -> u8
     }
 }
 
-/// The whole program: it takes its words, without its own name; reads the source from `input`;
-/// writes the listing to `out`, or a line `vsim: ` with the refusal's text to `err`; and answers
-/// its status. That is 0 where the listing was written, 1 where the text was refused, 2 where the
-/// words or the options were, 3 where the run needs more cycles than the limit or a postponed process
-/// makes a delta cycle follow, and 4 where memory was short, or reading or writing failed; with any
-/// number of workers. It reads at most 1,048,577 bytes, by at most 2,097,154 reads.
+/// The whole program. It takes its words without its own name, reads the source from `input`,
+/// writes the listing to `out`, or a line `vsim: ` with the text of the refusal to `err`, and
+/// returns its status: 0 if the listing was written, 1 if the text was refused, 2 if the words or
+/// the options were refused, 3 if the run needs more cycles than the limit or a postponed process
+/// makes a delta cycle follow, 4 if memory ran out, or reading or writing failed. This holds for
+/// any number of workers. It reads at most 1,048,577 bytes, by at most 2,097,154 reads.
 ///
-/// Where the words ask for help, its text goes to `out`, with status 0; where they are refused, the
-/// lines of `clap` that say why go to `err`. Then nothing is read.
+/// If the words ask for help, its text goes to `out`, with status 0; if they are refused, the lines
+/// of `clap` that say why go to `err`. In both cases nothing is read.
 pub fn session<T: Threads + Wait + Sync, R: Read, W: Write, E: Write>(
     rt: &T,
     alloc: Global,
@@ -183,8 +183,8 @@ pub fn session<T: Threads + Wait + Sync, R: Read, W: Write, E: Write>(
         HasRun (map string_bytes words.items) (R.remaining input.old) (λ text options.
         HasDesign text options (λ design. IsCutShort design options)) }
     ensures quiet { 0 < result → result < 4 → Keeps (W.contents out.old) (W.contents out.new) }
-    // Memory was short, or reading or writing failed: nothing was written, or a proper prefix of
-    // the listing or of the help.
+    // Memory ran out, or reading or writing failed: nothing was written, or a proper prefix of the
+    // listing or of the help.
     ensures stopped { result ≡ 4 → Keeps (W.contents out.old) (W.contents out.new)
         ⊎ (HasRun (map string_bytes words.items) (R.remaining input.old) (λ text options.
         HasDesign text options (λ design. ListsPart design options (W.contents out.old) (W.contents out.new)))
@@ -193,8 +193,8 @@ pub fn session<T: Threads + Wait + Sync, R: Read, W: Write, E: Write>(
     session_with_hints(rt, alloc, words, Hints::measured(), input, out, err)
 }
 
-/// The same, by hints of the caller: from when on work is handed out to other threads. No answer
-/// depends on them.
+/// The same, with the caller's hints on when to hand out work to other threads. No answer depends
+/// on them.
 pub fn session_with_hints<T: Threads + Wait + Sync, R: Read, W: Write, E: Write>(
     rt: &T,
     alloc: Global,
@@ -218,8 +218,8 @@ pub fn session_with_hints<T: Threads + Wait + Sync, R: Read, W: Write, E: Write>
         HasRun (map string_bytes words.items) (R.remaining input.old) (λ text options.
         HasDesign text options (λ design. IsCutShort design options)) }
     ensures quiet { 0 < result → result < 4 → Keeps (W.contents out.old) (W.contents out.new) }
-    // Memory was short, or reading or writing failed: nothing was written, or a proper prefix of
-    // the listing or of the help.
+    // Memory ran out, or reading or writing failed: nothing was written, or a proper prefix of the
+    // listing or of the help.
     ensures stopped { result ≡ 4 → Keeps (W.contents out.old) (W.contents out.new)
         ⊎ (HasRun (map string_bytes words.items) (R.remaining input.old) (λ text options.
         HasDesign text options (λ design. ListsPart design options (W.contents out.old) (W.contents out.new)))

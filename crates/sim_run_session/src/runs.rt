@@ -21,8 +21,8 @@ use std::io::Write;
 use std::sync::Wait;
 use std::thread::Threads;
 
-/// Carries out one phase of a cycle: executes all processes that are due, in place and in rising
-/// order, and goes on.
+/// Carries out one phase of a cycle: executes all processes that are due, in place and in
+/// ascending order, and goes on.
 fn go_on(alloc: Global, run: WaveStore) -> Result<WaveStore, RunError>
     requires { store.IsOpen run }
     ensures bounds { IfOk result (IsSameRun run) }
@@ -32,7 +32,7 @@ fn go_on(alloc: Global, run: WaveStore) -> Result<WaveStore, RunError>
     let mut run = run.execute_due(alloc)?;
     match run.advance(alloc) {
         Ok(_step) => Ok(run),
-        // All that are due have been executed and the run has not ended, so only memory was short.
+        // All that are due were executed and the run has not ended, so memory ran out.
         Err(_refusal) => Err(RunError::Memory),
     }
 }
@@ -45,12 +45,12 @@ pub fn begun_run(alloc: Global, design: Design, options: &Options) -> Result<Wav
 {
     match WaveStore::new(alloc, design, options.stop, options.limit) {
         Ok(run) => Ok(run),
-        // The stop time is not too late, so only memory was short.
+        // The stop time is not too late, so memory ran out.
         Err(_refusal) => Err(RunError::Memory),
     }
 }
 
-/// The store of a run that has ended, on the calling thread: nothing is copied, and no lock is
+/// The store of a run carried to its end on the calling thread. Nothing is copied, and no lock is
 /// taken.
 fn run_in_place(alloc: Global, design: Design, options: &Options) -> Result<WaveStore, RunError>
     requires { options.now.stop ≤ largest_time }
@@ -78,8 +78,8 @@ pub fn finished_run(run: WaveStore) -> Result<WaveStore, RunError>
     }
 }
 
-/// The run of a design on the calling thread, up to the stop time and within the limit: its store,
-/// once it is finished.
+/// The store of a finished run, carried out on the calling thread up to the stop time and within
+/// the limit.
 pub fn run_alone(alloc: Global, design: Design, options: &Options) -> Result<WaveStore, RunError>
     requires { options.now.stop ≤ largest_time }
     ensures finished { IfOk result (λ run. Finishes (behaviour_of design) options.now (history_of run)) }
@@ -89,8 +89,9 @@ pub fn run_alone(alloc: Global, design: Design, options: &Options) -> Result<Wav
     finished_run(run)
 }
 
-/// The store of a run that has ended, by a team of threads, each of which executes a share of what a
-/// cycle resumes. None where the team fails, or memory is refused: nothing is known of the run then.
+/// The store of a run carried to its end by a team of threads, each of which executes a share of
+/// the processes that resume. `None` if the team fails or memory runs out: then nothing is known of
+/// the run.
 fn run_in_shares<R: Threads + Wait + Sync>(
     rt: &R,
     alloc: Global,
@@ -105,9 +106,9 @@ fn run_in_shares<R: Threads + Wait + Sync>(
     carry_to_end(rt, alloc, run, options.workers, hints)
 }
 
-/// The run of a design by a team of threads, of which nobody is told, up to the stop time and within
-/// the limit: its store, once it is finished. None where the team fails, or memory is refused: then
-/// the run is to begin again on the calling thread, so want of memory is no refusal here.
+/// The store of a finished run, carried out by a team of threads without a gate, up to the stop
+/// time and within the limit. `None` if the team fails or memory runs out: then the run must begin
+/// again on the calling thread, so lack of memory is no refusal here.
 pub fn run_by_team<R: Threads + Wait + Sync>(
     rt: &R,
     alloc: Global,
@@ -126,8 +127,8 @@ pub fn run_by_team<R: Threads + Wait + Sync>(
     Ok(Some(run))
 }
 
-/// The run of a copy of a design by a team of threads: its store, once it is finished. None where the
-/// team fails, or memory is refused.
+/// The store of a finished run of a copy of a design, carried out by a team of threads. `None` if
+/// the team fails or memory runs out.
 fn run_copy_by_team<R: Threads + Wait + Sync>(
     rt: &R,
     alloc: Global,
@@ -145,9 +146,9 @@ fn run_copy_by_team<R: Threads + Wait + Sync>(
     }
 }
 
-/// The run of a design with no store under a lock: by a team where there are several workers; else,
-/// or where the team fails, on the calling thread: its store, once it is finished. So with any number
-/// of workers `Memory` comes only where the calling thread alone has none.
+/// The store of a finished run without a lock, carried out by a team if there are several workers
+/// and otherwise, or if the team fails, on the calling thread. So for any number of workers,
+/// `Memory` means that the calling thread alone has too little.
 pub fn run_without_lock<R: Threads + Wait + Sync>(
     rt: &R,
     alloc: Global,
@@ -170,7 +171,7 @@ pub fn run_without_lock<R: Threads + Wait + Sync>(
 }
 
 /// Writes the listing of a store's history, from its log and the nets of its design. Nothing is
-/// copied, and nothing allocated.
+/// copied or allocated.
 pub fn write_run<W: Write>(run: &WaveStore, out: &mut W) -> Result<(), RunError>
     ensures ok { OnOk result (Appends (W.contents out.old) (W.contents out.new) (listing (history_of run.now).names (history_of run.now).records)) }
     ensures part { OnErr result (AppendsPart (W.contents out.old) (W.contents out.new) (listing (history_of run.now).names (history_of run.now).records)) }

@@ -18,8 +18,8 @@ use std::io::Write;
 use std::sync::Wait;
 use std::thread::Threads;
 
-/// Reads a text and elaborates its design under the top of the options. Of the refusals of
-/// `simulate` `Text` and `Flat` come, in this order.
+/// Reads a text, and elaborates its design under the top of the options. It refuses with `Text` or
+/// `Flat`, as `simulate` does, in this order.
 pub fn elaborate(alloc: Global, source: &[u8], options: &Options) -> Result<Design, RunError>
     ensures only { IfErr result IsOfText }
     ensures value { MatchResult result (λ design. IsDesignOf source.now options.now design) (λ e. IsRefusal source.now options.now e) }
@@ -29,8 +29,9 @@ pub fn elaborate(alloc: Global, source: &[u8], options: &Options) -> Result<Desi
     Ok(design)
 }
 
-/// The run of a text by a team of threads: its store, once it is finished. None where the team
-/// fails, or has no memory; want of memory is a refusal of the text or its elaboration alone.
+/// The store of a text's finished run, carried out by a team of threads. `None` if the team fails
+/// or memory runs out in the run; lack of memory is a refusal only for the text and its
+/// elaboration.
 fn run_text_by_team<R: Threads + Wait + Sync>(
     rt: &R,
     alloc: Global,
@@ -46,7 +47,7 @@ fn run_text_by_team<R: Threads + Wait + Sync>(
     run_by_team(rt, alloc, design, options, hints)
 }
 
-/// The run of a text on the calling thread: its store, once it is finished.
+/// The store of a text's finished run, carried out on the calling thread.
 fn run_text_alone(alloc: Global, source: &[u8], options: &Options) -> Result<WaveStore, RunError>
     requires { are_in_range options.now.stop options.now.limit options.now.workers ≡ true }
     ensures { MatchResult result (λ run. HasDesign source.now options.now (λ design. Finishes design options.now (history_of run)))
@@ -56,8 +57,8 @@ fn run_text_alone(alloc: Global, source: &[u8], options: &Options) -> Result<Wav
     run_alone(alloc, design, options)
 }
 
-/// The run of a text: its store, once it is finished. Where the team fails, and with it what the
-/// processes own is lost, the run begins again on the calling thread.
+/// The store of a text's finished run. If the team fails, which loses what the processes own, the
+/// run begins again on the calling thread.
 fn run_text<R: Threads + Wait + Sync>(
     rt: &R,
     alloc: Global,
@@ -78,14 +79,14 @@ fn run_text<R: Threads + Wait + Sync>(
     run_text_alone(alloc, source, options)
 }
 
-/// Simulates the design in a text and writes its listing. The refusals, in the order in which they
-/// are looked for: `Options` where the stop time, the limit or the workers are out of their ranges;
-/// `Text` where the text is at fault, or there was no memory to read it (`sim_text::parse` says
-/// when each fault comes); `Flat` where the design is at fault, or there was no memory to elaborate
-/// it (`sim_flat::flatten` says when each fault comes); `CycleLimit` where the run needs more
-/// cycles than the limit; `PostponedDelta` where a postponed process makes a delta cycle follow
-/// (14.7.5.3 h); `Write` where a write fails or takes nothing. With every refusal but `Write`
-/// nothing is written, and with that one a prefix of the listing.
+/// Simulates the design in a text, and writes its listing. The refusals, in the order of the
+/// checks: `Options` if the stop time, the limit or the number of workers is out of its range;
+/// `Text` if the text is at fault, or memory ran out while it was read (see `sim_text::parse`);
+/// `Flat` if the design is at fault, or memory ran out while it was elaborated (see
+/// `sim_flat::flatten`); `CycleLimit` if the run needs more cycles than the limit; `PostponedDelta`
+/// if a postponed process makes a delta cycle follow (14.7.5.3 h); `Write` if a write fails or
+/// writes nothing. `Memory` if memory ran out in the run. After `Write`, a prefix of the listing
+/// has been written, otherwise nothing.
 pub fn simulate<R: Threads + Wait + Sync, W: Write>(
     rt: &R,
     alloc: Global,
@@ -95,18 +96,18 @@ pub fn simulate<R: Threads + Wait + Sync, W: Write>(
 ) -> Result<(), RunError>
     ensures options { (result ≡ Err RunError.Options) ↔ (are_in_range options.now.stop options.now.limit options.now.workers ≡ false) }
     ensures listed { OnOk result (HasDesign source.now options.now (λ design. Lists design options.now (W.contents out.old) (W.contents out.new))) }
-    // Where a write failed, the run is finished, and a proper prefix of its listing was written.
+    // If a write failed, the run is finished, and a proper prefix of its listing was written.
     ensures part { result ≡ Err RunError.Write → HasDesign source.now options.now (λ design.
         ListsPart design options.now (W.contents out.old) (W.contents out.new)) }
-    // Any other refusal has its reason, and nothing was written.
+    // Every other refusal has its reason, and nothing was written.
     ensures refused { IfErr result (λ e. e ≢ RunError.Write → IsRefusal source.now options.now e) }
     ensures quiet { IfErr result (λ e. e ≢ RunError.Write → Keeps (W.contents out.old) (W.contents out.new)) }
 {
     simulate_with_hints(rt, alloc, source, options, Hints::measured(), out)
 }
 
-/// The same, by hints of the caller: from when on work is handed out to other threads. No answer
-/// depends on them.
+/// The same, with the caller's hints on when to hand out work to other threads. No answer depends
+/// on them.
 pub fn simulate_with_hints<R: Threads + Wait + Sync, W: Write>(
     rt: &R,
     alloc: Global,
@@ -117,10 +118,10 @@ pub fn simulate_with_hints<R: Threads + Wait + Sync, W: Write>(
 ) -> Result<(), RunError>
     ensures options { (result ≡ Err RunError.Options) ↔ (are_in_range options.now.stop options.now.limit options.now.workers ≡ false) }
     ensures listed { OnOk result (HasDesign source.now options.now (λ design. Lists design options.now (W.contents out.old) (W.contents out.new))) }
-    // Where a write failed, the run is finished, and a proper prefix of its listing was written.
+    // If a write failed, the run is finished, and a proper prefix of its listing was written.
     ensures part { result ≡ Err RunError.Write → HasDesign source.now options.now (λ design.
         ListsPart design options.now (W.contents out.old) (W.contents out.new)) }
-    // Any other refusal has its reason, and nothing was written.
+    // Every other refusal has its reason, and nothing was written.
     ensures refused { IfErr result (λ e. e ≢ RunError.Write → IsRefusal source.now options.now e) }
     ensures quiet { IfErr result (λ e. e ≢ RunError.Write → Keeps (W.contents out.old) (W.contents out.new)) }
 {

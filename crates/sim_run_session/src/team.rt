@@ -1,5 +1,5 @@
-//! From where a store stands to the end of its run, by a team of threads: in each cycle they execute
-//! what a phase resumed, each a share of it by value.
+//! A run by a team of threads, from the present state of its store to its end: in each phase every
+//! thread executes a share of the processes that are due, by value.
 
 ghost use Rattle.std.specs.Prelude.{◌≡◌, ◌≢◌, None, IfSome};
 ghost use Rattle.sim_store.specs.Handing as hands;
@@ -15,7 +15,7 @@ use std::sync::Wait;
 use std::thread;
 use std::thread::Threads;
 
-/// The shares of what the phases of a run of this design execute.
+/// The work of the phases of this design's run, in shares.
 struct Shares<J: Naming> {
     of: PhantomData<J>,
 }
@@ -34,7 +34,7 @@ impl<J: Naming> Work for Shares<J> {
     }
 }
 
-/// Executes all that are due on this thread; none where memory is refused.
+/// Executes all processes that are due on this thread; `None` if memory runs out.
 fn execute_alone(alloc: Global, run: WaveStore) -> Option<WaveStore>
     ensures same { IfSome result (λ s. s ≡ store.with_deposited run s.simulation.deposited) }
     ensures complete { IfSome result (λ s. simulations.IsComplete s.simulation) }
@@ -42,8 +42,8 @@ fn execute_alone(alloc: Global, run: WaveStore) -> Option<WaveStore>
     run.execute_due(alloc).ok()
 }
 
-/// Executes all that are due, which take so many steps, each share by a worker where it is large;
-/// none where the team fails.
+/// Executes all processes that are due, which take `steps` steps in all. Large shares go to
+/// workers. `None` if the team fails.
 fn execute_in_shares<J: Naming, R: Wait>(
     rt: &R,
     alloc: Global,
@@ -64,8 +64,8 @@ fn execute_in_shares<J: Naming, R: Wait>(
     }
 }
 
-/// Executes all that are due, by the team where there is work enough and it is free. A process takes
-/// so many steps. None where the team fails, or memory is refused.
+/// Executes all processes that are due, by the team if there is enough work and the team is free.
+/// Each process takes about `length` steps. `None` if the team fails or memory runs out.
 fn execute<J: Naming, R: Wait>(
     rt: &R,
     alloc: Global,
@@ -85,7 +85,7 @@ fn execute<J: Naming, R: Wait>(
     execute_in_shares(rt, alloc, run, team, steps)
 }
 
-/// Carries out one phase of a cycle, and goes on; none where the team fails, or memory is refused.
+/// Carries out one phase of a cycle, and goes on; `None` if the team fails or memory runs out.
 fn go_on<J: Naming, R: Wait>(
     rt: &R,
     alloc: Global,
@@ -98,12 +98,12 @@ fn go_on<J: Naming, R: Wait>(
     ensures { IfSome result (IsSameRun run) }
 {
     let mut run = execute(rt, alloc, run, team, length)?;
-    // All that are due have been executed and the run has not ended, so an error is want of memory.
+    // All that are due were executed and the run has not ended, so an error means lack of memory.
     run.advance(alloc).ok()?;
     Some(run)
 }
 
-/// Carries a run on until it has ended; none where the team fails, or memory is refused.
+/// Carries on a run until it has ended; `None` if the team fails or memory runs out.
 fn lead<J: Naming, R: Wait>(
     rt: &R,
     alloc: Global,
@@ -124,7 +124,7 @@ fn lead<J: Naming, R: Wait>(
     None
 }
 
-/// A bell for each of so many workers.
+/// A bell for each worker.
 fn bells(alloc: Global, workers: usize) -> Option<Vec<Bell>> {
     let mut bells = Vec::with_capacity(alloc, workers).ok()?;
     for _worker in 0..workers {
@@ -133,8 +133,8 @@ fn bells(alloc: Global, workers: usize) -> Option<Vec<Bell>> {
     Some(bells)
 }
 
-/// Carries a run that has a name on to its end. As many threads are started as can be, up to so
-/// many less one. None where the team fails, or memory is refused.
+/// Carries a run of the design that `J` names to its end. It starts up to `workers - 1` threads, as
+/// many as can be. `None` if the team fails or memory runs out.
 fn run_by<J: Naming + Send + Sync, R: Threads + Wait + Sync>(
     rt: &R,
     alloc: Global,
@@ -171,8 +171,8 @@ fn run_by<J: Naming + Send + Sync, R: Threads + Wait + Sync>(
     )
 }
 
-/// How many threads a run is carried on by, of so many that it may have: one where bodies are short,
-/// or all processes together have too little work.
+/// The number of threads that are useful for a run, at most `workers`: one if bodies are short, or
+/// all processes together have too little work.
 fn useful(run: &WaveStore, workers: usize, hints: Hints) -> usize {
     let length = run.mean_length();
     let all = run.design().processes().len().saturating_mul(length);
@@ -183,11 +183,11 @@ fn useful(run: &WaveStore, workers: usize, hints: Hints) -> usize {
     }
 }
 
-/// Carries a run on from where its store stands until it has ended, by at most so many threads. In
-/// each cycle with enough processes that are due, by the hints, each thread gets a share of them by
-/// value. What can't be told apart by a caller: which thread executes which process. None where the
-/// team fails: memory was refused, to any of its threads, or a thread is gone. The store is then
-/// gone, and the run may begin again on the calling thread.
+/// Carries on a run from the present state of its store until it has ended, by at most `workers`
+/// threads. In each phase with enough work, by the hints, each thread gets a share of the processes
+/// that are due, by value. A caller cannot tell which thread executes which process. `None` if the
+/// team fails: one of its threads had no memory, or is gone. The store is then lost, and the run
+/// may begin again on the calling thread.
 pub fn carry_to_end<R: Threads + Wait + Sync>(
     rt: &R,
     alloc: Global,

@@ -1,4 +1,4 @@
-//! The listing goes out in blocks.
+//! Listings that are written in blocks.
 ghost use Rattle.std.specs.Prelude.{◌≡◌, ◌<◌, length, All, IfOk, ℕ};
 ghost use Rattle.sim_logic.specs.declared.logic.Logic as logic;
 ghost use Rattle.sim_standard.specs.Histories.{IsNamed, event_count};
@@ -10,7 +10,7 @@ use sqlite_items::Items;
 use std::alloc::{AllocError, Global};
 use std::test::Fail;
 
-/// A record with as many changes of net 0 to '1'.
+/// A record with `count` changes of net 0 to '1'.
 fn record(alloc: Global, time: u64, count: usize) -> Result<Record, AllocError>
     ensures length { IfOk result (λ r. length r.changes ≡ count) }
     ensures named { IfOk result (λ r. All (λ (c : ℕ × logic.Logic). c.0 < 1) r.changes) }

@@ -4,7 +4,7 @@ use sim_run::Gate;
 use std::sync::atomic::{AtomicU64, Ordering};
 use std::thread;
 
-/// How often a held process looks for the other.
+/// The number of looks of a held process for the other one.
 const MOST_TURNS: u32 = 100_000_000;
 
 /// Counts executions.
@@ -58,12 +58,12 @@ impl Meeting {
         }
     }
 
-    /// Whether the other came while the process was held.
+    /// Whether the other process came while the first was held.
     pub fn is_met(&self) -> bool {
         self.has_come.load(Ordering::SeqCst) == 1 && self.is_missed.load(Ordering::SeqCst) == 0
     }
 
-    /// How often each process was executed.
+    /// The number of executions of each process.
     pub fn calls(&self) -> (u64, u64, u64) {
         (self.first.calls(), self.second.calls(), self.third.calls())
     }
@@ -101,7 +101,7 @@ impl Gate for Meeting {
     }
 }
 
-/// Holds each process until so many are about to be executed.
+/// Holds each process until this many are about to be executed.
 #[derive(Drop)]
 pub struct Crowd {
     awaited: u64,

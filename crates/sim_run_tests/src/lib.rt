@@ -1,8 +1,8 @@
-//! Tests of `sim_run` that need readers, writers or gates of their own, or the insides of a run: those
-//! that fail in mid-stream, drip or never end; and of runs by several threads, that processes are
-//! executed at once, each once, and that whoever looks, or runs the same store as well, sees one
-//! history. One crate, since each program over a run proves and links all that it drops. A table of
-//! texts with their listings or refusals belongs into the cases of `sim_run_cases`.
+//! Tests of `sim_run` that need readers, writers or gates of their own, or look inside a run:
+//! streams that fail midway, give single bytes or never end; runs by several threads, whose
+//! processes are executed at the same time, each once; and threads that look at a store, or run it
+//! as well. They are one crate because each program over a run proves and links all that it drops.
+//! Tables of texts with their listings or refusals belong in the cases of `sim_run_cases`.
 #![tactic(auto)]
 
 #[cfg(test)]

@@ -1,5 +1,5 @@
-//! Runs of a store under a lock, by one worker and by many: what is answered, and what stays in the
-//! lock.
+//! Runs of a store under a lock, by one worker and by several: the answer, and the store that stays
+//! in the lock.
 
 use crate::gates::Crowd;
 use crate::records::are_equal;
@@ -10,7 +10,7 @@ use std::sync::{Mutex, Wait};
 use std::test::Fail;
 use std::thread::Threads;
 
-/// A text, the limit of its cycles, and the listing of its run; or no listing, and why.
+/// A text, its cycle limit, and the listing of its run, or the reason why it has none.
 struct Row {
     text: &'static str,
     limit: u32,
@@ -36,7 +36,7 @@ const DELTA: &str =
 const AT_ONCE: &str =
     "entity t is end;architecture a of t is signal s:std_logic:='0';begin postponed s <= '1'; end;";
 
-/// A postponed process whose edge is over once it is executed.
+/// A postponed process whose edge has passed when it is executed.
 const LATE: &str =
     "entity t is end;architecture a of t is signal a,b,q:std_logic:='0';begin a <= '1' after 1 ns; b <= a; \
 postponed process(a) begin if rising_edge(a) then q <= '1' after 1 ns; end if; end process; end;";
@@ -117,7 +117,7 @@ fn is_listed(alloc: Global, finished: &Finished, listing: &[u8]) -> bool {
     written == Ok(()) && out.as_slice() == listing
 }
 
-/// Whether a store has ended, and these are all its records.
+/// Whether a store has ended with exactly these records.
 fn is_whole(alloc: Global, store: &WaveStore, records: &[Record]) -> bool {
     match store.records_since(alloc, 0) {
         Ok(found) => store.ended().is_some() && are_equal(found.as_slice(), records),
@@ -125,8 +125,8 @@ fn is_whole(alloc: Global, store: &WaveStore, records: &[Record]) -> bool {
     }
 }
 
-/// Whether the run of a row by so many workers is answered as it should be; the whole run is then in
-/// the lock.
+/// Whether the run of a row by this many workers gives the right answer, and leaves the whole run
+/// in the lock.
 fn is_answered<R: Threads + Wait + Sync>(
     rt: &R,
     alloc: Global,
@@ -146,7 +146,7 @@ fn is_answered<R: Threads + Wait + Sync>(
     }
 }
 
-/// The first row that so many workers answer otherwise.
+/// The index of the first row that this many workers answer wrongly.
 fn first_wrong<R: Threads + Wait + Sync>(rt: &R, alloc: Global, workers: usize) -> Option<usize> {
     for (place, row) in ROWS.iter().enumerate() {
         if is_answered(rt, alloc, row, workers) != Some(true) {
@@ -164,7 +164,7 @@ fn what_is_answered_does_not_depend_on_the_workers(rt: HostRuntime) -> Result<()
     Ok(())
 }
 
-/// How many records a stranger's store has after a run refused it.
+/// The number of records of a stranger's store after a run refused it.
 fn left_to_a_stranger<R: Threads + Wait + Sync>(rt: &R, alloc: Global) -> Option<usize> {
     let store = Mutex::new(store(alloc, ONCE, 10)?);
     let design = design(alloc, TWO_DRIVERS)?;
@@ -181,13 +181,13 @@ fn the_store_of_another_run_stays_as_it_was(rt: HostRuntime) -> Result<(), Fail>
     Ok(())
 }
 
-/// Sixteen processes, each of which is due at the start.
+/// Sixteen processes, all of which are due at the start.
 const SIXTEEN: &str =
     "entity t is end;architecture a of t is signal s:std_logic;begin s<='0';s<='0';s<='0';s<='0';s<='0';s<='0';s<='0';s<='0';\
 s<='0';s<='0';s<='0';s<='0';s<='0';s<='0';s<='0';s<='0'; end;";
 
-/// Whether the run of sixteen workers is the whole, and all of them are about to execute a process at
-/// one time.
+/// Whether a run by sixteen workers is complete, and all of them are about to execute a process at
+/// the same time.
 fn is_crowded<R: Threads + Wait + Sync>(
     rt: &R,
     alloc: Global,
@@ -200,7 +200,7 @@ fn is_crowded<R: Threads + Wait + Sync>(
     Some(gate.is_met() && is_listed(alloc, &finished, b"0 0 s U\n0 1 s 0\ndone 1 1\n"))
 }
 
-/// The same of a new store.
+/// The same for a new store.
 fn is_crowded_at_once<R: Threads + Wait + Sync>(rt: &R, alloc: Global) -> Option<bool> {
     let store = Mutex::new(store(alloc, SIXTEEN, 10)?);
     is_crowded(rt, alloc, &store)

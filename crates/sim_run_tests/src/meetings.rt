@@ -1,4 +1,4 @@
-//! Processes of one cycle are executed at once.
+//! Processes of one cycle that are executed at the same time.
 
 use crate::gates::Meeting;
 use crate::texts::{EXCHANGE, design, options};

@@ -1,4 +1,4 @@
-//! The program, over readers and writers in memory.
+//! The program, with readers and writers in memory.
 
 use crate::streams::{Counting, Dripping, Endless, Failing, Trickling};
 use sim_run::session;
@@ -79,8 +79,8 @@ fn refusals_have_their_status_and_line(rt: HostRuntime) -> Result<(), Fail> {
     Ok(())
 }
 
-/// A text that is too long is read up to a byte more than it may have, however few come at once: each
-/// read gives one at the least, so the limit of reads is not met before.
+/// A text that is too long is read up to one byte more than it may have, even if single bytes come:
+/// each read gives at least one, so the limit of reads is not reached before.
 #[test]
 fn a_text_that_comes_byte_by_byte_is_read_to_its_limit(rt: HostRuntime) -> Result<(), Fail> {
     let alloc = rt.alloc();

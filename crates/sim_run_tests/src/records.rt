@@ -1,9 +1,9 @@
-//! Histories, beside what is expected.
+//! Histories, compared with expected ones.
 
 use sim_logic::Logic;
 use sim_run::Record;
 
-/// When the cycles of the toggling flip-flop are, and what they change.
+/// The times of the cycles of the toggling flip-flop, and what they change.
 const TOGGLED: [(u64, u64, &[(usize, Logic)]); 6] = [
     (0, 0, &[(0, Logic::Zero), (1, Logic::U)]),
     (5_000_000, 0, &[(0, Logic::One)]),
@@ -13,7 +13,7 @@ const TOGGLED: [(u64, u64, &[(usize, Logic)]); 6] = [
     (15_000_000, 1, &[(1, Logic::Zero)]),
 ];
 
-/// Whether two lists of changes are the same.
+/// Whether two lists of changes are equal.
 fn are_same(changes: &[(usize, Logic)], others: &[(usize, Logic)]) -> bool {
     for (change, other) in changes.iter().zip(others) {
         if change.0 != other.0 || change.1 != other.1 {
@@ -23,7 +23,7 @@ fn are_same(changes: &[(usize, Logic)], others: &[(usize, Logic)]) -> bool {
     changes.len() == others.len()
 }
 
-/// Whether two lists of records are the same.
+/// Whether two lists of records are equal.
 pub fn are_equal(records: &[Record], others: &[Record]) -> bool {
     for (record, other) in records.iter().zip(others) {
         if record.time != other.time
@@ -54,7 +54,7 @@ pub fn toggle(records: &[Record]) -> bool {
     records.len() == TOGGLED.len() && begin_toggling(records)
 }
 
-/// How many changes come after the first record.
+/// The number of changes after the first record.
 pub fn events(records: &[Record]) -> u64 {
     let mut count = 0u64;
     for record in records {

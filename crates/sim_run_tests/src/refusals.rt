@@ -1,4 +1,4 @@
-//! What a run refuses.
+//! The refusals of a run.
 
 use crate::gates::Counting;
 use crate::texts::{ENDLESS, ONCE, TWO_DRIVERS, design, options, store};
@@ -8,7 +8,7 @@ use std::sync::{Mutex, Wait};
 use std::test::Fail;
 use std::thread::Threads;
 
-/// How a store under a lock refuses the run of a text.
+/// The refusal of the run of a text by a store under a lock, if it is refused.
 fn refused<R: Threads + Wait + Sync, G: Gate + Sync>(
     rt: &R,
     alloc: Global,
@@ -22,7 +22,7 @@ fn refused<R: Threads + Wait + Sync, G: Gate + Sync>(
     run_in(rt, alloc, store, &design, &options, gate).err()
 }
 
-/// How the store of one text refuses the run of another.
+/// The refusal of the run of one text by the store of another, if it is refused.
 fn refused_of<R: Threads + Wait + Sync>(
     rt: &R,
     alloc: Global,
@@ -48,7 +48,7 @@ fn the_store_of_another_run_is_a_stranger(rt: HostRuntime) -> Result<(), Fail> {
     Ok(())
 }
 
-/// How many workers a run may have.
+/// The refusal of a run with this number of workers, if there is one.
 fn with_workers<R: Threads + Wait + Sync>(
     rt: &R,
     alloc: Global,
@@ -72,8 +72,8 @@ fn workers_are_one_to_sixteen(rt: HostRuntime) -> Result<(), Fail> {
     Ok(())
 }
 
-/// The refusals of a run that is carried on once more after its end, how many records there are,
-/// and how many executions.
+/// Whether a run that reached its limit is refused again when it is carried on, with the right
+/// numbers of records and executions.
 fn endless<R: Threads + Wait + Sync>(rt: &R, alloc: Global) -> Option<bool> {
     let store = Mutex::new(store(alloc, ENDLESS, 100)?);
     let gate = Counting::new();

@@ -1,4 +1,4 @@
-//! A store that several threads look at, or carry on together.
+//! A store at which other threads look, or that several carry on together.
 
 use crate::records::{begin_toggling, events, toggle};
 use crate::texts::{TOGGLE, design, options, store};
@@ -8,10 +8,10 @@ use std::sync::{Mutex, Wait};
 use std::test::Fail;
 use std::thread::{self, Threads, join};
 
-/// How often a thread looks at a run that does not end.
+/// The most looks of a thread at a run that does not end.
 const MOST_LOOKS: u32 = 100_000_000;
 
-/// Carries a store on by two workers: whether its history is the whole.
+/// Carries on a store by two workers; returns whether its history is complete.
 fn runs<R: Threads + Wait + Sync>(rt: &R, alloc: Global, store: &Mutex<WaveStore>) -> Option<bool> {
     let design = design(alloc, TOGGLE)?;
     let options = options(alloc, 10, 2)?;
@@ -19,8 +19,8 @@ fn runs<R: Threads + Wait + Sync>(rt: &R, alloc: Global, store: &Mutex<WaveStore
     Some(toggle(finished.records()) && finished.events() == 5)
 }
 
-/// One look at a store: how many records it has, where they are the first of the whole; none where
-/// they are not.
+/// One look at a store: the number of its records, or `None` if they are not the first of the whole
+/// run.
 fn seen(alloc: Global, store: &WaveStore) -> Option<usize> {
     let look = store.look();
     let records = store.records_since(alloc, 0).ok()?;
@@ -30,8 +30,8 @@ fn seen(alloc: Global, store: &WaveStore) -> Option<usize> {
     if fits { Some(look.records) } else { None }
 }
 
-/// Looks at a store until its run has ended: whether each history was the beginning of the whole,
-/// and none was shorter than one before.
+/// Looks at a store until its run has ended; returns whether each history was a beginning of the
+/// whole, and none shorter than an earlier one.
 fn watches<R: Wait>(rt: &R, alloc: Global, store: &Mutex<WaveStore>) -> Option<bool> {
     let mut longest = 0;
     for _look in 0..MOST_LOOKS {
@@ -48,7 +48,7 @@ fn watches<R: Wait>(rt: &R, alloc: Global, store: &Mutex<WaveStore>) -> Option<b
     None
 }
 
-/// What a run, and a thread that looks at it, see.
+/// What a run sees, and a thread that looks at it.
 fn run_and_watch<R: Threads + Wait + Sync>(
     rt: &R,
     alloc: Global,
@@ -57,7 +57,7 @@ fn run_and_watch<R: Threads + Wait + Sync>(
     join(rt, || runs(rt, alloc, store), || watches(rt, alloc, store))
 }
 
-/// What two runs of one store at once see.
+/// What two runs of one store see, at the same time.
 fn run_twice<R: Threads + Wait + Sync>(
     rt: &R,
     alloc: Global,
@@ -66,14 +66,14 @@ fn run_twice<R: Threads + Wait + Sync>(
     join(rt, || runs(rt, alloc, store), || runs(rt, alloc, store))
 }
 
-/// Whether a run, and a thread that looks at it, see one history.
+/// Whether a run, and a thread that looks at it, see the same history.
 fn are_watched<R: Threads + Wait + Sync>(rt: &R, alloc: Global) -> Option<bool> {
     let store = Mutex::new(store(alloc, TOGGLE, 10)?);
     let (run, look) = run_and_watch(rt, alloc, &store);
     Some(run? && look?)
 }
 
-/// Whether two runs of one store at once have one history.
+/// Whether two runs of one store at the same time have the same history.
 fn are_one<R: Threads + Wait + Sync>(rt: &R, alloc: Global) -> Option<bool> {
     let store = Mutex::new(store(alloc, TOGGLE, 10)?);
     let (one, other) = run_twice(rt, alloc, &store);

@@ -1,11 +1,11 @@
-//! Readers and writers in memory that give and take little at a time, or fail.
+//! Readers and writers in memory that give or accept little at a time, or fail.
 
 use std::alloc::Global;
 use std::io;
 use std::io::{ErrorKind, Read, Write};
 
-/// A writer that takes at most `a_call` bytes a call, fails once it has taken `in_all`, and counts
-/// the calls.
+/// A writer that accepts at most `a_call` bytes a call, fails once it has accepted `in_all`, and
+/// counts its calls.
 #[derive(Drop)]
 pub struct Failing {
     pub taken: Vec<u8>,
@@ -15,7 +15,7 @@ pub struct Failing {
 }
 
 impl Failing {
-    /// A writer that has taken nothing.
+    /// A writer that has accepted nothing so far.
     pub fn new(alloc: Global, a_call: usize, in_all: usize) -> Failing {
         Failing {
             taken: Vec::new(alloc),
@@ -43,7 +43,7 @@ impl Write for Failing {
     }
 }
 
-/// A reader that gives one byte a call, and fails after the last, if it is to.
+/// A reader that gives one byte a call and, if it is to fail, fails after the last.
 #[derive(Drop)]
 pub struct Dripping<'a> {
     pub rest: &'a [u8],
@@ -64,7 +64,7 @@ impl Read for Dripping<'_> {
     }
 }
 
-/// A reader that gives blanks without an end.
+/// A reader of endless blanks.
 #[derive(Drop)]
 pub struct Endless;
 
@@ -78,7 +78,7 @@ impl Read for Endless {
     }
 }
 
-/// A reader that gives blanks without an end, one a call, and counts the calls.
+/// A reader of endless blanks, which gives one a call and counts its calls.
 #[derive(Drop)]
 pub struct Trickling {
     pub calls: usize,

@@ -11,7 +11,7 @@ pub const ONCE: &str =
 pub const TWO_DRIVERS: &str =
     "entity t is end;architecture a of t is signal s:std_logic;begin s <= '0'; s <= '1'; end;";
 
-/// A signal that changes for ever, at one time.
+/// A signal that changes forever at the same time.
 pub const ENDLESS: &str =
     "entity t is end;architecture a of t is signal s:std_logic:='0';begin s <= not s; end;";
 
@@ -27,7 +27,7 @@ pub const TOGGLE: &str =
 clk <= not clk after 5 ns; process (clk) variable v:std_logic:='0'; begin if rising_edge(clk) then v := not v; q <= v; end if; \
 end process; end;";
 
-/// When the toggling ends.
+/// The stop time, in femtoseconds, at which the toggling ends.
 pub const STOP: u64 = 16_000_000;
 
 /// Options of a run.

@@ -24,7 +24,7 @@ fn watch<R: Threads + Wait + Sync>(
     Ok((finished, gate.calls()))
 }
 
-/// The events of a run by two workers, and the executions.
+/// The number of events of a run by two workers, and of its executions.
 fn watched<R: Threads + Wait + Sync>(rt: &R, alloc: Global) -> Option<(u64, u64)> {
     let options = options(alloc, 10, 2)?;
     let (finished, calls) = watch(rt, alloc, TOGGLE.as_bytes(), &options).ok()?;

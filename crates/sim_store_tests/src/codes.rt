@@ -5,7 +5,7 @@ use sim_exec_code::{Code, Codes};
 use sim_flat_design::{Design, Process};
 use std::alloc::Global;
 
-/// How many operations the code of a process has.
+/// The number of operations of the code of a process.
 fn operations_of(alloc: Global, process: &Process) -> Option<usize> {
     match Code::of(alloc, process) {
         Ok(code) => Some(code.ops()),
@@ -13,14 +13,14 @@ fn operations_of(alloc: Global, process: &Process) -> Option<usize> {
     }
 }
 
-/// How many operations the code of the process with a number has.
+/// The number of operations of the code of the process with a number.
 fn operations_at(alloc: Global, text: &str, number: usize) -> Option<usize> {
     let design = flat(alloc, text)?;
     operations_of(alloc, design.processes().get(number)?)
 }
 
-/// Texts, the numbers of processes, and how many expressions stand in their bodies: values of
-/// elements, values that variables are assigned, and conditions.
+/// Texts, process numbers, and the numbers of expressions in their bodies: values of elements,
+/// values assigned to variables, and conditions.
 static EXPRESSIONS: [(&str, usize, usize); 7] = [
     (TOGGLE, 0, 1),
     (TOGGLE, 1, 3),
@@ -31,7 +31,7 @@ static EXPRESSIONS: [(&str, usize, usize); 7] = [
     (PULSES, 3, 2),
 ];
 
-/// The place of the first process whose code has fewer operations than its body has expressions.
+/// The index of the first process whose code has fewer operations than its body has expressions.
 fn first_with_fewer(alloc: Global) -> Option<usize> {
     for (place, row) in EXPRESSIONS.iter().enumerate() {
         match operations_at(alloc, row.0, row.1) {
@@ -47,7 +47,7 @@ fn a_code_has_an_operation_for_each_expression(rt: HostRuntime) {
     assert_eq!(rt; first_with_fewer(rt.alloc()), None);
 }
 
-/// Whether these are the nets that are gathered for the processes, and for one more.
+/// Whether these nets are gathered for the processes and for one more number.
 fn are_gathered(codes: &Codes, nets: &[&[usize]]) -> bool {
     for (number, row) in nets.iter().enumerate() {
         if codes.nets(number) != *row {
@@ -57,7 +57,7 @@ fn are_gathered(codes: &Codes, nets: &[&[usize]]) -> bool {
     true
 }
 
-/// Whether there are codes of the processes of a design, with these nets.
+/// Whether the processes of a design have codes that gather these nets.
 fn are_coded(alloc: Global, design: &Design, nets: &[&[usize]]) -> bool {
     match Codes::of(alloc, design.processes()) {
         Ok(codes) => are_gathered(&codes, nets),
@@ -65,15 +65,15 @@ fn are_coded(alloc: Global, design: &Design, nets: &[&[usize]]) -> bool {
     }
 }
 
-/// Texts, and the nets that are gathered for each of their processes, and for one more: that of the
-/// edge that guards the whole body, and those that are read as values.
+/// Texts, and the nets that are gathered for each of their processes and for one more number: that
+/// of the edge that guards the whole body, and those that are read as values.
 static NETS: [(&str, &[&[usize]]); 3] = [
     (TOGGLE, &[&[0], &[0], &[]]),
     (EXCHANGE, &[&[], &[0, 2], &[0, 1], &[]]),
     (CHOICE, &[&[], &[0], &[]]),
 ];
 
-/// The place of the first text whose codes gather other nets.
+/// The index of the first text whose codes gather other nets.
 fn first_other(alloc: Global) -> Option<usize> {
     for (place, row) in NETS.iter().enumerate() {
         match flat(alloc, row.0) {

@@ -1,4 +1,4 @@
-//! Designs and processes that are the same, and that differ in one thing.
+//! Designs and processes that are equal, or differ in one thing.
 
 use crate::readers::OPEN;
 use crate::texts::flat;
@@ -13,7 +13,7 @@ q<=reject 1 ns inertial not d after 2 ns;null;end if;v:=d='1';end process;\
 u:entity work.l port map(i=>'1',o=>clk);end;entity l is port(i:in std_logic;o:out std_logic);end;\
 architecture a of l is begin o<=i;end;";
 
-/// What a piece of the text becomes, and whether its first process stays the same.
+/// A piece of the text, its replacement, and whether the first process stays equal.
 static CHANGES: [(&str, &str, bool); 22] = [
     ("", "", true),
     ("clk,q,n:", "clk,q,m:", true),
@@ -39,44 +39,44 @@ static CHANGES: [(&str, &str, bool); 22] = [
     ("d='1'", "d/='1'", false),
 ];
 
-/// The text with one piece in the place of another.
+/// The text with one piece replaced.
 fn changed(alloc: Global, old: &str, new: &str) -> Result<String, AllocError> {
     let (front, back) = TEXT.split_once(old).unwrap_or((TEXT, ""));
     format!(in alloc; "{front}{new}{back}")
 }
 
-/// Whether a text has a design, and it is the same as this one.
+/// Whether a text has a design that is equal to this one.
 fn is_of(alloc: Global, design: &Design, text: &str) -> Option<bool> {
     let other = flat(alloc, text)?;
     Some(design.same(&other))
 }
 
-/// Whether the designs of two texts are there, and the same.
+/// Whether two texts have designs that are equal.
 fn are_same(alloc: Global, text: &str, other: &str) -> Option<bool> {
     let design = flat(alloc, text)?;
     is_of(alloc, &design, other)
 }
 
-/// Whether two designs have first processes, and these are the same.
+/// Whether two designs have first processes that are equal.
 fn begin_alike(design: &Design, other: &Design) -> Option<bool> {
     let first = design.processes().first()?;
     Some(first.same(other.processes().first()?))
 }
 
-/// Whether a text has a design, and its first process is the same as that of this one.
+/// Whether a text has a design whose first process is equal to that of this one.
 fn begins_alike(alloc: Global, design: &Design, text: &str) -> Option<bool> {
     let other = flat(alloc, text)?;
     begin_alike(design, &other)
 }
 
-/// Whether the first processes of two texts are there, and the same.
+/// Whether two texts have first processes that are equal.
 fn first_processes_are_same(alloc: Global, text: &str, other: &str) -> Option<bool> {
     let design = flat(alloc, text)?;
     begins_alike(alloc, &design, other)
 }
 
-/// The place of the first change that does not compare so with the design of a text: it is the same
-/// where it is the text's own change, and else it is not.
+/// The index of the first change for which the comparison with the design of a text is wrong. The
+/// designs must be equal for the text's own change alone.
 fn first_other(alloc: Global, text: &str, own: usize) -> Result<Option<usize>, AllocError> {
     for (place, row) in CHANGES.iter().enumerate() {
         let other = changed(alloc, row.0, row.1)?;
@@ -87,7 +87,7 @@ fn first_other(alloc: Global, text: &str, own: usize) -> Result<Option<usize>, A
     Ok(None)
 }
 
-/// The places of the first two changes whose designs compare in another way.
+/// The indices of the first two changes whose designs compare wrongly.
 fn first_others(alloc: Global) -> Result<Option<(usize, usize)>, AllocError> {
     for (place, row) in CHANGES.iter().enumerate() {
         let text = changed(alloc, row.0, row.1)?;
@@ -104,7 +104,7 @@ fn designs_that_differ_in_one_thing_are_not_the_same(rt: HostRuntime) -> Result<
     Ok(())
 }
 
-/// The place of the first change that the first process takes in another way.
+/// The index of the first change for which the first processes compare wrongly.
 fn first_other_process(alloc: Global) -> Result<Option<usize>, AllocError> {
     for (place, row) in CHANGES.iter().enumerate() {
         let text = changed(alloc, row.0, row.1)?;
@@ -121,7 +121,7 @@ fn processes_are_the_same_whatever_stands_around(rt: HostRuntime) -> Result<(), 
     Ok(())
 }
 
-/// Whether a design has a copy, which is the same.
+/// Whether a design has a copy that is equal to it.
 fn design_is_copied(design: &Design) -> bool {
     match design.try_copy() {
         Ok(copy) => copy.same(design),
@@ -129,7 +129,7 @@ fn design_is_copied(design: &Design) -> bool {
     }
 }
 
-/// Whether a process has a copy, and that is the same as this one.
+/// Whether a process has a copy that is equal to another process.
 fn copy_is_same(process: &Process, other: &Process) -> Option<bool> {
     match process.try_copy() {
         Ok(copy) => Some(copy.same(other)),
@@ -137,7 +137,7 @@ fn copy_is_same(process: &Process, other: &Process) -> Option<bool> {
     }
 }
 
-/// Whether the copies of two processes are there, and each is the same as its own and not as the
+/// Whether two processes have copies, each of which is equal to its own process and not to the
 /// other.
 fn processes_are_copied(processes: &[Process]) -> bool {
     match processes {
@@ -150,7 +150,7 @@ fn processes_are_copied(processes: &[Process]) -> bool {
     }
 }
 
-/// Whether the copies of a text's design and its processes are the same.
+/// Whether the design of a text and its processes have equal copies.
 fn are_copied(alloc: Global, text: &str) -> Option<bool> {
     let design = flat(alloc, text)?;
     Some(design_is_copied(&design) && processes_are_copied(design.processes()))
@@ -161,7 +161,7 @@ fn copies_are_the_same(rt: HostRuntime) {
     assert_eq!(rt; are_copied(rt.alloc(), TEXT), Some(true));
 }
 
-/// Whether a text has a design, and its copy is the same.
+/// Whether a text has a design with an equal copy.
 fn is_copied(alloc: Global, text: &str) -> Option<bool> {
     let design = flat(alloc, text)?;
     Some(design_is_copied(&design))

@@ -1,4 +1,4 @@
-//! Jobs, their nets, variables and drivers.
+//! Jobs, and checks of their nets, variables and drivers.
 
 use sim_exec::{Job, NetView};
 use sim_flat_design::{Design, Held};
@@ -28,7 +28,7 @@ pub fn job(
     Some(Job::new(1, number, time, process, views, variables, drivers))
 }
 
-/// The views of a job, in which the net at a place has another value.
+/// The views of a job, with another value for the net at an index.
 fn changed_views(
     alloc: Global,
     views: &[NetView],
@@ -43,7 +43,7 @@ fn changed_views(
     Ok(changed)
 }
 
-/// The same variables.
+/// Copies of variables.
 fn copied_variables(alloc: Global, variables: &[Held]) -> Result<Vec<Held>, AllocError> {
     let mut copies = Vec::new(alloc);
     for held in variables {
@@ -52,7 +52,7 @@ fn copied_variables(alloc: Global, variables: &[Held]) -> Result<Vec<Held>, Allo
     Ok(copies)
 }
 
-/// The same drivers.
+/// Copies of drivers.
 fn copied_drivers(alloc: Global, drivers: &[Driver]) -> Result<Vec<Driver>, AllocError> {
     let mut copies = Vec::new(alloc);
     for driver in drivers {
@@ -62,8 +62,8 @@ fn copied_drivers(alloc: Global, drivers: &[Driver]) -> Result<Vec<Driver>, Allo
     Ok(copies)
 }
 
-/// A job of the first cycle that is like another, but that the net at a place of its views has
-/// another value.
+/// A job of the first cycle like another one, but with another value for the net at an index of its
+/// views.
 pub fn like(alloc: Global, design: &Design, own: &Job, place: usize, value: Logic) -> Option<Job> {
     let views = changed_views(alloc, own.views(), place, value).ok()?;
     let variables = copied_variables(alloc, own.variables()).ok()?;
@@ -80,7 +80,7 @@ pub fn changed(last: Logic, value: Logic) -> NetView {
     }
 }
 
-/// A net that this cycle left as it was.
+/// A net that this cycle left unchanged.
 pub fn steady(value: Logic) -> NetView {
     NetView {
         value,

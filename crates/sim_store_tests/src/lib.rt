@@ -1,6 +1,6 @@
-//! Tests over whole texts: flat designs, processes that are executed once, and stores, against
-//! values that were worked by hand from the standard. One crate, since each that drops a design
-//! proves its drop anew. A table of texts with their listings or refusals belongs into the cases of
+//! Tests over whole texts: flat designs, single executions of processes, and stores, against values
+//! worked out by hand from the standard. They are one crate because each crate that drops a design
+//! proves that drop again. Tables of texts with their listings or refusals belong in the cases of
 //! `sim_run_cases`.
 #![tactic(auto)]
 

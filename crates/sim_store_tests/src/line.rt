@@ -4,7 +4,7 @@ use sim_logic::Logic;
 use sim_store::{Record, Step, StoreError};
 use std::alloc::{AllocError, Global};
 
-/// A line, and whether there was memory for all of it: so that only its end has to ask.
+/// A line, and whether there was memory for all of it, so that only its end has to check.
 #[derive(Drop)]
 pub struct Line {
     text: String,
@@ -20,14 +20,14 @@ impl Line {
         }
     }
 
-    /// Puts a text, unless memory was short before.
+    /// Appends a text, unless memory ran out before.
     pub fn put(&mut self, text: &str) {
         if self.ended.is_ok() {
             self.ended = self.text.push_str(text);
         }
     }
 
-    /// Puts a number in decimal.
+    /// Appends a number in decimal.
     pub fn put_number(&mut self, number: u64) {
         if self.ended.is_ok() {
             let text = &mut self.text;
@@ -35,14 +35,14 @@ impl Line {
         }
     }
 
-    /// Puts a value.
+    /// Appends a value.
     pub fn put_value(&mut self, value: Logic) {
         if self.ended.is_ok() {
             self.ended = self.text.push(char::from(value.to_byte()));
         }
     }
 
-    /// Puts how a store went on.
+    /// Appends what a store answers to an advance.
     pub fn put_step(&mut self, step: Step) {
         self.put(match step {
             Step::Next => "Next",
@@ -53,7 +53,7 @@ impl Line {
         });
     }
 
-    /// Puts a refusal.
+    /// Appends a refusal.
     pub fn put_refusal(&mut self, refusal: StoreError) {
         if self.ended.is_ok() {
             let text = &mut self.text;
@@ -61,7 +61,7 @@ impl Line {
         }
     }
 
-    /// Puts the time and the delta of a cycle, and its changes, each as a net and its value.
+    /// Appends the time and delta number of a cycle, and its changes, each as a net and its value.
     pub fn put_cycle(&mut self, time: u64, delta: u64, changes: &[(usize, Logic)]) {
         self.put_number(time);
         self.put("+");
@@ -75,7 +75,7 @@ impl Line {
         self.put(",");
     }
 
-    /// Puts records.
+    /// Appends records.
     pub fn put_records(&mut self, records: &[Record]) {
         for record in records {
             self.put_cycle(record.time, record.delta, record.changes.as_slice());

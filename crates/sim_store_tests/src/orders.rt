@@ -13,24 +13,24 @@ use std::alloc::{AllocError, Global};
 use std::marker::Brand;
 use std::test::Fail;
 
-/// Which answers are handed in.
+/// The answers that are given back.
 #[derive(Clone, Copy)]
 enum Given {
-    /// Those to all orders, in their order.
+    /// Those to all orders, in order.
     Own,
-    /// These, the first two exchanged.
+    /// These, with the first two exchanged.
     Exchanged,
-    /// These, but for the last.
+    /// These without the last.
     LastMissing,
     /// Those to the orders of another store.
     OfOther,
-    /// The same, while the own orders are there still.
+    /// The same, while the store's own orders still exist.
     OfOtherOwnLeft,
 }
 
-/// A text, after how many phases one is handed out, after how many another store has got there whose
-/// answers may be handed in, which answers are, and what comes of it: nothing is said where the store
-/// goes on as if all had been executed in it.
+/// A text; the number of phases before one is handed out; the number of phases of another store,
+/// whose answers may be given back; which answers are; and the result. An empty result means that
+/// the store goes on as if all processes had been executed in it.
 type Row<'a> = (&'a str, usize, usize, Given, &'a str);
 
 static ROWS: [Row<'_>; 13] = [
@@ -49,7 +49,7 @@ static ROWS: [Row<'_>; 13] = [
     (POSTPONED, 0, 1, Given::OfOtherOwnLeft, "Stranger"),
 ];
 
-/// A store of a copy of a design after so many phases, with what its processes own in three shares.
+/// A store of a copy of a design after some phases, with what its processes own in three shares.
 fn begun(alloc: Global, design: &Design, phases: usize) -> Option<WaveStore>
     ensures { IfSome result (λ s. s.simulation.design ≡ design.now) }
 {
@@ -76,7 +76,7 @@ fn answers_to<J: Naming>(
     Ok(answers)
 }
 
-/// Exchanges the first two answers, or takes the last one away.
+/// Exchanges the first two answers, or removes the last one.
 fn change<J: Naming>(given: Given, answers: Vec<Answer<J>>) -> Vec<Answer<J>> {
     let mut answers = answers;
     match given {
@@ -89,7 +89,7 @@ fn change<J: Naming>(given: Given, answers: Vec<Answer<J>>) -> Vec<Answer<J>> {
     answers
 }
 
-/// The answers that are handed in, and the orders that are there still.
+/// The answers that are given back, and the orders that still exist.
 fn answers_given<J: Naming>(
     alloc: Global,
     given: Given,
@@ -105,7 +105,7 @@ fn answers_given<J: Naming>(
     Ok((change(given, answers), left))
 }
 
-/// Goes on, and puts all that can be read of a store.
+/// Appends what can be read of a store, and what it answers when it advances.
 fn put_next(line: &mut Line, alloc: Global, store: WaveStore) {
     let mut store = store;
     let mut kept = Vec::new(alloc);
@@ -113,7 +113,7 @@ fn put_next(line: &mut Line, alloc: Global, store: WaveStore) {
     put_answers(line, alloc, &mut store, &mut kept, calls.as_slice());
 }
 
-/// Takes a phase back, and puts what comes of it.
+/// Takes a phase back, and appends the result.
 fn put_taken_back<J: Naming>(
     line: &mut Line,
     alloc: Global,
@@ -128,8 +128,7 @@ fn put_taken_back<J: Naming>(
     }
 }
 
-/// What stays of a store of which a phase is handed out, and the orders; none where memory is
-/// refused.
+/// The rest of a store of which a phase is handed out, and the orders; `None` if memory runs out.
 fn handed<J: Naming>(alloc: Global, store: WaveStore) -> Option<(Rest<J>, Vec<Order<J>>)>
     requires { store.simulation.design ≡ J.design }
 {
@@ -147,7 +146,7 @@ fn orders_of<J: Naming>(alloc: Global, store: WaveStore) -> Option<Vec<Order<J>>
     Some(orders)
 }
 
-/// Hands out a phase of a store and one of another, and puts what comes of the answers.
+/// Hands out a phase of a store and one of another, and appends the result of the answers.
 fn put_handed<J: Naming>(
     line: &mut Line,
     alloc: Global,
@@ -170,7 +169,7 @@ fn put_handed<J: Naming>(
     }
 }
 
-/// What comes of a row.
+/// The result of a row.
 fn put_row(line: &mut Line, alloc: Global, design: &Design, row: &Row<'_>) {
     let Some(own) = begun(alloc, design, row.1) else {
         return line.put("no store");
@@ -181,7 +180,7 @@ fn put_row(line: &mut Line, alloc: Global, design: &Design, row: &Row<'_>) {
     put_handed::<Brand>(line, alloc, own, other, row.3);
 }
 
-/// What comes of it where all are executed in the store.
+/// The result if all processes are executed in the store.
 fn put_executed(line: &mut Line, alloc: Global, design: &Design, phases: usize) {
     let Some(store) = begun(alloc, design, phases) else {
         return line.put("no store");
@@ -192,7 +191,7 @@ fn put_executed(line: &mut Line, alloc: Global, design: &Design, phases: usize) 
     }
 }
 
-/// Puts what is wanted of a row.
+/// Appends the expected result of a row.
 fn put_wanted(line: &mut Line, alloc: Global, design: &Design, row: &Row<'_>) {
     if row.4.is_empty() {
         put_executed(line, alloc, design, row.1);
@@ -201,7 +200,7 @@ fn put_wanted(line: &mut Line, alloc: Global, design: &Design, row: &Row<'_>) {
     }
 }
 
-/// What comes of the rows, and what is wanted.
+/// The results of all rows, and the expected ones.
 fn handed_out(alloc: Global) -> (Line, Line) {
     let mut found = Line::new(alloc);
     let mut wanted = Line::new(alloc);

@@ -1,5 +1,5 @@
-//! A store beside a plain program of the standard's cycle, which looks at every driver, net and
-//! process in each cycle.
+//! A store compared with a plain program of the standard's cycle, which looks at every driver, net
+//! and process in each cycle.
 
 use crate::line::Line;
 use crate::scripts::Call::Records;
@@ -10,17 +10,17 @@ use sim_store_reference::{Snapshot, snapshots};
 use std::alloc::Global;
 use std::test::Fail;
 
-/// How many cycles are looked at.
+/// The number of cycles that are compared.
 const CYCLES: usize = 40;
 
-/// Puts what the plain program leaves in each cycle.
+/// Appends what the plain program leaves in each cycle.
 fn put_snapshots(line: &mut Line, snapshots: &[Snapshot]) {
     for snapshot in snapshots {
         line.put_cycle(snapshot.time, snapshot.delta, snapshot.changes.as_slice());
     }
 }
 
-/// Puts what the plain program makes of a text.
+/// Appends what the plain program makes of a text.
 fn put_plain(line: &mut Line, alloc: Global, text: &str) {
     if let Some(design) = flat(alloc, text) {
         match snapshots(alloc, &design, CYCLES) {
@@ -34,7 +34,7 @@ fn put_plain(line: &mut Line, alloc: Global, text: &str) {
 /// The texts.
 static TEXTS: [&str; 7] = [ONCE, TWO_DRIVERS, EXCHANGE, TOGGLE, CHOICE, PULSES, SETTLED];
 
-/// Puts what a store records of a text.
+/// Appends what a store records of a text.
 fn put_recorded(line: &mut Line, alloc: Global, text: &str) {
     let mut kept = Vec::new(alloc);
     let script = (text, LATEST, 1_000, CYCLES, [Records(0)].as_slice(), "");

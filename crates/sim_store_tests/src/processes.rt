@@ -1,4 +1,4 @@
-//! Processes that are executed once.
+//! Single executions of processes.
 
 use crate::jobs::{changed, holds, is_driver, job, steady};
 use crate::texts::{TOGGLE, flat};
@@ -30,7 +30,7 @@ fn toggled(
     Ok(Done::run(alloc, job).ok())
 }
 
-/// The toggle, where the clock is seen so.
+/// The toggle executed with this view of the clock.
 fn toggled_by(alloc: Global, clock: NetView) -> Result<Option<Done>, AllocError> {
     let Some(design) = flat(alloc, TOGGLE) else {
         return Ok(None);
@@ -40,7 +40,7 @@ fn toggled_by(alloc: Global, clock: NetView) -> Result<Option<Done>, AllocError>
     toggled(alloc, &design, views)
 }
 
-/// Whether a job is still that of the toggle.
+/// Whether a job is unchanged and that of the toggle.
 fn is_as_it_was(job: &Job) -> bool {
     holds(job.variables(), Logic::Zero)
         && job.number() == 1
@@ -48,7 +48,7 @@ fn is_as_it_was(job: &Job) -> bool {
         && job.time() == 5_000_000
 }
 
-/// Whether the toggle was carried out.
+/// Whether the toggle was executed.
 fn is_toggled(done: &Done) -> bool {
     holds(done.variables(), Logic::One)
         && is_driver(done.drivers().first(), Logic::U, &[(5_000_000, Logic::One)])
@@ -62,7 +62,7 @@ fn a_rising_edge_is_carried_out(rt: HostRuntime) -> Result<(), Fail> {
     Ok(())
 }
 
-/// Whether this is the one view of a job.
+/// Whether this is the only view of a job.
 fn is_view(views: &[NetView], wanted: NetView) -> bool {
     match views {
         [view] => *view == wanted,
@@ -70,13 +70,13 @@ fn is_view(views: &[NetView], wanted: NetView) -> bool {
     }
 }
 
-/// Whether a job gave no results, and saw the clock so.
+/// Whether a job has no results, and this view of the clock.
 fn has_no_results(done: Done, clock: NetView) -> bool {
     let (job, results) = done.into_parts();
     results.is_none() && is_view(job.views(), clock)
 }
 
-/// Whether the toggle stays as it was.
+/// Whether the toggle is unchanged.
 fn is_idle(done: Done, clock: NetView) -> bool {
     holds(done.variables(), Logic::Zero)
         && is_driver(done.drivers().first(), Logic::U, &[])
@@ -99,7 +99,7 @@ fn a_value_without_an_event_is_no_edge(rt: HostRuntime) -> Result<(), Fail> {
     Ok(())
 }
 
-/// Whether the toggle has no job without a view.
+/// Whether the toggle without a view is refused as a job.
 fn does_not_fit(alloc: Global) -> Result<bool, AllocError> {
     let Some(design) = flat(alloc, TOGGLE) else {
         return Ok(false);
@@ -144,7 +144,7 @@ fn pulsed(alloc: Global) -> Result<Option<Done>, AllocError> {
     Ok(Done::run(alloc, job).ok())
 }
 
-/// Whether the first driver has one waveform of both assignments.
+/// Whether the first driver has one waveform, made by both assignments.
 fn is_pulsed(done: &Done) -> bool {
     let pending = [
         (3_000_000, Logic::One),

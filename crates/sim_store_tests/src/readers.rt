@@ -1,4 +1,4 @@
-//! What flat designs have.
+//! The contents of flat designs.
 
 use crate::line::Line;
 use crate::texts::flat;
@@ -11,7 +11,7 @@ pub const OPEN: &str =
     "entity t is end;architecture a of t is begin u:entity work.l port map(i=>'1',o=>open); end;\
 entity l is port(i:in std_logic;o:out std_logic);end;architecture a of l is begin o<=i;end;";
 
-/// A process with two drivers, whose ports are one signal.
+/// A process with two drivers for ports that are the same signal.
 const TWICE: &str =
     "entity t is end;architecture a of t is signal s:std_logic;begin u:entity work.e port map(s,s); end;\
 entity e is port(p,q:out std_logic);end;architecture a of e is begin process(all) begin p<='0';q<='1';end process;end;";
@@ -22,7 +22,7 @@ const CLOCK: &str =
 clk <= not clk after 5 ns; process (clk) variable v:std_logic:='0'; variable w:boolean; begin if rising_edge(clk) then \
 v := not v; q <= v; end if; end process; end;";
 
-/// An architecture of which there are two instances, with instances of its own.
+/// An architecture that is instantiated twice, with instances of its own.
 const DEEP: &str =
     "entity t is end;architecture a of t is signal s:std_logic:='H';begin U:entity work.m port map(s);\
 v:entity work.m port map(s); end;entity m is port(o:out std_logic:='L');end;architecture a of m is signal x:std_logic;begin \
@@ -54,7 +54,7 @@ process sensitive 2, reads 2, nets 2 0, objects, drivers and the first 2 1 1, va
     ),
 ];
 
-/// Puts the design of a text, if it has one.
+/// Appends the design of a text, if it has one.
 fn put_written(line: &mut Line, alloc: Global, text: &str) {
     if let Some(design) = flat(alloc, text) {
         put_design(line, &design);
@@ -62,7 +62,7 @@ fn put_written(line: &mut Line, alloc: Global, text: &str) {
     line.put("\n");
 }
 
-/// The lines of the designs, and what the rows say.
+/// The lines of the designs, and the expected ones.
 fn written(alloc: Global) -> (Line, Line) {
     let mut found = Line::new(alloc);
     let mut wanted = Line::new(alloc);
@@ -81,7 +81,7 @@ fn a_design_has_its_nets_drivers_and_processes(rt: HostRuntime) -> Result<(), Fa
     Ok(())
 }
 
-/// The number of the net of this name in a text's design.
+/// The number of the net with a name in the design of a text.
 fn number_of(alloc: Global, text: &str, name: &str) -> Option<usize> {
     flat(alloc, text)?.net_named(name)
 }
@@ -96,7 +96,7 @@ static NAMES: [(&str, Option<usize>); 6] = [
     ("", None),
 ];
 
-/// The place of the first row whose name is found in another way.
+/// The index of the first row whose name gives another net.
 fn first_other(alloc: Global) -> Option<usize> {
     for (place, row) in NAMES.iter().enumerate() {
         if number_of(alloc, OPEN, row.0) != row.1 {

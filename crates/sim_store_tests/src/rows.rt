@@ -1,4 +1,4 @@
-//! What stores answer, and what they refuse.
+//! Answers and refusals of stores.
 
 use crate::line::Line;
 use crate::scripts::Call::{
@@ -11,13 +11,13 @@ use sim_logic::{LATEST, Logic};
 use std::alloc::Global;
 use std::test::Fail;
 
-/// Each with a store and results of its own: processes that are missing, and results that come
-/// twice or late; a postponed process, and the delta cycle that it makes; a process that is not
-/// due; a run that has ended; as many cycles as the limit, and one more; the latest stop time, and
-/// one later; who is sensitive to what changed, and processes that read each other take the values
-/// before; a run that has ended is read, and its history is copied; record 0 has every net; a store
-/// tells its bounds; a result of a changed input, and then the right one; an ended run takes and
-/// hands out nothing. What refuses leaves the store as it was.
+/// Each script has a store and results of its own: processes that are missing, and results that
+/// come twice or late; a postponed process, and the delta cycle that it causes; a process that is
+/// not due; a run that has ended; as many cycles as the limit, and one more; the latest stop time,
+/// and a later one; processes sensitive to what changed, and processes that read each other see the
+/// values before the cycle; an ended run is read, and its history copied; record 0 has every net; a
+/// store has its bounds; a result of a changed input, and then the right one; an ended run takes
+/// and hands out nothing. A refusal leaves the store unchanged.
 static SCRIPTS: [Script<'_>; 15] = [
     (
         TWO_DRIVERS,
@@ -196,7 +196,7 @@ Ended;2 5000000+0,1;;0+0 0=0,5000000+0 0=1,;Ended;Ended;2 5000000+0,1;;0+0 0=0,5
     ),
 ];
 
-/// One result for two stores: to the second it is foreign, and is still missing there.
+/// One result for two stores: it is foreign to the second, where the result is still missing.
 static FOREIGN: [Script<'_>; 2] = [
     (TWO_DRIVERS, LATEST, 10, 0, &[Run(0)], "done;"),
     (
@@ -209,7 +209,7 @@ static FOREIGN: [Script<'_>; 2] = [
     ),
 ];
 
-/// What stores answer to the scripts, and what these say.
+/// What stores answer to the scripts, and what the scripts expect.
 fn followed(alloc: Global) -> (Line, Line) {
     let mut found = Line::new(alloc);
     let mut wanted = Line::new(alloc);
@@ -223,7 +223,7 @@ fn followed(alloc: Global) -> (Line, Line) {
     (found, wanted)
 }
 
-/// What two stores answer, one after the other, with the results of the first at hand.
+/// What two stores answer, one after the other; the second also gets results of the first.
 fn handed_on(alloc: Global) -> (Line, Line) {
     let mut found = Line::new(alloc);
     let mut wanted = Line::new(alloc);

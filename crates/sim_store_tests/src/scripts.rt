@@ -1,4 +1,4 @@
-//! What is done with a store, step by step, and what it answers, as a line.
+//! Calls of a store, one after another, and its answers, as a line.
 
 use crate::jobs::like;
 use crate::line::Line;
@@ -16,35 +16,35 @@ pub enum Call {
     Advance,
     /// Takes the job of a process, executes it, and keeps the result.
     Run(usize),
-    /// The same in the first cycle, with the net at a place of its views at another value.
+    /// The same in the first cycle, with another value for the net at an index of its views.
     RunSeeing(usize, usize, Logic),
-    /// Hands in the result that was kept at a place.
+    /// Gives back the result that was kept at an index.
     Deposit(usize),
-    /// Who is due.
+    /// The processes that are due.
     Due,
     /// How the run has ended.
     Ended,
-    /// How far it has come.
+    /// How far the run has come.
     Look,
     /// The records from a number on.
     Records(usize),
     /// The value of a net.
     Value(usize),
-    /// How many events a net had.
+    /// The number of events of a net.
     Total(usize),
-    /// How far it has come, who is due, and all records.
+    /// How far the run has come, the processes that are due, and all records.
     State,
-    /// The stop time, the limit, and how many processes there are.
+    /// The stop time, the limit, and the number of processes.
     Bounds,
-    /// The names, the records, the cycles and the events of a copy of the history.
+    /// The names, records, cycles and events of a copy of the history.
     History,
 }
 
-/// A text, a stop time, a limit and a number of cycles that come first; then the calls, and what
-/// they answer.
+/// A text, a stop time, a limit, and a number of cycles that come first; then the calls, and the
+/// expected answers.
 pub type Script<'a> = (&'a str, u64, u32, usize, &'a [Call], &'a str);
 
-/// Results that wait to be handed in.
+/// Results that are kept to be given back.
 pub type Kept = Vec<Option<Done>>;
 
 /// Executes a job, and keeps the result.
@@ -63,7 +63,7 @@ fn run(line: &mut Line, alloc: Global, store: &WaveStore, kept: &mut Kept, proce
     }
 }
 
-/// A job like that of a process, with the net at a place of its views at another value.
+/// A job like that of a process, with another value for the net at an index of its views.
 fn job_like(
     alloc: Global,
     store: &WaveStore,
@@ -85,7 +85,7 @@ fn keep_any(line: &mut Line, alloc: Global, kept: &mut Kept, job: Option<Job>) {
     }
 }
 
-/// The result that was kept at a place.
+/// The result that was kept at an index.
 fn kept_at(kept: &mut [Option<Done>], place: usize) -> Option<Done> {
     match kept.get_mut(place) {
         None => None,
@@ -93,7 +93,7 @@ fn kept_at(kept: &mut [Option<Done>], place: usize) -> Option<Done> {
     }
 }
 
-/// Hands in a result.
+/// Gives back a result.
 fn deposit(line: &mut Line, store: &mut WaveStore, done: Option<Done>) {
     match done {
         None => line.put("none"),
@@ -112,7 +112,7 @@ fn advance(line: &mut Line, alloc: Global, store: &mut WaveStore) {
     }
 }
 
-/// Puts who is due.
+/// Appends the processes that are due.
 fn put_due(line: &mut Line, due: &[usize]) {
     for process in due {
         line.put_number(*process as u64);
@@ -120,7 +120,7 @@ fn put_due(line: &mut Line, due: &[usize]) {
     }
 }
 
-/// Puts how a run has ended, if it has.
+/// Appends how a run has ended, if it has.
 fn put_ended(line: &mut Line, ended: Option<Step>) {
     match ended {
         Some(step) => line.put_step(step),
@@ -128,7 +128,7 @@ fn put_ended(line: &mut Line, ended: Option<Step>) {
     }
 }
 
-/// Puts how far a run has come.
+/// Appends how far a run has come.
 fn put_look(line: &mut Line, look: Look) {
     line.put_number(look.records as u64);
     line.put(" ");
@@ -136,7 +136,7 @@ fn put_look(line: &mut Line, look: Look) {
     line.put_number(look.events);
 }
 
-/// Puts the records from a number on, or the refusal.
+/// Appends the records from a number on, or the refusal.
 fn put_records(line: &mut Line, alloc: Global, store: &WaveStore, number: usize) {
     match store.records_since(alloc, number) {
         Ok(records) => line.put_records(records.as_slice()),
@@ -144,7 +144,7 @@ fn put_records(line: &mut Line, alloc: Global, store: &WaveStore, number: usize)
     }
 }
 
-/// Puts how far a run has come, who is due, and all records.
+/// Appends how far a run has come, the processes that are due, and all records.
 fn put_state(line: &mut Line, alloc: Global, store: &WaveStore) {
     put_look(line, store.look());
     line.put(";");
@@ -153,7 +153,7 @@ fn put_state(line: &mut Line, alloc: Global, store: &WaveStore) {
     put_records(line, alloc, store, 0);
 }
 
-/// Puts a value, if there is one.
+/// Appends a value, if there is one.
 fn put_value(line: &mut Line, value: Option<Logic>) {
     match value {
         Some(value) => line.put_value(value),
@@ -161,7 +161,7 @@ fn put_value(line: &mut Line, value: Option<Logic>) {
     }
 }
 
-/// Puts a number, if there is one.
+/// Appends a number, if there is one.
 fn put_total(line: &mut Line, total: Option<u64>) {
     match total {
         Some(total) => line.put_number(total),
@@ -169,7 +169,7 @@ fn put_total(line: &mut Line, total: Option<u64>) {
     }
 }
 
-/// Puts the stop time, the limit, and how many processes there are.
+/// Appends the stop time, the limit, and the number of processes.
 fn put_bounds(line: &mut Line, store: &WaveStore) {
     line.put_number(store.stop());
     line.put(" ");
@@ -178,7 +178,7 @@ fn put_bounds(line: &mut Line, store: &WaveStore) {
     line.put_number(store.design().processes().len() as u64);
 }
 
-/// Puts a copy of a history.
+/// Appends a copy of a history.
 fn put_finished(line: &mut Line, copy: &Finished) {
     for name in copy.names() {
         line.put(name.as_str());
@@ -190,7 +190,7 @@ fn put_finished(line: &mut Line, copy: &Finished) {
     line.put_number(copy.events());
 }
 
-/// Puts a copy of a store's history.
+/// Appends a copy of a store's history.
 fn put_history(line: &mut Line, alloc: Global, store: &WaveStore) {
     match Finished::of(alloc, store) {
         Ok(copy) => put_finished(line, &copy),
@@ -198,7 +198,7 @@ fn put_history(line: &mut Line, alloc: Global, store: &WaveStore) {
     }
 }
 
-/// Makes one call, and puts what it answers.
+/// Makes one call, and appends its answer.
 fn put_answer(line: &mut Line, alloc: Global, store: &mut WaveStore, kept: &mut Kept, call: Call) {
     match call {
         Call::Advance => advance(line, alloc, store),
@@ -224,7 +224,7 @@ fn put_answer(line: &mut Line, alloc: Global, store: &mut WaveStore, kept: &mut 
     }
 }
 
-/// Makes calls, one after another; results that were kept before are at hand.
+/// Makes calls, one after another. They can use results that were kept before.
 pub fn put_answers(
     line: &mut Line,
     alloc: Global,
@@ -238,7 +238,7 @@ pub fn put_answers(
     }
 }
 
-/// Follows a script with a store of its own; results that were kept before are at hand.
+/// Follows a script with a store of its own. It can use results that were kept before.
 pub fn follow(line: &mut Line, alloc: Global, kept: &mut Kept, script: &Script<'_>) {
     let Some(design) = flat(alloc, script.0) else {
         return line.put("no design");

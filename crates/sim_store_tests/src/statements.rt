@@ -1,4 +1,4 @@
-//! A body with every statement and operator, executed once at 10 ns, where x rose from '0' to '1',
+//! A body with every statement and operator, executed once at 10 ns, when x rises from '0' to '1',
 //! y is '0' and z is 'H'.
 
 use crate::jobs::{changed, is_driver, job, steady};
@@ -10,7 +10,7 @@ use sim_wave::Driver;
 use std::alloc::{AllocError, Global};
 use std::test::Fail;
 
-/// Process 0 has every statement and operator; processes 1 and 2 are conditional assignments,
+/// Process 0 has every statement and operator; processes 1 and 2 are conditional assignments
 /// without and with a last waveform.
 const TEXT: &str =
     "entity t is end;architecture a of t is signal x,y,z,q,r,s,u,w,k:std_logic;begin \
@@ -32,7 +32,7 @@ w <= '1' when x = '0' else '0' when y = '1'; \
 k <= '1' when x = '0' else 'W' after 1 ns when z = 'H' else '0'; \
 end;";
 
-/// This number of views, of x, y and z.
+/// The views of x, y and z.
 fn views(alloc: Global) -> Result<Vec<NetView>, AllocError> {
     let mut views = Vec::new(alloc);
     views.push(changed(Logic::Zero, Logic::One))?;
@@ -76,7 +76,7 @@ fn all_statements(alloc: Global) -> Result<Option<Done>, AllocError> {
     executed(alloc, 0, views(alloc)?, variables, 4)
 }
 
-/// Whether the variables are left as '1' and false.
+/// Whether the variables are '1' and false.
 fn are_left(variables: &[Held]) -> bool {
     match variables {
         [Held::Bit(bit), Held::Truth(truth)] => *bit == Logic::One && !*truth,
@@ -84,7 +84,7 @@ fn are_left(variables: &[Held]) -> bool {
     }
 }
 
-/// Whether the drivers of q, r, s and u have what was assigned.
+/// Whether the drivers of q, r, s and u have what was assigned to them.
 fn are_assigned(drivers: &[Driver]) -> bool {
     let q = [
         (11_000_000, Logic::One),

@@ -41,7 +41,7 @@ pub const TOGGLE: &str =
 clk <= not clk after 5 ns; process (clk) variable v:std_logic:='0'; begin if rising_edge(clk) then v := not v; q <= v; end if; \
 end process; end;";
 
-/// A waveform that is chosen by a condition, once before and once after it changes.
+/// A conditional waveform, whose condition is evaluated once before and once after it changes.
 pub const CHOICE: &str =
     "entity t is end;architecture a of t is signal a,q:std_logic:='0';begin a <= '1' after 1 ns; \
 q <= '1' after 8 ns when a = '0' else '1' after 9 ns; end;";
@@ -67,7 +67,7 @@ pub fn flat(alloc: Global, text: &str) -> Option<Design> {
     elaborate(alloc, text.as_bytes(), &options).ok()
 }
 
-/// Takes the result of a process, if it is due.
+/// Executes a process, and gives its result to the store, if it is due.
 fn execute(alloc: Global, store: &mut WaveStore, process: usize) {
     if let Ok(job) = store.job(alloc, process) {
         if let Ok(done) = Done::run(alloc, job) {
@@ -76,7 +76,7 @@ fn execute(alloc: Global, store: &mut WaveStore, process: usize) {
     }
 }
 
-/// One cycle more: all that are due are executed, and the store goes on.
+/// One more cycle: all processes that are due are executed, and the store advances.
 fn cycle(alloc: Global, store: &mut WaveStore) {
     for process in 0..store.design().processes().len() {
         execute(alloc, store, process);
@@ -84,7 +84,7 @@ fn cycle(alloc: Global, store: &mut WaveStore) {
     let _ = store.advance(alloc);
 }
 
-/// Goes on for this many cycles.
+/// Carries out this many cycles.
 pub fn go_on(alloc: Global, store: &mut WaveStore, cycles: usize) {
     for _cycle in 0..cycles {
         cycle(alloc, store);

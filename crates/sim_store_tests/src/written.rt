@@ -1,5 +1,5 @@
-//! A flat design as one line. Values stand between quotes, nets, drivers and processes by their
-//! numbers, times in femtoseconds.
+//! A flat design as one line. Values are in quotes; nets, drivers and processes are given by
+//! number, times in femtoseconds.
 
 use crate::line::Line;
 use sim_flat_design::statement::Statement;
@@ -7,7 +7,7 @@ use sim_flat_design::waveform::Waveform;
 use sim_flat_design::{Design, DriverOf, Held, Net, Process, Source};
 use sim_logic::Logic;
 
-/// A value between quotes, after a blank.
+/// A value in quotes, after a blank.
 fn put_quoted(line: &mut Line, value: Logic) {
     line.put(" '");
     line.put_value(value);
@@ -48,7 +48,7 @@ fn put_net(line: &mut Line, net: &Net) {
     line.put("; ");
 }
 
-/// Its process, its net and its first value.
+/// A driver: its process, its net and its initial value.
 fn put_driver(line: &mut Line, driver: &DriverOf) {
     put_after(line, "driver of ", driver.process);
     put_after(line, " to ", driver.net);
@@ -57,7 +57,7 @@ fn put_driver(line: &mut Line, driver: &DriverOf) {
     line.put("; ");
 }
 
-/// A word, and these numbers after it.
+/// A word, and numbers after it.
 fn put_numbers(line: &mut Line, word: &str, numbers: &[usize]) {
     line.put(word);
     for number in numbers {
@@ -66,7 +66,7 @@ fn put_numbers(line: &mut Line, word: &str, numbers: &[usize]) {
     line.put(", ");
 }
 
-/// A first value of a variable.
+/// The initial value of a variable.
 fn put_held(line: &mut Line, held: Held) {
     match held {
         Held::Bit(value) => put_quoted(line, value),
@@ -75,7 +75,7 @@ fn put_held(line: &mut Line, held: Held) {
     }
 }
 
-/// First values, by the numbers of the variables.
+/// The initial values of variables, in order.
 fn put_variables(line: &mut Line, variables: &[Held]) {
     line.put("variables");
     for held in variables {
@@ -92,8 +92,8 @@ fn put_times(line: &mut Line, waveform: &Waveform) {
     }
 }
 
-/// Puts the driver of an assignment and the times of its last waveform; of another statement
-/// nothing but its word.
+/// A statement: for an assignment, its driver and the times of its last waveform; for others, only
+/// a word.
 fn put_statement(line: &mut Line, statement: &Statement) {
     match statement {
         Statement::Signal(assignment) => {
@@ -108,7 +108,7 @@ fn put_statement(line: &mut Line, statement: &Statement) {
     }
 }
 
-/// The statements of a body; those of branches are left out.
+/// The statements of a body, without those of branches.
 fn put_statements(line: &mut Line, statements: &[Statement]) {
     line.put("statements");
     for statement in statements {
@@ -117,7 +117,7 @@ fn put_statements(line: &mut Line, statements: &[Statement]) {
     line.put("; ");
 }
 
-/// Its lists of nets, its counts, its variables and its statements.
+/// A process: its lists of nets, its counts, its variables and its statements.
 fn put_process(line: &mut Line, process: &Process) {
     put_numbers(line, "process sensitive", process.sensitivity());
     put_numbers(line, "reads", process.reads());
@@ -129,7 +129,7 @@ fn put_process(line: &mut Line, process: &Process) {
     put_statements(line, body.statements());
 }
 
-/// Puts a design: its nets, its drivers, and its processes.
+/// A design: its nets, its drivers and its processes.
 pub fn put_design(line: &mut Line, design: &Design) {
     for net in design.nets() {
         put_net(line, net);

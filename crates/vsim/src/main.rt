@@ -8,10 +8,10 @@ use std::io::Write;
 use std::process::ExitCode;
 use std::{env, io};
 
-/// What `--version` says. The script `build` writes into its copy of this line what it builds of.
+/// The text of `--version`. The script `build` fills in the sources and the toolchain in its copy.
 const VERSION: &[u8] = b"vsim 1.0.0, sources unknown, toolchain unknown\n";
 
-/// What is said of words that are no text, as clap says it.
+/// The message for words that are not valid UTF-8, as `clap` words it.
 const NO_TEXT: &[u8] = b"error: invalid UTF-8 was detected in one or more arguments
 
 For more information, try '--help'.
@@ -31,7 +31,7 @@ fn ask_for_version(words: &[String]) -> bool {
     }
 }
 
-/// Writes the version, and answers the exit status.
+/// Writes the version, and returns the exit status.
 fn tell_version(rt: &HostRuntime) -> ExitCode {
     let mut out = rt.stdout();
     if out.write_all(VERSION).is_ok() {
@@ -41,7 +41,7 @@ fn tell_version(rt: &HostRuntime) -> ExitCode {
     ExitCode::from(4)
 }
 
-/// Hands the words and the standard streams to `session`, whose status is the exit status.
+/// Passes the words and the standard streams to `session`, whose status is the exit status.
 fn main(rt: HostRuntime) -> ExitCode {
     let alloc = rt.alloc();
     let mut err = rt.stderr();
@@ -51,7 +51,7 @@ fn main(rt: HostRuntime) -> ExitCode {
             let _reported = err.write_all(NO_TEXT);
             return ExitCode::from(2);
         }
-        // There is no other fault than this.
+        // No other error can occur.
         Err(_out_of_memory) => {
             let _reported = err.write_all(b"vsim: Memory\n");
             return ExitCode::from(4);

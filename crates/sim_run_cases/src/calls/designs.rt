@@ -1,4 +1,4 @@
-//! Rows of calls of a command line and of a design.
+//! Rows of calls that concern a command line and a design.
 
 use sim_run::{CliFault, Design, Options, RunError, elaborate, read_options};
 use std::alloc::{AllocError, Global};
@@ -8,7 +8,7 @@ const OPEN: &str = "entity t is end;architecture a of t is begin \
 u:entity work.l port map(i=>'1',o=>open); end;entity l is port(i:in std_logic;o:out std_logic);end;\
 architecture a of l is begin o<=i;end;";
 
-/// An instance within another, whose labels are too long to stand in one piece of a path.
+/// An instance within another, whose labels are too long for one piece of a path.
 const LONG: &str = "entity t is end;architecture a of t is begin \
 a_label_that_takes_more_than_half_a_piece:entity work.m; end;entity m is end;\
 architecture a of m is begin another_label_with_more_than_forty_letters:entity work.n; end;\
@@ -32,7 +32,7 @@ static NAMES: [(&str, Option<usize>); 5] = [
     ("another_label_with_more_than_forty_letters.q", None),
 ];
 
-/// A signal with two ports that drive it, each by a process of one.
+/// A signal with two ports that drive it, both assigned in the same process.
 const TWO_PORTS: &str = "entity t is end;architecture a of t is signal s:std_logic;begin \
 u:entity work.e port map(s,s); end;entity e is port(p,q:out std_logic);end;architecture a of e is \
 begin process(all) begin p<='0';q<='1';end process;end;";
@@ -46,7 +46,7 @@ fn words(alloc: Global) -> Result<Vec<String>, AllocError> {
     Ok(words)
 }
 
-/// Whether options are those of a command line that names the top `t` alone.
+/// Whether these are the options of a command line that names the top `t` alone.
 fn are_defaults(options: &Options) -> bool {
     options.top.as_str() == "t"
         && options.stop == 4_611_686_018_427_387_903
@@ -64,7 +64,7 @@ pub fn are_read(alloc: Global) -> Result<bool, RunError> {
     }
 }
 
-/// Whether nets are found by their names alone, and a copy is the same design.
+/// Whether nets are found by their exact names, and a copy is the same design.
 fn is_named(design: &Design) -> Result<bool, AllocError> {
     let copy = design.try_copy()?;
     Ok(copy.same(design) && design.net_named("u.o") == Some(1) && design.net_named("U.O").is_none())
@@ -76,7 +76,7 @@ pub fn has_nets(alloc: Global, options: &Options) -> Result<bool, RunError> {
     Ok(is_named(&design)?)
 }
 
-/// Whether a net is found by its whole name alone, and a copy is the same design.
+/// Whether a net is found by its whole name only, and a copy is the same design.
 fn is_named_in_pieces(design: &Design) -> Result<bool, AllocError> {
     let copy = design.try_copy()?;
     Ok(copy.same(design) && NAMES.iter().all(|row| design.net_named(row.0) == row.1))
@@ -88,7 +88,7 @@ pub fn has_long_names(alloc: Global, options: &Options) -> Result<bool, RunError
     Ok(is_named_in_pieces(&design)?)
 }
 
-/// Whether each port that drives has a driver.
+/// Whether each driving port has a driver.
 pub fn has_drivers(alloc: Global, options: &Options) -> Result<bool, RunError> {
     let design = elaborate(alloc, TWO_PORTS.as_bytes(), options)?;
     Ok(design.drivers().len() == 2)

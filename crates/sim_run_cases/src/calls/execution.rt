@@ -1,4 +1,4 @@
-//! Calls that carry a run on.
+//! Calls that carry on a run.
 
 use anyhow::{Result, bail};
 use sim_exec::{Done, Job};
@@ -8,13 +8,13 @@ use sim_run::{Design, Finished, Record, RunError, WaveStore};
 use sim_store::{Step, StoreError};
 use std::alloc::{AllocError, Global};
 
-/// The last time that is simulated, in femtoseconds.
+/// The stop time, in femtoseconds.
 pub const STOP: u64 = 100_000_000;
 
-/// The most cycles.
+/// The limit of cycles.
 pub const LIMIT: u32 = 1_000;
 
-/// The most parts of cycles: of each, one of postponed processes comes after the others.
+/// The most phases: in each cycle, postponed processes have a phase after that of the others.
 const MOST_PARTS: u32 = 2 * LIMIT + 2;
 
 /// The store of a design at the start of its run.
@@ -57,7 +57,7 @@ fn execute(alloc: Global, store: &mut WaveStore, process: usize) -> Result<()> {
     }
 }
 
-/// Executes the due process at a place of their list.
+/// Executes the process at an index of those that are due.
 fn execute_at(alloc: Global, store: &mut WaveStore, place: usize) -> Result<()> {
     match store.due().get(place).copied() {
         Some(process) => execute(alloc, store, process),
@@ -65,7 +65,7 @@ fn execute_at(alloc: Global, store: &mut WaveStore, place: usize) -> Result<()> 
     }
 }
 
-/// Executes the due processes.
+/// Executes the processes that are due.
 fn execute_due(alloc: Global, store: &mut WaveStore) -> Result<()> {
     for place in 0..store.due().len() {
         execute_at(alloc, store, place)?;
@@ -73,7 +73,7 @@ fn execute_due(alloc: Global, store: &mut WaveStore) -> Result<()> {
     Ok(())
 }
 
-/// Goes to the next part of a run.
+/// Goes on to the next phase of a run.
 fn advance(alloc: Global, store: &mut WaveStore) -> Result<Step, StoreError> {
     match store.advance(alloc) {
         Err(StoreError::Memory) => store.advance(alloc),
@@ -89,7 +89,7 @@ fn records_of(alloc: Global, store: &WaveStore) -> Result<Vec<Record>, StoreErro
     }
 }
 
-/// Asks for all records of a run, which are as many as a look at it tells.
+/// Reads all records of a run, and checks their number against a look at it.
 fn check_records(alloc: Global, store: &WaveStore) -> Result<()> {
     let records = records_of(alloc, store)?;
     if records.len() != store.look().records {
@@ -114,7 +114,7 @@ pub fn make_codes(alloc: Global, design: &Design) -> Result<()> {
     Ok(())
 }
 
-/// Carries a run on to its end.
+/// Carries a run to its end.
 pub fn run(alloc: Global, store: &mut WaveStore) -> Result<()> {
     for _part in 0..MOST_PARTS {
         execute_due(alloc, store)?;

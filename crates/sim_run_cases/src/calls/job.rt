@@ -1,4 +1,4 @@
-//! A process that is executed once: the flip-flop at a rising edge.
+//! A single execution of a process: the flip-flop at a rising edge.
 
 use sim_exec::{Done, Job, NetView};
 use sim_flat_design::{Held, Process};
@@ -6,7 +6,7 @@ use sim_logic::Logic::{One, U, Zero};
 use sim_wave::Driver;
 use std::alloc::{AllocError, Global};
 
-/// When it is executed.
+/// The time of the execution, in femtoseconds.
 const NOW: u64 = 5_000_000;
 
 /// The clock as it rises.
@@ -23,7 +23,7 @@ fn only<T: Drop>(alloc: Global, item: T) -> Result<Vec<T>, AllocError> {
     Ok(items)
 }
 
-/// The job of a process with these, where they fit it.
+/// The job of a process with these lists, if they fit it.
 fn job_of(
     process: Process,
     views: Vec<NetView>,
@@ -42,7 +42,7 @@ fn job_of(
     Some(Job::new(1, 1, NOW, process, views, variables, drivers))
 }
 
-/// The same of the flip-flop at a rising edge.
+/// The job of the flip-flop at a rising edge.
 fn rising(alloc: Global, process: Process) -> Result<Option<Job>, AllocError> {
     let views = only(alloc, RISING)?;
     let variables = only(alloc, Held::Bit(Zero))?;
@@ -50,7 +50,7 @@ fn rising(alloc: Global, process: Process) -> Result<Option<Job>, AllocError> {
     Ok(job_of(process, views, variables, drivers))
 }
 
-/// What came of a job.
+/// The result of a job.
 fn result_of(alloc: Global, job: Job) -> Result<Done, AllocError> {
     match Done::run(alloc, job) {
         Ok(done) => Ok(done),
@@ -58,7 +58,7 @@ fn result_of(alloc: Global, job: Job) -> Result<Done, AllocError> {
     }
 }
 
-/// Whether the variable and the driver are left at '1'.
+/// Whether the variable holds '1', and the driver has '1' pending.
 fn is_one(done: &Done) -> bool {
     let is_held = matches!(done.variables(), [Held::Bit(One)]);
     let is_driven = match done.drivers() {

@@ -1,5 +1,5 @@
-//! Rows of calls that are made alone, each worked by hand: of a token, a driver, a queue, claims, a
-//! code, a process, a store.
+//! Rows of calls that are made alone, with results worked out by hand: of a token, a driver, a
+//! queue, claims, a code, a process, a store.
 
 ghost use Rattle.std.specs.Prelude.{◌≡◌, ◌≤◌, length, IfOk, OnOk};
 ghost use Rattle.sim_run_claims.specs.Seats.{IsOf, balance};
@@ -27,7 +27,7 @@ pub const TOGGLE: &str =
 clk <= not clk after 5 ns; process (clk) variable v:std_logic:='0'; begin if rising_edge(clk) then v := not v; q <= v; end if; \
 end process; end;";
 
-/// The rows, by what they call.
+/// The rows, named after what they call.
 #[derive(Clone, Copy)]
 enum Row {
     Tokens,
@@ -70,7 +70,7 @@ static ROWS: [(Row, &str); 17] = [
     (Row::Drivers, "drivers"),
 ];
 
-/// Whether a token has the kind, the text and the places.
+/// Whether a token has this kind, text and place.
 fn is_token(token: &Token, kind: Kind, text: &[u8], start: usize, end: usize) -> bool {
     token.kind() == kind && token.text() == text && token.start() == start && token.end() == end
 }
@@ -88,13 +88,13 @@ fn are_tokens(found: &[Token]) -> bool {
     }
 }
 
-/// Whether a text has its tokens.
+/// Whether a text is cut into its tokens.
 fn has_tokens(alloc: Global) -> Result<bool, TextError> {
     let found = tokens(alloc, b"s<='1';")?;
     Ok(are_tokens(found.as_slice()))
 }
 
-/// A pulse from 3 to 5, whose rise a later inertial assignment makes one with its own.
+/// A pulse from 3 fs to 5 fs, followed by an inertial assignment that keeps its rise.
 fn short_pulse(alloc: Global) -> Result<Driver, AllocError> {
     let mut driver = Driver::new(alloc, Zero);
     driver.edit(0, Delay::Transport, &[(3, One), (5, Zero)])?;
@@ -102,13 +102,13 @@ fn short_pulse(alloc: Global) -> Result<Driver, AllocError> {
     Ok(driver)
 }
 
-/// Whether a driver is the same as its copy.
+/// Whether a driver is equal to its copy.
 fn is_copied(driver: &Driver) -> Result<bool, AllocError> {
     let copy = driver.try_copy()?;
     Ok(copy.same(driver))
 }
 
-/// Whether the driver takes its first transaction at its time alone.
+/// Whether the driver takes its first transaction at its time, and not before.
 fn takes_in_turn(driver: &mut Driver) -> bool {
     driver.pending() == [(3, One), (4, One)].as_slice()
         && !driver.take(2)
@@ -124,7 +124,7 @@ fn is_pulse(alloc: Global) -> Result<bool, AllocError> {
     Ok(is_copied(&driver)? && is_taken)
 }
 
-/// A pulse from 2 to 3, and then an inertial assignment of '1' at 5.
+/// A pulse from 2 fs to 3 fs, followed by an inertial assignment of '1' at 5 fs.
 fn pulse_rejected_by(alloc: Global, reject: u64) -> Result<Driver, AllocError>
     requires { reject ≤ 5 }
 {
@@ -142,14 +142,14 @@ fn keeps(alloc: Global, reject: u64, wanted: &[Transaction]) -> Result<bool, All
     Ok(driver.pending() == wanted)
 }
 
-/// Whether three rejection limits keep what they are to keep.
+/// Whether each of three rejection limits keeps the right transactions.
 fn are_rejected(alloc: Global) -> Result<bool, AllocError> {
     let first = keeps(alloc, 1, &[(2, One), (3, Zero), (5, One)])?;
     let second = keeps(alloc, 2, &[(2, One), (5, One)])?;
     Ok(keeps(alloc, 3, &[(5, One)])? && first && second)
 }
 
-/// Drivers 1 and 2 at 3, and then driver 1 at 9.
+/// Puts drivers 1 and 2 at 3, then driver 1 at 9.
 fn put_two(queue: &mut TimeQueue) -> Result<(), AllocError>
     requires { length queue.old ≡ 3 }
     ensures { length queue.new ≡ 3 }
@@ -159,7 +159,7 @@ fn put_two(queue: &mut TimeQueue) -> Result<(), AllocError>
     queue.put(1, Some(9))
 }
 
-/// A queue of driver 0 at 5 and these two.
+/// A queue with driver 0 at 5 and these two.
 fn three(alloc: Global) -> Result<TimeQueue, AllocError>
     ensures { IfOk result (λ queue. length queue ≡ 3) }
 {
@@ -179,7 +179,7 @@ fn is_due(alloc: Global, queue: &mut TimeQueue) -> Result<bool, AllocError>
     Ok(queue.take_due(alloc, 3)?.as_slice() == [2].as_slice())
 }
 
-/// Whether driver 0 is due next, at 5; and with its time cleared, driver 1 at 9.
+/// Whether driver 0 is due next, at 5, and once its time is cleared, driver 1 at 9.
 fn goes_on(queue: &mut TimeQueue) -> Result<bool, AllocError>
     requires { length queue.old ≡ 3 }
 {
@@ -188,7 +188,7 @@ fn goes_on(queue: &mut TimeQueue) -> Result<bool, AllocError>
     Ok(queue.least() == Some(9) && is_next)
 }
 
-/// Whether drivers are taken at the times that were put last.
+/// Whether each driver is taken at the time that was put last.
 fn is_queue(alloc: Global) -> Result<bool, AllocError> {
     let mut queue = three(alloc)?;
     let is_taken = is_due(alloc, &mut queue)?;
@@ -208,7 +208,7 @@ fn draws_three(claims: &Claims, seat: &mut ClaimSeat) -> bool
     first == Some(0) && second == Some(1) && third == Some(2) && last.is_none()
 }
 
-/// Whether a seat that was split draws all, and both are joined.
+/// Whether a seat draws all numbers after a split, and the two seats are joined.
 fn draws_all(alloc: Global, claims: &Claims, seat: &mut ClaimSeat) -> Result<bool, AllocError>
     requires { IsOf claims.now seat.old }
     ensures of { IsOf claims.now seat.new }
@@ -220,7 +220,7 @@ fn draws_all(alloc: Global, claims: &Claims, seat: &mut ClaimSeat) -> Result<boo
     Ok(drawn)
 }
 
-/// Whether three numbers are drawn once each.
+/// Whether three numbers are drawn, each once.
 fn are_claimed(alloc: Global) -> Result<bool, AllocError> {
     let (claims, mut seat) = Claims::new(alloc, 3)?;
     let drawn = draws_all(alloc, &claims, &mut seat)?;
@@ -252,12 +252,12 @@ fn is_executed(alloc: Global, options: &Options) -> Result<bool, RunError> {
     Ok(is_toggled(alloc, design.processes().get(1))?)
 }
 
-/// The same, with the want of memory as that of a run.
+/// The same, with lack of memory as the refusal of a run.
 fn of_run(found: Result<bool, AllocError>) -> Result<bool, RunError> {
     Ok(found?)
 }
 
-/// Whether a row is as it was worked out.
+/// Whether a row has the result that was worked out.
 fn is_as_worked(alloc: Global, options: &Options, row: Row) -> Result<bool, RunError> {
     match row {
         Row::Tokens => Ok(has_tokens(alloc)?),
@@ -280,8 +280,8 @@ fn is_as_worked(alloc: Global, options: &Options, row: Row) -> Result<bool, RunE
     }
 }
 
-/// Whether a row is as it was worked out. Where there is no memory for it, that is told, and it is
-/// worked once more.
+/// Whether a row has the result that was worked out. If it finds no memory, this is printed, and it
+/// is made once more.
 fn is_right<R: AllocGlobal + Print>(
     rt: &R,
     options: &Options,
@@ -297,7 +297,7 @@ fn is_right<R: AllocGlobal + Print>(
     }
 }
 
-/// Works each row, and tells how many there are.
+/// Makes each row, and prints the number of rows.
 pub fn work_each<R: AllocGlobal + Print>(rt: &R, options: &Options) -> Result<()> {
     for (row, name) in ROWS.iter() {
         if !is_right(rt, options, name, *row)? {

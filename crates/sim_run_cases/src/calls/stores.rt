@@ -14,7 +14,7 @@ const TWO_DRIVERS: &str =
 const ONCE: &str =
     "entity t is end;architecture a of t is signal s:std_logic:='0';begin s <= '1' after 5 ns; end;";
 
-/// A waveform that is chosen by a condition, once before and once after it changes.
+/// A conditional waveform, whose condition is evaluated once before and once after it changes.
 const CHOICE: &str =
     "entity t is end;architecture a of t is signal a,q:std_logic:='0';begin a <= '1' after 1 ns; \
 q <= '1' after 8 ns when a = '0' else '1' after 9 ns; end;";
@@ -22,10 +22,10 @@ q <= '1' after 8 ns when a = '0' else '1' after 9 ns; end;";
 /// No process and no signal.
 const EMPTY: &str = "entity t is end;architecture a of t is begin end;";
 
-/// A time past the latest one.
+/// A time after the latest one, in femtoseconds.
 const TOO_LATE: u64 = 4_611_686_018_427_387_904;
 
-/// Want of memory as that of a run; no row has another refusal where it is made so.
+/// Lack of memory as the refusal of a run. No row has another refusal here.
 fn of_run(fault: StoreError) -> RunError {
     match fault {
         StoreError::Memory => RunError::Memory,
@@ -75,7 +75,7 @@ fn deposit(store: &mut WaveStore, done: Done) -> Option<StoreError> {
     }
 }
 
-/// The refusal to go on, if it is refused, but for want of memory.
+/// The refusal to go on, if there is one other than lack of memory.
 fn refusal(alloc: Global, store: &mut WaveStore) -> Result<Option<StoreError>, StoreError> {
     match store.advance(alloc) {
         Ok(_step) => Ok(None),
@@ -84,10 +84,10 @@ fn refusal(alloc: Global, store: &mut WaveStore) -> Result<Option<StoreError>, S
     }
 }
 
-/// The processes whose results are handed in, one after another.
+/// The processes whose results are given back, one after another.
 static PROCESSES: [usize; 4] = [0, 0, 1, 1];
 
-/// Before each of them, whether the store goes on; and whether it takes the result.
+/// For each of them, the refusal to go on before it, and the refusal of its result.
 static REFUSALS: [(Option<StoreError>, Option<StoreError>); 4] = [
     (Some(StoreError::Missing { process: 0 }), None),
     (
@@ -98,7 +98,7 @@ static REFUSALS: [(Option<StoreError>, Option<StoreError>); 4] = [
     (None, Some(StoreError::Stale)),
 ];
 
-/// Whether a store refuses what it is to refuse of these results.
+/// Whether a store refuses these results, and going on, as it should.
 fn refuses(alloc: Global, store: &mut WaveStore, results: Vec<Done>) -> Result<bool, StoreError> {
     let mut right = true;
     for (done, wanted) in results.into_iter().zip(REFUSALS.iter()) {
@@ -109,13 +109,13 @@ fn refuses(alloc: Global, store: &mut WaveStore, results: Vec<Done>) -> Result<b
     Ok(right)
 }
 
-/// The same, of results of its own.
+/// The same, for results of its own.
 fn refuses_own(alloc: Global, store: &mut WaveStore) -> Result<bool, StoreError> {
     let results = results_of(alloc, store, PROCESSES.as_slice())?;
     refuses(alloc, store, results)
 }
 
-/// Whether results are refused that are missing, come twice or late.
+/// Whether missing, repeated and late results are refused.
 pub fn refuses_results(alloc: Global, options: &Options) -> Result<bool, RunError> {
     let mut store = store_of(alloc, TWO_DRIVERS, options)?;
     refuses_own(alloc, &mut store).map_err(of_run)
@@ -134,7 +134,7 @@ pub fn refuses_strangers(alloc: Global, options: &Options) -> Result<bool, RunEr
     is_foreign(alloc, &mut store, &other).map_err(of_run)
 }
 
-/// Executes the due process at a place of their list.
+/// Executes the process at an index of those that are due.
 fn execute(alloc: Global, store: &mut WaveStore, place: usize) -> Result<(), StoreError> {
     let Some(process) = store.due().get(place).copied() else {
         return Ok(());
@@ -146,7 +146,7 @@ fn execute(alloc: Global, store: &mut WaveStore, place: usize) -> Result<(), Sto
     }
 }
 
-/// Executes the due processes, and goes on.
+/// Executes the processes that are due, and goes on.
 fn go_on(alloc: Global, store: &mut WaveStore) -> Result<Step, StoreError> {
     for place in 0..store.due().len() {
         execute(alloc, store, place)?;
@@ -157,7 +157,7 @@ fn go_on(alloc: Global, store: &mut WaveStore) -> Result<Step, StoreError> {
 /// The most cycles of a row.
 const MOST: u32 = 10;
 
-/// Carries a run on to its end.
+/// Carries a run to its end.
 fn end(alloc: Global, store: &mut WaveStore) -> Result<(), StoreError> {
     for _part in 0..MOST {
         if go_on(alloc, store)? == Step::Finished {
@@ -167,7 +167,7 @@ fn end(alloc: Global, store: &mut WaveStore) -> Result<(), StoreError> {
     Ok(())
 }
 
-/// How far the run of a choice comes.
+/// The end of the run of the conditional waveform.
 const END: Look = Look {
     records: 4,
     time: 10_000_000,
@@ -175,7 +175,7 @@ const END: Look = Look {
     events: 2,
 };
 
-/// Whether a run that has ended tells how far it came, and has no more records.
+/// Whether a run that has ended reports how far it came, and has no more records.
 fn tells(alloc: Global, store: &mut WaveStore) -> Result<bool, StoreError> {
     end(alloc, store)?;
     let none = store.records_since(alloc, 4)?;
@@ -186,13 +186,13 @@ fn tells(alloc: Global, store: &mut WaveStore) -> Result<bool, StoreError> {
     Ok(store.look() == END && none.is_empty() && is_behind)
 }
 
-/// Whether a run that has ended is told as it is.
+/// Whether a run that has ended is reported correctly.
 pub fn tells_its_end(alloc: Global, options: &Options) -> Result<bool, RunError> {
     let mut store = store_of(alloc, CHOICE, options)?;
     tells(alloc, &mut store).map_err(of_run)
 }
 
-/// Whether a store gives no job of a process that is not due.
+/// Whether a store has no job for a process that is not due.
 fn has_no_job(alloc: Global, store: &WaveStore) -> Result<bool, StoreError> {
     match store.job(alloc, 0) {
         Err(StoreError::Memory) => Err(StoreError::Memory),
@@ -201,7 +201,7 @@ fn has_no_job(alloc: Global, store: &WaveStore) -> Result<bool, StoreError> {
     }
 }
 
-/// Whether there is no job once the flip-flop has changed, which nothing reads.
+/// Whether there is no job after the flip-flop has changed, which nothing reads.
 fn comes_to_rest(alloc: Global, store: &mut WaveStore) -> Result<bool, StoreError> {
     go_on(alloc, store)?;
     go_on(alloc, store)?;
@@ -214,7 +214,7 @@ pub fn refuses_jobs(alloc: Global, options: &Options) -> Result<bool, RunError> 
     comes_to_rest(alloc, &mut store).map_err(of_run)
 }
 
-/// Whether a run without a process ends at once, and does not go on.
+/// Whether a run without processes ends at once, and does not go on.
 fn ends(alloc: Global, store: &mut WaveStore) -> Result<bool, StoreError> {
     let step = store.advance(alloc)?;
     let after = refusal(alloc, store)?;
@@ -227,7 +227,7 @@ pub fn refuses_more(alloc: Global, options: &Options) -> Result<bool, RunError> 
     ends(alloc, &mut store).map_err(of_run)
 }
 
-/// Whether no run stops past the latest time.
+/// Whether a stop time after the latest time is refused.
 pub fn refuses_late_stops(alloc: Global, options: &Options) -> Result<bool, RunError> {
     let design = elaborate(alloc, EMPTY.as_bytes(), options)?;
     match WaveStore::new(alloc, design, TOO_LATE, options.limit) {

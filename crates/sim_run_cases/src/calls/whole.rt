@@ -1,4 +1,4 @@
-//! Calls that carry a whole run.
+//! Calls that carry out a whole run.
 
 use anyhow::Result;
 use sim_run::{
@@ -47,8 +47,8 @@ fn list_run<R: Threads + Wait + Sync + AllocGlobal + Print>(
     write_listing(&finished, &mut writer(rt))
 }
 
-/// The run of a store under a lock. Where a worker finds no memory, that is told, and the run of the
-/// same store goes on.
+/// The run of a store under a lock. If a worker finds no memory, this is printed, and the run of
+/// the same store goes on.
 fn carry_on<R: Threads + Wait + Sync + AllocGlobal + Print>(
     rt: &R,
     store: &Mutex<WaveStore>,
@@ -89,7 +89,7 @@ fn list_by<R: Threads + Wait + Sync + AllocGlobal + Print>(
     }
 }
 
-/// Whether an error is want of memory: of the text, of the design or of the run.
+/// Whether an error is lack of memory: for the text, the design or the run.
 fn is_memory(fault: RunError) -> bool {
     matches!(
         fault,
@@ -97,8 +97,8 @@ fn is_memory(fault: RunError) -> bool {
     )
 }
 
-/// Lists the run of a text by a call. Where there is no memory for it, that is told, and it is
-/// called once more.
+/// Lists the run of a text by a call. If the call finds no memory, this is printed, and it is
+/// repeated once.
 fn list<R: Threads + Wait + Sync + AllocGlobal + Print>(
     rt: &R,
     source: &[u8],
@@ -115,7 +115,7 @@ fn list<R: Threads + Wait + Sync + AllocGlobal + Print>(
     }
 }
 
-/// Lists the run of a text by each call in turn: under a lock by several workers, else by one.
+/// Lists the run of a text by each call in turn: under a lock by several workers, otherwise by one.
 pub fn list_by_each<R: Threads + Wait + Sync + AllocGlobal + Print>(
     rt: &R,
     source: &[u8],
