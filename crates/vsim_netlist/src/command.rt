@@ -1,0 +1,226 @@
+//! The command line, as `clap` has it.
+
+use clap::error::ErrorKind;
+use clap::{Arg, ArgAction, ArgMatches, Command};
+use std::alloc::{AllocError, Global};
+
+/// What the program does.
+const ABOUT: &str = "Makes a text for vsim of a netlist that Yosys wrote by write_json.";
+
+/// The part of the help after the options.
+const MORE: &str = "Input:
+  The netlist comes by standard input. It is flat, and of Yosys' own gates:
+      yosys -p 'read_verilog uart.v; synth -flatten -top uart;
+        abc -g AND,OR,XOR,NAND,NOR,XNOR,MUX; opt_clean; write_json uart.json'
+
+Stimuli:
+  A VCD, or lines TIME INPUT VALUE, as '10ns data 0xA5' or '5ns clk 1', and at
+  last 'end TIME'. A clock of constant period becomes a statement; all other
+  inputs change one delta cycle after it, or later by --hold.
+
+Delays:
+  A gate is buf, not, and, nand, or, nor, xor, xnor, andnot, ornot, mux, nmux,
+  mux4, mux8, mux16, aoi3, oai3, aoi4, oai4, lut, tbuf, dff or latch. A delay is
+  as 40ps, or 40ps/55ps to rise and to fall. Without it a gate is a delta cycle.
+
+Status:
+  0  the text is written, or help or the version was asked for
+  1  the netlist or its stimuli are refused, or reading or writing failed
+  2  the command line is refused
+  4  no memory for the words of the command line
+
+Example:
+  vsim_netlist --stimuli uart.vcd --map uart.map < uart.json > uart.vhd
+  vsim --top uart --limit 1000000 < uart.vhd > uart.listing
+  vsim_waves --map uart.map < uart.listing > gates.vcd";
+
+/// What is asked for; words that are not given are empty.
+#[derive(Drop)]
+pub(crate) struct Options {
+    pub(crate) top: String,
+    pub(crate) stimuli: String,
+    pub(crate) scope: String,
+    pub(crate) delays: String,
+    pub(crate) hold: String,
+    pub(crate) map: String,
+}
+
+/// What the words ask for.
+pub(crate) enum Words {
+    Options(Options),
+    Version,
+    Help(String),
+    Refused(String),
+    Memory,
+}
+
+/// A word that is given, if it is.
+fn given(word: &String) -> Option<&str> {
+    if word.is_empty() {
+        None
+    } else {
+        Some(word.as_str())
+    }
+}
+
+impl Options {
+    /// The module that is simulated.
+    pub(crate) fn top(&self) -> Option<&str> {
+        given(&self.top)
+    }
+
+    /// The file of the stimuli.
+    pub(crate) fn stimuli(&self) -> Option<&str> {
+        given(&self.stimuli)
+    }
+
+    /// The scope of the stimuli.
+    pub(crate) fn scope(&self) -> Option<&str> {
+        given(&self.scope)
+    }
+
+    /// The file of the map.
+    pub(crate) fn map(&self) -> Option<&str> {
+        given(&self.map)
+    }
+
+    /// Whether delays or a hold time are given.
+    pub(crate) fn is_timed(&self) -> bool {
+        !self.delays.is_empty() || !self.hold.is_empty()
+    }
+}
+
+/// An option with a value.
+fn valued<'a>(alloc: Global, name: &'a str, value: &'a str, help: &'a str) -> Arg<'a> {
+    Arg::new(alloc, name)
+        .long(name)
+        .action(ArgAction::Set)
+        .value_name(value)
+        .help(help)
+}
+
+/// The option of the version.
+fn version<'a>(alloc: Global) -> Arg<'a> {
+    Arg::new(alloc, "version")
+        .long("version")
+        .short('V')
+        .action(ArgAction::SetTrue)
+        .help("Print version")
+}
+
+/// Adds the options that say what is simulated.
+fn with_design<'a>(alloc: Global, command: Command<'a>) -> Result<Command<'a>, AllocError> {
+    let top = valued(
+        alloc,
+        "top",
+        "NAME",
+        "The module, if not the one that is marked as the top",
+    );
+    let stimuli = valued(
+        alloc,
+        "stimuli",
+        "FILE",
+        "How the inputs change: a VCD, or lines",
+    );
+    let scope = valued(
+        alloc,
+        "scope",
+        "SCOPE",
+        "The scope of the VCD, else the deepest that fits",
+    );
+    command.arg(top)?.arg(stimuli)?.arg(scope)
+}
+
+/// Adds the options that say how it is written.
+fn with_times<'a>(alloc: Global, command: Command<'a>) -> Result<Command<'a>, AllocError> {
+    let delays = valued(
+        alloc,
+        "delays",
+        "LIST",
+        "As nand=40ps,dff=200ps/180ps,others=60ps",
+    );
+    let hold = valued(
+        alloc,
+        "hold",
+        "TIME",
+        "How much later inputs that are no clocks change",
+    );
+    let map = valued(alloc, "map", "FILE", "Write the map for vsim_waves --map");
+    command.arg(delays)?.arg(hold)?.arg(map)
+}
+
+/// The command line of the program, whose words come without its name.
+fn command_line<'a>(alloc: Global) -> Result<Command<'a>, AllocError> {
+    let command = Command::new(alloc, "vsim_netlist")
+        .about(ABOUT)
+        .after_help(MORE)
+        .no_binary_name(true);
+    let command = with_design(alloc, command)?;
+    with_times(alloc, command)?.arg(version(alloc))
+}
+
+/// The value of an option.
+fn value(alloc: Global, matches: &ArgMatches<'_>, name: &str) -> Result<String, AllocError> {
+    String::from_str(alloc, matches.get_str(name).unwrap_or(""))
+}
+
+/// The values of two options.
+fn values(
+    alloc: Global,
+    matches: &ArgMatches<'_>,
+    names: [&str; 2],
+) -> Result<(String, String), AllocError> {
+    let [first, second] = names;
+    let first = value(alloc, matches, first)?;
+    Ok((first, value(alloc, matches, second)?))
+}
+
+/// The options that words have.
+fn make_options(alloc: Global, matches: &ArgMatches<'_>) -> Result<Options, AllocError> {
+    let (top, stimuli) = values(alloc, matches, ["top", "stimuli"])?;
+    let (scope, delays) = values(alloc, matches, ["scope", "delays"])?;
+    let (hold, map) = values(alloc, matches, ["hold", "map"])?;
+    Ok(Options {
+        top,
+        stimuli,
+        scope,
+        delays,
+        hold,
+        map,
+    })
+}
+
+/// What words say that were understood.
+fn understood(alloc: Global, matches: &ArgMatches<'_>) -> Words {
+    if matches.get_flag("version") {
+        return Words::Version;
+    }
+    match make_options(alloc, matches) {
+        Ok(options) => Words::Options(options),
+        Err(_) => Words::Memory,
+    }
+}
+
+/// What is said of words that are not understood.
+fn fault(alloc: Global, error: clap::Error) -> Words {
+    let kind = error.kind();
+    let Ok(text) = error.to_string(alloc) else {
+        return Words::Memory;
+    };
+    match kind {
+        ErrorKind::DisplayHelp => Words::Help(text),
+        ErrorKind::OutOfMemory => Words::Memory,
+        _ => Words::Refused(text),
+    }
+}
+
+/// Reads the words after the program's name.
+pub(crate) fn read_words(alloc: Global, words: &[String]) -> Words {
+    let Ok(command) = command_line(alloc) else {
+        return Words::Memory;
+    };
+    match command.try_get_matches_from(words) {
+        Ok(matches) => understood(alloc, &matches),
+        Err(error) => fault(alloc, error),
+    }
+}

@@ -1,0 +1,106 @@
+//! Makes a text for vsim of a netlist of Yosys: `vsim_netlist [--stimuli FILE] .. < NETLIST.json`,
+//! with stimuli and delays, and a map by which `vsim_waves` finds the names of the source again.
+#![tactic(auto)]
+
+mod command;
+mod conversion;
+mod delay_list;
+
+use crate::command::{Options, Words, read_words};
+use crate::conversion::convert;
+use anyhow::{Context, Result};
+use std::io::{self, BufWriter, Write, writer};
+use std::process::ExitCode;
+use std::{env, fs};
+use vsim_netlist_text::Written;
+
+/// What `--version` says. The script `build` writes into its copy of this line what it builds of.
+const VERSION: &str = "vsim_netlist 1.0.0, sources unknown, toolchain unknown
+";
+
+/// What is said of clocks that gates or registers make.
+const DERIVED: &str = "vsim_netlist: gates or registers make clocks. Without delays what they clock
+may see new data: give --delays dff=.. and --hold.
+";
+
+/// The text of a file.
+fn read_file(rt: &HostRuntime, path: &str) -> Result<String> {
+    fs::read_to_string(rt, path).context(format_args!("{path}"))
+}
+
+/// Writes a map, if it is asked for.
+fn write_map(rt: &HostRuntime, path: Option<&str>, map: &str) -> Result<()> {
+    match path {
+        Some(path) => fs::write(rt, path, map).context(format_args!("{path}")),
+        None => Ok(()),
+    }
+}
+
+/// Writes a text.
+fn write_text(rt: &HostRuntime, text: &str) -> Result<()> {
+    let mut out = BufWriter::new(rt.alloc(), writer(rt))?;
+    out.write_all(text.as_bytes()).context("writing")?;
+    out.flush().context("writing")
+}
+
+/// Writes what was made.
+fn write_all(rt: &HostRuntime, options: &Options, written: &Written) -> Result<()> {
+    write_map(rt, options.map(), written.map.as_str())?;
+    if written.derived_clocks > 0 && !options.is_timed() {
+        rt.eprint(DERIVED)?;
+    }
+    write_text(rt, written.text.as_str())
+}
+
+/// Makes the text of the netlist on standard input.
+fn answer_netlist(rt: &HostRuntime, options: &Options) -> Result<()> {
+    let netlist = io::read_to_string(rt.alloc(), rt.reader()).context("standard input")?;
+    let stimuli = match options.stimuli() {
+        Some(path) => Some(read_file(rt, path)?),
+        None => None,
+    };
+    let written = convert(rt.alloc(), options, netlist, stimuli)?;
+    write_all(rt, options, &written)
+}
+
+/// Writes a text that is asked for.
+fn tell(rt: &HostRuntime, text: &str) -> Result<u8> {
+    rt.print(text)?;
+    Ok(0)
+}
+
+/// Says that the words are refused.
+fn refuse(rt: &HostRuntime, text: &str) -> Result<u8> {
+    rt.eprint(text)?;
+    Ok(2)
+}
+
+/// Answers what the words ask for, and gives the exit status.
+fn answer_words(rt: &HostRuntime, words: Words) -> Result<u8> {
+    match words {
+        Words::Version => tell(rt, VERSION),
+        Words::Help(text) => tell(rt, text.as_str()),
+        Words::Refused(text) => refuse(rt, text.as_str()),
+        Words::Memory => Ok(4),
+        Words::Options(options) => {
+            answer_netlist(rt, &options)?;
+            Ok(0)
+        }
+    }
+}
+
+/// Answers the words, and gives the exit status.
+fn answer(rt: &HostRuntime) -> Result<u8> {
+    let words: Vec<String> = env::args(rt)?.skip(1).collect(rt.alloc())?;
+    answer_words(rt, read_words(rt.alloc(), words.as_slice()))
+}
+
+fn main(rt: HostRuntime) -> Result<ExitCode> {
+    match answer(&rt) {
+        Ok(status) => Ok(ExitCode::from(status)),
+        Err(fault) => {
+            eprintln!(rt; "vsim_netlist: {fault:#}")?;
+            Ok(ExitCode::FAILURE)
+        }
+    }
+}

@@ -1,0 +1,147 @@
+//! The nets of a netlist and their names in the source.
+
+use crate::bits::{Bit, Level};
+use anyhow::Result;
+use indexmap::IndexSet;
+use std::alloc::{AllocError, Global};
+use vsim_netlist_document::{WrittenBit, WrittenName};
+
+/// A net: what it begins with, and whether the source has a name for it.
+#[derive(Clone, Copy)]
+pub struct Net {
+    pub initial: Option<Level>,
+    pub is_named: bool,
+}
+
+/// A name of the source, with its bits, the lowest index first.
+#[derive(Drop)]
+pub struct Variable {
+    pub name: String,
+    pub bits: Vec<Bit>,
+    pub offset: i64,
+    pub is_up: bool,
+}
+
+/// The nets by the numbers that the netlist gives them.
+#[derive(Drop)]
+pub(crate) struct Nets {
+    numbers: IndexSet<u64>,
+    pub(crate) nets: Vec<Net>,
+}
+
+impl Nets {
+    /// No net.
+    pub(crate) fn new(alloc: Global) -> Nets {
+        Nets {
+            numbers: IndexSet::new(alloc),
+            nets: Vec::new(alloc),
+        }
+    }
+
+    /// The place of the net with a number, which is added where it is not there.
+    fn place(&mut self, number: u64) -> Result<usize, AllocError> {
+        let (place, is_new) = self.numbers.insert_full(number)?;
+        if is_new {
+            self.nets.push(Net {
+                initial: None,
+                is_named: false,
+            })?;
+        }
+        Ok(place)
+    }
+
+    /// A bit, whose net is added where it is not there.
+    pub(crate) fn bit(&mut self, written: WrittenBit) -> Result<Bit, AllocError> {
+        match written {
+            WrittenBit::Constant(level) => Ok(Bit::Constant(level)),
+            WrittenBit::Number(number) => Ok(Bit::Net(self.place(number)?)),
+        }
+    }
+
+    /// These bits.
+    pub(crate) fn bits(
+        &mut self,
+        alloc: Global,
+        written: &[WrittenBit],
+    ) -> Result<Vec<Bit>, AllocError> {
+        let mut bits = Vec::new(alloc);
+        for each in written {
+            bits.push(self.bit(*each)?)?;
+        }
+        Ok(bits)
+    }
+
+    /// The net at a place has a name.
+    fn name(&mut self, bit: Bit) {
+        if let Bit::Net(place) = bit {
+            if let Some(net) = self.nets.get_mut(place) {
+                net.is_named = true;
+            }
+        }
+    }
+
+    /// A net begins with the level that a letter is, if that is 0 or 1.
+    fn begin(&mut self, bit: Bit, letter: u8) {
+        let level = match Level::from_byte(letter) {
+            Some(Level::Zero) => Level::Zero,
+            Some(Level::One) => Level::One,
+            _ => return,
+        };
+        if let Bit::Net(place) = bit {
+            if let Some(net) = self.nets.get_mut(place) {
+                net.initial = Some(level);
+            }
+        }
+    }
+
+    /// These nets begin with the levels of a text, which has the highest first.
+    fn begin_all(&mut self, bits: &[Bit], levels: &str) {
+        for (bit, letter) in bits.iter().zip(levels.bytes().rev()) {
+            self.begin(*bit, letter);
+        }
+    }
+
+    /// These nets have a name in the source.
+    fn name_all(&mut self, bits: &[Bit]) {
+        for bit in bits {
+            self.name(*bit);
+        }
+    }
+
+    /// Takes a name: what it says of its nets, and where the source has it, the variable.
+    pub(crate) fn take_name(
+        &mut self,
+        alloc: Global,
+        name: String,
+        written: &WrittenName,
+    ) -> Result<Option<Variable>, AllocError> {
+        let bits = self.bits(alloc, written.bits.as_slice())?;
+        if let Some(levels) = initial(written) {
+            self.begin_all(bits.as_slice(), levels);
+        }
+        if written.hide_name.unwrap_or(0) != 0 {
+            return Ok(None);
+        }
+        self.name_all(bits.as_slice());
+        Ok(Some(Variable {
+            name,
+            bits,
+            offset: written.offset.unwrap_or(0),
+            is_up: written.upto.unwrap_or(0) != 0,
+        }))
+    }
+}
+
+/// What a name says that its nets begin with.
+fn initial(written: &WrittenName) -> Option<&str> {
+    match &written.attributes {
+        None => None,
+        Some(attributes) => match &attributes.init {
+            Some(text) => match &text.0 {
+                Some(levels) => Some(levels.as_str()),
+                None => None,
+            },
+            None => None,
+        },
+    }
+}

@@ -1,0 +1,244 @@
+//! What the gates of Yosys' library are as expressions.
+
+use crate::expressions::{Expression, Outside, binary, negation, primary};
+use std::alloc::{AllocError, Global};
+use vsim_netlist_cells::Gate;
+
+/// One of two expressions, as a third selects: the second by `1`. Where both agree, it is their
+/// value also for an unknown selection, as in Verilog.
+fn selected(
+    alloc: Global,
+    low: &Expression,
+    high: &Expression,
+    select: &Expression,
+) -> Result<Expression, AllocError> {
+    let either = binary(alloc, select, Outside::Or, low)?;
+    let by_one = binary(alloc, high, Outside::And, &either)?;
+    let by_zero = kept_by_zero(alloc, low, select)?;
+    binary(alloc, &by_one, Outside::Or, &by_zero)
+}
+
+/// An expression where a selection is `0`, and `0` where it is `1`.
+fn kept_by_zero(
+    alloc: Global,
+    low: &Expression,
+    select: &Expression,
+) -> Result<Expression, AllocError> {
+    let refused = negation(alloc, select)?;
+    binary(alloc, low, Outside::And, &refused)
+}
+
+/// Whether an expression is a literal.
+fn is(expression: &Expression, literal: &str) -> bool {
+    expression.text.as_str() == literal
+}
+
+/// A copy of an expression.
+fn copy(expression: &Expression) -> Result<Expression, AllocError> {
+    Ok(Expression {
+        text: expression.text.clone()?,
+        outside: expression.outside,
+        depth: expression.depth,
+    })
+}
+
+/// The same as `selected` of two parts of a table, which are often literals.
+fn looked_up(
+    alloc: Global,
+    low: &Expression,
+    high: &Expression,
+    select: &Expression,
+) -> Result<Expression, AllocError> {
+    if low.text == high.text {
+        return copy(low);
+    }
+    match (
+        is(low, "'0'"),
+        is(low, "'1'"),
+        is(high, "'0'"),
+        is(high, "'1'"),
+    ) {
+        (true, _, _, true) => copy(select),
+        (_, true, true, _) => negation(alloc, select),
+        (true, _, _, _) => binary(alloc, select, Outside::And, high),
+        (_, _, true, _) => kept_by_zero(alloc, low, select),
+        (_, _, _, true) => binary(alloc, select, Outside::Or, low),
+        (_, true, _, _) => opened(alloc, high, select),
+        _ => selected(alloc, low, high, select),
+    }
+}
+
+/// An expression where a selection is `1`, and `1` where it is `0`.
+fn opened(alloc: Global, high: &Expression, select: &Expression) -> Result<Expression, AllocError> {
+    let refused = negation(alloc, select)?;
+    binary(alloc, &refused, Outside::Or, high)
+}
+
+/// Half as many expressions: of each two the one that is selected.
+fn halved(
+    alloc: Global,
+    items: &[Expression],
+    select: &Expression,
+    is_table: bool,
+) -> Result<Vec<Expression>, AllocError> {
+    let mut half = Vec::new(alloc);
+    for pair in items.chunks(2) {
+        let [low, high] = pair else {
+            break;
+        };
+        half.push(if is_table {
+            looked_up(alloc, low, high, select)?
+        } else {
+            selected(alloc, low, high, select)?
+        })?;
+    }
+    Ok(half)
+}
+
+/// Of these expressions the one that is selected: by the first selection between neighbours.
+fn chosen(
+    alloc: Global,
+    items: Vec<Expression>,
+    selects: &[Expression],
+    is_table: bool,
+) -> Result<Expression, AllocError> {
+    let mut items = items;
+    for select in selects {
+        items = halved(alloc, items.as_slice(), select, is_table)?;
+    }
+    match items.pop() {
+        Some(last) => Ok(last),
+        None => primary(alloc, "'X'"),
+    }
+}
+
+/// The first expressions, and the others.
+fn split(
+    alloc: Global,
+    operands: Vec<Expression>,
+    data: usize,
+) -> Result<(Vec<Expression>, Vec<Expression>), AllocError> {
+    let (mut items, mut selects) = (Vec::new(alloc), Vec::new(alloc));
+    for (place, operand) in operands.into_iter().enumerate() {
+        if place < data {
+            items.push(operand)?;
+        } else {
+            selects.push(operand)?;
+        }
+    }
+    Ok((items, selects))
+}
+
+/// A multiplexer of so many data.
+fn multiplexer(
+    alloc: Global,
+    operands: Vec<Expression>,
+    data: usize,
+) -> Result<Expression, AllocError> {
+    let (items, selects) = split(alloc, operands, data)?;
+    chosen(alloc, items, selects.as_slice(), false)
+}
+
+/// The literals of a table, the lowest first.
+fn literals(alloc: Global, table: &str) -> Result<Vec<Expression>, AllocError> {
+    let mut items = Vec::new(alloc);
+    for bit in table.bytes().rev() {
+        items.push(primary(alloc, if bit == b'1' { "'1'" } else { "'0'" })?)?;
+    }
+    Ok(items)
+}
+
+/// Two pairs, each under an operator, and both under another one.
+fn pairs(
+    alloc: Global,
+    operands: &[Expression],
+    inner: Outside,
+    outer: Outside,
+) -> Result<Expression, AllocError> {
+    match operands {
+        [a, b, c] => {
+            let first = binary(alloc, a, inner, b)?;
+            binary(alloc, &first, outer, c)
+        }
+        [a, b, c, d] => {
+            let (first, second) = (binary(alloc, a, inner, b)?, binary(alloc, c, inner, d)?);
+            binary(alloc, &first, outer, &second)
+        }
+        _ => primary(alloc, "'X'"),
+    }
+}
+
+/// Two operands under an operator.
+fn two(
+    alloc: Global,
+    operands: &[Expression],
+    operator: Outside,
+) -> Result<Expression, AllocError> {
+    match operands {
+        [left, right] => binary(alloc, left, operator, right),
+        _ => primary(alloc, "'X'"),
+    }
+}
+
+/// An operand and the negation of another one under an operator.
+fn with_negation(
+    alloc: Global,
+    operands: &[Expression],
+    operator: Outside,
+) -> Result<Expression, AllocError> {
+    match operands {
+        [left, right] => {
+            let refused = negation(alloc, right)?;
+            binary(alloc, left, operator, &refused)
+        }
+        _ => primary(alloc, "'X'"),
+    }
+}
+
+/// One operand, negated or not.
+fn one(alloc: Global, operands: &[Expression], is_not: bool) -> Result<Expression, AllocError> {
+    match operands {
+        [operand] if is_not => negation(alloc, operand),
+        [operand] => copy(operand),
+        _ => primary(alloc, "'X'"),
+    }
+}
+
+/// The expression of a gate with two operands, or more under few operators.
+fn plain(alloc: Global, gate: Gate, operands: &[Expression]) -> Result<Expression, AllocError> {
+    match gate {
+        Gate::Buf => one(alloc, operands, false),
+        Gate::Not => one(alloc, operands, true),
+        Gate::And => two(alloc, operands, Outside::And),
+        Gate::Nand => two(alloc, operands, Outside::Nand),
+        Gate::Or => two(alloc, operands, Outside::Or),
+        Gate::Nor => two(alloc, operands, Outside::Nor),
+        Gate::Xor => two(alloc, operands, Outside::Xor),
+        Gate::Xnor => two(alloc, operands, Outside::Xnor),
+        Gate::AndNot => with_negation(alloc, operands, Outside::And),
+        Gate::OrNot => with_negation(alloc, operands, Outside::Or),
+        Gate::Aoi3 | Gate::Aoi4 => pairs(alloc, operands, Outside::And, Outside::Nor),
+        _ => pairs(alloc, operands, Outside::Or, Outside::Nand),
+    }
+}
+
+/// The expression of a gate with these operands.
+pub fn gate_expression(
+    alloc: Global,
+    gate: Gate,
+    table: &str,
+    operands: Vec<Expression>,
+) -> Result<Expression, AllocError> {
+    match gate {
+        Gate::Mux => multiplexer(alloc, operands, 2),
+        Gate::Mux4 => multiplexer(alloc, operands, 4),
+        Gate::Mux8 => multiplexer(alloc, operands, 8),
+        Gate::Mux16 => multiplexer(alloc, operands, 16),
+        Gate::Nmux => {
+            let selected = multiplexer(alloc, operands, 2)?;
+            negation(alloc, &selected)
+        }
+        Gate::Lut => chosen(alloc, literals(alloc, table)?, operands.as_slice(), true),
+        _ => plain(alloc, gate, operands.as_slice()),
+    }
+}

@@ -1,0 +1,104 @@
+//! How the bits of inputs change.
+
+use std::alloc::{AllocError, Global};
+use vsim_netlist_cells::Level;
+
+/// An input, with how many bits it has.
+#[derive(Drop)]
+pub struct Input {
+    pub name: String,
+    pub width: usize,
+}
+
+/// A value that a bit has from a time on, in femtoseconds.
+#[derive(Clone, Copy)]
+pub struct Change {
+    pub time: u64,
+    pub level: Level,
+}
+
+/// How the bits of inputs change: a list for each bit, those of the first input first and of each
+/// the lowest bit first; and when the stimuli end.
+#[derive(Drop)]
+pub struct Stimuli {
+    pub bits: Vec<Vec<Change>>,
+    pub end: u64,
+}
+
+/// Adds a value to the changes of a bit, if it is another one than the last.
+fn add(changes: &mut Vec<Change>, time: u64, level: Level) -> Result<(), AllocError> {
+    if let Some(last) = changes.last_mut() {
+        if last.level == level {
+            return Ok(());
+        }
+        if last.time == time {
+            last.level = level;
+            return Ok(());
+        }
+    }
+    changes.push(Change { time, level })?;
+    Ok(())
+}
+
+/// The letter of a bit of a value, which has the highest first and may be shorter than its input.
+fn letter(value: &[u8], bit: usize) -> u8 {
+    let from_end = value.len().checked_sub(bit.saturating_add(1));
+    match from_end {
+        Some(at) => value.get(at).copied().unwrap_or(b'x'),
+        None => match value.first() {
+            Some(b'0' | b'1') => b'0',
+            Some(first) => *first,
+            None => b'x',
+        },
+    }
+}
+
+impl Stimuli {
+    /// No change of any bit of these inputs.
+    pub(crate) fn new(alloc: Global, inputs: &[Input]) -> Result<Stimuli, AllocError> {
+        let mut bits = Vec::new(alloc);
+        for input in inputs {
+            for _ in 0..input.width {
+                bits.push(Vec::new(alloc))?;
+            }
+        }
+        Ok(Stimuli { bits, end: 0 })
+    }
+
+    /// The bits from a place on take a value; `false` where a letter of it is none.
+    pub(crate) fn set(
+        &mut self,
+        start: usize,
+        width: usize,
+        time: u64,
+        value: &[u8],
+    ) -> Result<bool, AllocError> {
+        let end = start.saturating_add(width).min(self.bits.len());
+        for (bit, place) in (start..end).enumerate() {
+            let Some(changes) = self.bits.get_mut(place) else {
+                return Ok(true);
+            };
+            let Some(level) = Level::from_byte(letter(value, bit)) else {
+                return Ok(false);
+            };
+            add(changes, time, level)?;
+        }
+        Ok(true)
+    }
+
+    /// The end is not before a time.
+    pub(crate) fn reach(&mut self, time: u64) {
+        self.end = self.end.max(time);
+    }
+}
+
+/// The first bits of inputs, among the bits of all.
+pub(crate) fn starts(alloc: Global, inputs: &[Input]) -> Result<Vec<usize>, AllocError> {
+    let mut starts = Vec::new(alloc);
+    let mut next = 0usize;
+    for input in inputs {
+        starts.push(next)?;
+        next = next.saturating_add(input.width);
+    }
+    Ok(starts)
+}

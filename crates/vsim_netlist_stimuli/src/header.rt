@@ -1,0 +1,154 @@
+//! The head of a VCD: its scopes and variables.
+
+use crate::times::{femtoseconds, number_and_unit};
+use anyhow::{Context, Result, bail};
+use std::alloc::{AllocError, Global};
+
+/// A variable: the scope that it is in, by its place, its name, how many bits it has, and its code.
+#[derive(Clone, Copy)]
+pub(crate) struct Variable<'a> {
+    pub(crate) scope: usize,
+    pub(crate) name: &'a str,
+    pub(crate) width: usize,
+    pub(crate) code: &'a str,
+}
+
+/// A scope: its path, with dots, and how deep it is.
+#[derive(Drop)]
+pub(crate) struct Scope {
+    pub(crate) path: String,
+    pub(crate) depth: usize,
+}
+
+/// What was read of the head of a VCD.
+#[derive(Drop)]
+pub(crate) struct Header<'a> {
+    alloc: Global,
+    /// The words of the section that was begun.
+    words: Vec<&'a str>,
+    /// The scopes that are open, by their places.
+    open: Vec<usize>,
+    pub(crate) scopes: Vec<Scope>,
+    pub(crate) variables: Vec<Variable<'a>>,
+    /// How many femtoseconds a unit of time has.
+    pub(crate) scale: u64,
+    pub(crate) is_done: bool,
+}
+
+/// A name without the range that may stand behind it, and without the mark of an escaped one.
+fn bare(name: &str) -> &str {
+    match name.split_once('[') {
+        Some((name, _)) if !name.is_empty() => name,
+        _ => name.strip_prefix("\\").unwrap_or(name),
+    }
+}
+
+/// The femtoseconds of a time scale, of which the unit may be a word of its own.
+fn scale(first: &str, second: &str) -> Option<u64> {
+    let (number, unit) = number_and_unit(first);
+    let unit = if unit.is_empty() { second } else { unit };
+    number.parse::<u64>().ok()?.checked_mul(femtoseconds(unit)?)
+}
+
+impl<'a> Header<'a> {
+    /// Nothing was read.
+    pub(crate) fn new(alloc: Global) -> Header<'a> {
+        Header {
+            alloc,
+            words: Vec::new(alloc),
+            open: Vec::new(alloc),
+            scopes: Vec::new(alloc),
+            variables: Vec::new(alloc),
+            scale: 1,
+            is_done: false,
+        }
+    }
+
+    /// The path of a scope in the one that is open.
+    fn path(&self, name: &str) -> Result<String, AllocError> {
+        let mut path = String::new(self.alloc);
+        if let Some(outer) = self.open.last() {
+            if let Some(outer) = self.scopes.get(*outer) {
+                path.push_str(outer.path.as_str())?;
+                path.push_str(".")?;
+            }
+        }
+        path.push_str(name)?;
+        Ok(path)
+    }
+
+    /// Enters a scope.
+    fn enter(&mut self, name: &str) -> Result<(), AllocError> {
+        let path = self.path(name)?;
+        let depth = self.open.len();
+        self.open.push(self.scopes.len())?;
+        self.scopes.push(Scope { path, depth })?;
+        Ok(())
+    }
+
+    /// Takes a variable, if it is in a scope.
+    fn declare(&mut self, width: &str, code: &'a str, name: &'a str) -> Result<()> {
+        let width = width
+            .parse::<usize>()
+            .ok()
+            .context("a variable has no width")?;
+        let Some(scope) = self.open.last() else {
+            return Ok(());
+        };
+        let name = bare(name);
+        self.variables.push(Variable {
+            scope: *scope,
+            name,
+            width,
+            code,
+        })?;
+        Ok(())
+    }
+
+    /// The word of the section at a place.
+    fn word(&self, at: usize) -> &'a str {
+        match self.words.get(at) {
+            Some(word) => word,
+            None => "",
+        }
+    }
+
+    /// Leaves the scope that is open.
+    fn leave(&mut self) {
+        let _ = self.open.pop();
+    }
+
+    /// Takes the time scale.
+    fn take_scale(&mut self) -> Result<()> {
+        self.scale = scale(self.word(1), self.word(2)).context("the time scale is none")?;
+        Ok(())
+    }
+
+    /// Takes a section by its words.
+    fn close(&mut self) -> Result<()> {
+        let (first, third) = (self.word(0), self.word(2));
+        let (fourth, fifth) = (self.word(3), self.word(4));
+        match first {
+            "$scope" => self.enter(third)?,
+            "$upscope" => self.leave(),
+            "$var" => self.declare(third, fourth, fifth)?,
+            "$timescale" => self.take_scale()?,
+            "$enddefinitions" => self.is_done = true,
+            _ => {}
+        }
+        self.words.clear();
+        Ok(())
+    }
+
+    /// Takes the next word.
+    pub(crate) fn take(&mut self, word: &'a str) -> Result<()> {
+        if word == "$end" {
+            return self.close();
+        }
+        if self.words.is_empty() && !word.starts_with("$") {
+            bail!("'{word}' begins no section of a VCD");
+        }
+        self.words.push(word)?;
+        Ok(())
+    }
+}

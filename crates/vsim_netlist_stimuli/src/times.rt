@@ -1,0 +1,68 @@
+//! Times: a number and its unit.
+
+use std::fmt;
+
+/// The latest time of a simulation, in femtoseconds.
+pub const LATEST: u64 = 4_611_686_018_427_387_903;
+
+/// How many femtoseconds a unit has.
+pub(crate) fn femtoseconds(unit: &str) -> Option<u64> {
+    Some(match unit {
+        "fs" => 1,
+        "ps" => 1_000,
+        "ns" => 1_000_000,
+        "us" => 1_000_000_000,
+        "ms" => 1_000_000_000_000,
+        "s" | "sec" => 1_000_000_000_000_000,
+        _ => return None,
+    })
+}
+
+/// The time that a text is, as `40ps`, in femtoseconds: a whole number with its unit, or 0.
+pub fn read_time(text: &str) -> Option<u64> {
+    let (number, unit) = number_and_unit(text);
+    let number = number.parse::<u64>().ok()?;
+    if unit.is_empty() && number == 0 {
+        return Some(0);
+    }
+    let time = number.checked_mul(femtoseconds(unit)?)?;
+    if time <= LATEST { Some(time) } else { None }
+}
+
+/// The digits at the head of a text, and what stands behind them.
+pub(crate) fn number_and_unit(text: &str) -> (&str, &str) {
+    match text.find(|letter: char| !letter.is_ascii_digit()) {
+        Some(at) => match (text.get(..at), text.get(at..)) {
+            (Some(number), Some(unit)) => (number, unit),
+            _ => (text, ""),
+        },
+        None => (text, ""),
+    }
+}
+
+/// The largest unit in which a time is a whole number, and that number.
+fn in_units(time: u64) -> (u64, &'static str) {
+    if time == 0 || time % 1_000 != 0 {
+        (time, "fs")
+    } else if time % 1_000_000 != 0 {
+        (time / 1_000, "ps")
+    } else if time % 1_000_000_000 != 0 {
+        (time / 1_000_000, "ns")
+    } else if time % 1_000_000_000_000 != 0 {
+        (time / 1_000_000_000, "us")
+    } else {
+        (time / 1_000_000_000_000, "ms")
+    }
+}
+
+/// A time in femtoseconds, which is written in the largest unit in which it is a whole number, as
+/// `40ps`.
+#[derive(Clone, Copy)]
+pub struct Time(pub u64);
+
+impl fmt::Display for Time {
+    fn fmt<W: fmt::Write>(&self, f: &mut fmt::Formatter<W>) -> fmt::Result {
+        let (number, unit) = in_units(self.0);
+        write!(f, "{number}{unit}")
+    }
+}

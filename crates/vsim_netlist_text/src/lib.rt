@@ -1,0 +1,11 @@
+//! The text for vsim of a netlist, its stimuli and delays, and the map back to its source.
+#![tactic(auto)]
+
+mod builder;
+mod map;
+mod processes;
+mod signals;
+mod stimulus;
+mod text;
+
+pub use text::{Request, Written, write_text};

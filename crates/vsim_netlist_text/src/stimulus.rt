@@ -1,0 +1,331 @@
+//! Stimuli as statements.
+
+use crate::builder::Builder;
+use std::alloc::{AllocError, Global};
+use std::fmt::Write;
+use vsim_netlist_cells::{Bit, Level, Netlist};
+use vsim_netlist_expressions::push_all;
+use vsim_netlist_stimuli::{Change, Stimuli, Time};
+use vsim_netlist_uses::Clocks;
+
+/// How many elements a waveform has at the most.
+const ELEMENTS: usize = 16;
+
+/// How many changes a clock has at the least.
+const CLOCK_CHANGES: usize = 6;
+
+/// A net that an input drives, and its changes.
+#[derive(Clone, Copy)]
+struct Driven<'a> {
+    place: usize,
+    changes: &'a [Change],
+    /// Half the period, if the net is a clock.
+    half: Option<u64>,
+}
+
+/// Whether a change of a clock is the one with a number.
+fn is_edge(change: &Change, first: Level, half: u64, number: usize) -> bool {
+    let level = match (first, number % 2) {
+        (Level::Zero, 0) | (Level::One, 1) => Level::Zero,
+        _ => Level::One,
+    };
+    change.level == level && Some(change.time) == half.checked_mul(number as u64)
+}
+
+/// Half the period of a clock, if these are the changes of one that begins at time 0.
+fn half_period(changes: &[Change]) -> Option<u64> {
+    let [first, second, ..] = changes else {
+        return None;
+    };
+    let is_level = first.level == Level::Zero || first.level == Level::One;
+    let half = second.time;
+    if changes.len() < CLOCK_CHANGES || !is_level || half == 0 {
+        return None;
+    }
+    let level = first.level;
+    for (number, change) in changes.iter().enumerate() {
+        if !is_edge(change, level, half, number) {
+            return None;
+        }
+    }
+    Some(half)
+}
+
+/// The nets of the inputs, in the order of the bits of stimuli.
+fn driven_nets<'a>(
+    alloc: Global,
+    netlist: &Netlist,
+    stimuli: &'a Stimuli,
+) -> Result<Vec<Driven<'a>>, AllocError> {
+    let mut nets = Vec::new(alloc);
+    let mut lists = stimuli.bits.iter();
+    for port in netlist.ports.iter().filter(|port| port.is_input) {
+        for bit in port.bits.iter() {
+            let Some(changes) = lists.next() else {
+                break;
+            };
+            if let Bit::Net(place) = bit {
+                nets.push(one(*place, changes.as_slice()))?;
+            }
+        }
+    }
+    Ok(nets)
+}
+
+/// A net with its changes.
+fn one(place: usize, changes: &[Change]) -> Driven<'_> {
+    Driven {
+        place,
+        changes,
+        half: half_period(changes),
+    }
+}
+
+/// When the last change of a net is.
+fn last(net: &Driven<'_>) -> u64 {
+    match net.changes.last() {
+        Some(change) => change.time,
+        None => 0,
+    }
+}
+
+/// When the last change of any clock is.
+fn last_edge(nets: &[Driven<'_>]) -> u64 {
+    let mut latest = 0;
+    for net in nets {
+        if net.half.is_some() {
+            latest = last(net).max(latest);
+        }
+    }
+    latest
+}
+
+/// Takes from the clocks those that end before others do.
+fn leave_whole_clocks(nets: &mut Vec<Driven<'_>>, end: u64) {
+    for net in nets.iter_mut() {
+        if let Some(half) = net.half {
+            let next = match net.changes.last() {
+                Some(change) => change.time.saturating_add(half),
+                None => 0,
+            };
+            if next <= end {
+                net.half = None;
+            }
+        }
+    }
+}
+
+/// How stimuli are written.
+#[derive(Clone, Copy)]
+pub(crate) struct Manner {
+    /// By how much the inputs that are no clocks change later.
+    pub(crate) hold: u64,
+}
+
+/// What is written of stimuli: statements of their own, and those of the process that is executed
+/// once.
+#[derive(Drop)]
+struct Parts {
+    once: String,
+}
+
+/// Adds an element of a waveform.
+fn push_element(text: &mut String, change: &Change, later: u64) -> Result<(), AllocError> {
+    let (value, time) = (
+        change.level.literal(),
+        Time(change.time.saturating_add(later)),
+    );
+    write!(text, "{value}after {time}")
+}
+
+/// Adds the assignment of some changes.
+fn push_waveform(
+    text: &mut String,
+    target: &str,
+    changes: &[Change],
+    later: u64,
+    is_first: bool,
+) -> Result<(), AllocError> {
+    let mut before = if is_first { "" } else { "transport" };
+    push_all(text, &[target, "<="])?;
+    for change in changes {
+        text.push_str(before)?;
+        push_element(text, change, later)?;
+        before = ",";
+    }
+    text.push_str(";\n")
+}
+
+/// Adds the assignments of all changes of a signal.
+fn push_changes(
+    text: &mut String,
+    target: &str,
+    changes: &[Change],
+    later: u64,
+) -> Result<(), AllocError> {
+    let mut is_first = true;
+    for some in changes.chunks(ELEMENTS) {
+        push_waveform(text, target, some, later, is_first)?;
+        is_first = false;
+    }
+    Ok(())
+}
+
+/// A net begins with its first change, if that is at time 0; the changes after it.
+fn begin<'a>(builder: &mut Builder<'_>, net: &Driven<'a>) -> &'a [Change] {
+    match net.changes {
+        [first, rest @ ..] if first.time == 0 => {
+            builder.signals.begin(net.place, first.level);
+            rest
+        }
+        _ => net.changes,
+    }
+}
+
+/// Writes a clock, which stops where a signal falls.
+fn put_clock(
+    builder: &mut Builder<'_>,
+    net: &Driven<'_>,
+    half: u64,
+    running: usize,
+) -> Result<(), AllocError> {
+    let name = builder.signals.named(net.place)?;
+    let run = builder.signals.named(running)?;
+    let _ = begin(builder, net);
+    builder.count();
+    let half = Time(half);
+    write!(
+        &mut builder.body,
+        "{name}<={name} xor {run} after {half};\n"
+    )
+}
+
+/// Writes that a net is another one, a delta cycle later.
+fn put_copy(builder: &mut Builder<'_>, from: &str, place: usize) -> Result<(), AllocError> {
+    let to = builder.signals.named(place)?;
+    builder.count();
+    write!(&mut builder.body, "{to}<={from};\n")
+}
+
+/// The signal that drives a net a delta cycle later.
+fn put_relay(builder: &mut Builder<'_>, net: &Driven<'_>) -> Result<String, AllocError> {
+    let initial = match net.changes.first() {
+        Some(first) if first.time == 0 => Some(first.level),
+        _ => None,
+    };
+    let relay = builder.signals.add(initial)?;
+    let from = builder.signals.named(relay)?;
+    put_copy(builder, from.as_str(), net.place)?;
+    Ok(from)
+}
+
+/// Writes the changes of an input that is no clock of constant period.
+fn put_changes(
+    builder: &mut Builder<'_>,
+    parts: &mut Parts,
+    net: &Driven<'_>,
+    is_clock: bool,
+    manner: Manner,
+) -> Result<(), AllocError> {
+    let rest = begin(builder, net);
+    if rest.is_empty() {
+        return builder.signals.ensure(net.place);
+    }
+    let is_relayed = !is_clock && manner.hold == 0;
+    let target = if is_relayed {
+        put_relay(builder, net)?
+    } else {
+        builder.signals.named(net.place)?
+    };
+    builder.drivers = builder.drivers.saturating_add(1);
+    let later = if is_clock { 0 } else { manner.hold };
+    push_changes(&mut parts.once, target.as_str(), rest, later)
+}
+
+/// Writes what drives the inputs, each as it changes.
+fn put_nets(
+    builder: &mut Builder<'_>,
+    parts: &mut Parts,
+    nets: &[Driven<'_>],
+    clocks: &Clocks,
+    manner: Manner,
+    running: Option<usize>,
+) -> Result<(), AllocError> {
+    for net in nets {
+        let is_clock = clocks.is_before.get(net.place).copied() == Some(true);
+        match (net.half, running) {
+            (Some(half), Some(running)) => put_clock(builder, net, half, running)?,
+            _ => put_changes(builder, parts, net, is_clock, manner)?,
+        }
+    }
+    Ok(())
+}
+
+/// Writes the process that is executed once.
+fn put_once(builder: &mut Builder<'_>, parts: &Parts) -> Result<(), AllocError> {
+    if parts.once.is_empty() {
+        return Ok(());
+    }
+    let never = builder.signals.constant(Level::Zero)?;
+    let never = builder.signals.named(never)?;
+    builder.processes = builder.processes.saturating_add(1);
+    let once = parts.once.as_str();
+    push_all(
+        &mut builder.body,
+        &[
+            "process(",
+            never.as_str(),
+            ")begin\n",
+            once,
+            "end process;\n",
+        ],
+    )
+}
+
+/// Lets the clocks run until a time.
+fn put_run(builder: &mut Builder<'_>, parts: &mut Parts, end: u64) -> Result<usize, AllocError> {
+    let running = builder.signals.add(Some(Level::One))?;
+    let name = builder.signals.named(running)?;
+    builder.drivers = builder.drivers.saturating_add(1);
+    let stop = Change {
+        time: end,
+        level: Level::Zero,
+    };
+    push_changes(&mut parts.once, name.as_str(), &[stop], 0)?;
+    Ok(running)
+}
+
+/// Writes stimuli.
+pub(crate) fn put_stimuli(
+    builder: &mut Builder<'_>,
+    netlist: &Netlist,
+    stimuli: &Stimuli,
+    clocks: &Clocks,
+    manner: Manner,
+) -> Result<(), AllocError> {
+    let alloc = builder.alloc;
+    let mut nets = driven_nets(alloc, netlist, stimuli)?;
+    let end = last_edge(nets.as_slice());
+    leave_whole_clocks(&mut nets, end);
+    put_driven(builder, nets.as_slice(), clocks, manner, end)
+}
+
+/// Writes what drives the inputs.
+fn put_driven(
+    builder: &mut Builder<'_>,
+    nets: &[Driven<'_>],
+    clocks: &Clocks,
+    manner: Manner,
+    end: u64,
+) -> Result<(), AllocError> {
+    let mut parts = Parts {
+        once: String::new(builder.alloc),
+    };
+    let running = if nets.iter().any(|net| net.half.is_some()) {
+        Some(put_run(builder, &mut parts, end)?)
+    } else {
+        None
+    };
+    put_nets(builder, &mut parts, nets, clocks, manner, running)?;
+    put_once(builder, &parts)
+}

@@ -1,0 +1,10 @@
+//! Which cells of a netlist read and drive its nets: what may stand within what, loops, and clocks.
+#![tactic(auto)]
+
+mod loops;
+mod order;
+mod uses;
+
+pub use loops::{Clocks, refuse_loops};
+pub use order::{all_within, writing_order};
+pub use uses::{Use, Uses, longest_within};

@@ -1,0 +1,145 @@
+//! Loops of wires, and the clocks that gates make.
+
+use crate::uses::Uses;
+use anyhow::{Result, anyhow};
+use std::alloc::{AllocError, Global};
+use vsim_netlist_cells::{Bit, Cell, Gate, Netlist, Variable};
+
+/// The net that a buffer passes on to another one.
+fn source(netlist: &Netlist, uses: &Uses, place: usize) -> Option<usize> {
+    let net = uses.nets.get(place)?;
+    if net.drivers != 1 {
+        return None;
+    }
+    let Some(Cell::Gate(cell)) = netlist.cells.get(net.driver) else {
+        return None;
+    };
+    match (cell.gate, cell.inputs.first()) {
+        (Gate::Buf, Some(Bit::Net(from))) => Some(*from),
+        _ => None,
+    }
+}
+
+/// Whether the buffers before a net lead back to it. Each net that is met is marked, by the number
+/// of the walk that met it first.
+fn leads_back(netlist: &Netlist, uses: &Uses, marks: &mut Vec<usize>, start: usize) -> bool {
+    let walk = start.saturating_add(1);
+    let mut at = Some(start);
+    for _ in 0..=uses.nets.len() {
+        let Some(place) = at else {
+            return false;
+        };
+        let Some(mark) = marks.get_mut(place) else {
+            return false;
+        };
+        if *mark != 0 {
+            return *mark == walk;
+        }
+        *mark = walk;
+        at = source(netlist, uses, place);
+    }
+    false
+}
+
+/// Whether a variable has a net.
+fn has(variable: &Variable, place: usize) -> bool {
+    variable.bits.iter().any(|bit| *bit == Bit::Net(place))
+}
+
+/// What a loop of wires is refused by.
+fn refusal(netlist: &Netlist, place: usize) -> anyhow::Error {
+    for variable in netlist.variables.iter() {
+        if has(variable, place) {
+            let name = variable.name.as_str();
+            return anyhow!("{name} is in a loop of wires");
+        }
+    }
+    anyhow!("there is a loop of wires")
+}
+
+/// Refuses a loop of wires.
+pub fn refuse_loops(alloc: Global, netlist: &Netlist, uses: &Uses) -> Result<()> {
+    let mut marks = vec![in alloc; 0usize; uses.nets.len()]?;
+    for place in 0..uses.nets.len() {
+        if leads_back(netlist, uses, &mut marks, place) {
+            return Err(refusal(netlist, place));
+        }
+    }
+    Ok(())
+}
+
+/// The nets from which clocks come: those of clocks, and those that gates make clocks of.
+#[derive(Drop)]
+pub struct Clocks {
+    pub is_before: Vec<bool>,
+    left: Vec<usize>,
+    /// How many clocks come out of gates or registers.
+    pub derived: usize,
+}
+
+impl Clocks {
+    /// A bit is a clock, or before one.
+    fn mark(&mut self, bit: Bit) -> Result<(), AllocError> {
+        let Bit::Net(place) = bit else {
+            return Ok(());
+        };
+        let Some(is_before) = self.is_before.get_mut(place) else {
+            return Ok(());
+        };
+        if !*is_before {
+            *is_before = true;
+            self.left.push(place)?;
+        }
+        Ok(())
+    }
+
+    /// These bits are before a clock.
+    fn mark_all(&mut self, bits: &[Bit]) -> Result<(), AllocError> {
+        for bit in bits {
+            self.mark(*bit)?;
+        }
+        Ok(())
+    }
+
+    /// The clocks of registers.
+    fn mark_clocks(&mut self, netlist: &Netlist) -> Result<(), AllocError> {
+        for cell in netlist.cells.iter() {
+            if let Cell::Register(register) = cell {
+                if let Some(clock) = register.clock {
+                    self.mark(clock.bit)?;
+                }
+            }
+        }
+        Ok(())
+    }
+
+    /// What is before the clocks, gate by gate.
+    fn mark_gates(&mut self, netlist: &Netlist, uses: &Uses) -> Result<(), AllocError> {
+        for _ in 0..uses.nets.len() {
+            let Some(place) = self.left.pop() else {
+                break;
+            };
+            let net = uses.nets.get(place).copied();
+            let Some(net) = net.filter(|it| it.drivers > 0) else {
+                continue;
+            };
+            self.derived = self.derived.saturating_add(1);
+            if let Some(Cell::Gate(gate)) = netlist.cells.get(net.driver) {
+                self.mark_all(gate.inputs.as_slice())?;
+            }
+        }
+        Ok(())
+    }
+
+    /// The clocks of a netlist.
+    pub fn of(alloc: Global, netlist: &Netlist, uses: &Uses) -> Result<Clocks, AllocError> {
+        let mut clocks = Clocks {
+            is_before: vec![in alloc; false; uses.nets.len()]?,
+            left: Vec::new(alloc),
+            derived: 0,
+        };
+        clocks.mark_clocks(netlist)?;
+        clocks.mark_gates(netlist, uses)?;
+        Ok(clocks)
+    }
+}
