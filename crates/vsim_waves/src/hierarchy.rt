@@ -3,12 +3,12 @@
 use indexmap::IndexSet;
 use std::io::{self, Write};
 
-/// The first byte of those that identifiers of a VCD are made of, and how many there are.
+/// The first of the bytes that make up the identifiers of a VCD, and the number of these bytes.
 const FIRST_BYTE: u8 = b'!';
 
 const BYTES: usize = 94;
 
-/// Writes the identifier of the net with a number: digits to the base 94, the lowest first.
+/// Writes the identifier of the net with a number: digits to base 94, the lowest first.
 pub fn write_identifier<W: Write>(out: &mut W, number: usize) -> io::Result<()> {
     let mut left = number;
     for _ in 0..usize::BITS {
@@ -22,13 +22,13 @@ pub fn write_identifier<W: Write>(out: &mut W, number: usize) -> io::Result<()> 
     Ok(())
 }
 
-/// The path of a name, which is empty at the top, and the label that ends it.
+/// The path of a name, which is empty at the top, and its last label.
 fn parts(name: &str) -> (&str, &str) {
     name.rsplit_once('.').unwrap_or(("", name))
 }
 
-/// Leaves the scopes of a path that are not those of the next one.
-fn leave<W: Write>(out: &mut W, path: &str, next: &str) -> io::Result<()> {
+/// Leaves the scopes of a path that the next path does not share.
+pub fn leave<W: Write>(out: &mut W, path: &str, next: &str) -> io::Result<()> {
     let mut others = next.split('.');
     let mut is_shared = true;
     for label in path.split('.') {
@@ -40,7 +40,7 @@ fn leave<W: Write>(out: &mut W, path: &str, next: &str) -> io::Result<()> {
     Ok(())
 }
 
-/// Enters the scopes of a path that were not those of the last one.
+/// Enters the scopes of a path that the last path does not share.
 fn enter<W: Write>(out: &mut W, last: &str, path: &str) -> io::Result<()> {
     let mut others = last.split('.');
     let mut is_shared = true;
@@ -53,33 +53,34 @@ fn enter<W: Write>(out: &mut W, last: &str, path: &str) -> io::Result<()> {
     Ok(())
 }
 
-/// Writes the variable of a net.
-fn declare<W: Write>(out: &mut W, number: usize, label: &str) -> io::Result<()> {
-    out.write_all(b"$var wire 1 ")?;
+/// Writes a variable of so many bits.
+fn declare<W: Write>(out: &mut W, number: usize, width: usize, label: &str) -> io::Result<()> {
+    write!(out, "$var wire {width} ")?;
     write_identifier(out, number)?;
     writeln!(out, " {label} $end")
 }
 
-/// Writes the variable of a net in the scopes of its path, which follow those of the last one.
-fn declare_in<W: Write>(
+/// Writes a variable in the scopes of its path, after those of the last path.
+pub fn declare_in<W: Write>(
     out: &mut W,
     last: &str,
     path: &str,
     number: usize,
+    width: usize,
     label: &str,
 ) -> io::Result<()> {
     leave(out, last, path)?;
     enter(out, last, path)?;
-    declare(out, number, label)
+    declare(out, number, width, label)
 }
 
-/// Writes the scopes and variables of these nets. In a listing they stand path by path, so that
-/// each scope is entered once.
+/// Writes the scopes and variables of these nets. A listing has them path by path, so that each
+/// scope is entered once.
 pub fn write_nets<W: Write>(out: &mut W, names: &IndexSet<String>) -> io::Result<()> {
     let mut last = "";
     for (number, name) in names.iter().enumerate() {
         let (path, label) = parts(name.as_str());
-        declare_in(out, last, path, number, label)?;
+        declare_in(out, last, path, number, 1, label)?;
         last = path;
     }
     leave(out, last, "")

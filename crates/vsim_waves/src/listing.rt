@@ -2,7 +2,7 @@
 
 use sim_logic::Logic;
 
-/// When a change is: its time in femtoseconds, and the delta cycle at that time.
+/// The time of a change in femtoseconds, and its delta number.
 #[derive(Clone, Copy, Debug, PartialEq, Eq)]
 pub struct Moment {
     pub time: u64,
@@ -12,32 +12,32 @@ pub struct Moment {
 /// A line of a listing.
 #[derive(Clone, Copy)]
 pub enum Line<'a> {
-    /// A net has another value from now on; in the first lines, the value that it begins with.
+    /// A net has a new value or, in the first lines, its initial value.
     Change {
         at: Moment,
         name: &'a str,
         value: Logic,
     },
-    /// The last line, with the number of cycles and of events.
+    /// The last line, with the numbers of cycles and events.
     Done,
 }
 
-/// Whether this is a byte of the names of a design.
+/// Whether a byte can occur in the names of a design.
 fn is_of_name(byte: u8) -> bool {
     byte.is_ascii_alphanumeric() || byte == b'_'
 }
 
-/// Whether this is a label of an instance, or the name of a signal in it.
+/// Whether a text can be the label of an instance or the name of a signal.
 fn is_label(text: &str) -> bool {
     !text.is_empty() && text.bytes().all(is_of_name)
 }
 
-/// Whether this is the name of a net: labels with a dot between them.
+/// Whether a text can be the name of a net: labels separated by dots.
 fn is_name(text: &str) -> bool {
     text.split('.').all(is_label)
 }
 
-/// The value that a word is.
+/// The value of a word.
 fn value(word: &str) -> Option<Logic> {
     match word.as_bytes() {
         [byte] => Logic::from_byte(*byte),
@@ -59,7 +59,7 @@ pub fn read(text: &str) -> Option<Line<'_>> {
     change(first, second, third, fourth)
 }
 
-/// The last line, of these words.
+/// The last line, given its words.
 fn last<'a>(first: &str, cycles: &str, events: &str) -> Option<Line<'a>> {
     let are_numbers = cycles.parse::<u64>().is_ok() && events.parse::<u64>().is_ok();
     if first == "done" && are_numbers {
@@ -69,7 +69,7 @@ fn last<'a>(first: &str, cycles: &str, events: &str) -> Option<Line<'a>> {
     }
 }
 
-/// The line of a change, of these words.
+/// The line of a change, given its words.
 fn change<'a>(time: &str, delta: &str, name: &'a str, word: &str) -> Option<Line<'a>> {
     let (Ok(time), Ok(delta)) = (time.parse::<u64>(), delta.parse::<u64>()) else {
         return None;

@@ -1,43 +1,52 @@
-//! Makes a VCD of a listing: `vsim_waves [--deltas] < LISTING > FILE.vcd`, as viewers of waves read
-//! it. A net has one value for each time, the last of its delta cycles; with `--deltas` each delta
-//! cycle is a time of its own, a femtosecond after the one before it, so that glitches are seen.
+//! Makes a VCD of a listing, for waveform viewers:
+//! `vsim_waves [--deltas | --map FILE] < LISTING > FILE.vcd`. A net has one value at each time, that
+//! of the last delta cycle; with `--deltas` each delta cycle has a time of its own, a femtosecond
+//! after the one before it, which makes glitches visible. With `--map` the variables are those of
+//! the source of a netlist.
 #![tactic(auto)]
 
 mod hierarchy;
 mod listing;
+mod source_map;
+mod vectors;
 mod waves;
 
-use crate::listing::Line;
+use crate::listing::{Line, Moment};
+use crate::source_map::read_map;
+use crate::vectors::Vectors;
 use crate::waves::Waves;
 use anyhow::{Context, Result, bail};
+use sim_logic::Logic;
 use std::alloc::Global;
-use std::env;
 use std::io::{self, BufRead, BufReader, BufWriter, Write, writer};
 use std::process::ExitCode;
+use std::{env, fs};
 
-/// What `--version` says. The script `build` writes into its copy of this line what it builds of.
+/// The text of `--version`. The script `build` fills in the sources and the toolchain in its copy.
 const VERSION: &str = "vsim_waves 1.0.0, sources unknown, toolchain unknown";
 
-const USAGE: &str = "usage: vsim_waves [--deltas] < LISTING > FILE.vcd";
+const USAGE: &str = "usage: vsim_waves [--deltas | --map FILE] < LISTING > FILE.vcd";
 
-/// What `--help` says.
-const HELP: &str = "Makes a VCD of a listing of vsim, as viewers of waves read it.
+/// The text of `--help`.
+const HELP: &str = "Converts a listing of vsim to VCD, for waveform viewers.
 
-Usage: vsim_waves [--deltas] < LISTING > FILE.vcd
+Usage: vsim_waves [--deltas | --map FILE] < LISTING > FILE.vcd
 
 Options:
-      --deltas   Give each delta cycle a time of its own, a femtosecond after the one before
-  -h, --help     Print help
-  -V, --version  Print version
+      --deltas      Give each delta cycle its own time, a femtosecond after the one before
+      --map <FILE>  Show the variables of a netlist's source, with the map from vsim_netlist
+  -h, --help        Print help
+  -V, --version     Print version
 
 Waves:
-  A net has one value for each time, the last of its delta cycles; with --deltas
-  glitches are seen. The instances of the design are the scopes. Times are in
-  femtoseconds.
+  A net has one value at each time, that of the last delta cycle; with --deltas
+  glitches are visible. The instances of the design are the scopes. Times are in
+  femtoseconds. With --map the scopes, names and vectors are those of the source
+  from which Yosys made the netlist.
 
 Status:
-  0  the waves are written, or help or the version was asked for
-  1  the listing is damaged or has no last line, or reading or writing failed
+  0  the waves are written, or help or the version was requested
+  1  the listing or map is damaged, a last line is missing, or reading or writing failed
   2  the command line is refused
 
 Example:
@@ -45,12 +54,23 @@ Example:
 
 /// What the words ask for.
 enum Request {
-    /// Waves, with each delta cycle at a time of its own or not.
+    /// Waves, with or without a time of its own for each delta cycle.
     Waves { has_deltas: bool },
+    /// Waves of the variables of a source, by the map in a file.
+    Mapped { path: String },
     Help,
     Version,
-    /// Nothing that there is.
+    /// Words that are refused.
     Refused,
+}
+
+/// Reads two words.
+fn read_pair(word: &str, path: String) -> Request {
+    if word == "--map" {
+        Request::Mapped { path }
+    } else {
+        Request::Refused
+    }
 }
 
 /// Reads the words after the program's name.
@@ -59,8 +79,12 @@ fn read_request(rt: &HostRuntime) -> Result<Request> {
     let Some(word) = words.next() else {
         return Ok(Request::Waves { has_deltas: false });
     };
+    let second = words.next();
     if words.next().is_some() {
         return Ok(Request::Refused);
+    }
+    if let Some(second) = second {
+        return Ok(read_pair(word.as_str(), second));
     }
     Ok(match word.as_str() {
         "--deltas" => Request::Waves { has_deltas: true },
@@ -70,15 +94,55 @@ fn read_request(rt: &HostRuntime) -> Result<Request> {
     })
 }
 
-/// Takes a line of a listing, and writes what is of earlier times than its own.
-fn take<W: Write>(alloc: Global, waves: &mut Waves, out: &mut W, line: &str) -> Result<()> {
+/// The waves of a listing: those of its nets, or of the variables of a source.
+#[derive(Drop)]
+enum View {
+    Nets(Waves),
+    Source(Box<Vectors>),
+}
+
+impl View {
+    /// Takes a change; `false` if it can't be at this place.
+    fn change<W: Write>(
+        &mut self,
+        alloc: Global,
+        out: &mut W,
+        at: Moment,
+        name: &str,
+        value: Logic,
+    ) -> io::Result<bool> {
+        match self {
+            View::Nets(waves) => waves.change(alloc, out, at, name, value),
+            View::Source(vectors) => vectors.change(out, at, name, value),
+        }
+    }
+
+    /// Takes the last line; `false` if there was one before.
+    fn end<W: Write>(&mut self, out: &mut W) -> io::Result<bool> {
+        match self {
+            View::Nets(waves) => waves.end(out),
+            View::Source(vectors) => vectors.end(out),
+        }
+    }
+
+    /// Whether the last line was read.
+    fn is_done(&self) -> bool {
+        match self {
+            View::Nets(waves) => waves.is_done(),
+            View::Source(vectors) => vectors.is_done(),
+        }
+    }
+}
+
+/// Takes a line of a listing, and writes all changes before its time.
+fn take<W: Write>(alloc: Global, view: &mut View, out: &mut W, line: &str) -> Result<()> {
     let is_taken = match listing::read(line) {
         None => false,
-        Some(Line::Done) => waves.end(out)?,
-        Some(Line::Change { at, name, value }) => waves.change(alloc, out, at, name, value)?,
+        Some(Line::Done) => view.end(out)?,
+        Some(Line::Change { at, name, value }) => view.change(alloc, out, at, name, value)?,
     };
     if !is_taken {
-        bail!("it is no line of a listing, or not at its place");
+        bail!("this is not a line of a listing, or not in its place");
     }
     Ok(())
 }
@@ -88,21 +152,20 @@ fn write_waves<R: BufRead + Drop, W: Write>(
     alloc: Global,
     input: R,
     out: &mut W,
-    has_deltas: bool,
+    view: &mut View,
 ) -> Result<()> {
-    let mut waves = Waves::new(alloc, has_deltas);
     for (index, line) in input.lines(alloc).enumerate() {
         let number = index.saturating_add(1);
         let line = line.context(format_args!("line {number}"))?;
-        take(alloc, &mut waves, out, line.as_str()).context(format_args!("line {number}"))?;
+        take(alloc, view, out, line.as_str()).context(format_args!("line {number}"))?;
     }
-    if !waves.is_done() {
+    if !view.is_done() {
         bail!("the listing has no last line, as 'done 3 3'");
     }
     Ok(())
 }
 
-/// A writer, and whether it failed since nobody reads any more what it writes, as behind `head`.
+/// A writer, and whether it failed because its reader is gone, as with `head`.
 #[derive(Drop)]
 struct Watched<W> {
     out: W,
@@ -123,22 +186,49 @@ impl<W: Write> Write for Watched<W> {
     }
 }
 
+/// What is to become of a listing, by the map in a file where there is one.
+fn make_view(rt: &HostRuntime, has_deltas: bool, path: Option<String>) -> Result<View> {
+    let Some(path) = path else {
+        return Ok(View::Nets(Waves::new(rt.alloc(), has_deltas)));
+    };
+    let path = path.as_str();
+    let text = fs::read_to_string(rt, path).context(format_args!("{path}"))?;
+    read_view(rt.alloc(), text.as_str()).context(format_args!("{path}"))
+}
+
+/// What is to become of a listing by a map.
+fn read_view(alloc: Global, text: &str) -> Result<View> {
+    let map = read_map(alloc, text)?;
+    let vectors = Vectors::new(alloc, map)?;
+    Ok(View::Source(Box::new(alloc, vectors)?))
+}
+
 /// Makes a VCD of the listing on standard input.
-fn convert<W: Write>(rt: &HostRuntime, has_deltas: bool, out: &mut W) -> Result<()> {
+fn convert<W: Write>(rt: &HostRuntime, view: &mut View, out: &mut W) -> Result<()> {
     let alloc = rt.alloc();
     let input = BufReader::new(alloc, rt.reader())?;
     let mut out = BufWriter::new(alloc, out)?;
-    write_waves(alloc, input, &mut out, has_deltas)?;
+    write_waves(alloc, input, &mut out, view)?;
     out.flush().context("writing")
 }
 
-/// Makes a VCD of the listing on standard input, on standard output, and answers the exit status.
-fn answer_listing(rt: &HostRuntime, has_deltas: bool) -> Result<ExitCode> {
+/// The same, for these waves.
+fn convert_with<W: Write>(rt: &HostRuntime, view: View, out: &mut W) -> Result<()> {
+    let mut view = view;
+    convert(rt, &mut view, out)
+}
+
+/// Makes a VCD on standard output of the listing on standard input, and returns the exit status.
+fn answer_listing(rt: &HostRuntime, has_deltas: bool, path: Option<String>) -> Result<ExitCode> {
     let mut out = Watched {
         out: writer(rt),
         is_unread: false,
     };
-    let Err(fault) = convert(rt, has_deltas, &mut out) else {
+    let made = match make_view(rt, has_deltas, path) {
+        Ok(view) => convert_with(rt, view, &mut out),
+        Err(fault) => Err(fault),
+    };
+    let Err(fault) = made else {
         return Ok(ExitCode::SUCCESS);
     };
     if !out.is_unread {
@@ -147,7 +237,7 @@ fn answer_listing(rt: &HostRuntime, has_deltas: bool) -> Result<ExitCode> {
     Ok(ExitCode::FAILURE)
 }
 
-/// Writes a text on standard output.
+/// Prints a text on standard output.
 fn tell(rt: &HostRuntime, text: &str) -> Result<ExitCode> {
     rt.println(text)?;
     Ok(ExitCode::SUCCESS)
@@ -155,7 +245,8 @@ fn tell(rt: &HostRuntime, text: &str) -> Result<ExitCode> {
 
 fn main(rt: HostRuntime) -> Result<ExitCode> {
     match read_request(&rt)? {
-        Request::Waves { has_deltas } => answer_listing(&rt, has_deltas),
+        Request::Waves { has_deltas } => answer_listing(&rt, has_deltas, None),
+        Request::Mapped { path } => answer_listing(&rt, false, Some(path)),
         Request::Help => tell(&rt, HELP),
         Request::Version => tell(&rt, VERSION),
         Request::Refused => {

@@ -1,4 +1,4 @@
-//! The values of nets from time to time.
+//! The values of nets over time.
 
 use crate::hierarchy::{write_identifier, write_nets};
 use crate::listing::Moment;
@@ -7,7 +7,7 @@ use sim_logic::Logic;
 use std::alloc::{AllocError, Global};
 use std::io::{self, Write};
 
-/// How far a listing was read.
+/// How far a listing has been read.
 #[derive(Clone, Copy, PartialEq, Eq)]
 enum Stage {
     /// The first lines, which name all nets.
@@ -18,40 +18,40 @@ enum Stage {
     Done,
 }
 
-/// The value of a net, and the one that was written last.
+/// The value of a net, and the value written last.
 #[derive(Clone, Copy)]
 struct Shown {
     value: Logic,
     written: Option<Logic>,
 }
 
-/// What was read of a listing, of which all before the last time is written.
+/// What has been read of a listing. All changes before the last time are written.
 #[derive(Drop)]
 pub struct Waves {
     has_deltas: bool,
     stage: Stage,
     names: IndexSet<String>,
     nets: Vec<Shown>,
-    /// The nets that changed at the last moment, some of them more than once.
+    /// The nets that changed at the last moment, possibly more than once.
     changed: Vec<usize>,
     last: Moment,
-    /// The time that was written last.
+    /// The last time that was written.
     stamp: Option<u64>,
 }
 
-/// Writes what comes before the nets.
+/// Writes what precedes the nets.
 fn write_head<W: Write>(out: &mut W) -> io::Result<()> {
     out.write_all(b"$version vsim_waves $end\n$timescale 1 fs $end\n$scope module top $end\n")
 }
 
-/// Writes the value of a net: `0`, `1`, `x` and `z` as a VCD has them, the others alike.
+/// Writes the value of a net: `0`, `1`, `x` and `z` as usual in a VCD, the others in the same way.
 fn write_value<W: Write>(out: &mut W, number: usize, value: Logic) -> io::Result<()> {
     out.write_all(&[value.to_byte().to_ascii_lowercase()])?;
     write_identifier(out, number)?;
     out.write_all(b"\n")
 }
 
-/// Writes the value of a net, if it is another than the one that was written last.
+/// Writes the value of a net, if it differs from the value written last.
 fn write_change<W: Write>(out: &mut W, nets: &mut Vec<Shown>, number: usize) -> io::Result<()> {
     let Some(net) = nets.get_mut(number) else {
         return Ok(());
@@ -77,7 +77,7 @@ fn write_changes<W: Write>(
 }
 
 impl Waves {
-    /// Nothing was read.
+    /// Waves of which nothing has been read.
     pub fn new(alloc: Global, has_deltas: bool) -> Waves {
         Waves {
             has_deltas,
@@ -90,12 +90,12 @@ impl Waves {
         }
     }
 
-    /// Whether the last line was read.
+    /// Whether the last line has been read.
     pub fn is_done(&self) -> bool {
         self.stage == Stage::Done
     }
 
-    /// A net, with the value that it begins with; `false` where another one has its name.
+    /// Adds a net with its initial value; `false` if another net has its name.
     fn add(&mut self, alloc: Global, name: &str, value: Logic) -> Result<bool, AllocError> {
         let number = self.names.len();
         if !self.names.insert(String::from_str(alloc, name)?)? {
@@ -105,7 +105,7 @@ impl Waves {
         Ok(true)
     }
 
-    /// The net with a number has a value: it is the next one that is there, or one of them.
+    /// Sets the value of the net with a number, which is known or the next one.
     fn put(&mut self, number: usize, value: Logic) -> Result<(), AllocError> {
         self.changed.push(number)?;
         if let Some(net) = self.nets.get_mut(number) {
@@ -119,7 +119,7 @@ impl Waves {
         Ok(())
     }
 
-    /// Writes what stands before all values, once all nets are named.
+    /// Writes what precedes all values, once all nets are named.
     fn begin<W: Write>(&mut self, out: &mut W) -> io::Result<()> {
         if self.stage != Stage::Names {
             return Ok(());
@@ -130,7 +130,7 @@ impl Waves {
         out.write_all(b"$upscope $end\n$enddefinitions $end\n")
     }
 
-    /// The time under which the last moment is written: later than the one before it, in any case.
+    /// The time under which the last moment is written. It is always later than the one before it.
     fn next_stamp(&self) -> u64 {
         let own = if self.has_deltas {
             self.last.time.saturating_add(self.last.delta)
@@ -156,24 +156,24 @@ impl Waves {
         Ok(())
     }
 
-    /// Writes the values of all nets, which a VCD begins with.
+    /// Writes the values of all nets, with which a VCD begins.
     fn write_first<W: Write>(&mut self, out: &mut W) -> io::Result<()> {
         out.write_all(b"$dumpvars\n")?;
         write_changes(out, &mut self.nets, self.changed.as_slice())?;
         out.write_all(b"$end\n")
     }
 
-    /// Whether a moment is written apart from the last one.
+    /// Whether a moment is written separately from the last one.
     fn is_apart(&self, at: Moment) -> bool {
         at.time != self.last.time || (self.has_deltas && at.delta != self.last.delta)
     }
 
-    /// Whether a moment is before the last one.
+    /// Whether a moment is earlier than the last one.
     fn is_before(&self, at: Moment) -> bool {
         at.time < self.last.time || (at.time == self.last.time && at.delta < self.last.delta)
     }
 
-    /// A change; `false` where none of that moment or that net may stand there.
+    /// Takes a change; `false` if no change at this moment or of this net is allowed here.
     pub fn change<W: Write>(
         &mut self,
         alloc: Global,
@@ -196,7 +196,7 @@ impl Waves {
         Ok(true)
     }
 
-    /// Goes on to a moment: what is of an earlier one is written.
+    /// Goes on to a moment. Changes at an earlier one are written.
     fn go_to<W: Write>(&mut self, out: &mut W, at: Moment) -> io::Result<()> {
         self.begin(out)?;
         if self.is_apart(at) {
@@ -206,7 +206,7 @@ impl Waves {
         Ok(())
     }
 
-    /// The last line; `false` where one was read already.
+    /// Takes the last line; `false` if there was one already.
     pub fn end<W: Write>(&mut self, out: &mut W) -> io::Result<bool> {
         if self.stage == Stage::Done {
             return Ok(false);

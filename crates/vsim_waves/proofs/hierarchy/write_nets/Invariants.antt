@@ -4,7 +4,7 @@ use denote.Shadow.{shadow}
 use Prim.Native.Nat.{◌^◌}
 use Rattle.vsim_waves.proofs.hierarchy.write_nets.Given as goal
 
--- the path that was entered last is text, and the number of a net is a usize
+-- the last path is text, and the number of a net is a `usize`
 abbrev pub invariant-loop-number : goal.invariant-loop-number
 invariant-loop-number g l =
     (goal.iterator-loop-number g).can_next l.name-iterator ×
