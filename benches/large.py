@@ -70,7 +70,7 @@ def main():
     if len(sys.argv) != 2:
         sys.exit(__doc__)
     program = os.path.abspath(sys.argv[1])
-    print("| Shape | Processes | ns an execution | Bytes a process |\n|---|--:|--:|--:|")
+    print("| Shape | Processes | ns per execution | Bytes per process |\n|---|--:|--:|--:|")
     for name, (make, resumed, budget) in SHAPES.items():
         for count in (4_000, 16_250):
             processes = 4 * count

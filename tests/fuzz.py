@@ -275,7 +275,7 @@ def main():
                 with open(name, "wb") as file:
                     file.write(tried)
                 print(f"fuzz: {name}: {fault}", flush=True)
-    print(f"{number} texts, {wrong} with another answer than they should have")
+    print(f"{number} texts, {wrong} with a wrong answer")
     return 1 if wrong else 0
 
 

@@ -33,20 +33,20 @@ def main():
     given.add_argument("--jobs", type=int, default=4)
     given = given.parse_args()
     if not shutil.which("parallel"):
-        print("many: there is no parallel here: nothing was tried.")
+        print("many: GNU parallel is not installed: nothing was tried.")
         return 0
     program, wrong = os.path.abspath(given.program), 0
     with tempfile.TemporaryDirectory() as room:
         folder = shutil.copytree(EXAMPLES, f"{room}/examples")
         count, found = failed(program, folder, given.jobs)
         if found != 0:
-            print(f"many: {found} of {count} designs have another listing than they should have.")
+            print(f"many: {found} of {count} designs have a wrong listing.")
             wrong += 1
         with open(f"{folder}/bus.listing", "a", encoding="ascii") as file:
             file.write("one line more\n")
         _, found = failed(program, folder, given.jobs)
         if found != 1:
-            print(f"many: {found} designs are told where one listing is damaged.")
+            print(f"many: {found} designs are reported, but one listing is damaged.")
             wrong += 1
     print(f"{2 - wrong} passed, {wrong} failed")
     return 1 if wrong else 0
