@@ -1,7 +1,7 @@
 #!/usr/bin/env python3
 """Renames names of vsim that have two meanings, or whose meaning a reader would not guess.
 
-    rename.py TREE [--rows 1,2,..] [--no-fmt]
+    rename.py TREE [--groups 1,2,..] [--no-fmt]
 
 TREE is a checkout of the repository. The tables below say what is renamed, where, and to what. A row prints how many times
 each of its patterns was found; 0 is worth a look. Afterwards it formats the crates that it touched (`rt fmt`), breaks lines that
@@ -293,7 +293,7 @@ MOVES = [
     (8, "crates/sim_run_bench", "crates/vsim_bench"),
 ]
 
-# row 9: laws and tests, each of which has one name in the whole repository; a folder of proofs of that name is moved too
+# the last group: laws and tests, each of which has one name in the whole repository; a folder of proofs of that name is moved too
 LAWS = {
     # sim_text_tokens
     "a_text_has_one_cutting": "the_tokens_of_a_text_are_unique",
@@ -686,7 +686,7 @@ def format_crates(tree, crates):
             print(f"   {crate}: {f'status {done.returncode}: ' if done.returncode else ''}{said[-600:]}")
 
 
-def names_of_row_9(paths):
+def names_of_laws_group(paths):
     """Returns the row of laws and tests, and the moves of their folders."""
     names = {**LAWS, **TESTS}
     parts = [
@@ -708,14 +708,14 @@ def main():
     if not words:
         sys.exit(__doc__)
     tree = os.path.realpath(words[0])
-    chosen = {int(n) for n in sys.argv[sys.argv.index("--rows") + 1].split(",")} if "--rows" in sys.argv else set(range(1, 10))
+    chosen = {int(n) for n in sys.argv[sys.argv.index("--groups") + 1].split(",")} if "--groups" in sys.argv else set(range(1, 10))
     if git(tree, "status", "--porcelain", "--untracked-files=no").strip():
         sys.exit(f"{tree} has changes that are not committed: reset or commit them first.")
     paths = tracked(tree)
     before = {path: {it for it in read(f"{tree}/{path}").split("\n") if len(it) > limit_of(path, it)} for path in paths}
-    row_9, moves = names_of_row_9(paths)
+    laws_group, moves = names_of_laws_group(paths)
     moves = [*moves, *MOVES]
-    for row in [*ROWS, row_9]:
+    for row in [*ROWS, laws_group]:
         if row[0] in chosen:
             carry_out(tree, row, paths)
     print("files and folders")

@@ -23,7 +23,7 @@ import subprocess
 import sys
 import tempfile
 
-from netlist_texts import FOLDER, LEVELS, Fault, Waves, demand, read, run, wide
+from netlist_texts import FOLDER, LEVELS, Waves, demand, read, run, tally, wide
 
 SYNTH = "synth -flatten -top {0}; abc -g AND,OR,XOR,NAND,NOR,XNOR,MUX; opt_clean"
 # three-state buffers are made before the others, which know nothing of them
@@ -160,22 +160,17 @@ def try_design(programs, name, keep):
     return found
 
 
+def told(it):
+    return (f"{it.lines} lines, vsim {it.vsim:.2f} s; Icarus {it.icarus:.2f} s, {it.bits} bits the same, "
+            f"{it.alone} words unknown to it alone; GHDL {it.ghdl:.2f} s, {it.values} values the same")
+
+
 def main():
     words = [it for it in sys.argv[1:] if it != "--keep"]
     if len(words) != 3:
         sys.exit(__doc__)
-    programs, passed, failed = [os.path.abspath(it) for it in words], 0, 0
-    for name in DESIGNS:
-        try:
-            it = try_design(programs, name, "--keep" in sys.argv)
-            print(f"{name}: {it.lines} lines, vsim {it.vsim:.2f} s; Icarus {it.icarus:.2f} s, {it.bits} bits the same, "
-                  f"{it.alone} words unknown to it alone; GHDL {it.ghdl:.2f} s, {it.values} values the same")
-            passed += 1
-        except Fault as fault:
-            print(f"{name}: {fault}")
-            failed += 1
-    print(f"{passed} passed, {failed} failed")
-    sys.exit(failed != 0)
+    programs = [os.path.abspath(it) for it in words]
+    sys.exit(tally([(name, lambda name=name: told(try_design(programs, name, "--keep" in sys.argv))) for name in DESIGNS]) != 0)
 
 
 if __name__ == "__main__":

@@ -217,24 +217,32 @@ def are_mutated_read(programs, seed):
             demand(ran[0] == 0, f"vsim: {ran[2]}")
 
 
+def tally(tests):
+    """Makes each test, prints what it returns or how it failed, and how many passed and failed; returns how many failed."""
+    passed = failed = 0
+    for name, test in tests:
+        try:
+            found = test()
+            passed += 1
+            if found:
+                print(f"{name}: {found}")
+        except Fault as fault:
+            print(f"{name}: {fault}")
+            failed += 1
+    print(f"{passed} passed, {failed} failed")
+    return failed
+
+
 def main():
     if len(sys.argv) != 4:
         sys.exit(__doc__)
-    programs, passed, failed = sys.argv[1:], 0, 0
+    programs = sys.argv[1:]
     with tempfile.TemporaryDirectory() as folder:
         tests = [(f"{name} {' '.join(words)}", lambda name=name, words=words: is_same(programs, name, folder, *words))
                  for name in NAMES for words in ((), ("--delays", "others=10ps"), ("--delays", "others=10ps/20ps,dff=30ps", "--hold", "40ps"))]
         tests += [(row[3], lambda row=row: is_refused(programs[1], folder, *row)) for row in REFUSED]
         tests.append(("mutated netlists", lambda: are_mutated_read(programs, 1)))
-        for name, test in tests:
-            try:
-                test()
-                passed += 1
-            except Fault as fault:
-                print(f"{name}: {fault}")
-                failed += 1
-    print(f"{passed} passed, {failed} failed")
-    sys.exit(failed != 0)
+        sys.exit(tally(tests) != 0)
 
 
 if __name__ == "__main__":
