@@ -1,4 +1,4 @@
--- The branch of an if statement that is looked at: its statements are carried out, or the others are looked at.
+-- A branch of an if statement: its statements are carried out, or the next branches are examined.
 use Rattle.std.proofs.Common.{◌≡◌, ◌+◌, ◌<◌, ℕ, List, ◌∷◌, true, false, ◌||◌, length, drop, get_or, map, if◌then◌else◌, refl, sym, ap, ◌∙◌}
 use Rattle.std.proofs.lemmas.List.{drop_more}
 use Rattle.sim_flat_design.specs.declared.statement.Branch.{Branch}
@@ -10,7 +10,7 @@ use Rattle.sim_standard.specs.Statements.{Steps, in_turn, if_taken, statement_do
 use Rattle.sim_standard.proofs.Rules.{branch_is}
 
 module _ {S : Type 0} (steps : Steps S) (branches : List Branch) (i : ℕ) (b : Branch) where
-  -- those from it on
+  -- the branches from it on
   here : i < length branches → b ≡ get_or branches i b → drop i branches ≡ b ∷ drop (i + 1) branches
   here lt is = drop_more branches i b lt ∙ ap (λ (x : Branch). x ∷ drop (i + 1) branches) (sym is)
 

@@ -1,4 +1,4 @@
--- The elements of a waveform with their values rise as the waveform does.
+-- The evaluated elements of a waveform ascend as the waveform does.
 use Rattle.std.proofs.Common.{◌≡◌, ◌≤◌, ℕ, suc, List, [], ◌∷◌, take, length, arith}
 use Rattle.std.proofs.lemmas.List.{take_all}
 use Rattle.sim_flat_design.specs.declared.held.Held.{Held}
@@ -18,7 +18,7 @@ module _ (look : ℕ → NetView) (variables : List Held) where
   element_values_rise [] h = tt
   element_values_rise (x ∷ xs) h = (omega arith, later x.after xs h)
 
-  -- and so do as many of them as there are
+  -- and so does a prefix that contains all of them
   pub all_values_rise : (w : List Element) (n : ℕ) (found : List Transaction) → length w ≤ n → IsWaveform w
       → found ≡ element_values look variables (take n w) → RisesFrom 0 found
   all_values_rise w n found all h is = rw (is, take_all n w all) (element_values_rise w h)

@@ -1,4 +1,4 @@
--- A job that is executed leaves what its process leaves of the part that the job holds.
+-- An executed job leaves what its process leaves on the part of a state that the job holds.
 use Rattle.std.proofs.Common.{◌≡◌, ℕ, suc, List, [], ◌∷◌, ◌++◌, map, take, length, Some, None, refl, sym, ◌∙◌, subst, arith}
 use Rattle.std.proofs.lemmas.List.{take_at}
 use Rattle.std.proofs.lemmas.List.Elements.{All-weaker}
@@ -13,7 +13,7 @@ use Rattle.sim_standard.specs.Processes.{object_net, place_in}
 use Rattle.sim_exec.specs.Jobs.{Job, IsJob, IsReady, IsDone, result_of}
 use Rattle.sim_standard.proofs.Owning.{outcome_is}
 
--- how a job sees the ports and signals of its body
+-- the views of the ports and signals of a job's body
 abbrev pub sight : Job → ℕ → NetView
 sight job object = net_at job.views (place_in job.process.reads (object_net job.process object))
 
@@ -43,7 +43,7 @@ done_unchanged job is same =
     let e = result_is job ∙ same in
     record { results = e; ready = subst (IsReady job.process.body job.time) (sym e) (ready_now job is) }
 
--- something was
+-- something was assigned
 pub done_changed : (job : Job) (own : Owned) → IsReady job.process.body job.time own
     → own ≡ executed (sight job) job.time job.process.body.statements job.owned → IsDone job (Some own)
 done_changed job own ready is =
@@ -58,7 +58,7 @@ pub shown : (job : Job) (process : Process) (views : List NetView) (statements :
 unfolding executed
 shown job process views statements p v s = rw (s, v, p) refl
 
--- what was written over whole lists are those lists
+-- writing over whole lists gives the new lists
 pub done_written : (job : Job) (n m : ℕ) (drivers old : List Waveform) (variables olds : List Held)
     → n ≡ length drivers → m ≡ length variables → IsDone job (Some (record { drivers = drivers; variables = variables }))
     → IsDone job (Some (record { drivers = take n (drivers ++ old); variables = take m (variables ++ olds) }))

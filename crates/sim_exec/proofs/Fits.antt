@@ -1,4 +1,4 @@
--- What a body that keeps to what there is says of its parts.
+-- If a body keeps to the objects, drivers and variables that there are, so do its parts.
 use Rattle.std.proofs.Common.{◌≡◌, ◌<◌, ℕ, zero, suc, set, ◌&&◌, nat_lt, List, [], ◌∷◌, map, Bool, true, false, Option, Some, slice_get, get_or}
 use Rattle.std.proofs.Common.{refl, sym, ap, ◌∙◌, subst, arith}
 use Rattle.std.specs.List.{All}
@@ -36,7 +36,7 @@ pub right : (a b : Bool) → (a && b) ≡ true → b ≡ true
 right true b e = e
 right false b e = absurd cc
 
--- what is true of a list of what holds is true of each
+-- if a test passes for a whole list, it passes for each element
 pub each_is : {X : Type 0} (f : X → Bool) (xs : List X) → all (map f xs) ≡ true → All (λ (x : X). f x ≡ true) xs
 each_is f xs h = AllPass-from_list_all f xs (sym (list_all-map (λ (b : Bool). b) f xs) ∙ h)
 
@@ -152,5 +152,5 @@ pub truth_kept : (vs ws : List Held) (n : ℕ) (value : Bool) → is_truth (slic
     → map holds_bit (set ws n (held.Truth value)) ≡ map holds_bit vs
 truth_kept vs ws n value h same = kept vs ws n (held.Truth value) same (truth_there vs n h)
 
--- of statements
+-- the rules for statements
 pub ruleset statements_fit = (signal_fits, logic_variable_fits, boolean_variable_fits, if_fits)

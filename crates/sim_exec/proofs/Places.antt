@@ -1,4 +1,4 @@
--- The place of a number in a list that rises.
+-- The index of a number in an ascending list.
 use Rattle.std.proofs.Common.{◌≡◌, ℕ, zero, suc, ◌<◌, ◌≤◌, List, [], ◌∷◌, Bool, true, false, if◌then◌else◌, length, get_or, refl, ap, sym, ◌∙◌}
 use Rattle.std.proofs.Common.{subst, arith, eqb, ltb, ltb-true, ltb-false}
 use Rattle.std.proofs.lemmas.Bool.{eqb-false}
@@ -10,12 +10,12 @@ use Rattle.std.proofs.Common.{Ok, Err}
 use Rattle.sim_flat_design.specs.Processes.{rising, with_number}
 use Rattle.sim_standard.specs.Processes.{place_in}
 
--- each number is larger than the one before it, the first no smaller than this one
+-- each number is larger than the one before it, and the first is at least `b`
 abbrev pub Rises : ℕ → List ℕ → Type 0
 Rises b [] = Unit {0}
 Rises b (x ∷ xs) = (b ≤ x) × Rises (suc x) xs
 
--- a number more keeps a list rising
+-- adding a number keeps a list ascending
 more_rises : (b n : ℕ) (xs : List ℕ) → b ≤ n → Rises b xs → Rises b (with_number n xs)
 unfolding with_number
 more_rises b n [] le h = (le, tt)
@@ -35,7 +35,7 @@ unfolding rising
 rising_rises [] = tt
 rising_rises (n ∷ ns) = more_rises 0 n (rising ns) (omega arith) (rising_rises ns)
 
--- a list that rises stays as it is
+-- an ascending list is unchanged
 pub rises_as_it_is : (b : ℕ) (xs : List ℕ) → Rises b xs → rising xs ≡ xs
 unfolding rising with_number
 rises_as_it_is b [] h = refl
@@ -46,11 +46,11 @@ rises_as_it_is b (x ∷ y ∷ ys) h =
     let below : ltb x y ≡ true = let k = h.1.0 in grind (arith, nat_tests) in
     ap (with_number x) rest ∙ rw (apart, below) refl
 
--- what was made to rise rises
+-- a list that was made ascending is ascending
 pub made_rising : (xs ns : List ℕ) → xs ≡ rising ns → rising xs ≡ xs
 made_rising xs ns is = rises_as_it_is 0 xs (subst (Rises 0) (sym is) (rising_rises ns))
 
--- ---- in a list that rises
+-- ---- in an ascending list
 
 pub at_least : (b i : ℕ) (xs : List ℕ) → Rises b xs → i < length xs → b ≤ get_or xs i 0
 at_least b i [] h l = absurd (omega (arith, l))
@@ -64,7 +64,7 @@ no_less b (x ∷ xs) h zero (suc j) le l = let k = at_least (suc x) j xs h.1 (om
 no_less b (x ∷ xs) h (suc i) zero le l = absurd (omega (arith, le))
 no_less b (x ∷ xs) h (suc i) (suc j) le l = no_less (suc x) xs h.1 i j (omega (arith, le)) (omega (arith, l))
 
--- what is found at a place is there first
+-- a number at an index is found there
 pub found_at : (b i n : ℕ) (xs : List ℕ) → Rises b xs → i < length xs → get_or xs i 0 ≡ n → place_in xs n ≡ i
 unfolding place_in
 found_at b i n [] h l is = absurd (omega (arith, l))
@@ -75,7 +75,7 @@ found_at b (suc i) n (x ∷ xs) h l is =
     let rest = found_at (suc x) i n xs h.1 (omega (arith, l)) is in
     rw (apart, rest) (omega arith)
 
--- a number that is at no place is found after the last
+-- a number that is not in the list is found at the end
 pub found_nowhere : (n : ℕ) (xs : List ℕ) → ((k : ℕ) → k < length xs → get_or xs k 0 ≡ n → ⊥) → place_in xs n ≡ length xs
 unfolding place_in
 found_nowhere n [] h = refl
@@ -85,7 +85,7 @@ found_nowhere n (x ∷ xs) h =
     let rest = found_nowhere n xs (λ k l. h (suc k) (omega (arith, l))) in
     rw (apart, rest) (omega arith)
 
--- what a binary search tells
+-- the result of a binary search
 pub searched_ok : (xs : List ℕ) (n i : ℕ) → rising xs ≡ xs → IsBinarySearchResult (λ y. nat_cmp y n) xs (Ok i) → i ≡ place_in xs n
 searched_ok xs n i up h =
     let rises = subst (Rises 0) up (rising_rises xs) in

@@ -107,10 +107,10 @@ module _ (look : ℕ → NetView) (variables : List Held) where
       ap (boolean_value look variables) (sym (b.rolls-BooleanComparison x op y))
       ∙ boolean_folds.fold-roll-BooleanExpression Bool (boolean_value_rule look variables) (bo.BooleanComparison x op y)
 
--- those of std_ulogic
+-- the rules for type std_ulogic
 pub ruleset logics_are = (logic_literal, logic_object, logic_variable, logic_not, logic_chain)
 
--- those of type boolean
+-- the rules for type boolean
 pub ruleset booleans_are = (
   boolean_literal,
   boolean_variable,

@@ -1,5 +1,5 @@
--- What is handed out to be executed.
--- Of the implementation: what `simulate` promises does not rest on this file.
+-- Jobs and their results.
+-- Implementation only: what `simulate` promises does not rest on this file.
 use Rattle.std.specs.Prelude.{ℕ, suc, ◌≡◌, ◌≤◌, List, [], ◌∷◌, Bool, true, false, Option, MatchOption, map, length}
 use Rattle.std.specs.List.{All}
 use Rattle.sim_logic.specs.Time.{largest_time}
@@ -12,7 +12,7 @@ use Rattle.sim_standard.specs.declared.net_view.NetView.{NetView}
 use Rattle.sim_standard.specs.State.{State, Owned}
 use Rattle.sim_standard.specs.Processes.{outcome}
 
--- A process to be executed: in which cycle, its number, the time, how it sees the nets that it reads, and what it owns.
+-- A process to be executed: the number of cycles completed, its number, the time, its views of the nets it reads, and what it owns.
 pub record Job : Type 0 where
   pub cycle : ℕ
   pub number : ℕ
@@ -32,21 +32,21 @@ pub record IsReady (body : Body) (from : ℕ) (own : Owned) : Type 0 where
   pub variables : map holds_bit own.variables ≡ map holds_bit body.variables
   pub pending : All (λ (d : Waveform). RisesFrom from d.pending) own.drivers
 
--- There is a view of each net that the process reads, and what it owns fits it. What is pending is later than the time.
+-- There is a view of each net that the process reads, and what it owns fits it. All pending transactions are after the time.
 pub record IsJob (time : ℕ) (process : Process) (views : List NetView) (own : Owned) : Type 0 where
   pub seen : length views ≡ length process.reads
   pub early : time ≤ largest_time
   pub ready : IsReady process.body (suc time) own
 
--- the part of a state that it holds
+-- the part of a state that a job holds
 abbrev pub scene : Job → State
 scene job = record { time = job.time; delta = 0; nets = job.views; owned = job.owned ∷ []; waiting = [] }
 
--- what its process owns once it is executed
+-- what its process owns after the execution
 abbrev pub result_of : Job → Owned
 result_of job = outcome job.process (scene job)
 
--- What an executed job keeps beside the job: what its process owns then, where that is other than before. It fits the body in each case.
+-- What an executed job keeps: what its process owns then, or nothing if that is unchanged. It fits the body either way.
 pub record IsDone (job : Job) (kept : Option Owned) : Type 0 where
   pub results : MatchOption kept (result_of job ≡ job.owned) (λ r. r ≡ result_of job)
   pub ready : IsReady job.process.body job.time (result_of job)

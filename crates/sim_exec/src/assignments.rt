@@ -22,11 +22,11 @@ use sim_wave::{Delay, Driver, Transaction};
 use smallvec::SmallVec;
 use std::alloc::{AllocError, Global};
 
-/// As many elements of a waveform are assigned without an allocation.
+/// The number of elements of a waveform that are assigned without an allocation.
 const IN_PLACE: usize = 16;
 
-/// What a delay mechanism does with pending transactions, where the first element is driven after
-/// this time (10.5.2.1).
+/// The delay mechanism with its rejection limit, which is the delay of the first element unless
+/// `reject` gives another (10.5.2.1).
 fn delay(mechanism: statement::Delay, first: u64) -> Delay
     ensures { result ≡ spec.delay_of mechanism first }
 {
@@ -37,7 +37,7 @@ fn delay(mechanism: statement::Delay, first: u64) -> Delay
     }
 }
 
-/// An element with its value.
+/// An element, evaluated: its delay and its value.
 fn element_value<N: Nets>(nets: &N, variables: &[Held], element: &Element) -> Transaction
     ensures value { result ≡ values.element_value (N.look nets.now) variables.now element.now }
     ensures bound { result.0 ≤ largest_time }
@@ -48,7 +48,7 @@ fn element_value<N: Nets>(nets: &N, variables: &[Held], element: &Element) -> Tr
     )
 }
 
-/// The elements with their values.
+/// The elements of a waveform, evaluated.
 #[tactic(auto, using(crate::proofs::Elements::element_values_rise))]
 fn element_values<N: Nets>(
     alloc: Global,
@@ -68,8 +68,8 @@ fn element_values<N: Nets>(
     Ok(found)
 }
 
-/// The waveform that an assignment takes: the first whose condition holds, else the last, if there
-/// is one (10.5.3).
+/// The waveform to be assigned: the first whose condition holds, else the one without a condition,
+/// if there is one (10.5.3).
 #[tactic(auto, using(crate::proofs::Fits::all_rejected, crate::proofs::Fits::last_rejected), unfolding(sim_standard::specs::Expressions::taken_waveform))]
 fn taken_waveform<'a, N: Nets>(
     nets: &N,
@@ -154,7 +154,7 @@ pub(crate) fn assign_signal<N: Nets>(
 }
 
 #[tactic(auto, using(crate::proofs::Fits::bit_kept))]
-/// The variable at a place holds a value of std_ulogic from now on (10.6).
+/// Assigns a value to the variable at a position, which is of type std_ulogic (10.6).
 pub(crate) fn set_bit(body: &Body, variables: &mut [Held], place: usize, value: Logic)
     requires fits { is_bit (slice_get body.now.variables place) ≡ true }
     requires variables { map holds_bit variables.old ≡ map holds_bit body.now.variables }
@@ -165,7 +165,7 @@ pub(crate) fn set_bit(body: &Body, variables: &mut [Held], place: usize, value: 
 }
 
 #[tactic(auto, using(crate::proofs::Fits::truth_kept))]
-/// The variable at a place holds a boolean value from now on (10.6).
+/// Assigns a value to the variable at a position, which is of type boolean (10.6).
 pub(crate) fn set_truth(body: &Body, variables: &mut [Held], place: usize, value: bool)
     requires fits { is_truth (slice_get body.now.variables place) ≡ true }
     requires variables { map holds_bit variables.old ≡ map holds_bit body.now.variables }

@@ -17,14 +17,14 @@ use sim_wave::Driver;
 use std::alloc::{AllocError, Global};
 use std::marker::Model;
 
-/// What stands where no net is seen: no body asks for it.
+/// A placeholder for a net of which a job has no view: no body reads it.
 const UNSEEN: NetView = NetView {
     value: Logic::U,
     event: false,
     last: Logic::U,
 };
 
-/// The place of a number in a list that rises, or else how long the list is.
+/// The index of a number in an ascending list, or the length of the list if it is not there.
 fn place_in(numbers: &[usize], number: usize) -> usize
     requires { rising numbers.now ≡ numbers.now }
     ensures { result ≡ place_in numbers.now number }
@@ -35,7 +35,7 @@ fn place_in(numbers: &[usize], number: usize) -> usize
     }
 }
 
-/// The net at a place.
+/// The net at an index, or the placeholder.
 fn net_at(nets: &[NetView], place: usize) -> NetView
     ensures { result ≡ net_at nets.now place }
 {
@@ -61,7 +61,7 @@ impl Nets for Sight<'_> {
     }
 }
 
-/// What a process owns once it is executed.
+/// The drivers and variables of a process after an execution.
 #[derive(Drop)]
 pub struct Results {
     pub drivers: Vec<Driver>,
@@ -76,18 +76,18 @@ impl Model for Results {
     ghost view = { λ r. record { drivers = r.drivers.items; variables = r.variables.items } };
 }
 
-/// A job that was executed: what its process owns then is what the meaning of the process gives on
-/// the job's part of a state.
+/// An executed job, with the drivers and variables that its process leaves: those that the meaning
+/// of the process gives on the job's part of a state.
 ///
-/// Where nothing was assigned, nothing is copied. The contracts see a `Done` as its job, since all
-/// else follows from it.
+/// If nothing was assigned, nothing is copied. In contracts, a `Done` is its job, which determines
+/// the rest.
 pub struct Done {
     job: Job,
-    /// What is other than in the job; none where nothing was assigned.
+    /// The new drivers and variables, or `None` if nothing was assigned.
     results: Option<Results>,
 }
 
-/// By hand, so that crates which drop one need no proof of what is in it.
+/// Written by hand so that code which drops it needs no proof about its contents.
 impl Drop for Done {
     fn drop(self) {
         let Done { job, results } = self;
@@ -112,7 +112,7 @@ impl Model for Done {
     ghost invariant = { λ d. IsDone d.job d.results };
 }
 
-/// Copies of drivers.
+/// Copies the drivers.
 fn copies(alloc: Global, drivers: &[Driver]) -> Result<Vec<Driver>, AllocError>
     ensures { IfOk result (λ v. v.items ≡ drivers.now) }
 {
@@ -123,7 +123,7 @@ fn copies(alloc: Global, drivers: &[Driver]) -> Result<Vec<Driver>, AllocError>
     Ok(copied)
 }
 
-/// What a process owns once it is executed as a job; none where nothing is assigned.
+/// Executes a job on copies of its drivers and variables; `None` if it assigns nothing.
 fn executed(alloc: Global, job: &Job) -> Result<Option<Results>, AllocError>
     ensures { IfOk result (λ r. IsDone job.now r) }
 {
@@ -154,7 +154,7 @@ impl Done {
     ghost use Rattle.sim_exec.specs.Jobs.{result_of, IsReady};
 
     /// Executes a job once, from the first statement of its process to the last. If allocation
-    /// fails the job comes back as it was.
+    /// fails, the job is returned unchanged.
     pub fn run(alloc: Global, job: Job) -> Result<Done, (AllocError, Job)>
         ensures { MatchResult result (λ d. d ≡ job) (λ e. e.1 ≡ job) }
     {
@@ -164,7 +164,7 @@ impl Done {
         }
     }
 
-    /// The job.
+    /// The job that was executed.
     pub fn job(&self) -> &Job
         ensures { result.now ≡ self.now }
     {
@@ -191,8 +191,8 @@ impl Done {
         }
     }
 
-    /// The job, and the drivers and variables after the execution; where there are none, they are
-    /// those of the job.
+    /// The job, and the drivers and variables after the execution, or `None` if they are those of
+    /// the job.
     pub fn into_parts(self) -> (Job, Option<Results>)
         ensures job { result.0 ≡ self }
         ensures results { MatchOption result.1 (result_of self ≡ self.owned) (λ r. r ≡ result_of self) }

@@ -9,9 +9,8 @@ use crate::view::Nets;
 use sim_flat_design::Held;
 use sim_flat_design::statement::{Branch, Statement};
 
-/// Whether the execution of these statements is known to assign nothing: they are looked at up to
-/// the first assignment, or the first condition of a branch that holds. `false` tells nothing of
-/// them.
+/// Returns true if these statements are known to assign nothing: they are examined up to the first
+/// assignment, or the first condition of a branch that holds. `false` says nothing about them.
 #[cycle(idle)]
 #[tactic(auto, unfolding(sim_standard::specs::Statements::in_turn))]
 pub(crate) fn assign_nothing<N: Nets>(
@@ -30,7 +29,7 @@ pub(crate) fn assign_nothing<N: Nets>(
     true
 }
 
-/// Whether the execution of a statement is known to assign nothing.
+/// Returns true if a statement is known to assign nothing.
 #[cycle(idle)]
 #[tactic(auto, using(sim_standard::proofs::Rules::statements_are))]
 fn assigns_nothing<N: Nets>(nets: &N, variables: &[Held], statement: &Statement) -> bool
@@ -52,7 +51,7 @@ fn assigns_nothing<N: Nets>(nets: &N, variables: &[Held], statement: &Statement)
     }
 }
 
-/// Whether no condition of these branches holds.
+/// Returns true if no condition of these branches holds.
 #[tactic(auto, using(sim_standard::proofs::Rules::branch_is), unfolding(sim_standard::specs::Statements::if_taken, sim_standard::specs::Statements::one_holds))]
 fn none_is_taken<N: Nets>(nets: &N, variables: &[Held], branches: &[Branch]) -> bool
     ensures none { IsTrue result → (now : ℕ) (otherwise : Owned → Owned) (own : Owned) → own.variables ≡ variables.now

@@ -1,4 +1,4 @@
-//! What is handed out to be executed.
+//! Jobs: processes to be executed, each with its part of a state.
 
 ghost use Rattle.std.specs.Prelude.{◌≡◌, ◌↔◌, suc, map, IsTrue};
 ghost use Rattle.std.specs.List.{All};
@@ -11,9 +11,9 @@ use sim_standard::NetView;
 use sim_wave::Driver;
 use std::marker::Model;
 
-/// A process to be executed once, with all that it needs: in which cycle, the time in femtoseconds,
-/// how it sees each net that it reads, and its variables and drivers. The process is shared, the
-/// lists are the job's own.
+/// A process to be executed once, with all that it needs: the number of cycles completed, the time
+/// in femtoseconds, a view of each net that the process reads, its variables and its drivers. The
+/// process is shared; the lists are the job's own.
 pub struct Job {
     cycle: usize,
     number: usize,
@@ -24,7 +24,7 @@ pub struct Job {
     drivers: Vec<Driver>,
 }
 
-/// By hand, so that crates which drop one need no proof of what is in it.
+/// Written by hand so that code which drops it needs no proof about its contents.
 impl Drop for Job {
     fn drop(self) {
         let Job {
@@ -73,14 +73,14 @@ fn holds_bit(held: &Held) -> bool
     matches!(held, Held::Bit(_))
 }
 
-/// Whether both are of the same type.
+/// Whether two variables are of the same type.
 fn are_of_one_type(held: &Held, other: &Held) -> bool
     ensures { IsTrue result ↔ (holds_bit held.now ≡ holds_bit other.now) }
 {
     holds_bit(held) == holds_bit(other)
 }
 
-/// Whether these are as many variables, each of the type of the other.
+/// Whether two lists have the same number of variables, of the same types in the same order.
 fn are_alike(variables: &[Held], others: &[Held]) -> bool
     ensures { IsTrue result ↔ (map holds_bit variables.now ≡ map holds_bit others.now) }
 {
@@ -96,14 +96,14 @@ fn are_alike(variables: &[Held], others: &[Held]) -> bool
     true
 }
 
-/// Whether all that is pending is after a time.
+/// Whether all pending transactions of these drivers are after a time.
 fn are_later(drivers: &[Driver], time: u64) -> bool
     ensures { IsTrue result ↔ All (λ d. RisesFrom (suc time) d.pending) drivers.now }
 {
     drivers.iter().all(|driver| is_later(driver, time))
 }
 
-/// Whether what is pending of a driver is after a time.
+/// Whether all pending transactions of a driver are after a time.
 fn is_later(driver: &Driver, time: u64) -> bool
     ensures { IsTrue result ↔ RisesFrom (suc time) driver.now.pending }
 {
@@ -117,9 +117,9 @@ impl Job {
     ghost use Rattle.std.specs.Prelude.{◌≡◌, ◌↔◌, IsTrue};
     ghost use Rattle.sim_exec.specs.Jobs.{IsJob};
 
-    /// Whether the lists fit the process: a view for each net that it reads, in the order of their
-    /// numbers, its variables, each of its type, and its drivers, all in their order. The time is
-    /// at most 2^62 - 1 fs, and what is pending is after it.
+    /// Returns true if the lists fit the process: a view of each net that it reads, in the order of
+    /// net numbers; its variables, each of its type, and its drivers, in the order of the body. The
+    /// time is at most 2^62 - 1 fs, and all pending transactions are after it.
     pub fn fits(
         time: u64,
         process: &Process,
@@ -136,7 +136,7 @@ impl Job {
             && are_later(drivers, time)
     }
 
-    /// The job of a process with a number, in a cycle, whose lists fit it.
+    /// The job of the process with this number. Its lists fit the process, see `fits`.
     pub fn new(
         cycle: usize,
         number: usize,
@@ -167,7 +167,7 @@ impl Job {
         }
     }
 
-    /// How many cycles came before.
+    /// The number of cycles completed.
     pub fn cycle(&self) -> usize
         ensures { result ≡ self.now.cycle }
     {
@@ -188,15 +188,15 @@ impl Job {
         self.time
     }
 
-    /// What is executed.
+    /// The process to be executed.
     pub fn process(&self) -> &Process
         ensures { result.now ≡ self.now.process }
     {
         &self.process
     }
 
-    /// How each net that the process reads is seen, in the order of their numbers. The whole job
-    /// fits its process.
+    /// A view of each net that the process reads, in the order of net numbers. The whole job fits
+    /// its process.
     pub fn views(&self) -> &[NetView]
         ensures value { result.now ≡ self.now.views }
         ensures fits { IsJob self.now.time self.now.process self.now.views self.now.owned }

@@ -23,7 +23,7 @@ fn logic_operation(operator: Logical, left: Logic, right: Logic) -> Logic
     }
 }
 
-/// What `=` or `/=` gives, where its operands are the same or not (9.2.3).
+/// The value of `=` or `/=`, given whether the operands are equal (9.2.3).
 fn relation(operator: Relational, same: bool) -> bool
     ensures { result ≡ spec.relation operator same }
 {
@@ -33,14 +33,14 @@ fn relation(operator: Relational, same: bool) -> bool
     }
 }
 
-/// What the condition operator `??` gives of a value of std_ulogic (9.2.9).
+/// The condition operator `??` on a value of std_ulogic (9.2.9).
 fn condition(value: Logic) -> bool
     ensures { result ≡ spec.condition value }
 {
     matches!(value, Logic::One | Logic::H)
 }
 
-/// What the variable of type std_ulogic at a place holds.
+/// The value of the variable at a position, which is of type std_ulogic.
 fn bit(variables: &[Held], place: usize) -> Logic
     ensures { result ≡ spec.bit_of (slice_get variables.now place) }
 {
@@ -50,7 +50,7 @@ fn bit(variables: &[Held], place: usize) -> Logic
     }
 }
 
-/// What the variable of type boolean at a place holds.
+/// The value of the variable at a position, which is of type boolean.
 fn truth(variables: &[Held], place: usize) -> bool
     ensures { result ≡ spec.truth_of (slice_get variables.now place) }
 {
@@ -60,7 +60,7 @@ fn truth(variables: &[Held], place: usize) -> bool
     }
 }
 
-/// Whether a net has a rising edge, or else a falling one (IEEE 1164).
+/// Whether a net has a rising edge or, if `rising` is false, a falling edge (IEEE 1164).
 fn has_edge(rising: bool, net: NetView) -> bool
     ensures { result ≡ spec.has_edge rising net }
 {
@@ -93,7 +93,7 @@ pub fn logic_value<N: Nets>(nets: &N, variables: &[Held], expression: &LogicExpr
     }
 }
 
-/// A value and those of these expressions, with the operator between each two.
+/// The operator applied to a value and those of the expressions, from left to right.
 #[cycle(logic_values)]
 #[inline(never)]
 fn logic_chain<N: Nets>(
@@ -154,8 +154,8 @@ pub fn boolean_value<N: Nets>(nets: &N, variables: &[Held], expression: &Boolean
     }
 }
 
-/// A value and those of these expressions, with the operator between each two. Of `and`, `or`,
-/// `nand` and `nor` the right operand is evaluated only where the left one does not decide (9.2.2).
+/// The operator applied to a value and those of the expressions, from left to right. For `and`,
+/// `or`, `nand` and `nor`, the right operand is evaluated only if the left does not decide (9.2.2).
 #[cycle(boolean_values)]
 #[inline(never)]
 fn boolean_chain<N: Nets>(

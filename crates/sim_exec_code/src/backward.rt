@@ -1,10 +1,10 @@
-//! Code that is written from its end.
+//! Code that is written from its end to its beginning.
 
 use crate::operation::Operation;
 use std::alloc::{AllocError, Global};
 use std::marker::Model;
 
-/// Operations, of which the first ones are written last: so each jump knows what it passes when it is written.
+/// Operations, written from last to first: so the length of a jump is known when it is written.
 #[derive(Drop)]
 pub struct Backward {
     operations: Vec<Operation>,
@@ -31,7 +31,7 @@ impl Backward {
         }
     }
 
-    /// Puts an operation before the others.
+    /// Puts an operation in front of the others.
     #[tactic(auto, using(crate::proofs::FromTheEnd::reverse_more))]
     pub fn push(&mut self, operation: Operation) -> Result<(), AllocError>
         ensures { OnOk result (self.new ≡ operation ∷ self.old) }
@@ -40,7 +40,7 @@ impl Backward {
         Ok(())
     }
 
-    /// How many there are.
+    /// The number of operations.
     #[tactic(auto, using(crate::proofs::FromTheEnd::reverse_long))]
     pub fn len(&self) -> usize
         ensures { result ≡ length self.now }
@@ -48,7 +48,7 @@ impl Backward {
         self.operations.len()
     }
 
-    /// The operations, from the first to the last.
+    /// The operations, in order.
     pub fn into_vec(self) -> Vec<Operation>
         ensures { result.items ≡ self }
     {

@@ -1,17 +1,17 @@
-//! A number for the body of a process: bodies that differ have different ones, but for a rare
-//! chance. Nothing rests on it but how fast equal bodies are found.
+//! A number for the body of a process. Different bodies rarely have the same. Only the speed of
+//! finding equal bodies depends on it.
 
 use sim_flat_design::expression::{BooleanExpression, LogicExpression};
 use sim_flat_design::statement::{Branch, ConditionalWaveform, Delay, SignalAssignment, Statement};
 use sim_flat_design::waveform::Element;
 use sim_flat_design::{Body, Held};
 
-/// A number into which a word is mixed.
+/// Mixes a word into a number.
 fn mixed(number: u64, word: u64) -> u64 {
     (number.rotate_left(5) ^ word).wrapping_mul(0x9E37_79B9_7F4A_7C15)
 }
 
-/// A number into which a kind and a word of that kind are mixed.
+/// Mixes a kind, and a word of that kind, into a number.
 fn mixed_both(number: u64, kind: u64, word: u64) -> u64 {
     mixed(mixed(number, kind), word)
 }

@@ -1,4 +1,4 @@
-//! The bodies of processes as code: flat lists of steps on one list of values, the frame.
+//! Compiled process bodies: flat lists of steps on one list of values, the frame.
 #![tactic(auto)]
 
 mod assembly;

@@ -1,5 +1,5 @@
-//! That the times of all waveforms of statements rise (IEEE 1076-2008, 10.5.2.1). A `Waveform` keeps
-//! it of its own; these functions only go over all of them, and so hand it on.
+//! The times of all waveforms of a body ascend (IEEE 1076-2008, 10.5.2.2). The type `Waveform`
+//! ensures it; these functions only visit all waveforms, to pass it on.
 
 ghost use Rattle.std.specs.Prelude.{◌≡◌, true, map};
 ghost use Rattle.sim_flat_design.specs.Bodies.{all};
@@ -9,7 +9,7 @@ ghost use Rattle.sim_exec_code.specs.Fitting as spec;
 use sim_flat_design::statement::{Branch, ConditionalWaveform, SignalAssignment, Statement};
 use sim_flat_design::waveform::Waveform;
 
-/// The times of a waveform rise.
+/// The times of a waveform ascend.
 #[tactic(auto, using(crate::proofs::TimesRise::waveform_rises))]
 fn waveform_rises(waveform: &Waveform)
     ensures { rises waveform.now ≡ true }
@@ -17,7 +17,7 @@ fn waveform_rises(waveform: &Waveform)
     let _elements = waveform.elements();
 }
 
-/// The times of each waveform that has a condition rise.
+/// The times of each waveform that has a condition ascend.
 fn conditionals_rise(conditionals: &[ConditionalWaveform])
     ensures { all (map spec.conditional_rises conditionals.now) ≡ true }
 {
@@ -26,7 +26,7 @@ fn conditionals_rise(conditionals: &[ConditionalWaveform])
     }
 }
 
-/// The times of the waveform without a condition rise, if there is one.
+/// The times of the waveform without a condition ascend, if there is one.
 fn last_rises(last: &Option<Waveform>)
     ensures { spec.last_rises last.now ≡ true }
 {
@@ -35,7 +35,7 @@ fn last_rises(last: &Option<Waveform>)
     }
 }
 
-/// The times of each waveform of a signal assignment rise.
+/// The times of each waveform of a signal assignment ascend.
 #[tactic(auto, using(crate::proofs::TimesRise::assignment_is))]
 fn assignment_rises(assignment: &SignalAssignment)
     ensures { spec.assignment_rises assignment.now ≡ true }
@@ -44,7 +44,7 @@ fn assignment_rises(assignment: &SignalAssignment)
     last_rises(&assignment.otherwise);
 }
 
-/// The times of each waveform in a statement rise.
+/// The times of each waveform in a statement ascend.
 #[cycle(rising)]
 #[tactic(auto, using(crate::proofs::TimesRise::statements_rise))]
 fn statement_rises(statement: &Statement)
@@ -63,7 +63,7 @@ fn statement_rises(statement: &Statement)
     }
 }
 
-/// The times of each waveform in branches rise.
+/// The times of each waveform in branches ascend.
 #[cycle(rising)]
 fn branches_rise(branches: &[Branch])
     ensures { all (map spec.branch_rises branches.now) ≡ true }
@@ -73,7 +73,7 @@ fn branches_rise(branches: &[Branch])
     }
 }
 
-/// The times of each waveform in a branch rise.
+/// The times of each waveform in a branch ascend.
 #[cycle(rising)]
 fn branch_rises(branch: &Branch)
     ensures { spec.branch_rises branch.now ≡ true }
@@ -81,7 +81,7 @@ fn branch_rises(branch: &Branch)
     all_rise(branch.statements.as_slice());
 }
 
-/// The times of each waveform in a list of statements rise.
+/// The times of each waveform in a list of statements ascend.
 #[cycle(rising)]
 #[tactic(auto, unfolding(crate::specs::Fitting::waveforms_rise))]
 pub fn all_rise(statements: &[Statement])

@@ -1,4 +1,4 @@
-//! Which processes share a code.
+//! Processes that share a code.
 
 ghost use Rattle.std.specs.Prelude.{◌≡◌, ◌≤◌, true, List, Option, Some, length, slice_get, IfOk, IfSome};
 ghost use Rattle.std.specs.List.{AllZip};
@@ -10,8 +10,8 @@ use sim_flat_design::Process;
 use std::alloc::{AllocError, Global};
 use std::collections::HashMap;
 
-/// The code that is thought to be that of a body with this number: the one that is known, or else
-/// the next one, which is made of this process.
+/// The index of the code for bodies with this fingerprint; if there is none yet, that of a new
+/// code, to be made from this process.
 fn guess(
     known: &mut HashMap<u64, u32>,
     firsts: &mut Vec<usize>,
@@ -27,7 +27,7 @@ fn guess(
     Ok(code)
 }
 
-/// A number in four bytes.
+/// A number as 32 bits.
 fn small(number: usize) -> Result<u32, AllocError>
     ensures { IfOk result (λ n. n ≡ number) }
 {
@@ -37,8 +37,8 @@ fn small(number: usize) -> Result<u32, AllocError>
     }
 }
 
-/// The processes of which codes are to be made, and for each process the place of the one whose
-/// body it is thought to have.
+/// The processes from which codes are to be made, and for each process the index of the code that
+/// is presumably that of its body.
 pub fn guesses(alloc: Global, processes: &[Process]) -> Result<(Vec<usize>, Vec<u32>), AllocError> {
     let mut known = HashMap::new(alloc);
     let mut firsts = Vec::new(alloc);
@@ -50,7 +50,7 @@ pub fn guesses(alloc: Global, processes: &[Process]) -> Result<(Vec<usize>, Vec<
     Ok((firsts, found))
 }
 
-/// The code of the process with a number, or none where there is no such process.
+/// The code of the process with a number; no program if there is no such process.
 fn code_of(alloc: Global, processes: &[Process], number: usize) -> Result<Code, AllocError>
     ensures { IfOk result (λ c. spec.IsCodeAt processes.now number c) }
 {
@@ -76,7 +76,7 @@ pub fn codes_of(
     Ok(codes)
 }
 
-/// The number at a place, if there is one.
+/// The number at an index, if there is one.
 fn number_at(numbers: &[usize], place: usize) -> Option<usize>
     ensures { result ≡ slice_get numbers.now place }
 {
@@ -90,7 +90,7 @@ fn with_number(processes: &[Process], number: usize) -> Option<&Process>
     processes.get(number)
 }
 
-/// The process of which the code at a place was made.
+/// The process from which the code at an index was made.
 fn first_of<'a>(processes: &'a [Process], firsts: &[usize], code: u32) -> Option<&'a Process>
     ensures { IfSome result (λ p. (codes : List (Option spec.Program)) → AllZip (spec.IsCodeAt processes.now) firsts.now codes
         → spec.IsCodeOf p.now.body (spec.code_at codes code)) }
@@ -102,7 +102,7 @@ fn first_of<'a>(processes: &'a [Process], firsts: &[usize], code: u32) -> Option
     }
 }
 
-/// Whether a process has the body of the process of which this code was made.
+/// Whether a process has the same body as the process from which this code was made.
 fn has_body(processes: &[Process], firsts: &[usize], code: u32, process: &Process) -> bool
     ensures { result ≡ true → (codes : List (Option spec.Program)) → AllZip (spec.IsCodeAt processes.now) firsts.now codes
         → spec.IsCodeOf process.now.body (spec.code_at codes code) }
@@ -113,7 +113,7 @@ fn has_body(processes: &[Process], firsts: &[usize], code: u32, process: &Proces
     }
 }
 
-/// The place of the code of a process: this one, if it is that of its body, or else none.
+/// The index of the code of a process: `code` if it is that of its body, else `none`.
 fn checked(processes: &[Process], firsts: &[usize], none: u32, code: u32, process: &Process) -> u32
     requires { length firsts.now ≤ none }
     ensures { (codes : List (Option spec.Program)) → AllZip (spec.IsCodeAt processes.now) firsts.now codes
@@ -126,7 +126,7 @@ fn checked(processes: &[Process], firsts: &[usize], none: u32, code: u32, proces
     }
 }
 
-/// For each process the place of its code, among the codes of these processes.
+/// For each process, the index of its code among those made from `firsts`.
 pub fn places_of(
     alloc: Global,
     processes: &[Process],

@@ -1,4 +1,4 @@
--- What a name means in an architecture's region is a port or signal of its block, which has that name: by recursion on the declarations.
+-- A name of a port or signal in an architecture's region is the name of that port or signal of its block: by recursion on the declarations.
 use Rattle.std.proofs.Common.{◌≡◌, ℕ, suc, ◌+◌, List, [], ◌∷◌, ◌++◌, map, length, Bool, Option, Some, None, refl, ap, sym, ◌∙◌, subst, arith}
 use Rattle.std.proofs.Common.{if◌then◌else◌, is_some, slice_get, bytes_eq, codes}
 use Rattle.std.proofs.lemmas.List.{map-append}
@@ -33,7 +33,7 @@ texts : List Name → List (List ℕ)
 texts [] = []
 texts (n ∷ ns) = n.text ∷ texts ns
 
--- ---- lists that stand in a list from a place on
+-- ---- lists that are part of a list from a position
 
 StandFrom : List (List ℕ) → ℕ → List (List ℕ) → Type 0
 StandFrom all place [] = Unit {0}
@@ -74,9 +74,9 @@ unfolding texts
 texts_length [] = refl
 texts_length (n ∷ ns) = let e = texts_length ns in omega arith
 
--- ---- regions whose ports and signals have the names that stand at their places
+-- ---- regions whose ports and signals have the names at their positions
 
--- what is declared has the name at its place, if it has a place
+-- a declaration has the name at its position, if it has a position
 abbrev Stands : List (List ℕ) → Declared → Type 0
 Stands all d = (place : ℕ) → place_of (Some d.1) ≡ Some place → slice_get all place ≡ Some d.0
 
@@ -114,7 +114,7 @@ module _ (all : List (List ℕ)) where
   objects_stand o place [] h = tt
   objects_stand o place (n ∷ ns) h = (object_stands o place n.text h.0, objects_stand o (place + 1) ns h.1)
 
-  -- names, and then more
+  -- some names, and then more
   parts_stand : (place : ℕ) (ns more : List Name) → StandFrom all place (texts (ns ++ more))
       → StandFrom all place (texts ns) × StandFrom all (place + length ns) (texts more)
   parts_stand place ns more h =

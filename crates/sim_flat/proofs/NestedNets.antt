@@ -1,5 +1,5 @@
--- The nets of a flat design have the values of their source trees: scene by scene, each tree is one in which no name of type std_ulogic has
--- more than one source, and of such a tree the flat sources resolve as the nested names.
+-- The nets of a flat design have the values of their source trees: scene by scene, no name of type std_ulogic in a tree has more than one
+-- source, and for such a tree the flat sources resolve as the nested names.
 use Rattle.std.proofs.Common.{◌≡◌, ℕ, zero, suc, ◌+◌, List, [], ◌∷◌, ◌++◌, Bool, true, false, Some, map, slice_get, All}
 use Rattle.std.proofs.Common.{refl, ap, sym, ◌∙◌, subst, if◌then◌else◌}
 use Rattle.std.specs.List.{AllZip}
@@ -24,7 +24,7 @@ use Rattle.sim_flat.specs.Laws.{HasValueOf, source_value, trees}
 use Rattle.sim_flat.specs.Laws as laws
 use Rattle.sim_flat.proofs.SourceTrees.{Placed, placed_all, placed_first, placed_rest, Reached, instances_reached, resolvable}
 
--- ---- scenes show blocks that are reached
+-- ---- the blocks of scenes are reached
 record IsReached (blocks : List Block) (top : ℕ) (s : Scene) : Type 0 where
   number : ℕ
   reached : Reached blocks top number
@@ -54,7 +54,7 @@ module _ (blocks : List Block) (top : ℕ) where
   unfolding scenes_of
   all_reached = scenes_reached levels [] top Here
 
--- ---- nets show objects
+-- ---- nets are objects
 abbrev IsObject : List Object → Own → Type 0
 IsObject os x = slice_get os x.place ≡ Some x.object
 

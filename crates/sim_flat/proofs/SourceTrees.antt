@@ -1,5 +1,5 @@
--- Where no unresolved port or signal has many sources, no name of type std_ulogic has more than one source in a source tree: the sources of
--- a name in the tree are its drivers and the ports of instances that drive it, which are those that are counted.
+-- If no unresolved port or signal has many sources, no name of type std_ulogic in a source tree has more than one source: the sources of a
+-- name in the tree are its drivers and the ports of instances that drive it, which are those counted.
 use Rattle.std.proofs.Common.{◌≡◌, ℕ, zero, suc, ◌+◌, ◌==◌, ◌&&◌, ◌≤◌, List, [], ◌∷◌, ◌++◌, Bool, true, false, Some, length}
 use Rattle.std.proofs.Common.{map, slice_get, refl, sym, ◌∙◌, subst, arith, length-append, if◌then◌else◌}
 use Rattle.std.specs.List.{Contains}
@@ -84,7 +84,7 @@ of_ports_counted one links m n (p ∷ ps) =
     (of_ports_counted one links m (n + 1) ps)
 
 module _ (blocks : List Block) (all : List Scene) where
-  -- below the last level there is none
+  -- below the last level there are none
   port_trees_counted : (k : ℕ) (p : Path) (b : Block) (links : List Link) (m : ℕ)
       → length (port_trees blocks all k p b links m) ≤ times m (targets_of_ports links 0 b.ports)
   unfolding port_trees
@@ -105,7 +105,7 @@ module _ (blocks : List Block) (all : List Scene) where
       let t = times_both m (targets_of_ports i.links 0 (block_of blocks i).ports) (targets_of_instances blocks is) in
       omega arith
 
-  -- the sources of the one at a place
+  -- the sources of the object at a position
   abbrev sources : ℕ → Path → Block → ℕ → Sources
   sources k p b n =
       with_drivers (driving n (before driver_count all p) (targets_of b.processes))
@@ -123,7 +123,7 @@ module _ (blocks : List Block) (all : List Scene) where
       let t = times_both n (targets_of b.processes) (targets_of_instances blocks b.instances) in
       omega arith
 
--- ---- where the sources are as they may be
+-- ---- if the numbers of sources are allowed
 drivers_may : (ns : List ℕ) (more : Sources) → AreResolvable more → AreResolvable (with_drivers ns more)
 drivers_may [] more h = h
 drivers_may (n ∷ ns) more h = drivers_may ns more h
@@ -136,7 +136,7 @@ type_allows : (resolved : Bool) (count : ℕ) → (resolved ≡ false → count 
 type_allows true count h = tt
 type_allows false count h = h refl
 
--- an object at a place, when the places are counted from a number
+-- a property of the object at each position, where positions are counted from n
 abbrev pub Placed : (ℕ → Object → Type 0) → ℕ → List Object → Type 0
 Placed P n os = (i : ℕ) (o : Object) → slice_get os i ≡ Some o → P (n + i) o
 
@@ -162,7 +162,7 @@ of_ports_may one links m n (p ∷ ps) os h =
     by_bit true t ts = (t, ts)
     by_bit false t ts = ts
 
--- ---- block by block: instances of a block that is reached are of blocks that are reached
+-- ---- block by block: the blocks of instances in a reached block are reached
 abbrev pub Reached : List Block → ℕ → ℕ → Type 0
 Reached blocks top c = Reaches (graph_of blocks) c top
 
@@ -181,7 +181,7 @@ instances_reached blocks top c reached =
     each_led (graph_of blocks) top c reached (block_at blocks c).instances (λ n among. subst (λ (ns : List ℕ). Contains ns n) (sym (led_is blocks c)) among)
 
 module _ (blocks : List Block) (all : List Scene) (top : ℕ) (resolved : IsResolved blocks top) where
-  -- no port or signal of a block that is reached has more sources than it may
+  -- no port or signal of a reached block has more sources than allowed
   sources_allowed : (k : ℕ) (p : Path) (c : ℕ) → Reached blocks top c → (n : ℕ) (o : Object) → slice_get (objects (block_at blocks c)) n ≡ Some o
       → AllowsSources (type_of o.resolved) (count_of (sources blocks all k p (block_at blocks c) n))
   sources_allowed k p c reached n o is =

@@ -1,4 +1,4 @@
--- The architecture of the top is one of the library: its block is there.
+-- The architecture of the top is in the library: its block exists.
 use Rattle.std.proofs.Common.{ℕ, ◌≡◌, ◌+◌, ◌<◌, List, [], ◌∷◌, length, suc, Bool, true, false, Option, Some, None, arith}
 use Rattle.std.specs.Option.{option_or}
 use Rattle.sim_text_tree.specs.declared.unit.Architecture.{Architecture}

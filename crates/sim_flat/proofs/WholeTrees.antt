@@ -1,5 +1,5 @@
--- Where no chain of instances is longer than the levels, the trees and the design are those of the whole hierarchy: with more levels the same
--- scenes are found, each with more levels below it, and nothing that is reported of them differs.
+-- If no chain of instances is longer than the levels, the trees and the design are those of the whole hierarchy: with more levels the scenes
+-- are the same, each with more levels below it, and so is everything derived from them.
 use Rattle.std.proofs.Common.{◌≡◌, ℕ, zero, suc, ◌+◌, ◌-◌, ◌≤◌, ◌||◌, List, [], ◌∷◌, ◌++◌}
 use Rattle.std.proofs.Common.{Bool, true, false, map, slice_index_or, refl, ap, sym, ◌∙◌, subst, arith}
 use Rattle.std.specs.List.{list_any}
@@ -73,7 +73,7 @@ module _ (blocks : List Block) (m : ℕ) where
       (ap (λ (ss : List Scene). record { path = p; block = b; levels = m + k } ∷ ss)
       (inner_raised k (scenes_raised k) p 0 b.instances (short_below blocks k b none)))
 
--- below each scene no chain is longer than the levels that may stand there
+-- below each scene no chain is longer than the allowed levels
 abbrev IsCut : List Block → Scene → Type 0
 IsCut blocks s = has_chain blocks (suc s.levels) s.block ≡ false
 
@@ -92,7 +92,7 @@ module _ (blocks : List Block) where
   scenes_cut zero p b none = tt
   scenes_cut (suc k) p b none = (none, inner_cut k (scenes_cut k) p 0 b.instances (short_below blocks k b none))
 
--- ---- what stands before a path
+-- ---- the scenes before a path
 before_raised : (count : Scene → ℕ) (m : ℕ) → ((s : Scene) → count (raised m s) ≡ count s) → (ss : List Scene) (p : Path)
     → before count (map (raised m) ss) p ≡ before count ss p
 unfolding before
@@ -214,7 +214,7 @@ module _ (blocks : List Block) (top : ℕ) (short : has_chain blocks levels (sli
   whole_design : flat_to (m + levels) blocks top ≡ flat_to levels blocks top
   whole_design = rw (found, all_nets, all_processes, all_drivers) refl
 
--- ---- any number of levels that is no less
+-- ---- any larger number of levels
 split : (n : ℕ) → levels ≤ n → n - levels + levels ≡ n
 split n le = omega arith
 

@@ -17,7 +17,7 @@ use Rattle.sim_flat.specs.Tops.{IsTop, IsMissing}
 abbrev pub first_fault : Library → Option Fault
 first_fault l = earliest None (file_faults l)
 
--- The units have no fault, the top is there, and under it is no fault: this is its flat design.
+-- The units have no fault, the top exists, and there is no fault under it: this is its flat design.
 pub record IsDesign (l : Library) (name : List ℕ) (design : Design) : Type 0 where
   pub checked : first_fault l ≡ None
   pub top : Top
@@ -30,18 +30,18 @@ pub record IsUnitFault (l : Library) (e : FlatError) : Type 0 where
   pub first : first_fault l ≡ Some fault
   pub reported : e ≡ refusal_of fault
 
--- The units have no fault, but the top is not there.
+-- The units have no fault, but the top does not exist.
 pub record IsWithoutTop (l : Library) (name : List ℕ) (e : FlatError) : Type 0 where
   pub checked : first_fault l ≡ None
   pub missing : IsMissing l name e
 
--- The units have no fault and the top is there, but under it is a fault: this is the first.
+-- The units have no fault and the top exists, but there is a fault under it: this is the first.
 pub record IsHierarchyFault (l : Library) (name : List ℕ) (e : FlatError) : Type 0 where
   pub checked : first_fault l ≡ None
   pub top : Top
   pub is_top : IsTop l name top
   pub fault : hierarchy.IsFault (blocks_of l) top e
 
--- Why there is no flat design: there is no memory, or this is the first fault of the first group that has one.
+-- Why there is no flat design: an allocation failed, or this is the first fault of the first group that has one.
 abbrev pub IsRefusal : Library → List ℕ → FlatError → Type 0
 IsRefusal l name e = (e ≡ refusal.Memory) ⊎ IsUnitFault l e ⊎ IsWithoutTop l name e ⊎ IsHierarchyFault l name e

@@ -11,11 +11,11 @@ use Rattle.sim_flat.specs.declared.error.FlatError.{FlatError}
 use Rattle.sim_flat.specs.declared.error.FlatError.TheVariants as refusal
 use Rattle.sim_flat.specs.declared.top.Top.{Top}
 
--- No instance that the top reaches stands in itself.
+-- No instance reached from the top contains itself.
 abbrev pub IsFinite : List Block → ℕ → Type 0
 IsFinite blocks top = IsLeast (IsRecursive blocks top) None
 
--- No port or signal that is not resolved has more sources than one, in what the top reaches.
+-- No unresolved port or signal reached from the top has more than one source.
 abbrev pub IsResolved : List Block → ℕ → Type 0
 IsResolved blocks top = IsLeast (HasManySources blocks top) None
 
@@ -26,7 +26,7 @@ pub record IsFlat (blocks : List Block) (top : Top) (design : Design) : Type 0 w
   pub resolved : IsResolved blocks top.block
   pub is : design ≡ flat blocks top.block
 
--- The first fault: an instance that stands in itself, else that there is too much, else a port or signal with many sources.
+-- The first fault: an instance that contains itself, else an exceeded limit, else a port or signal with many sources.
 abbrev pub IsFault : List Block → Top → FlatError → Type 0
 IsFault blocks top refusal.Memory = Unit {0}
 IsFault blocks top (refusal.Recursive at) = IsLeast (IsRecursive blocks top.block) (Some at)

@@ -1,5 +1,5 @@
--- What holds of a design without fault: its nets have the values of the ports and signals that they are (IEEE 1076-2008, 14.7.3). And what
--- holds of each architecture: what its region says of places is what its block has there.
+-- Properties of a design without faults: its nets have the values of their ports and signals (IEEE 1076-2008, 14.7.3). And a property of
+-- each architecture: the positions in its region are those in its block.
 use Rattle.std.specs.Prelude.{ℕ, ◌≡◌, List, [], map, Option, Some, None, option_map, slice_get, slice_index_or}
 use Rattle.sim_logic.specs.declared.logic.Logic.{Logic}
 use Rattle.sim_logic.specs.Resolution.{resolved}
@@ -30,46 +30,46 @@ trees blocks top =
     let all = scenes_of blocks top in
     gather (λ s. map (tree blocks all s) (own_at s)) all
 
--- the value of a source, where each driver has the value that `driving` gives
+-- the value of a source, where driver n has the value `driving n`
 abbrev pub source_value : (ℕ → Logic) → Source → Logic
 source_value driving (source.Driver n) = driving n
 source_value driving (source.Constant value) = value
 
--- The sources of a net, resolved as one list, have the value of its source tree, in which each port has the value of its own sources,
--- whatever the values of the drivers are.
+-- The sources of a net, resolved as one list, give the value of its source tree, in which each port is resolved by itself, for all
+-- values of the drivers.
 abbrev pub HasValueOf : SourceTree → Net → Type 0
 HasValueOf t n = (driving : ℕ → Logic) → resolved (map (source_value driving) n.sources) ≡ nested driving t
 
--- ---- the same where instances are followed down another number of levels, of which the top is the first
+-- ---- the same with another number of levels of instances, of which the top is the first
 
--- what stands in a number of levels
+-- the scenes to this number of levels
 abbrev pub scenes_to : ℕ → List Block → ℕ → List Scene
 scenes_to levels blocks top = scenes blocks levels [] (slice_index_or blocks top no_block)
 
--- the source trees of its nets
+-- the source trees of their nets
 abbrev pub trees_to : ℕ → List Block → ℕ → List SourceTree
 trees_to levels blocks top =
     let all = scenes_to levels blocks top in
     gather (λ s. map (tree blocks all s) (own_at s)) all
 
--- its flat design
+-- their flat design
 abbrev pub flat_to : ℕ → List Block → ℕ → Design
 flat_to levels blocks top =
     let all = scenes_to levels blocks top in
     record { nets = gather (nets_at blocks all) all; processes = gather (processes_at all) all; drivers = gather (drivers_at all) all }
 
--- ---- names and places
+-- ---- names and positions
 
 -- the region of an architecture of a library
 abbrev pub region_of : Library → Architecture → Region
 region_of l a = architecture_region (ports_named l a.entity.text) a.declarations a.statements
 
--- the place of what a name means, where that is a port or signal
+-- the position of a port or signal, from its meaning
 abbrev pub place_of : Option Meaning → Option ℕ
 place_of (Some (m.Port place mode type)) = Some place
 place_of (Some (m.Signal place type)) = Some place
 place_of _ = None
 
--- the name of the port or signal at a place of a block
+-- the name of the port or signal at a position of a block
 abbrev pub name_at : Block → ℕ → Option (List ℕ)
 name_at b place = option_map (λ (x : Object). x.name.text) (slice_get (objects b) place)

@@ -1,4 +1,4 @@
--- How faults are reported.
+-- The refusals that report faults.
 use Rattle.sim_flat_scope.specs.declared.fault.Kind.TheVariants as k
 use Rattle.sim_flat_scope.specs.declared.fault.Kind.{Kind}
 use Rattle.sim_flat_scope.specs.declared.fault.Fault.{Fault}
@@ -6,7 +6,7 @@ use Rattle.std.specs.Prelude.{ℕ}
 use Rattle.sim_flat.specs.declared.error.FlatError.{FlatError}
 use Rattle.sim_flat.specs.declared.error.FlatError.TheVariants as refusal
 
--- the refusal for a kind of fault and a place
+-- the refusal for a kind of fault at a place
 abbrev pub refusal_at : Kind → ℕ → FlatError
 refusal_at k.Duplicate at = refusal.Duplicate at
 refusal_at k.Predefined at = refusal.Predefined at
@@ -27,6 +27,6 @@ refusal_at k.NotAscending at = refusal.NotAscending at
 refusal_at k.RejectTooLong at = refusal.RejectTooLong at
 refusal_at k.TooMany at = refusal.TooMany at
 
--- the refusal that tells a fault
+-- the refusal that reports a fault
 abbrev pub refusal_of : Fault → FlatError
 refusal_of f = refusal_at f.kind f.at

@@ -7,11 +7,11 @@ use Rattle.sim_flat.specs.declared.error.FlatError.{FlatError}
 use Rattle.sim_flat.specs.declared.error.FlatError.TheVariants as refusal
 use Rattle.sim_flat.specs.declared.top.Top.{Top}
 
--- the name of the top in small letters, as the names of a text are
+-- the name of the top in lower case, like the names of a text
 abbrev pub folded : List ℕ → List ℕ
 folded top = map to_ascii_lowercase top
 
--- The entity of the top is named here, and its last architecture has this number. A name with a byte above 127 names no entity.
+-- The top's entity is named at this place, and its last architecture has this number. No entity's name has a byte above 127.
 pub record IsTop (l : Library) (name : List ℕ) (top : Top) : Type 0 where
   pub ascii : IsAscii name
   pub entity : Entity
@@ -19,7 +19,7 @@ pub record IsTop (l : Library) (name : List ℕ) (top : Top) : Type 0 where
   pub named : top.at ≡ entity.name.at
   pub architecture : last_architecture l.architectures (folded name) ≡ Some top.block
 
--- The entity of the top has no architecture. It is named here.
+-- The entity of the top has no architecture. Its name is at this place.
 pub record IsBare (l : Library) (name : List ℕ) (at : ℕ) : Type 0 where
   pub ascii : IsAscii name
   pub entity : Entity

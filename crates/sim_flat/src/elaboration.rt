@@ -24,7 +24,7 @@ fn elaborate(alloc: Global, library: &Library<'_>, top: &str) -> Result<Design, 
     expand_top(alloc, plan.as_slice(), found)
 }
 
-/// The flat design under the top, or the first fault: that of a unit comes first.
+/// The flat design under the top, or the first fault; those of units come first.
 fn checked(alloc: Global, library: &Library<'_>, top: &str) -> Result<Design, FlatError>
     ensures { MatchResult result (λ d. spec.IsDesign library.now top.now d) (λ e. spec.IsRefusal library.now top.now e) }
 {
@@ -36,12 +36,12 @@ fn checked(alloc: Global, library: &Library<'_>, top: &str) -> Result<Design, Fl
 
 /// The flat design of a file under the entity `top`, whose name is compared without regard to case.
 ///
-/// The refusals, in the order in which they are looked for: the first fault of any unit of the
-/// file, reached from the top or not (by position, and of two at one position the one that comes
-/// first in `FlatError`); `NoTop` where no entity has the name; `NoArchitecture`, at its name,
-/// where the top has none; `Recursive`, at the first instance that stands in itself; `TooMany`, at
-/// the name of the top, where the flat design would pass a limit; `ManySources`, at the first
-/// signal or port of type std_ulogic with more than one source. `Memory` may come at any time.
+/// The refusals, in order of precedence: the first fault of any unit of the file, reached from the
+/// top or not (by position, and of two at one position the one listed first in `FlatError`);
+/// `NoTop` if no entity has the name; `NoArchitecture`, at its name, if the top has none;
+/// `Recursive`, at the first instance that contains itself; `TooMany`, at the name of the top, if
+/// the flat design would exceed a limit; `ManySources`, at the first signal or port of type
+/// std_ulogic with more than one source. `Memory` is possible at any time.
 pub fn flatten(alloc: Global, file: &DesignFile, top: &str) -> Result<Design, FlatError>
     ensures { MatchResult result (λ d. spec.IsDesign (library_of file.now.units) top.now d)
         (λ e. spec.IsRefusal (library_of file.now.units) top.now e) }

@@ -10,11 +10,11 @@ use std::error::Error;
 use std::fmt;
 use std::fmt::{Debug, Display};
 
-/// A refusal of `flatten`. Positions are those of the first byte of a token, from 0; the text is
-/// that of the program's line on standard error.
+/// A refusal of `flatten`. Positions are offsets of the first byte of a token, from 0; `Display`
+/// writes the text of the program's line on standard error.
 #[derive(Clone, Copy, PartialEq, Eq)]
 pub enum FlatError {
-    /// No memory.
+    /// An allocation failed.
     Memory,
     /// No entity has the name of the top.
     NoTop,
@@ -24,42 +24,43 @@ pub enum FlatError {
     Predefined { at: usize },
     /// No such name is declared (12.3).
     Unknown { at: usize },
-    /// A name means something else than its place asks for.
+    /// A name has a meaning that is not allowed at its place.
     WrongKind { at: usize },
     /// Two operands, or a value and its target, have different types (9.2, 10.5, 10.6).
     TypeClash { at: usize },
-    /// Both operands of `=` or `/=` are of type std_ulogic, or the operand of `??` or a condition is,
-    /// and none holds a name (9.2.9, 12.5).
+    /// The operands of `=` or `/=`, the operand of `??`, or a condition are of type std_ulogic and
+    /// contain no name (9.2.9, 12.5).
     Ambiguous { at: usize },
-    /// A port of mode out is read (6.5.2).
+    /// A port of mode out is read. The rule is our own: the standard has allowed this since 2008.
     ReadOut { at: usize },
     /// A port of mode in is assigned (6.5.2).
     WriteIn { at: usize },
-    /// A port of mode in without a default is left open (6.5.6.3).
+    /// A port of mode in without a default expression is left open or unassociated (6.5.6.3).
     PortMissing { at: usize },
     /// A port is associated twice (6.5.7).
     PortTwice { at: usize },
-    /// The mode of a port does not allow its actual (6.5.6.3).
+    /// The mode of a port does not allow its actual. The rule is stricter than the standard's
+    /// (6.5.6.3).
     ModeClash { at: usize },
     /// The ports of a component differ from those of its entity (7.3.3).
     ComponentDiffers { at: usize },
-    /// An entity has no architecture, or not the one that is named (7.3.3).
+    /// An entity has no architecture, or not the named one (7.3.3).
     NoArchitecture { at: usize },
-    /// An architecture stands, by instances, in itself.
+    /// An architecture contains itself, through instances.
     Recursive { at: usize },
     /// A signal or port of type std_ulogic has more than one source (6.4.2.3).
     ManySources { at: usize },
-    /// The times of a waveform do not rise (10.5.2.2).
+    /// The delays of a waveform do not ascend (10.5.2.2).
     NotAscending { at: usize },
     /// A rejection limit is larger than the first delay of its waveform (10.5.2.1).
     RejectTooLong { at: usize },
-    /// There are too many elements, nets, processes, drivers or instances, or instances stand too
-    /// deep in one another.
+    /// There are too many elements, nets, processes, drivers or instances, or instances are nested
+    /// too deeply.
     TooMany { at: usize },
 }
 
 impl FlatError {
-    /// Its word, and its position.
+    /// Its name, and its position if it has one.
     fn word(self) -> (&'static str, Option<usize>) {
         match self {
             FlatError::Memory => ("Memory", None),
@@ -86,7 +87,7 @@ impl FlatError {
     }
 }
 
-// (written out: what is derived of so many variants takes three times as long to prove)
+// (written by hand: deriving it for so many variants takes three times as long to prove)
 impl Display for FlatError {
     fn fmt<W: fmt::Write>(&self, f: &mut fmt::Formatter<W>) -> fmt::Result {
         match self.word() {
@@ -120,7 +121,7 @@ impl<T: Drop> From<AllocFailed<T>> for FlatError {
     }
 }
 
-/// The refusal that tells a fault.
+/// The refusal that reports a fault.
 pub fn refusal_of(found: Fault) -> FlatError
     ensures { result ≡ refusal_of found }
 {

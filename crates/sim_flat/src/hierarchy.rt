@@ -15,8 +15,8 @@ use sim_flat_expansion::limits::fits;
 use sim_flat_graph::{first_recursive, first_with_many_sources};
 use std::alloc::Global;
 
-/// Refuses a hierarchy that has a fault, in the order of its groups: `Recursive` where an instance
-/// stands in itself, `TooMany` where a limit is passed, `ManySources`.
+/// Refuses a hierarchy with a fault. The order is `Recursive` if an instance contains itself,
+/// `TooMany` if a limit is exceeded, `ManySources`.
 fn check(alloc: Global, blocks: &[Block], top: Top) -> Result<(), FlatError>
     requires known { All (IsBlock blocks.now) blocks.now }
     requires top { top.block < length blocks.now }

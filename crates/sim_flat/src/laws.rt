@@ -13,24 +13,24 @@ ghost use Rattle.sim_flat.specs.declared.top.Top.{Top};
 ghost use Rattle.sim_flat.specs.Hierarchies.{IsFlat};
 ghost use Rattle.sim_flat.specs.Laws.{HasValueOf, flat_to, name_at, place_of, region_of, trees, trees_to};
 
-/// In the source tree of each net of a design without fault, no port or signal of type std_ulogic
-/// has more than one source, in whatever instance it stands (IEEE 1076-2008, 6.4.2.3).
+/// In the source tree of each net of a design without faults, no port or signal of type std_ulogic
+/// has more than one source, in any instance (IEEE 1076-2008, 6.4.2.3).
 pub fn unresolved_names_have_at_most_one_source()
     ensures { (blocks : List Block) (top : Top) (design : Design) →
         IsFlat blocks top design → All IsResolvable (trees blocks top.block) }
 {}
 
-/// In a design without fault, the flat sources of each net, resolved as one list, have the value
-/// that its source tree has where each associated port is resolved by itself, for all values of the
+/// In a design without faults, the flat sources of each net, resolved as one list, give the value
+/// of its source tree, in which each associated port is resolved by itself, for all values of the
 /// drivers (IEEE 1076-2008, 14.7.3).
 pub fn nets_resolve_as_the_nested_names()
     ensures { (blocks : List Block) (top : Top) (design : Design) →
         IsFlat blocks top design → AllZip HasValueOf (trees blocks top.block) design.nets }
 {}
 
-/// A design without fault is that of the whole hierarchy, and so are the source trees of its nets:
-/// the number of levels down which instances are followed cuts nothing off, since with any larger
-/// number both are the same.
+/// A design without faults is that of the whole hierarchy, and so are the source trees of its nets:
+/// the limit on the levels of instances cuts nothing off, since any larger number of levels gives
+/// the same.
 pub fn nothing_is_cut_off()
     ensures trees { (blocks : List Block) (top : Top) (design : Design) →
         IsFlat blocks top design → (n : ℕ) → levels ≤ n → trees_to n blocks top.block ≡ trees blocks top.block }
@@ -38,8 +38,8 @@ pub fn nothing_is_cut_off()
         IsFlat blocks top design → (n : ℕ) → levels ≤ n → flat_to n blocks top.block ≡ design }
 {}
 
-/// Where an architecture's region gives a name a place, as that of a port or signal, the port or
-/// signal at this place of its block has that name.
+/// If an architecture's region gives a name the position of a port or signal, then the port or
+/// signal at this position of its block has that name.
 pub fn names_stand_at_their_places()
     ensures { (l : Library) (a : Architecture) (name : List ℕ) (place : ℕ) →
         place_of (seen (region_of l a) name) ≡ Some place → name_at (block_of l a) place ≡ Some name }

@@ -1,5 +1,5 @@
-//! Elaboration: from the tree of a design file to its flat design, or its one fault (IEEE
-//! 1076-2008, 13 and 14).
+//! Elaboration: from the tree of a design file to its flat design, or to one fault (IEEE 1076-2008,
+//! 13 and 14).
 #![tactic(auto)]
 
 mod elaboration;

@@ -8,16 +8,16 @@ use crate::folding::folded;
 use sim_flat_instances::Library;
 use std::alloc::Global;
 
-/// The number of the block of the top, and where its entity is named.
+/// The number of the block of the top, and the offset of its entity's name.
 #[derive(Clone, Copy)]
 pub struct Top {
     pub block: usize,
     pub at: usize,
 }
 
-/// The top of this name, which is compared without regard to case: the last architecture of its
-/// entity counts. `NoTop` comes where no entity has the name, as none has one with a character beyond
-/// ASCII, `NoArchitecture` where it has no architecture.
+/// The top with this name, which is compared without regard to case, with the last architecture of
+/// its entity. `NoTop` if no entity has the name, such as one with a character beyond ASCII;
+/// `NoArchitecture` if the entity has no architecture.
 pub fn top_of(alloc: Global, library: &Library<'_>, name: &str) -> Result<Top, FlatError>
     ensures { MatchResult result (λ top. spec.IsTop library.now name.now top) (λ e. spec.IsMissing library.now name.now e) }
 {

@@ -1,7 +1,7 @@
--- Leaves that are added at a place.
+-- Flat sources that are added at a position.
 use Rattle.std.proofs.Common.{◌≡◌, ℕ, zero, suc, ◌≤◌, List, [], ◌∷◌, length, slice_set, refl, ap, arith}
 
--- nothing is added at a place that is not there
+-- nothing is added past the end
 pub set_past : {X : Type 0} (xs : List X) (n : ℕ) (x : X) → length xs ≤ n → slice_set xs n x ≡ xs
 set_past [] n x le = refl
 set_past (y ∷ ys) zero x le = absurd (omega arith)

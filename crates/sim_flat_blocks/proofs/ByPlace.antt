@@ -1,4 +1,4 @@
--- Lists that are made place by place: one that is changed at a place, and one whose items are all the same.
+-- Lists built position by position: one that is changed at a position, and one whose items are all the same.
 use Rattle.std.proofs.Common.{◌≡◌, ℕ, zero, suc, ◌+◌, ◌==◌, ◌<◌, List, ◌∷◌, Bool, true, false, cond, map, get_or, set, replicate}
 use Rattle.std.proofs.Common.{refl, ap, sym, ◌∙◌, arith, eqb-true}
 use Rattle.std.proofs.lemmas.List.{ext_get_or, get_or-set_same, get_or-set_other, length-set}
@@ -45,7 +45,7 @@ module _ {X : Type 0} (f g : ℕ → X) (n p : ℕ) (y d : X) (changed : (q : �
       get_or-set_other (fs f g n d) p q y d (λ e. grind (arith, nat_tests))
       ∙ (f_at f g n d q lt ∙ sym (changed q ∙ ap (λ (b : Bool). cond b y (f q)) t))
 
-  -- an item is changed at a place
+  -- one item is changed
   pub put_at : set (map f (range_with_len 0 n)) p y ≡ map g (range_with_len 0 n)
   put_at =
       let a = length-map-range_with_len f 0 n in

@@ -1,4 +1,4 @@
--- A process whose parts keep to what there is may stand in a block.
+-- A process whose parts are in range fits a block.
 use Rattle.std.proofs.Common.{◌≡◌, ℕ, true, List, length, Option, Some, None, refl, sym, subst, Bool}
 use Rattle.std.specs.List.{All}
 use Rattle.sim_flat_design.specs.declared.held.Held.{Held}

@@ -1,4 +1,4 @@
--- A link that is put stands at its place, and the others where they stood; how many ports have a net of their own is counted along.
+-- Setting a link changes it at its position only, and the number of ports with a net of their own accordingly.
 use Rattle.std.proofs.Common.{◌≡◌, ◌≢◌, ℕ, zero, suc, ◌+◌, ◌-◌, ◌==◌, ◌<◌, ◌≤◌, List, [], ◌∷◌, Bool, Option, Some, cond, length}
 use Rattle.std.proofs.Common.{get_or, slice_get, set, replicate, refl, ap, sym, ◌∙◌, arith, eqb-true}
 use Rattle.std.proofs.lemmas.Bool.Decides.{nat_tests}
@@ -12,7 +12,7 @@ use Rattle.sim_flat_blocks.specs.declared.links.Link.TheVariants.{To, Constant, 
 use Rattle.sim_flat_blocks.proofs.ByPlace.{put_at, all_same}
 use Rattle.sim_flat_blocks.specs.Links.{or_open, kept, link_in, at, by_place, own, unlinked}
 
--- ---- no link
+-- ---- no links
 
 all_open : (k n : ℕ) → at (replicate k Open) [] n ≡ Open
 all_open zero n = refl
@@ -28,7 +28,7 @@ unfolding unlinked
 open_unlinked zero = refl
 open_unlinked (suc n) = let rest = open_unlinked n in omega arith
 
--- ---- the link at a place
+-- ---- the link at a position
 
 pub as_many : (first : List Link) (others : List (ℕ × Link)) (ports : ℕ) → length (by_place first others ports) ≡ ports
 unfolding by_place
@@ -42,7 +42,7 @@ pub past_places : (first : List Link) (others : List (ℕ × Link)) (ports n : �
 past_places first others ports n le =
     let e = as_many first others ports in get_or_past (by_place first others ports) n Open (omega arith)
 
--- ---- one link more
+-- ---- one more link
 
 listed_same : (xs : List Link) (n : ℕ) (l : Link) → n < length xs → slice_get (set xs n l) n ≡ Some l
 listed_same [] n l lt = absurd (omega arith)
@@ -56,7 +56,7 @@ listed_other (x ∷ xs) zero (suc n) l apart = refl
 listed_other (x ∷ xs) (suc p) zero l apart = refl
 listed_other (x ∷ xs) (suc p) (suc n) l apart = listed_other xs p n l (λ e. apart (ap suc e))
 
--- in the list
+-- a link in the list
 pub put_listed : (first : List Link) (others : List (ℕ × Link)) (ports place : ℕ) (l : Link) → place < length first
     → set (by_place first others ports) place l ≡ by_place (set first place l) others ports
 unfolding by_place
@@ -82,7 +82,7 @@ past_list first others more place n l past made = by_cases (place == n)
     (made ∙ ap (λ (b : Bool). cond b (Some l) (lookup (λ (k : ℕ). n == k) others)) f)
     ∙ ap (λ (b : Bool). cond b l (at first others n)) (sym f))
 
--- among the others
+-- a link among the others
 pub put_kept : (first : List Link) (others more : List (ℕ × Link)) (ports place : ℕ) (l : Link) → length first ≤ place
     → ((n : ℕ) → lookup (λ (k : ℕ). n == k) more ≡ cond (place == n) (Some l) (lookup (λ (k : ℕ). n == k) others))
     → set (by_place first others ports) place l ≡ by_place first more ports

@@ -1,4 +1,4 @@
--- Each block of a plan stands among the blocks: its processes fit any block of its size, and its instances are known.
+-- Each block of a plan is consistent with the list: its processes fit blocks of its size, its instances are in range.
 use Rattle.std.proofs.Common.{◌≡◌, ℕ, List, [], ◌∷◌, ◌++◌, All, sym, subst}
 use Rattle.std.proofs.lemmas.List.Elements.{All-nil, All-push}
 use Rattle.sim_text_tree.specs.declared.declaration.Declaration.{Declaration}

@@ -1,5 +1,5 @@
--- Each instance of a plan has its block there, and leads to ports and signals that are there: the place of its architecture is that
--- of one of its entity, and what the names of its region mean is below the number of ports and signals.
+-- The block of each instance of a plan exists, and its links are in range: its architecture is one of its entity, and the names of
+-- its region are below the number of ports and signals.
 use Rattle.std.proofs.Common.{◌≡◌, ℕ, zero, suc, ◌+◌, ◌<◌, ◌&&◌, List, [], ◌∷◌, ◌++◌, map, length, get_or, slice_get}
 use Rattle.std.proofs.Common.{Bool, true, false, Option, Some, None, All, refl, ap, sym, ◌∙◌, arith}
 use Rattle.std.specs.Option.{option_or}
@@ -37,9 +37,9 @@ use Rattle.sim_flat_blocks.specs.Blocks.{IsInstance, LeadsBelow, no_block, size}
 use Rattle.sim_flat_blocks.specs.Plans.{block_ports, seen, link_to, link_of, links_of, links_at, ports_known, ports_declared, ports_named, port}
 use Rattle.sim_flat_blocks.specs.Plans.{block_number, instance_of, instances_of, block_of, blocks_of}
 
--- ---- the place of an architecture
+-- ---- the position of an architecture
 
--- what stands at a place passes a test
+-- the item at a position passes a test
 record Stands {X : Type 0} (test : X → Bool) (at : ℕ) (xs : List X) (place : ℕ) : Type 0 where
   index : ℕ
   is : place ≡ at + index
@@ -64,7 +64,7 @@ last_stands test at [] place e = cc
 last_stands test at (x ∷ xs) place e =
     one_more test at x xs place (last_place test (at + 1) xs) (test x) (last_stands test (at + 1) xs place) refl e
 
--- the architecture at a place is one of the entity of this name
+-- the architecture at a position belongs to the entity with this name
 record IsOfEntity (l : Library) (name : List ℕ) (place : ℕ) : Type 0 where
   architecture : Architecture
   there : slice_get l.architectures place ≡ Some architecture
@@ -93,7 +93,7 @@ architecture_of l (of.Entity library name None) place e = of_entity l name.text 
 architecture_of l (of.Entity library name (Some x)) place e =
     of_entity l name.text (is_named_of name.text x.text) place (λ a h. first_true (is_of name.text a) (bytes_eq x.text a.name.text) h) e
 
--- ---- the blocks by their numbers
+-- ---- the blocks, by number
 
 at_front : {X : Type 0} (f : X → Block) (xs : List X) (place : ℕ) (x : X) → slice_get xs place ≡ Some x
     → (get_or (map f xs ++ no_block ∷ []) place no_block ≡ f x) × (place < length (map f xs ++ no_block ∷ []))
@@ -119,7 +119,7 @@ ports_are : (l : Library) (name : List ℕ) → ports_known (interface_of l name
 unfolding interface_of entity_of ports_named
 ports_are l name = interface_is l.entities (first_entity l.entities name)
 
--- ---- what ports are associated with
+-- ---- links
 
 link_to_below : (count : ℕ) (o : Option Meaning) → is_within count [] o ≡ true → LeadsBelow count (link_to o)
 unfolding link_to is_within
@@ -143,7 +143,7 @@ link_below count look within (Some (actual.Open at)) = tt
 
 -- ---- instances
 
--- the block of an instance is there, and the instance has a link for each of its ports
+-- the block of an instance exists, and the instance has a link for each of its ports
 bound : (l : Library) (look : Lookup) (o : Option ℕ) (i : tree.Instance) → architecture_place l i.unit ≡ o
     → (block_number l o < length (blocks_of l)) × (length (links_at l look o i) ≡ length (get_or (blocks_of l) (block_number l o) no_block).ports)
 unfolding block_number links_at links_of block_of block_ports blocks_of

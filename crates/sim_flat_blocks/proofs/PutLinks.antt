@@ -1,5 +1,5 @@
--- The links of an instance are put from its last association to its first, each in place of what is there: so the first one of a
--- port counts. The links that the associations from a place of the map on make are what a turn of the loop has.
+-- The links of an instance are set from its last association to its first, each replacing the previous one, so that the first
+-- association of a port counts. The invariant is that the links are those of the associations from a position of the map.
 use Rattle.std.proofs.Common.{◌≡◌, ℕ, ◌+◌, ◌==◌, ◌<◌, List, ◌∷◌, map, length, get_or, drop, replicate, cond}
 use Rattle.std.proofs.Common.{Bool, true, false, Option, Some, None, refl, ap, sym, ◌∙◌, arith}
 use Rattle.std.proofs.lemmas.List.{drop_all, drop_more}
@@ -17,21 +17,21 @@ use Rattle.sim_flat_blocks.proofs.ByPlace.{all_same, alike, put_at as put_at_pla
 use Rattle.sim_flat_blocks.specs.Plans.{link_of, links_of, put_at}
 
 module _ (look : Lookup) (ports : List Port) (xs : List Association) where
-  -- what the associations from a place on make of the port at a place
+  -- the link of the port at a position, by the associations from this one
   abbrev pub link_from : ℕ → ℕ → Link
   link_from at n = link_of look (actual_at xs (first_of_port ports n at (drop at xs)))
 
   abbrev pub links_from : ℕ → List Link
   links_from at = map (link_from at) (range_with_len 0 (length ports))
 
-  -- none of them
+  -- without associations
   pub past_all : replicate (length ports) Open ≡ links_from (length xs)
   unfolding link_of first_of_port
   past_all = sym (all_same (link_from (length xs)) Open
       (λ n. ap (λ (ys : List Association). link_of look (actual_at xs (first_of_port ports n (length xs) ys))) (drop_all (length xs) xs (omega arith)))
       0 (length ports))
 
-  -- all of them
+  -- with all associations
   pub from_first : links_from 0 ≡ links_of look ports xs
   unfolding links_of associated
   from_first = refl
@@ -59,7 +59,7 @@ module _ (look : Lookup) (ports : List Port) (xs : List Association) where
     placed (Some p) e = put_at_place (link_from (at + 1)) (link_from at) (length ports) p (link_of look (Some x.actual)) Open
         (λ n. opened n ∙ (ap (λ (o : Option ℕ). link_of look (actual_at xs (option_or (where_at (is_port o n) at) (rest n)))) e ∙ chosen (p == n) n))
 
-    -- one more of them
+    -- with one more association
     pub one_more : (links after : List Link) → links ≡ links_from (at + 1)
         → after ≡ put_at (port_of ports at x.formal) (link_of look (Some x.actual)) links → after ≡ links_from at
     one_more links after so_far put =

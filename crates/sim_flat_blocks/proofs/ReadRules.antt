@@ -1,4 +1,4 @@
--- What each expression and each statement reads as an equation, by its variants.
+-- The objects that each expression and each statement reads, as equations, by its variants.
 use Rattle.std.proofs.Common.{◌≡◌, ℕ, ◌++◌, List, [], ◌∷◌, map, Bool, sym, ap, ◌∙◌}
 use Rattle.std.proofs.lemmas.List.{append-nil, append_assoc}
 use Rattle.std.specs.List.{concat}
@@ -24,7 +24,7 @@ use Rattle.sim_flat_design.specs.Bodies.{assignment_objects, boolean_objects, lo
 use Rattle.sim_flat_design.specs.Bodies.{boolean_objects_rule, branch_objects_rule, logic_objects_rule, statement_objects_rule}
 use Rattle.sim_flat_blocks.specs.Reads.{branch_objects}
 
--- what reads nothing adds nothing
+-- a part that reads nothing adds nothing
 pub adds_nothing : (old read : List ℕ) → read ≡ [] → old ≡ old ++ read
 adds_nothing old read e = rw e (sym (append-nil old))
 

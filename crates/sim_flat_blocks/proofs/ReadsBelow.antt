@@ -1,4 +1,4 @@
--- What a body reads is there, where the body keeps to what there is; and what it assigns is, where its names mean what there is.
+-- The objects that a body reads are in range if its references are, and so are its targets if its names are.
 use Rattle.std.proofs.Common.{◌≡◌, ℕ, zero, suc, ◌<◌, nat_lt, ◌==◌, ◌&&◌, Bool, true, false, List, [], ◌∷◌, ◌++◌, map, Option, Some, None, refl, sym}
 use Rattle.std.proofs.Common.{◌∙◌, subst, arith}
 use Rattle.std.specs.List.{concat, list_any}
@@ -58,7 +58,7 @@ second_of_both : (a b : Bool) → (a && b) ≡ true → b ≡ true
 second_of_both true b e = e
 second_of_both false b e = cc
 
--- of items that each fit, what all of them name
+-- the objects of several items, each of which fits
 module _ {X : Type 0} (count : ℕ) (fit : X → Bool) (named : X → List ℕ) where
   abbrev Kept : X → Type 0
   Kept x = fit x ≡ true → Below count (named x)
@@ -243,7 +243,7 @@ module _ (count : ℕ) (vs : List Held) where
     unfolding objects_of
     objects_below xs e = all_below count (statement_fits count drivers vs) statement_objects statement_below xs e
 
--- ---- each number once
+-- ---- without repetitions
 number_below : (count n : ℕ) (ns : List ℕ) → n < count → Below count ns → Below count (with_number n ns)
 unfolding with_number
 number_below count n [] lt h = (lt, tt)

@@ -1,4 +1,4 @@
--- Architectures are read through lists of references to them: by recursion on the lists.
+-- Architectures are read through lists of references: by recursion on the lists.
 use Rattle.std.proofs.Common.{◌≡◌, ℕ, ◌+◌, ◌<◌, List, [], ◌∷◌, ◌++◌, map, length, drop, get_or}
 use Rattle.std.proofs.Common.{Bor, refl, ap, ◌∙◌, append_assoc}
 use Rattle.sim_text_tree.specs.declared.unit.Architecture.{Architecture}
@@ -11,7 +11,7 @@ unfolding bodies_at
 architectures_count [] = refl
 architectures_count (a ∷ xs) = rw (architectures_count xs) refl
 
--- architectures whose blocks are made, one more
+-- one more architecture whose block is made
 pub one_more : (f : Architecture → Block) (xs : List (Bor Architecture)) (i : ℕ) (x : Bor Architecture) → i < length xs → x ≡ get_or xs i x
     → (found more all : List Block) (b : Block) → b ≡ f x.now → more ≡ found ++ b ∷ [] → found ++ map f (bodies_at (drop i xs)) ≡ all
     → more ++ map f (bodies_at (drop (i + 1) xs)) ≡ all

@@ -1,4 +1,4 @@
--- What the names of an architecture and of a process mean is there.
+-- The names of an architecture and of a process are in range.
 use Rattle.std.proofs.Common.{◌≡◌, ℕ, zero, suc, ◌+◌, ◌≤◌, Bool, true, List, [], ◌∷◌, ◌++◌, length, drop, slice_get, Option, Some, None, is_some}
 use Rattle.std.proofs.Common.{refl, ap, ◌∙◌, arith}
 use Rattle.std.specs.Str.{bytes_eq}
@@ -31,7 +31,7 @@ use Rattle.sim_flat_bodies.specs.Within.{AreWithin, is_within}
 use Rattle.sim_flat_blocks.specs.Below.{AllMean, AreBelow, IsBelow, object_count, signal_names}
 use Rattle.sim_flat_blocks.specs.FirstValues.{declaring_look, first_bit, first_truth, first_value, first_values, value_of_each, values_of}
 
--- ---- regions whose names all mean such
+-- ---- regions in which all meanings have a property
 
 module _ (P : Meaning → Type 0) where
   all_both : (xs ys : Region) → AllMean P xs → AllMean P ys → AllMean P (xs ++ ys)
@@ -108,7 +108,7 @@ architecture_below ps ds cs =
 
 -- ---- variables
 
--- whether a value is of a type, where that is known
+-- whether a value has a type, if that is known
 abbrev is_of : Option ty.Type → Held → Bool
 is_of None value = true
 is_of (Some type.Logic) value = is_bit (Some value)
@@ -181,7 +181,7 @@ module _ (count : ℕ) (vs : List Held) where
       (row_fine type value (is_of_first look type o.initial) place o.names (values_of look os) e)
       (variables_fine look (place + length o.names) os (after_row value place o.names (values_of look os) e))
 
-  -- ---- what a name means, read off its regions
+  -- ---- the meaning of a name, from its regions
 
   below_fine : (x : Meaning) → IsBelow count x → Fine x
   unfolding is_within

@@ -1,4 +1,4 @@
--- A list that rises strictly is known by its members, so `rising` depends on these alone.
+-- A strictly ascending list is determined by its members, so `rising` depends only on these.
 use Rattle.std.proofs.Common.{◌≡◌, ℕ, zero, suc, ◌+◌, ◌<◌, ◌≤◌, ◌⊎◌, inl, inr, List, [], ◌∷◌, length, get_or, map, slice_index_or, refl, ap, sym, ◌∙◌}
 use Rattle.std.proofs.Common.{subst, arith, eqb, ltb, eqb-true, ltb-true, ltb-false, Contains, IsPermutation}
 use Rattle.sim_text_tokens.proofs.Tests.{by_cases}
@@ -16,7 +16,7 @@ abbrev pub In : ℕ → List ℕ → Type 0
 In m [] = ⊥
 In m (x ∷ xs) = (x ≡ m) ⊎ In m xs
 
--- each number is larger than the one before it, the first no smaller than this one
+-- each number is larger than the one before it, and the first is at least this one
 abbrev pub NumbersRise : ℕ → List ℕ → Type 0
 NumbersRise b [] = Unit {0}
 NumbersRise b (x ∷ xs) = (b ≤ x) × NumbersRise (suc x) xs
@@ -28,7 +28,7 @@ lower : (b c : ℕ) (xs : List ℕ) → c ≤ b → NumbersRise b xs → Numbers
 lower b c [] le h = tt
 lower b c (x ∷ xs) le h = (omega arith, h.1)
 
--- what is below the first is not there
+-- a number below the first is not in the list
 not_below : (b m : ℕ) (xs : List ℕ) → NumbersRise b xs → m < b → In m xs → ⊥
 not_below b m [] h lt i = i
 not_below b m (x ∷ xs) h lt (inl e) = omega arith
@@ -52,7 +52,7 @@ same_first b x y xs ys h k u w =
     let high : x ≤ y = at_first b y x xs h (w y (inl refl)) in
     omega arith
 
--- two lists that rise and have the same members are one
+-- two ascending lists with the same members are equal
 pub one_list : (b : ℕ) (xs ys : List ℕ) → NumbersRise b xs → NumbersRise b ys → Within xs ys → Within ys xs → xs ≡ ys
 one_list b [] [] h k u w = refl
 one_list b [] (y ∷ ys) h k u w = absurd (w y (inl refl))
@@ -66,7 +66,7 @@ one_list b (x ∷ xs) (y ∷ ys) h k u w =
     let rest : xs ≡ ys = one_list (suc x) xs ys h.1 k2 (tail_within b x xs ys h.1 u2) (tail_within b x ys xs k2 w2) in
     cc
 
--- ---- what `rising` gives
+-- ---- the result of `rising`
 differs : (n x : ℕ) → x ≤ n → (n ≡ x → ⊥) → suc x ≤ n
 differs n x le apart = by_cases (ltb x n) (λ s. ltb-true x n s) (λ s. let k = ltb-false x n s in absurd (apart (omega arith)))
 
@@ -141,7 +141,7 @@ same_rising xs ys u w =
 pub rising_twice : (xs : List ℕ) → rising (rising xs) ≡ rising xs
 rising_twice xs = same_rising (rising xs) xs (out_of xs) (into xs)
 
--- ---- the nets of places
+-- ---- the nets of positions
 mapped : (f : ℕ → ℕ) (xs ys : List ℕ) → Within xs ys → Within (map f xs) (map f ys)
 mapped f [] ys w m i = absurd i
 mapped f (x ∷ xs) ys w m (inl e) = found f x ys m e (w x (inl refl))
@@ -157,7 +157,7 @@ nets_of_rising object_nets xs =
     let f = λ (n : ℕ). slice_index_or object_nets n 0 in
     same_rising (map f (rising xs)) (map f xs) (mapped f (rising xs) xs (out_of xs)) (mapped f xs (rising xs) (into xs))
 
--- ---- what a sort and a `dedup` leave
+-- ---- the result of a sort and a `dedup`
 in_of : (xs : List ℕ) (m k : ℕ) → k < length xs → slice_index_or xs k m ≡ m → In m xs
 in_of [] m k lt e = absurd (omega arith)
 in_of (x ∷ xs) m zero lt e = inl e
@@ -193,7 +193,7 @@ sorted_rises xs ys zs p s e =
         let d = Contains-dedup_nat ys m c in
         in_of (dedup eqb ys) m d.0 d.1 d.2
 
--- what `Process` asks for
+-- the requirement of `Process`
 pub sensitivity_rises : (s xs : List ℕ) → s ≡ rising xs → rising s ≡ s
 sensitivity_rises s xs e = ap rising e ∙ (rising_twice xs ∙ sym e)
 

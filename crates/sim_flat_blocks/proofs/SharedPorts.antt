@@ -1,4 +1,4 @@
--- The blocks of one entity share its ports: those at its place are the ports that it declares.
+-- The blocks of one entity share its ports: those at the entity's position are the ports that it declares.
 use Rattle.std.proofs.Common.{◌≡◌, ℕ, zero, suc, List, [], ◌∷◌, map, Option, Some, None, refl}
 use Rattle.sim_text_tree.specs.declared.unit.Entity.{Entity}
 use Rattle.sim_flat_scope.specs.Ports.{ports_of}
@@ -6,7 +6,7 @@ use Rattle.sim_flat_instances.specs.Libraries.{Library, at_place, declared_ports
 use Rattle.sim_flat_blocks.specs.declared.parts.Port.{Port}
 use Rattle.sim_flat_blocks.specs.Plans.{block_ports, ports_declared, ports_named, shared_ports}
 
--- ports, where there are any
+-- optional ports
 abbrev listed : Option (List Port) → List Port
 listed None = []
 listed (Some ports) = ports
@@ -18,7 +18,7 @@ shared_is [] (Some n) = refl
 shared_is (e ∷ es) (Some zero) = refl
 shared_is (e ∷ es) (Some (suc n)) = shared_is es (Some n)
 
--- what is shared at the place of an entity
+-- the shared ports at the position of an entity
 pub shared_by : (l : Library) (n : List ℕ) (place : Option ℕ) (shared : List (List Port)) (found : Option (List Port))
     → shared ≡ shared_ports l → place ≡ first_entity l.entities n → found ≡ at_place shared place
     → listed found ≡ block_ports (ports_named l n)

@@ -1,4 +1,4 @@
--- What a process assigns and what it is sensitive to is there, where its names mean what there is.
+-- The targets and the sensitivity of a process are in range if its names are.
 use Rattle.std.proofs.Common.{◌≡◌, ℕ, true, List, [], ◌∷◌, map, Option, Some, None, sym, subst}
 use Rattle.std.specs.List.{concat}
 use Rattle.std.proofs.lemmas.Bool.{ltb-true}

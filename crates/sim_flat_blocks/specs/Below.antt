@@ -1,4 +1,4 @@
--- How many ports and signals an architecture has (IEEE 1076-2008, 3.3, 6.4.2.3, 6.5.2), and names that keep to them.
+-- The number of ports and signals of an architecture (IEEE 1076-2008, 3.3, 6.4.2.3, 6.5.2), and names in that range.
 use Rattle.std.specs.Prelude.{ℕ, ◌+◌, ◌<◌, List, [], ◌∷◌, ◌++◌, length}
 use Rattle.sim_flat_scope.specs.declared.scope.Meaning.{Meaning}
 use Rattle.sim_flat_scope.specs.declared.scope.Meaning.TheVariants as m
@@ -19,22 +19,22 @@ unfoldable pub signal_names : List Declaration → List Name
 signal_names [] = []
 signal_names (d ∷ ds) = signals_declared d ++ signal_names ds
 
--- how many ports and signals are written
+-- the number of ports and signals
 unfoldable pub object_count : List PortDeclaration → List Declaration → ℕ
 object_count ps ds = length (port_names ps) + length (signal_names ds)
 
--- What a name means is there, where there is this number of ports and signals, and no variable.
+-- A meaning is in range for this number of ports and signals and without variables.
 abbrev pub IsBelow : ℕ → Meaning → Type 0
 IsBelow count (m.Port object mode type) = object < count
 IsBelow count (m.Signal object type) = object < count
 IsBelow count (m.Variable place type) = ⊥
 IsBelow count _ = Unit {0}
 
--- What each name of a region means is such.
+-- Each name of a region has a meaning with this property.
 abbrev pub AllMean : (Meaning → Type 0) → Region → Type 0
 AllMean P [] = Unit {0}
 AllMean P (d ∷ ds) = P d.1 × AllMean P ds
 
--- What each name of a region means is there, where there is this number of ports and signals, and no variable.
+-- The meanings of a region are in range for this number of ports and signals and without variables.
 abbrev pub AreBelow : ℕ → Region → Type 0
 AreBelow count region = AllMean (IsBelow count) region

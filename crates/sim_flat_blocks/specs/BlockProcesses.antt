@@ -1,4 +1,4 @@
--- The processes of an architecture, each translated once for all instances (IEEE 1076-2008, 11.3, 11.6, 14.7.2): names by place.
+-- The processes of an architecture, each translated once for all instances, with names as positions (IEEE 1076-2008, 11.3, 11.6, 14.7.2).
 use Rattle.std.specs.Prelude.{ℕ, ◌≡◌, ◌<◌, Bool, List, [], ◌∷◌, ◌++◌, Option, Some, None, length, map}
 use Rattle.std.specs.List.{All}
 use Rattle.sim_flat_design.specs.declared.held.Held.{Held}
@@ -18,22 +18,22 @@ use Rattle.sim_flat_blocks.specs.declared.parts.Block.{Block}
 use Rattle.sim_flat_blocks.specs.Blocks.{IsBlockProcess, size}
 use Rattle.sim_flat_blocks.specs.FirstValues.{first_values}
 
--- the ports and signals that these names mean, in their order
+-- the signals and ports of these names, in order
 unfoldable pub named_objects : Lookup → List Name → List ℕ
 named_objects look [] = []
 named_objects look (n ∷ ns) = target_of (look n.text) ++ named_objects look ns
 
--- the ports and signals of a sensitivity list; none is written for `all`
+-- the signals and ports of a sensitivity list; none for `all`
 unfoldable pub listed : Lookup → Sensitivity → Option (List ℕ)
 listed look sensitivity.All = None
 listed look (sensitivity.Names ns) = Some (named_objects look ns)
 
--- what a process is sensitive to: what is listed, or all that it reads
+-- the sensitivity of a process: the listed signals and ports, or all that it reads
 abbrev pub sensitivity_of : Option (List ℕ) → List ℕ → List ℕ
 sensitivity_of None reads = reads
 sensitivity_of (Some ns) reads = ns
 
--- a process, from whether it is postponed, the ports and signals that are listed and those that it assigns, its variables and its statements
+-- a process, from whether it is postponed, its sensitivity list, its targets, its variables and its statements
 abbrev pub block_process : ℕ → Bool → Option (List ℕ) → List ℕ → List Held → List Statement → BlockProcess
 block_process objects postponed listed targets variables statements = record {
   sensitivity = sensitivity_of listed (rising (objects_of statements));
@@ -43,7 +43,7 @@ block_process objects postponed listed targets variables statements = record {
   body = record { objects = objects; drivers = length targets; variables = variables; statements = statements };
 }
 
--- a process statement, where the architecture has this number of ports and signals (11.3)
+-- a process statement of an architecture with this number of ports and signals (11.3)
 unfoldable pub translated_process : Region → ℕ → Process → BlockProcess
 translated_process architecture objects p =
     let look = means (process_region architecture p) architecture in
@@ -57,15 +57,15 @@ translated_assignment architecture objects a =
     let targets = gathered [] (target_of (look a.target.text)) in
     block_process objects a.postponed None targets [] (concurrent_of look targets a ∷ [])
 
--- A process that may stand in each block with this number of ports and signals.
+-- A process fits each block with this number of ports and signals.
 abbrev pub FitsBlocks : ℕ → BlockProcess → Type 0
 FitsBlocks objects t = (b : Block) → size b ≡ objects → IsBlockProcess b t
 
--- These places are there.
+-- These positions are in range.
 abbrev pub AreThere : ℕ → List ℕ → Type 0
 AreThere objects places = All (λ (n : ℕ). n < objects) places
 
--- Where places are listed, they are there.
+-- If there is a list of positions, they are in range.
 abbrev pub AreListed : ℕ → Option (List ℕ) → Type 0
 AreListed objects None = Unit {0}
 AreListed objects (Some places) = AreThere objects places

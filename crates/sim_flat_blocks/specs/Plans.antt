@@ -1,4 +1,4 @@
--- The blocks of a design file: each architecture with its entity, its names as places (IEEE 1076-2008, 3, 6.5.7, 11.7).
+-- The blocks of a design file: each architecture with its entity, names as positions (IEEE 1076-2008, 3, 6.5.7, 11.7).
 use Rattle.std.specs.Prelude.{ℕ, Bool, true, false, List, [], ◌∷◌, ◌++◌, map, length, slice_set, Option, Some, None}
 use Rattle.std.specs.List.{range_with_len}
 use Rattle.sim_logic.specs.declared.logic.Logic.{Logic}
@@ -40,28 +40,28 @@ use Rattle.sim_flat_blocks.specs.Blocks.{no_block}
 
 -- ---- names
 
--- What names mean in an architecture with this region, which stands in none. No text without faults declares the name of a type,
--- so a mark means there what it means at its declaration.
+-- The meanings of names in an architecture with this region, which no other encloses. No text without faults declares the name
+-- of a type, so a type mark has the same meaning there as at its declaration.
 abbrev pub seen : Region → Lookup
 seen region = means [] region
 
 -- ---- ports and signals
 
--- whether a mark names a type whose signals are resolved: std_logic (6.3)
+-- whether a mark denotes a resolved subtype: std_logic (6.3)
 unfoldable pub is_resolved : Option Meaning → Bool
 is_resolved (Some (m.LogicMark resolved)) = resolved
 is_resolved _ = false
 
--- the default of a signal or port: its first value, or else 'U', the leftmost of its type (6.4.2.3, 6.5.2)
+-- the default value of a signal or port: as declared, otherwise 'U', the leftmost of its type (6.4.2.3, 6.5.2)
 unfoldable pub default_of : Option Initial → Logic
 default_of (Some (initial.Literal value at)) = value
 default_of _ = U
 
--- the signal or port of a name, with its type mark and its first value
+-- the signal or port with this name, type mark and initial value
 abbrev pub object : Lookup → Name → Option Initial → Name → Object
 object look mark first n = record { name = n; resolved = is_resolved (look mark.text); default = default_of first }
 
--- whether a port of a mode is a source of what it is associated with (6.5.2)
+-- whether a port with this mode is a source of its actual (6.5.2)
 abbrev pub drives : Mode → Bool
 drives In = false
 drives Out = true
@@ -71,11 +71,11 @@ drives Inout = true
 abbrev pub port : Lookup → Port → block_port.Port
 port look p = record { object = object look p.mark p.initial p.name; drives = drives p.mode }
 
--- The ports that an entity declares: its architectures share them. A mark means what it means in the region of these ports.
+-- The ports that an entity declares, which its architectures share. Type marks are looked up in the region of these ports.
 unfoldable pub block_ports : List PortDeclaration → List block_port.Port
 block_ports declared = map (port (seen (ports_region [] declared))) (ports_of declared)
 
--- those of each entity of a library, by its place
+-- the ports of each entity of a library, by the entity's position
 unfoldable pub shared_ports : Library → List (List block_port.Port)
 shared_ports l = map block_ports (declared_ports l.entities)
 
@@ -91,7 +91,7 @@ signals_of look (d ∷ ds) = signals_declared look d ++ signals_of look ds
 
 -- ---- processes
 
--- the process that a concurrent statement is, where the architecture has this number of ports and signals (11.3, 11.6)
+-- the process of a concurrent statement, if any, in an architecture with this number of ports and signals (11.3, 11.6)
 abbrev pub block_process_in : Region → ℕ → Concurrent → List BlockProcess
 block_process_in region objects (concurrent.Assignment a) = translated_assignment region objects a ∷ []
 block_process_in region objects (concurrent.Process p) = translated_process region objects p ∷ []
@@ -104,39 +104,39 @@ block_processes_of region objects (c ∷ cs) = block_process_in region objects c
 
 -- ---- instances
 
--- what a port is associated with, by what the name of its actual means: a port or signal by its place
+-- the actual of a port, from the meaning of its name: a port or signal by position
 unfoldable pub link_to : Option Meaning → Link
 link_to (Some (m.Port object mode type)) = link.To object
 link_to (Some (m.Signal object type)) = link.To object
 link_to _ = link.Open
 
--- what a port is associated with (6.5.7)
+-- the actual of a port (6.5.7)
 unfoldable pub link_of : Lookup → Option Actual → Link
 link_of look (Some (actual.Named n)) = link_to (look n.text)
 link_of look (Some (actual.Literal value at)) = link.Constant value
 link_of look (Some (actual.Open at)) = link.Open
 link_of look None = link.Open
 
--- links with one more, at the place of a port if there is one
+-- links with one more, at the position of a port if there is one
 abbrev pub put_at : Option ℕ → Link → List Link → List Link
 put_at None l links = links
 put_at (Some place) l links = slice_set links place l
 
--- what each of these ports is associated with, by place
+-- the link of each of these ports, by position
 unfoldable pub links_of : Lookup → List Port → List Association → List Link
 links_of look ports associations = map (λ place. link_of look (associated ports associations place)) (range_with_len 0 (length ports))
 
--- ports, where there are any
+-- optional ports
 abbrev pub ports_known : Option (List Port) → List Port
 ports_known None = []
 ports_known (Some ports) = ports
 
--- what the ports of an instance of the architecture at a place are associated with: they are those of its entity
+-- the links of the ports of an instance of the architecture at this position, which are the ports of its entity
 unfoldable pub links_at : Library → Lookup → Option ℕ → tree.Instance → List Link
 links_at l look None i = []
 links_at l look (Some place) i = links_of look (ports_known (interface_of l (entity_name i.unit).text)) i.associations
 
--- the number of a block: an instance of nothing known, in a text that has a fault, is of the last one, which is empty
+-- the number of a block; an instance without an architecture, in a text with a fault, gets the last one, which is empty
 unfoldable pub block_number : Library → Option ℕ → ℕ
 block_number l None = length l.architectures
 block_number l (Some place) = place
@@ -147,7 +147,7 @@ instance_of l look i =
     let place = architecture_place l i.unit in
     record { label = i.label; at = (entity_name i.unit).at; block = block_number l place; links = links_at l look place i }
 
--- the instance that a concurrent statement is
+-- the instance of a concurrent statement, if it is one
 abbrev pub instance_in : Library → Lookup → Concurrent → List Instance
 instance_in l look (concurrent.Assignment a) = []
 instance_in l look (concurrent.Process p) = []
@@ -160,12 +160,12 @@ instances_of l look (c ∷ cs) = instance_in l look c ++ instances_of l look cs
 
 -- ---- blocks
 
--- the ports that an entity declares; none where it is not there
+-- the ports that an entity declares; none if it does not exist
 abbrev pub ports_declared : Option Entity → List PortDeclaration
 ports_declared None = []
 ports_declared (Some e) = e.ports
 
--- the ports that the entity of a name declares
+-- the ports that the entity with this name declares
 unfoldable pub ports_named : Library → List ℕ → List PortDeclaration
 ports_named l n = ports_declared (entity_of l n)
 
@@ -181,6 +181,6 @@ block_of l a =
       instances = instances_of l (seen region) a.statements;
     }
 
--- the blocks of a library, one for each architecture by its place, and last an empty one
+-- the blocks of a library: one for each architecture, by position, and finally an empty one
 unfoldable pub blocks_of : Library → List Block
 blocks_of l = map (block_of l) l.architectures ++ no_block ∷ []

@@ -28,7 +28,7 @@ use sim_text_tree::waveform::ConcurrentSignalAssignment;
 use sqlite_items::Items;
 use std::alloc::{AllocError, Global};
 
-/// Adds the signal or port that a name means, where it means one.
+/// Adds the signal or port of a name, if it is one.
 #[tactic(auto, unfolding(sim_flat_bodies::specs::Statements::target_of))]
 fn add_object(meaning: Option<Meaning>, found: &mut Vec<usize>) -> Result<(), AllocError>
     ensures { OnOk result (found.new.items ≡ found.old.items ++ target_of meaning) }
@@ -46,7 +46,7 @@ fn add_object(meaning: Option<Meaning>, found: &mut Vec<usize>) -> Result<(), Al
     }
 }
 
-/// The signals and ports that these names mean, in their order.
+/// The signals and ports of these names, in order.
 #[tactic(auto, unfolding(crate::specs::BlockProcesses::named_objects))]
 fn named_objects(
     alloc: Global,
@@ -62,7 +62,7 @@ fn named_objects(
     Ok(Items::from_vec(found))
 }
 
-/// The signals and ports of a sensitivity list; none is written for `all`.
+/// The signals and ports of a sensitivity list; `None` for `all`.
 #[tactic(auto, unfolding(crate::specs::BlockProcesses::listed))]
 fn listed(
     alloc: Global,
@@ -80,7 +80,7 @@ fn listed(
     }
 }
 
-/// What a process is sensitive to: what is listed, or all that it reads.
+/// The sensitivity of a process: the listed signals and ports, or all that it reads.
 fn sensitivity_of(
     alloc: Global,
     listed: Option<Items<usize>>,
@@ -94,14 +94,14 @@ fn sensitivity_of(
     }
 }
 
-/// What a process is sensitive to, and what it reads.
+/// The sensitivity of a process, and the signals and ports that it reads.
 #[derive(Drop)]
 struct SensitivityAndReads {
     sensitivity: Items<usize>,
     reads: Items<usize>,
 }
 
-/// What a process of these statements is sensitive to, and what it reads.
+/// The sensitivity of a process with these statements, and the signals and ports that it reads.
 fn sensitivity_and_reads(
     alloc: Global,
     listed: Option<Items<usize>>,
@@ -144,16 +144,16 @@ fn block_process(
     })
 }
 
-/// What is made of a process in the names that it sees.
+/// The translated parts of a process.
 #[derive(Drop)]
 struct Parts {
-    /// The signals and ports of its sensitivity list, where one is written.
+    /// The signals and ports of its sensitivity list, unless it is `all`.
     listed: Option<Items<usize>>,
     targets: Targets,
     statements: Items<Statement>,
 }
 
-/// What is made of a process statement.
+/// The translated parts of a process statement.
 #[tactic(auto, unfolding(sim_flat_bodies::specs::Statements::targets_of))]
 fn process_parts(
     alloc: Global,
@@ -178,7 +178,7 @@ fn process_parts(
     })
 }
 
-/// What is made of a concurrent signal assignment.
+/// The translated parts of a concurrent signal assignment.
 fn assignment_parts(
     alloc: Global,
     names: &Names<'_, '_>,
@@ -204,7 +204,7 @@ fn assignment_parts(
     })
 }
 
-/// A process statement of an architecture that has this number of ports and signals.
+/// A process statement of an architecture with this number of ports and signals.
 #[tactic(auto, unfolding(crate::specs::BlockProcesses::translated_process))]
 pub fn translated_process(
     alloc: Global,
@@ -247,8 +247,8 @@ pub fn translated_process(
     )
 }
 
-/// A concurrent signal assignment of an architecture that has this number of ports and signals. It
-/// is sensitive to all that it reads.
+/// A concurrent signal assignment of an architecture with this number of ports and signals. It is
+/// sensitive to all that it reads.
 #[tactic(auto, unfolding(crate::specs::BlockProcesses::translated_assignment))]
 pub fn translated_assignment(
     alloc: Global,

@@ -14,7 +14,7 @@ use sim_text_tree::waveform::ConcurrentSignalAssignment;
 use sqlite_items::Items;
 use std::alloc::{AllocError, Global};
 
-/// Adds the process that a concurrent signal assignment is.
+/// Adds the process of a concurrent signal assignment.
 fn add_assignment(
     alloc: Global,
     region: &Scope<'_>,
@@ -32,7 +32,7 @@ fn add_assignment(
     Ok(())
 }
 
-/// Adds the process that a process statement is.
+/// Adds the process of a process statement.
 fn add_process(
     alloc: Global,
     region: &Scope<'_>,
@@ -50,7 +50,7 @@ fn add_process(
     Ok(())
 }
 
-/// Adds the process that a concurrent statement is.
+/// Adds the process of a concurrent statement, if it has one.
 fn add_block_process(
     alloc: Global,
     region: &Scope<'_>,
@@ -72,8 +72,7 @@ fn add_block_process(
     }
 }
 
-/// The processes of an architecture that has this number of ports and signals, in the order of its
-/// text.
+/// The processes of an architecture with this number of ports and signals, in textual order.
 #[tactic(auto, unfolding(crate::specs::Plans::block_processes_of))]
 pub fn block_processes(
     alloc: Global,

@@ -1,4 +1,4 @@
-//! How many ports and signals an architecture has (IEEE 1076-2008, 3.3, 6.4.2.3, 6.5.2).
+//! The number of ports and signals of an architecture (IEEE 1076-2008, 3.3, 6.4.2.3, 6.5.2).
 
 ghost use Rattle.std.specs.Prelude.{◌≡◌, ◌+◌, IfOk, List, length};
 ghost use Rattle.sim_text_tree.specs.declared.unit.Concurrent.{Concurrent};
@@ -10,14 +10,14 @@ use sim_flat_scope::EntityPorts;
 use sim_text_tree::declaration::Declaration;
 use std::alloc::AllocError;
 
-/// This number more: memory can hold a name for each.
+/// The sum of two counts, which cannot overflow: each name takes memory.
 fn more(count: usize, names: usize) -> Result<usize, AllocError>
     ensures { IfOk result (λ n. n ≡ count + names) }
 {
     count.checked_add(names).ok_or(AllocError)
 }
 
-/// How many signals a declaration declares.
+/// The number of signals that a declaration declares.
 fn signals_declared(declaration: &Declaration) -> usize
     ensures { result ≡ length (spec.signals_declared declaration.now) }
 {
@@ -27,7 +27,7 @@ fn signals_declared(declaration: &Declaration) -> usize
     }
 }
 
-/// How many signals are declared.
+/// The number of signals that declarations declare.
 #[tactic(auto, unfolding(crate::specs::Below::signal_names))]
 fn signal_count(declarations: &[Declaration]) -> Result<usize, AllocError>
     ensures { IfOk result (λ n. n ≡ length (spec.signal_names declarations.now)) }
@@ -39,7 +39,7 @@ fn signal_count(declarations: &[Declaration]) -> Result<usize, AllocError>
     Ok(count)
 }
 
-/// How many ports and signals an architecture has. What its names mean is there.
+/// The number of ports and signals of an architecture. Its names refer to no others.
 #[tactic(auto, unfolding(crate::specs::Below::object_count))]
 pub fn object_count(
     ports: &EntityPorts<'_>,

@@ -14,7 +14,7 @@ use sim_text_tree::unit::{Actual, Association, Concurrent, Instance};
 use sqlite_items::Items;
 use std::alloc::{AllocError, Global};
 
-/// What a port is associated with, by what the name of its actual means.
+/// The actual of a port, from the meaning of its name.
 #[tactic(auto, unfolding(crate::specs::Plans::link_to))]
 fn link_to(meaning: Option<Meaning>) -> Link
     ensures { result ≡ spec.link_to meaning }
@@ -26,7 +26,7 @@ fn link_to(meaning: Option<Meaning>) -> Link
     }
 }
 
-/// What a port with this actual is associated with.
+/// The actual of a port, as a link.
 #[tactic(auto, unfolding(crate::specs::Plans::link_of))]
 fn link(region: &Scope<'_>, actual: &Actual) -> Link
     ensures { result ≡ spec.link_of (spec.seen region.now) (Some actual.now) }
@@ -38,7 +38,7 @@ fn link(region: &Scope<'_>, actual: &Actual) -> Link
     }
 }
 
-/// Associates the port of an association with its actual.
+/// Links the port of an association to its actual.
 fn put_link(
     region: &Scope<'_>,
     ports: &Interface<'_>,
@@ -55,8 +55,8 @@ fn put_link(
     }
 }
 
-/// What each of these ports is associated with, by place: the first association of a port counts,
-/// and so it is put last.
+/// The link of each of these ports, by position. The first association of a port counts, and so it
+/// is stored last.
 fn links(
     alloc: Global,
     region: &Scope<'_>,
@@ -72,7 +72,7 @@ fn links(
     Ok(links)
 }
 
-/// What the ports of an instance of the architecture at a place are associated with.
+/// The links of the ports of an instance of the architecture at this position.
 #[tactic(auto, unfolding(crate::specs::Plans::links_at, crate::specs::Plans::links_of))]
 fn links_at(
     alloc: Global,
@@ -92,7 +92,7 @@ fn links_at(
     }
 }
 
-/// The number of a block: an instance of nothing known is of the last one.
+/// The number of a block; an instance whose architecture does not exist gets the last one.
 #[tactic(auto, unfolding(crate::specs::Plans::block_number))]
 fn block_number(library: &Library<'_>, place: Option<usize>) -> usize
     ensures { result ≡ spec.block_number library.now place }
@@ -124,7 +124,7 @@ fn instance(
     })
 }
 
-/// Adds the instance that a concurrent statement is.
+/// Adds the instance of a concurrent statement, if it is one.
 fn add_instance(
     alloc: Global,
     library: &Library<'_>,
@@ -143,7 +143,7 @@ fn add_instance(
     }
 }
 
-/// The instances of an architecture, in the order of its text.
+/// The instances of an architecture, in textual order.
 #[tactic(auto, unfolding(crate::specs::Plans::instances_of))]
 pub fn instances(
     alloc: Global,

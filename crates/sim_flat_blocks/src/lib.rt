@@ -1,5 +1,5 @@
 //! The blocks of a design file: each architecture with its entity, translated once for all of its
-//! instances; in it, names are places.
+//! instances, with names as positions.
 #![tactic(auto)]
 
 pub mod block_process;

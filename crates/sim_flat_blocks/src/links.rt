@@ -1,4 +1,4 @@
-//! What the ports of an instance are associated with.
+//! Links: the actuals of the ports of an instance.
 
 ghost use Rattle.std.specs.Prelude.{ℕ, ◌≡◌, IfOk, OnOk, OnErr, replicate, slice_set};
 ghost use Rattle.sim_flat_blocks.specs.declared.links.Link.TheVariants.{Open};
@@ -9,27 +9,27 @@ use sim_logic::Logic;
 use std::alloc::{AllocError, Global};
 use std::marker::Model;
 
-/// What a port of an instance is associated with (IEEE 1076-2008, 6.5.6.3).
+/// The actual of a port of an instance (IEEE 1076-2008, 6.5.6.3).
 #[derive(Clone, Copy)]
 pub enum Link {
-    /// A port or signal of the architecture in which the instance stands.
+    /// A port or signal of the architecture that contains the instance.
     To(usize),
     Constant(Logic),
     Open,
 }
 
-/// What each port of an instance is associated with, by place. It takes memory as its associations
-/// do: as many of the first ports stand in a list, and of the others those that an association
-/// names are kept by their places.
+/// The link of each port of an instance, by position. The memory used is proportional to the number
+/// of associations: that many of the first ports are in a list, and of the other ports only those
+/// that are associated are kept, by position.
 pub struct Links {
     ports: usize,
-    /// How many ports are associated with nothing that has a net.
+    /// The number of ports that are open or associated with a literal.
     unlinked: usize,
     first: Vec<Link>,
     others: IndexMap<usize, Link>,
 }
 
-/// By hand, so that what drops one needs no proof of what is in it.
+/// Written by hand so that code which drops it needs no proof about its contents.
 impl Drop for Links {
     fn drop(self) {
         let Links {
@@ -55,7 +55,7 @@ impl Model for Links {
     ghost invariant = { λ l. l.unlinked ≡ spec.unlinked (spec.by_place l.first.items l.others.entries l.ports) };
 }
 
-/// How many nets a port with this association has of its own: one, or none.
+/// The number of nets that a port with this link has of its own: one or none.
 fn own(link: Link) -> usize
     ensures { result ≡ spec.own link }
 {
@@ -65,7 +65,7 @@ fn own(link: Link) -> usize
     }
 }
 
-/// A list of as many links, all of them open.
+/// A list of this many open links.
 fn all_open(alloc: Global, count: usize) -> Result<Vec<Link>, AllocError>
     ensures { IfOk result (λ links. links.items ≡ replicate count Open) }
 {
@@ -74,7 +74,7 @@ fn all_open(alloc: Global, count: usize) -> Result<Vec<Link>, AllocError>
     Ok(links)
 }
 
-/// What is kept for a port that is not in the list.
+/// The stored link of a port that is not in the list.
 fn other(others: &IndexMap<usize, Link>, place: usize) -> Link
     ensures { result ≡ spec.kept others.now.entries place }
 {
@@ -84,7 +84,7 @@ fn other(others: &IndexMap<usize, Link>, place: usize) -> Link
     }
 }
 
-/// Keeps the link of the port at a place.
+/// Stores the link of the port at this position.
 fn keep(
     first: &mut Vec<Link>,
     others: &mut IndexMap<usize, Link>,
@@ -109,7 +109,7 @@ impl Links {
     ghost use Rattle.sim_flat_blocks.specs.Links as spec;
     ghost use Rattle.sim_flat_blocks.specs.declared.links.Link.TheVariants.{Open};
 
-    /// As many ports, all of them open, of which at most so many stand in the list.
+    /// Open links for `ports` ports, at most `listed` of which are in the list.
     pub fn open(alloc: Global, ports: usize, listed: usize) -> Result<Links, AllocError>
         ensures { IfOk result (λ l. l ≡ replicate ports Open) }
     {
@@ -122,7 +122,7 @@ impl Links {
         })
     }
 
-    /// What the port at this place is associated with: nothing, where there is no such port.
+    /// The link of the port at this position; open if there is no such port.
     pub fn get(&self, place: usize) -> Link
         ensures { result ≡ link_at self.now place }
     {
@@ -135,7 +135,7 @@ impl Links {
         other(&self.others, place)
     }
 
-    /// Associates the port at this place, if there is one, whatever it was associated with.
+    /// Sets the link of the port at this position, if there is one.
     pub fn put(&mut self, place: usize, link: Link) -> Result<(), AllocError>
         ensures { OnOk result (self.new ≡ slice_set self.old place link) }
     {
@@ -148,7 +148,7 @@ impl Links {
         Ok(())
     }
 
-    /// How many ports are associated with nothing that has a net.
+    /// The number of ports that are open or associated with a literal.
     pub fn unlinked(&self) -> usize
         ensures { result ≡ spec.unlinked self.now }
     {

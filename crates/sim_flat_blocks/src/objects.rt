@@ -1,4 +1,4 @@
-//! Ports and signals, by place (IEEE 1076-2008, 6.4.2.3, 6.5.2).
+//! Ports and signals, by position (IEEE 1076-2008, 6.4.2.3, 6.5.2).
 
 ghost use Rattle.std.specs.Prelude.{◌≡◌, ◌++◌, IfOk, OnOk, map};
 ghost use Rattle.sim_flat_scope.specs.Ports.{ports_of};
@@ -14,7 +14,7 @@ use sim_text_tree::name::Name;
 use sqlite_items::Items;
 use std::alloc::{AllocError, Global};
 
-/// Whether a mark names a type whose signals are resolved.
+/// Whether a mark denotes a resolved subtype.
 #[tactic(auto, unfolding(crate::specs::Plans::is_resolved))]
 fn is_resolved(meaning: Option<Meaning>) -> bool
     ensures { result ≡ spec.is_resolved meaning }
@@ -25,7 +25,7 @@ fn is_resolved(meaning: Option<Meaning>) -> bool
     }
 }
 
-/// The default of a signal or port: its first value, or else 'U'.
+/// The default value of a signal or port: its declared initial value, otherwise 'U'.
 #[tactic(auto, unfolding(crate::specs::Plans::default_of))]
 fn default_of(first: &Option<Initial>) -> Logic
     ensures { result ≡ spec.default_of first.now }
@@ -36,7 +36,7 @@ fn default_of(first: &Option<Initial>) -> Logic
     }
 }
 
-/// The signal or port of a name, with its type mark and its first value.
+/// The signal or port with this name, type mark and initial value.
 fn object(
     alloc: Global,
     region: &Scope<'_>,
@@ -54,7 +54,7 @@ fn object(
     })
 }
 
-/// Whether a port of a mode is a source of what it is associated with.
+/// Whether a port with this mode is a source of its actual.
 fn drives(mode: Mode) -> bool
     ensures { result ≡ spec.drives mode }
 {
@@ -75,7 +75,7 @@ fn port(alloc: Global, region: &Scope<'_>, port: &Port<'_>) -> Result<BlockPort,
     })
 }
 
-/// Ports, by place.
+/// Ports, by position.
 fn each_port(
     alloc: Global,
     region: &Scope<'_>,
@@ -90,7 +90,7 @@ fn each_port(
     Ok(Items::from_vec(found))
 }
 
-/// The ports that are declared, by place.
+/// The declared ports, by position.
 pub fn ports(
     alloc: Global,
     region: &Scope<'_>,
@@ -120,7 +120,7 @@ fn add_signals(
     Ok(())
 }
 
-/// Adds the signals that a declaration declares.
+/// Adds the signals of a declaration, if it declares any.
 fn add_declared(
     alloc: Global,
     region: &Scope<'_>,
@@ -138,7 +138,7 @@ fn add_declared(
     }
 }
 
-/// The signals that are declared, by place after the ports.
+/// The declared signals, by position after the ports.
 #[tactic(auto, unfolding(crate::specs::Plans::signals_of))]
 pub fn signals(
     alloc: Global,

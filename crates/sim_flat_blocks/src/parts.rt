@@ -1,4 +1,4 @@
-//! Architectures whose names are places: a port or signal is known by its place, the ports first.
+//! Architectures in which ports and signals are identified by position, ports first.
 
 use crate::links::Links;
 use sim_flat_design::Body;
@@ -25,12 +25,12 @@ pub struct Port {
     pub drives: bool,
 }
 
-/// The ports of an entity, by place, which all of its architectures share.
+/// The ports of an entity, by position, which all of its architectures share.
 pub struct Ports {
     list: Arc<Items<Port>, Global>,
 }
 
-/// By hand, so that what drops one needs no proof of what is in it, as below.
+/// Written by hand, as below, so that code which drops it needs no proof about its contents.
 impl Drop for Ports {
     fn drop(self) {
         let Ports { list } = self;
@@ -51,7 +51,7 @@ impl Model for Ports {
 impl Ports {
     ghost use Rattle.std.specs.Prelude.{◌≡◌, IfOk};
 
-    /// The ports, by place.
+    /// The ports, by position.
     pub fn as_slice(&self) -> &[Port]
         ensures { result.now ≡ self.now }
     {
@@ -78,9 +78,9 @@ impl Ports {
 /// A process of an architecture.
 pub struct BlockProcess {
     pub sensitivity: Items<usize>,
-    /// What its statements name, rising.
+    /// The ports and signals that it reads, in ascending order.
     pub reads: Items<usize>,
-    /// The name of each driver, by its place.
+    /// The port or signal of each driver, by the driver's position.
     pub targets: Items<usize>,
     /// Whether it is a postponed process.
     pub postponed: bool,
@@ -105,10 +105,10 @@ impl Drop for BlockProcess {
 
 pub struct Instance {
     pub label: Name,
-    /// Where the entity or the component is named.
+    /// The offset at which the entity or component is named.
     pub at: usize,
     pub block: usize,
-    /// One for each port of that block.
+    /// One for each port of the block.
     pub links: Links,
 }
 

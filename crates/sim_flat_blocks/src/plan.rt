@@ -21,7 +21,7 @@ use sim_text_tree::unit::Architecture;
 use sqlite_items::Items;
 use std::alloc::{AllocError, Global};
 
-/// The ports that the entity of a name declares; none where it is not there.
+/// The ports declared by the entity with this name; none if it does not exist.
 #[tactic(auto, unfolding(crate::specs::Plans::ports_named))]
 fn ports_named<'l>(
     library: &'l Library<'l>,
@@ -34,7 +34,7 @@ fn ports_named<'l>(
     library.entity_ports(name.text()).unwrap_or(none)
 }
 
-/// The list of the ports that an entity declares, as those of a block.
+/// The ports that an entity declares, in the form of a block, as a list.
 #[tactic(auto, unfolding(crate::specs::Plans::block_ports))]
 fn listed_ports(alloc: Global, declared: &EntityPorts<'_>) -> Result<Items<Port>, AllocError>
     ensures { IfOk result (λ r. r ≡ spec.block_ports declared.now) }
@@ -43,7 +43,7 @@ fn listed_ports(alloc: Global, declared: &EntityPorts<'_>) -> Result<Items<Port>
     ports(alloc, &region, declared.declarations())
 }
 
-/// The ports that an entity declares, as those of a block.
+/// The ports that an entity declares, in the form of a block.
 fn block_ports(alloc: Global, declared: &EntityPorts<'_>) -> Result<Ports, AllocError>
     ensures { IfOk result (λ r. r ≡ spec.block_ports declared.now) }
 {
@@ -51,7 +51,7 @@ fn block_ports(alloc: Global, declared: &EntityPorts<'_>) -> Result<Ports, Alloc
     Ports::new(alloc, ports)
 }
 
-/// The ports that each entity declares, as those of a block.
+/// The ports that each entity declares, in the form of a block.
 fn shared_ports(alloc: Global, declared: &[EntityPorts<'_>]) -> Result<Vec<Ports>, AllocError>
     ensures { IfOk result (λ r. r.items ≡ map spec.block_ports declared.now) }
 {
@@ -62,7 +62,7 @@ fn shared_ports(alloc: Global, declared: &[EntityPorts<'_>]) -> Result<Vec<Ports
     Ok(found)
 }
 
-/// The ports that are shared at a place, where there are any.
+/// The shared ports at a position, if there are any.
 fn shared_at(shared: &[Ports], place: Option<usize>) -> Option<&Ports>
     ensures { option_copied result ≡ at_place shared.now place }
 {
@@ -72,7 +72,7 @@ fn shared_at(shared: &[Ports], place: Option<usize>) -> Option<&Ports>
     }
 }
 
-/// The ports of a block of the entity of a name, shared with its other blocks.
+/// The ports of a block whose entity has this name, shared with its other blocks.
 fn ports_of_block(
     alloc: Global,
     library: &Library<'_>,
@@ -118,7 +118,7 @@ fn ports_and_signals_of(
     Ok(PortsAndSignals { ports, signals })
 }
 
-/// An architecture with this region, which has this number of ports and signals.
+/// An architecture with this region and this number of ports and signals.
 #[tactic(auto, unfolding(crate::specs::Plans::block_of))]
 fn block_in(
     alloc: Global,
@@ -209,7 +209,7 @@ fn each_block<'l>(
     Ok(found)
 }
 
-/// The blocks of a library, but the last.
+/// The blocks of a library, except the last.
 fn architecture_blocks(alloc: Global, library: &Library<'_>) -> Result<Vec<Block>, AllocError>
     ensures value { IfOk result (λ r. r.items ≡ map (spec.block_of library.now) library.now.architectures) }
     ensures known { IfOk result (λ r. All (IsBlock (spec.blocks_of library.now)) r.items) }
@@ -220,8 +220,8 @@ fn architecture_blocks(alloc: Global, library: &Library<'_>) -> Result<Vec<Block
     each_block(alloc, library, &none, shared.as_slice(), architectures)
 }
 
-/// The blocks of a library, one for each architecture by its place, and last an empty one. Each
-/// stands among them.
+/// The blocks of a library: one for each architecture, by position, and finally an empty one. The
+/// references of each are in range.
 #[tactic(auto, unfolding(crate::specs::Plans::blocks_of))]
 pub fn blocks(alloc: Global, library: &Library<'_>) -> Result<Items<Block>, AllocError>
     ensures value { IfOk result (λ r. r ≡ spec.blocks_of library.now) }

@@ -58,7 +58,7 @@ fn add_two_logics(
     add_logic(right, found)
 }
 
-/// Adds the place of a port or signal.
+/// Adds the position of a port or signal.
 fn add_object(object: usize, found: &mut Vec<usize>) -> Result<(), AllocError>
     ensures { OnOk result (found.new.items ≡ found.old.items ++ object ∷ []) }
 {
@@ -207,7 +207,7 @@ fn add_branches(list: &[Branch], found: &mut Vec<usize>) -> Result<(), AllocErro
     Ok(())
 }
 
-/// The ports and signals that statements read, each once, by place.
+/// The ports and signals that statements read, by position, in ascending order.
 #[tactic(auto, unfolding(sim_flat_design::specs::Bodies::objects_of))]
 pub fn reads(alloc: Global, statements: &[Statement]) -> Result<Items<usize>, AllocError>
     ensures { IfOk result (λ r. r ≡ rising (spec.objects_of statements.now)) }

@@ -1,4 +1,4 @@
-//! The first values of the variables of a process (IEEE 1076-2008, 6.4.2.4, 11.3).
+//! The initial values of the variables of a process (IEEE 1076-2008, 6.4.2.4, 11.3).
 
 ghost use Rattle.std.specs.Prelude.{◌≡◌, ◌++◌, IfOk, OnOk, true};
 ghost use Rattle.sim_flat_scope.specs.Scopes.{means};
@@ -15,7 +15,7 @@ use sim_text_tree::unit::Process;
 use sqlite_items::Items;
 use std::alloc::{AllocError, Global};
 
-/// The first value that a name stands for, of type boolean.
+/// The boolean value that a name denotes.
 #[tactic(auto, unfolding(crate::specs::FirstValues::truth_named))]
 fn truth_named(meaning: Option<Meaning>) -> bool
     ensures { result ≡ spec.truth_named meaning }
@@ -26,7 +26,7 @@ fn truth_named(meaning: Option<Meaning>) -> bool
     }
 }
 
-/// A first value of type boolean.
+/// An initial value of type boolean.
 #[tactic(auto, unfolding(crate::specs::FirstValues::first_truth))]
 fn first_truth(inner: &Scope<'_>, outer: &Scope<'_>, initial: &Option<Initial>) -> Held
     ensures { result ≡ spec.first_truth (means inner.now outer.now) initial.now }
@@ -37,7 +37,7 @@ fn first_truth(inner: &Scope<'_>, outer: &Scope<'_>, initial: &Option<Initial>) 
     }
 }
 
-/// A first value of type std_ulogic.
+/// An initial value of type std_ulogic.
 #[tactic(auto, unfolding(crate::specs::FirstValues::first_bit))]
 fn first_bit(initial: &Option<Initial>) -> Held
     ensures { result ≡ spec.first_bit initial.now }
@@ -48,7 +48,7 @@ fn first_bit(initial: &Option<Initial>) -> Held
     }
 }
 
-/// A first value, by the type of its variable.
+/// An initial value, by the type of its variable.
 #[tactic(auto, unfolding(crate::specs::FirstValues::first_value))]
 fn first_value(
     inner: &Scope<'_>,
@@ -75,7 +75,7 @@ fn add_each(value: Held, names: &[Name], found: &mut Vec<Held>) -> Result<(), Al
     Ok(())
 }
 
-/// Adds the first values of the variables of one declaration.
+/// Adds the initial values of the variables of one declaration.
 fn add_declared(
     inner: &Scope<'_>,
     outer: &Scope<'_>,
@@ -89,7 +89,7 @@ fn add_declared(
     add_each(value, variable.names.as_slice(), found)
 }
 
-/// The first values of variables.
+/// The initial values of variables.
 #[tactic(auto, unfolding(crate::specs::FirstValues::values_of))]
 fn values_of(
     alloc: Global,
@@ -106,7 +106,7 @@ fn values_of(
     Ok(Items::from_vec(found))
 }
 
-/// The first values of the variables of a process in its architecture, by place.
+/// The initial values of the variables of a process in its architecture, by position.
 #[tactic(auto, unfolding(crate::specs::FirstValues::first_values))]
 pub fn first_values(
     alloc: Global,

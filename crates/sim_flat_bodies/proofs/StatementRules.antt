@@ -1,4 +1,4 @@
--- Each statement of a process and its targets as an equation, by its variants.
+-- The translation and the targets of each statement, as equations, by its variants.
 use Rattle.std.proofs.Common.{◌≡◌, ℕ, ◌+◌, ◌<◌, ◌++◌, List, [], ◌∷◌, length, drop, get_or, map, Bool, Option, Some, None, refl, sym, ap, ◌∙◌}
 use Rattle.std.proofs.lemmas.List.{drop_more, append-nil}
 use Rattle.std.specs.List.{concat}
@@ -24,13 +24,13 @@ use Rattle.sim_flat_bodies.specs.Statements.{signal_of, variable_of, statement_o
 
 -- ---- targets
 
--- numbers may be gathered piece by piece
+-- numbers can be gathered piece by piece
 pub gathered_both : (old xs ys : List ℕ) → gathered old (xs ++ ys) ≡ gathered (gathered old xs) ys
 unfolding gathered
 gathered_both old [] ys = refl
 gathered_both old (x ∷ xs) ys = gathered_both (with_new old x) xs ys
 
--- a loop that gathers what each item gives
+-- one iteration of a loop that gathers the numbers of each item
 pub gathers_more : {X : Type 0} (all : List X → List ℕ) (each : X → List ℕ) → ((x : X) (xs : List X) → all (x ∷ xs) ≡ each x ++ all xs)
     → (xs : List X) (i : ℕ) (x : X) → i < length xs → x ≡ get_or xs i x → (known more start : List ℕ)
     → more ≡ gathered known (each x) → gathered known (all (drop i xs)) ≡ start → gathered more (all (drop (i + 1) xs)) ≡ start

@@ -1,4 +1,4 @@
--- Each expression of a process as an equation, by its variants.
+-- The translation of each expression, as an equation, by its variants.
 use Rattle.std.proofs.Common.{◌≡◌, ℕ, List, [], ◌∷◌, map, true, false, refl, sym, ap, ◌∙◌}
 use Rattle.sim_logic.specs.declared.logic.Logic.{Logic}
 use Rattle.sim_logic.specs.declared.logic.Logic.TheVariants as value

@@ -1,4 +1,4 @@
--- Waveforms whose times are in order are waveforms of the design, and reject no more than their first times.
+-- Waveforms in order are waveforms of the design, and their rejection limits are at most their first delays.
 use Rattle.std.proofs.Common.{◌≡◌, ℕ, ◌&&◌, List, [], ◌∷◌, map, Bool, true, false, refl}
 use Rattle.std.specs.List.{All}
 use Rattle.std.proofs.lemmas.Bool.{ltb-true}
@@ -49,7 +49,7 @@ pub waveform_is_fitting : (look : Lookup) (d : DelayMechanism) (w : List Element
 waveform_is_fitting look d w objects variables h f =
     waveform_fitting objects variables (delay_of d) (waveform_of look w) (rejected look d w h) f
 
--- waveforms whose times are in order
+-- waveforms in order
 pub ruleset timed = (is_waveform, waveform_is_fitting)
 
 pub concurrent_first : (a : ConcurrentSignalAssignment) → concurrent_timed a ≡ true
@@ -61,5 +61,5 @@ pub concurrent_last : (a : ConcurrentSignalAssignment) → concurrent_timed a �
 unfolding concurrent_timed
 concurrent_last a h = second _ _ h
 
--- signal assignments keep to what there is
+-- the references of signal assignments are in range
 pub ruleset assignments_fit = (signal_fits, null_fits, assignment_fitting, concurrent_first, concurrent_last)

@@ -1,4 +1,4 @@
--- Expressions as a process executes them (IEEE 1076-2008, 9): names by place, each expression by its type, parentheses gone.
+-- Expressions in the form that is executed (IEEE 1076-2008, 9): names by position, each expression by type, no parentheses.
 use Rattle.std.specs.Prelude.{Bool, true, false, if◌then◌else◌, List, [], ◌∷◌, Option, Some}
 use Rattle.sim_logic.specs.declared.logic.Logic.TheVariants as value
 use Rattle.sim_flat_scope.specs.declared.scope.Type.TheVariants.{Logic, Boolean}
@@ -15,8 +15,8 @@ use Rattle.sim_flat_design.specs.declared.expression.LogicExpression.TheVariants
 use Rattle.sim_flat_design.specs.declared.expression.BooleanExpression.{BooleanExpression}
 use Rattle.sim_flat_design.specs.declared.expression.BooleanExpression.TheVariants as boolean
 
--- An expression as one of std_ulogic and as one of boolean, and which of them it is. What is asked for as the other, in a text that has a
--- fault, is 'U' or false.
+-- An expression as one of std_ulogic and as one of boolean, and which of them it is. The other one, which only a text with a fault uses,
+-- is 'U' or false.
 pub record Translated : Type 0 where
   pub is_boolean : Bool
   pub logic : LogicExpression
@@ -30,7 +30,7 @@ a_logic e = record { is_boolean = false; logic = e; boolean = boolean.Literal fa
 abbrev pub a_boolean : BooleanExpression → Translated
 a_boolean e = record { is_boolean = true; logic = logic.Literal value.U; boolean = e }
 
--- a name, by what it means
+-- a name, from its meaning
 unfoldable pub named : Option Meaning → Translated
 named (Some (m.Port object mode type)) = a_logic (logic.Object object)
 named (Some (m.Signal object type)) = a_logic (logic.Object object)
@@ -66,12 +66,12 @@ unfoldable pub booleans : List Translated → List BooleanExpression
 booleans [] = []
 booleans (t ∷ ts) = t.boolean ∷ booleans ts
 
--- an operand is its expression
+-- an operand, from its expression
 abbrev pub operand_rule : x.Operand-F Translated Translated → Translated
 operand_rule o = o.operand
 
 module _ (look : Lookup) where
-  -- an expression from its parts (9.1)
+  -- an expression, from its parts (9.1)
   abbrev pub expression_rule : x.Expression-F Translated Translated → Translated
   expression_rule (x.Literal v at) = a_logic (logic.Literal v)
   expression_rule (x.Named n) = named (look n.text)

@@ -1,4 +1,4 @@
--- Statements as a process executes them (IEEE 1076-2008, 10): names by place, times in femtoseconds, labels gone.
+-- Statements in the form that is executed (IEEE 1076-2008, 10): names by position, times in femtoseconds, no labels.
 use Rattle.std.specs.Prelude.{ℕ, ◌==◌, List, [], ◌∷◌, ◌++◌, map, if◌then◌else◌, Option, Some, None}
 use Rattle.std.specs.List.{concat, list_any, position}
 use Rattle.sim_flat_scope.specs.declared.scope.Type.TheVariants.{Logic, Boolean}
@@ -28,15 +28,15 @@ use Rattle.sim_flat_design.specs.declared.statement.Statement.TheVariants as d
 use Rattle.sim_flat_bodies.specs.Expressions.{logic_of, boolean_of, condition_of}
 use Rattle.sim_flat_bodies.specs.Timed.{after_of, concurrent_timed, waveform_timed}
 
--- ---- the names that are assigned
+-- ---- targets
 
--- the signal or port that a target names
+-- the signal or port of a target
 unfoldable pub target_of : Option Meaning → List ℕ
 target_of (Some (m.Port object mode type)) = object ∷ []
 target_of (Some (m.Signal object type)) = object ∷ []
 target_of _ = []
 
--- a list with one number more at its end, unless it is there
+-- appends a number to a list, unless it is there
 unfoldable pub with_new : List ℕ → ℕ → List ℕ
 with_new ns n = if list_any (λ m. n == m) ns then ns else ns ++ n ∷ []
 
@@ -57,7 +57,7 @@ module _ (look : Lookup) where
   abbrev pub sequential_targets_rule : s.Sequential-F (List ℕ) (List ℕ) (List ℕ) → List ℕ
   sequential_targets_rule x = x.statement
 
-  -- the signals and ports that a statement assigns, in the order of its text, each as often as it does
+  -- the signals and ports that a statement assigns, in textual order, with repetitions
   unfoldable pub statement_targets : tree_statement.Statement → List ℕ
   statement_targets = folds.fold-Statement (List ℕ) (List ℕ) (List ℕ) statement_targets_rule branch_targets_rule sequential_targets_rule
 
@@ -79,7 +79,7 @@ module _ (look : Lookup) where
   sequence_targets [] = []
   sequence_targets (x ∷ xs) = sequential_targets x ++ sequence_targets xs
 
--- a list with these numbers more at its end, each unless it is there
+-- appends these numbers to a list, except those that are there
 unfoldable pub gathered : List ℕ → List ℕ → List ℕ
 gathered before [] = before
 gathered before (n ∷ ns) = gathered (with_new before n) ns
@@ -88,11 +88,11 @@ gathered before (n ∷ ns) = gathered (with_new before n) ns
 unfoldable pub targets_of : Lookup → List tree_sequential.Sequential → List ℕ
 targets_of look statements = gathered [] (sequence_targets look statements)
 
--- the place of a number in a list, where it is there
+-- the position of a number in a list, if it is there
 unfoldable pub place_of : List ℕ → ℕ → Option ℕ
 place_of ns n = position (λ m. n == m) ns
 
--- the place of the driver of a target among the signals and ports that the process assigns
+-- the position of a target's driver: that of the target among those of the process
 unfoldable pub driver_of : List ℕ → Option Meaning → Option ℕ
 driver_of targets (Some (m.Port object mode type)) = place_of targets object
 driver_of targets (Some (m.Signal object type)) = place_of targets object
@@ -125,31 +125,31 @@ module _ (look : Lookup) where
   last_of None = None
   last_of (Some w) = Some (waveform_of w)
 
-  -- an assignment to a variable, by its type (10.6); none in a text that has a fault
+  -- an assignment to a variable, by its type (10.6); the null statement in a text with a fault
   unfoldable pub variable_of : Option Meaning → Expression → Statement
   variable_of (Some (m.Variable place (Some Logic))) e = d.LogicVariable place (logic_of look e)
   variable_of (Some (m.Variable place (Some Boolean))) e = d.BooleanVariable place (boolean_of look e)
   variable_of _ e = d.Null
 
--- a signal assignment, to the driver at this place (10.5.2, 10.5.3); none in a text that has a fault
+-- a signal assignment to the driver at this position (10.5.2, 10.5.3); the null statement in a text with a fault
 unfoldable pub assigned : Option ℕ → Delay → List ConditionalWaveform → Option (List Element) → Statement
 assigned None delay conditional otherwise = d.Null
 assigned (Some driver) delay conditional otherwise =
     d.Signal (record { driver = driver; delay = delay; conditional = conditional; otherwise = otherwise })
 
--- statements of which there may be none
+-- an optional sequence of statements
 abbrev pub or_none : Option (List Statement) → List Statement
 or_none None = []
 or_none (Some statements) = statements
 
 module _ (look : Lookup) (targets : List ℕ) where
-  -- a concurrent signal assignment (11.6); none in a text that has a fault
+  -- a concurrent signal assignment (11.6); the null statement in a text with a fault
   unfoldable pub concurrent_of : ConcurrentSignalAssignment → Statement
   concurrent_of a =
       if concurrent_timed a then assigned (driver_of targets (look a.target.text)) (delay_of a.delay)
       (map (conditional_of look) a.waveforms.conditional) (last_of look a.waveforms.otherwise) else d.Null
 
-  -- a signal assignment in a process (10.5.2); none in a text that has a fault
+  -- a signal assignment in a process (10.5.2); the null statement in a text with a fault
   unfoldable pub signal_of : tree_signal.SignalAssignment → Statement
   signal_of a =
       if waveform_timed a.delay a.waveform then assigned (driver_of targets (look a.target.text)) (delay_of a.delay)

@@ -1,4 +1,4 @@
-//! Which signals and ports a process assigns (IEEE 1076-2008, 14.7.2).
+//! The signals and ports that a process assigns (IEEE 1076-2008, 14.7.2).
 
 ghost use Rattle.std.specs.Prelude.{◌≡◌, OnOk};
 ghost use Rattle.sim_flat_scope.specs.Scopes.{means};
@@ -11,7 +11,7 @@ use sim_flat_scope::Meaning;
 use sim_text_tree::sequential::{Branch, Sequential, Statement};
 use std::alloc::AllocError;
 
-/// Adds the signal or port that a target names.
+/// Adds the signal or port of a target.
 #[tactic(auto, unfolding(crate::specs::Statements::target_of, crate::specs::Statements::gathered))]
 pub fn add_target(meaning: Option<Meaning>, targets: &mut Targets) -> Result<(), AllocError>
     ensures { OnOk result (targets.new ≡ gathered targets.old (spec.target_of meaning)) }
@@ -24,7 +24,7 @@ pub fn add_target(meaning: Option<Meaning>, targets: &mut Targets) -> Result<(),
 }
 
 /// Adds the signal or port that a statement assigns, or those that the statements inside an `if`
-/// do.
+/// assign.
 #[cycle(gathering)]
 #[tactic(auto, using(crate::proofs::StatementRules::targets_are), unfolding(crate::specs::Statements::gathered))]
 fn add_statement(
@@ -55,7 +55,7 @@ fn add_statement(
     }
 }
 
-/// Adds what a statement assigns; its label has no part in that.
+/// Adds the targets of a statement, whatever its label.
 #[cycle(gathering)]
 #[tactic(auto, using(crate::proofs::StatementRules::targets_are))]
 fn add_labelled(
@@ -68,7 +68,7 @@ fn add_labelled(
     add_statement(names, &each.statement, targets)
 }
 
-/// Adds the signals and ports that a sequence of statements assigns.
+/// Adds the targets of a sequence of statements.
 #[cycle(gathering)]
 #[tactic(auto, unfolding(crate::specs::Statements::gathered, crate::specs::Statements::sequence_targets))]
 pub fn add_sequence(
@@ -84,7 +84,7 @@ pub fn add_sequence(
     Ok(())
 }
 
-/// Adds what the statements of a branch assign.
+/// Adds the targets of the statements of a branch.
 #[cycle(gathering)]
 #[tactic(auto, using(crate::proofs::StatementRules::targets_are))]
 fn add_branch(names: &Names<'_, '_>, each: &Branch, targets: &mut Targets) -> Result<(), AllocError>
@@ -93,7 +93,7 @@ fn add_branch(names: &Names<'_, '_>, each: &Branch, targets: &mut Targets) -> Re
     add_sequence(names, each.statements.as_slice(), targets)
 }
 
-/// Adds what the statements of the branches assign, taken or not.
+/// Adds the targets of the statements of the branches, executed or not.
 #[cycle(gathering)]
 #[tactic(auto, unfolding(crate::specs::Statements::branches_targets, crate::specs::Statements::gathered))]
 fn add_branches(

@@ -17,7 +17,7 @@ use sim_text_tree::expression::{Expression, Operand};
 use sqlite_items::{Boxed, Items};
 use std::alloc::{AllocError, Global};
 
-/// Whether a name is boolean: such a variable, `true` or `false`.
+/// Whether a name is a boolean variable, `true` or `false`.
 #[tactic(auto, unfolding(crate::specs::Expressions::named))]
 fn named_is_boolean(meaning: Option<Meaning>) -> bool
     ensures { result ≡ (spec.named meaning).is_boolean }
@@ -33,7 +33,7 @@ fn named_is_boolean(meaning: Option<Meaning>) -> bool
     )
 }
 
-/// What a name is as a value of std_ulogic; `'U'` where it is none.
+/// A name as an expression of type std_ulogic; `'U'` if it is not of that type.
 #[tactic(auto, using(sim_flat_design::proofs::Fitting::logics_fit), unfolding(crate::specs::Expressions::named, crate::specs::Within::is_within))]
 fn named_logic(meaning: Option<Meaning>) -> LogicExpression
     ensures value { result ≡ (spec.named meaning).logic }
@@ -53,7 +53,7 @@ fn named_logic(meaning: Option<Meaning>) -> LogicExpression
     }
 }
 
-/// What a name is as a boolean value; `false` where it is none.
+/// A name as an expression of type boolean; `false` if it is not of that type.
 #[tactic(auto, using(sim_flat_design::proofs::Fitting::booleans_fit), unfolding(crate::specs::Expressions::named, crate::specs::Within::is_within))]
 fn named_boolean(meaning: Option<Meaning>) -> BooleanExpression
     ensures value { result ≡ (spec.named meaning).boolean }
@@ -72,7 +72,7 @@ fn named_boolean(meaning: Option<Meaning>) -> BooleanExpression
     }
 }
 
-/// `'event` of a port or signal; `false` of anything else.
+/// `'event` of a port or signal; otherwise `false`.
 #[tactic(auto, using(sim_flat_design::proofs::Fitting::booleans_fit), unfolding(crate::specs::Expressions::event_of, crate::specs::Within::is_within))]
 fn event_of(meaning: Option<Meaning>) -> BooleanExpression
     ensures value { result ≡ spec.event_of meaning }
@@ -86,7 +86,7 @@ fn event_of(meaning: Option<Meaning>) -> BooleanExpression
     }
 }
 
-/// `rising_edge` or `falling_edge` of a port or signal; `false` of anything else.
+/// `rising_edge` or `falling_edge` of a port or signal; otherwise `false`.
 #[tactic(auto, using(sim_flat_design::proofs::Fitting::booleans_fit), unfolding(crate::specs::Expressions::edge_of, crate::specs::Within::is_within))]
 fn edge_of(function: Option<Meaning>, argument: Option<Meaning>) -> BooleanExpression
     ensures value { result ≡ spec.edge_of function argument }
@@ -162,7 +162,7 @@ pub fn logic(
     }
 }
 
-/// An expression of type std_ulogic, in a box.
+/// An expression of type std_ulogic, on the heap.
 #[cycle(logic)]
 fn boxed_logic(
     alloc: Global,
@@ -177,7 +177,7 @@ fn boxed_logic(
     Boxed::new(alloc, made)
 }
 
-/// The operands after the first of a chain of type std_ulogic.
+/// The operands after the first in a chain of type std_ulogic.
 #[cycle(logic)]
 fn logic_operands(
     alloc: Global,
@@ -234,7 +234,7 @@ fn condition_operator(
     Ok(BooleanExpression::Condition(operand))
 }
 
-/// An expression of type boolean. A comparison goes by the type of its left operand.
+/// An expression of type boolean. A comparison is translated by the type of its left operand.
 #[cycle(boolean)]
 #[tactic(auto, using(crate::proofs::Translations::booleans_are, sim_flat_design::proofs::Fitting::booleans_fit))]
 pub fn boolean(
@@ -283,7 +283,7 @@ pub fn boolean(
     }
 }
 
-/// An expression of type boolean, in a box.
+/// An expression of type boolean, on the heap.
 #[cycle(boolean)]
 fn boxed_boolean(
     alloc: Global,
@@ -298,7 +298,7 @@ fn boxed_boolean(
     Boxed::new(alloc, made)
 }
 
-/// `=` or `/=` between operands of type boolean, of which the left one is translated (9.2.3).
+/// `=` or `/=` between operands of type boolean; the left one is already translated (9.2.3).
 #[cycle(boolean)]
 #[tactic(auto, using(sim_flat_design::proofs::Fitting::booleans_fit))]
 fn boolean_comparison(
@@ -323,7 +323,7 @@ fn boolean_comparison(
     })
 }
 
-/// A chain of type boolean, whose first operand is translated.
+/// A chain of type boolean, whose first operand is already translated.
 #[cycle(boolean)]
 #[tactic(auto, using(sim_flat_design::proofs::Fitting::booleans_fit))]
 fn boolean_chain(

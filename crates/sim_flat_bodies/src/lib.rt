@@ -1,4 +1,4 @@
-//! The bodies of processes: expressions and statements of the tree, with names as places.
+//! Process bodies, translated from the syntax tree: names become positions.
 #![tactic(auto)]
 
 pub mod assigned;

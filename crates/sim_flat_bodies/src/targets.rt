@@ -4,8 +4,8 @@ use indexmap::IndexSet;
 use std::alloc::{AllocError, Global};
 use std::marker::Model;
 
-/// Signals and ports by their places in the architecture, each once, in the order in which they
-/// were added.
+/// Signals and ports, by position in the architecture, without repetitions, in the order in which
+/// they were added.
 #[derive(Drop)]
 pub struct Targets {
     objects: IndexSet<usize>,
@@ -23,7 +23,7 @@ impl Targets {
     ghost use Rattle.std.specs.Prelude.{◌≡◌, ◌<◌, [], OnOk, IfSome, length};
     ghost use Rattle.sim_flat_bodies.specs.Statements.{place_of, with_new};
 
-    /// No signals and ports.
+    /// An empty list.
     pub fn new(alloc: Global) -> Targets
         ensures { result ≡ [] }
     {
@@ -32,7 +32,7 @@ impl Targets {
         }
     }
 
-    /// Adds a signal or port, unless it is there.
+    /// Adds a signal or port, unless it is already there.
     #[tactic(auto, unfolding(crate::specs::Statements::with_new))]
     pub fn add(&mut self, object: usize) -> Result<(), AllocError>
         ensures { OnOk result (self.new ≡ with_new self.old object) }
@@ -41,7 +41,7 @@ impl Targets {
         Ok(())
     }
 
-    /// The place of a signal or port among them, where it is there.
+    /// The position of a signal or port in the list, if it is there.
     #[tactic(auto, unfolding(crate::specs::Statements::place_of))]
     pub fn place(&self, object: usize) -> Option<usize>
         ensures place { result ≡ place_of self.now object }

@@ -1,4 +1,4 @@
-//! Whether the times of waveforms are in order (IEEE 1076-2008, 10.5.2.1).
+//! Whether the delays of waveforms are in order (IEEE 1076-2008, 10.5.2).
 
 ghost use Rattle.std.specs.Prelude.{◌≡◌, ◌∷◌};
 ghost use Rattle.std.specs.List.{list_all};
@@ -10,7 +10,7 @@ use sim_text_tree::waveform::{
     ConcurrentSignalAssignment, ConditionalWaveform, DelayMechanism, Element, Waveform,
 };
 
-/// No time at all.
+/// The delay zero.
 fn at_once() -> Time
     ensures { result ≡ 0 }
 {
@@ -20,7 +20,7 @@ fn at_once() -> Time
     }
 }
 
-/// The time after which an element is driven: at once where none is written.
+/// The delay of an element; zero if none is written.
 #[tactic(auto, unfolding(crate::specs::Timed::after_of))]
 pub fn after(written: &Option<TimeLiteral>) -> Time
     ensures { result ≡ spec.after_of written.now }
@@ -31,8 +31,8 @@ pub fn after(written: &Option<TimeLiteral>) -> Time
     }
 }
 
-/// Whether each element is driven later than the one before it, the first of these later than at
-/// this time.
+/// Whether each element has a longer delay than the one before it, and the first a longer one than
+/// this.
 #[tactic(auto, unfolding(crate::specs::Timed::rises_from))]
 fn rises_from(time: Time, elements: &[Element]) -> bool
     ensures { result ≡ spec.rises_from time elements.now }
@@ -48,7 +48,7 @@ fn rises_from(time: Time, elements: &[Element]) -> bool
     true
 }
 
-/// Whether a rejection limit is no larger than the first time of a waveform.
+/// Whether a rejection limit is at most the first delay of a waveform.
 #[tactic(auto, unfolding(crate::specs::Timed::rejects_within))]
 fn rejects_within(delay: &DelayMechanism, first: &Element, rest: &[Element]) -> bool
     ensures { result ≡ spec.rejects_within delay.now (first.now ∷ rest.now) }
@@ -59,7 +59,7 @@ fn rejects_within(delay: &DelayMechanism, first: &Element, rest: &[Element]) -> 
     }
 }
 
-/// Whether a waveform is in order, after a delay mechanism.
+/// Whether a waveform is in order, given its delay mechanism.
 #[tactic(auto, unfolding(crate::specs::Timed::waveform_timed, crate::specs::Timed::rises, crate::specs::Timed::rejects_within))]
 pub fn waveform_timed(delay: &DelayMechanism, elements: &[Element]) -> bool
     ensures { result ≡ spec.waveform_timed delay.now elements.now }

@@ -32,7 +32,7 @@ pub fn delay(mechanism: &tree::DelayMechanism) -> Delay
     }
 }
 
-/// An element with its delay, 0 where none is written.
+/// An element with its delay, zero if none is written.
 #[tactic(auto, unfolding(crate::specs::Statements::element_of))]
 fn element(
     alloc: Global,
@@ -66,7 +66,7 @@ fn elements(
     Ok(Items::from_vec(found))
 }
 
-/// A waveform, after a delay mechanism.
+/// A waveform, given its delay mechanism.
 #[tactic(auto, using(crate::proofs::WaveformTimes::timed))]
 pub fn waveform(
     alloc: Global,
@@ -104,7 +104,7 @@ fn conditional(
     })
 }
 
-/// The waveforms with conditions of an assignment.
+/// The conditional waveforms of an assignment.
 pub fn conditionals(
     alloc: Global,
     names: &Names<'_, '_>,
@@ -123,7 +123,7 @@ pub fn conditionals(
     Ok(Items::from_vec(found))
 }
 
-/// The waveform without a condition, where there is one.
+/// The waveform without a condition, if there is one.
 #[tactic(auto, unfolding(crate::specs::Statements::last_of, crate::specs::Timed::last_timed))]
 pub fn last(
     alloc: Global,
@@ -145,7 +145,7 @@ pub fn last(
     }
 }
 
-/// The place of the driver of a target.
+/// The position of the driver of a target.
 #[tactic(auto, unfolding(crate::specs::Statements::driver_of))]
 pub fn driver(targets: &Targets, meaning: Option<Meaning>) -> Option<usize>
     ensures value { result ≡ spec.driver_of targets.now meaning }

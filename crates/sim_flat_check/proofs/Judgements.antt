@@ -1,4 +1,4 @@
--- What an expression is, as an equation for each kind, and as code carries it.
+-- The results for each kind of expression, as equations, and as the code passes them on.
 use Rattle.std.proofs.Common.{◌≡◌, ℕ, Bool, true, false, List, [], ◌∷◌, ◌++◌, ◌||◌, map, Option, Some, refl, sym, ap, ◌∙◌}
 use Rattle.sim_logic.specs.declared.logic.Logic as value
 use Rattle.sim_text_tree.specs.Name.{Name}
@@ -20,7 +20,7 @@ use Rattle.sim_flat_check.specs.Types.{Judged, value_read, signal_read, function
 use Rattle.sim_flat_check.specs.Types.{compared, comparison, literal, condition, chained, expression_rule, operand_rule, judged, judged_operand}
 use Rattle.sim_flat_check.specs.Carried.{Carried, carried, carried_on, carried_compared, carried_through}
 
--- ---- what each kind of expression is
+-- ---- the result for each kind of expression
 
 module _ (look : Lookup) where
   pub literal_is : (v : value.Logic) (at : ℕ) → judged look (e.Literal v at) ≡ record { type = Some Logic; named = false; faults = [] }
@@ -81,13 +81,13 @@ module _ (look : Lookup) where
   operand_made at y =
       folds.fold-roll-Operand Judged (ℕ × Judged) (expression_rule look) (operand_rule look) (record { operator_at = at; operand = y })
 
--- ---- what is carried over operators
+-- ---- results passed on over operators
 
 pub boolean_both : (fs gs : List Fault) → boolean_unless fs ≡ Some Boolean → boolean_unless (fs ++ gs) ≡ boolean_unless gs
 boolean_both [] gs h = refl
 boolean_both (f ∷ fs) gs h = cc
 
--- what a call carries from its function to its argument
+-- the result passed on from the function of a call to its argument
 pub ruleset call_rules = (boolean_both, of_both)
 
 carried_joined : (known : Option Fault) (a : Judged) (o : ℕ × Judged) → carried known (joined a o.0 o.1) ≡ carried_on (carried known a) o
@@ -115,7 +115,7 @@ carried_comparison known a at b =
     ap (λ (f : Option Fault). let c : Carried = record { type = compared type named; named = named; first = f } in c)
     (of_both known (a.faults ++ more) last ∙ ap (λ (f : Option Fault). earliest f last) (of_both known a.faults more))
 
--- ---- what each kind of expression carries
+-- ---- the result passed on by each kind of expression
 
 module _ (look : Lookup) (known : Option Fault) (y : Expression) where
   pub carried_literal : (v : value.Logic) (at : ℕ) → y ≡ e.Literal v at →
@@ -187,7 +187,7 @@ pub literal_carried : (known : Option Fault) (t : Option ty.Type) (n : Bool) →
 unfolding carried earliest
 literal_carried known t n e d = cc
 
--- `??` whose operand was judged
+-- `??`, from the result for its operand
 pub condition_carried : (look : Lookup) (known : Option Fault) (y : Expression) (at : ℕ) (z : Expression) → y ≡ e.Condition at z
     → (z' : Expression) → z' ≡ z → (left : Carried) → left ≡ carried known literal → (t : Option ty.Type) (n : Bool) (f : Option Fault)
     → (let c : Carried = record { type = t; named = n; first = f } in c) ≡ carried left.first (judged look z')
@@ -199,7 +199,7 @@ condition_carried look known y at z is z' ez left hl t n f hr s m f' hs hm hf r 
     ∙ (ap (λ (a : Carried). carried_compared (carried_on a (at, judged look z)) at) hl
     ∙ sym (carried_by_condition look known y at z is)))
 
--- a comparison whose operands were judged one after the other
+-- a comparison, from the results for its operands
 pub comparison_carried : (look : Lookup) (known : Option Fault) (y z : Expression) (b : Relational) (at : ℕ) (w : Expression) → y ≡ e.Comparison z b at w
     → (z' w' : Expression) → z' ≡ z → w' ≡ w → (left : Carried) → left ≡ carried known (judged look z') → (t : Option ty.Type) (n : Bool) (f : Option Fault)
     → (let c : Carried = record { type = t; named = n; first = f } in c) ≡ carried left.first (judged look w')

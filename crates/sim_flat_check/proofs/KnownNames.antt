@@ -1,4 +1,4 @@
--- The names of architectures that are known: as a set keeps them, and in a loop over architectures.
+-- The known names of architectures: as a set, and in a loop over architectures.
 use Rattle.std.proofs.Common.{◌≡◌, ℕ, ◌+◌, ◌<◌, ◌&&◌, ◌||◌, List, [], ◌∷◌, ◌++◌, length, drop, get_or}
 use Rattle.std.proofs.Common.{map, Bool, true, false, cond, not, Option, Bor}
 use Rattle.std.proofs.Common.{refl, ap, sym, ◌∙◌}
@@ -26,7 +26,7 @@ names_in ks = map (λ (k : Pair). (k.0.now, k.1.now)) ks
 abbrev pub same_pair : Pair → Pair → Bool
 same_pair a b = bytes_eq a.0.now b.0.now && bytes_eq a.1.now b.1.now
 
--- a pair is in the set where its name is known
+-- a pair is in the set if and only if its name is known
 pub known_in : (k : Pair) (ks : List Pair) → list_any (same_pair k) ks ≡ is_known (names_in ks) k.0.now k.1.now
 unfolding is_known
 known_in k [] = refl
@@ -54,7 +54,7 @@ is_new k ks was view = ap not (known_in k ks ∙ ap (λ (ns : BodyNames). is_kno
 
 -- ---- a loop over architectures
 
--- one architecture on
+-- one iteration
 pub names_step : (l : Library) (known more : BodyNames) (first after all : Option Fault) (xs : List (Bor Architecture)) (i : ℕ) (a : Bor Architecture)
     → i < length xs → a ≡ get_or xs i a → earliest first (names_faults l known (bodies_at (drop i xs))) ≡ all
     → after ≡ earliest first (name_faults l known a.now) → more ≡ with_name known a.now.entity.text a.now.name.text

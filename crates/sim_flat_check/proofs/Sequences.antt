@@ -86,7 +86,7 @@ module _ (look : Lookup) (known : Option Fault) (y : Statement) where
 
 pub ruleset statement_rules = (first_of_signal, first_of_variable, first_of_null, first_of_if)
 
--- ---- an if statement whose parts were gone through one after the other
+-- ---- an if statement, from its parts in turn
 
 pub no_else : (look : Lookup) (known : Option Fault) (y : Statement) (bs : List Branch) (x : Option (List Sequential)) (again : Bool) → y ≡ s.If bs x again
     → x ≡ None → (bs' : List Branch) → bs' ≡ bs → (new : Option Fault) → new ≡ earliest known (branches_faults look bs')

@@ -1,4 +1,4 @@
--- What holds of a waveform without faults.
+-- The properties of a waveform without faults.
 use Rattle.std.proofs.Common.{ℕ, ◌≡◌, inl, inr, ◌≤◌, nat_le, nat_lt, Bool, true, false, List, [], ◌∷◌, ◌++◌, length, Option, Some, None, refl}
 use Rattle.std.specs.Prelude.{slice_get}
 use Rattle.std.proofs.lemmas.Bool.{leb-false, ltb-false}
@@ -18,7 +18,7 @@ use Rattle.sim_flat_check.specs.Waveforms.{delay_after, not_above, not_rising, m
 use Rattle.sim_flat_check.specs.Waveforms.{waveform_faults}
 use Rattle.sim_flat_check.specs.Laws.{ElementsRise, Rises, IsLimited, IsSound}
 
--- two lists that are empty together are both empty
+-- if two lists together are empty, both are
 pub front_empty : {X : Type 0} (xs ys : List X) → xs ++ ys ≡ [] → xs ≡ []
 front_empty [] ys h = refl
 front_empty (x ∷ xs) ys h = cc
@@ -27,7 +27,7 @@ pub back_empty : {X : Type 0} (xs ys : List X) → xs ++ ys ≡ [] → ys ≡ []
 back_empty [] ys h = h
 back_empty (x ∷ xs) ys h = cc
 
--- where no fault is said, its condition does not hold
+-- if there is no fault, its condition does not hold
 never : (b : Bool) (k : kind.Kind) (at : ℕ) → where_ b (fault k at) ≡ [] → b ≡ false
 never true k at h = cc
 never false k at h = refl

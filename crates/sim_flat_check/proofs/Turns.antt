@@ -1,4 +1,4 @@
--- A loop that notes the faults of each item in turn.
+-- A loop that records the faults of each item in turn.
 use Rattle.std.proofs.Common.{◌≡◌, ℕ, ◌+◌, ◌<◌, List, ◌∷◌, ◌++◌, length, drop, get_or, Option, ap, sym, ◌∙◌}
 use Rattle.std.proofs.lemmas.List.{drop_more}
 use Rattle.sim_flat_scope.specs.declared.fault.Fault.{Fault}

@@ -1,4 +1,4 @@
--- An expression without faults has a type, where each name that has a value has one.
+-- An expression without faults has a type, provided each name with a value has one.
 use Rattle.std.proofs.Common.{◌≡◌, ℕ, Bool, true, false, List, [], ◌∷◌, ◌++◌, map, Option, Some, None, is_some, ◌⊎◌, inl, inr, refl, sym, ap, subst}
 use Rattle.sim_text_tree.specs.declared.declaration.Mode.TheVariants.{Out}
 use Rattle.sim_text_tree.specs.declared.expression.Expression.{Expression}
@@ -22,7 +22,7 @@ use Rattle.sim_flat_check.proofs.SoundWaveforms.{front_empty, back_empty}
 use Rattle.sim_flat_check.proofs.Judgements.{literal_is, named_is, event_is, call_is, parenthesized_is, not_is}
 use Rattle.sim_flat_check.proofs.Judgements.{condition_is, comparison_is, chain_is, operand_made}
 
--- It has a type, unless a fault is inside.
+-- It has a type, unless there is a fault in it.
 abbrev pub IsTyped : Judged → Type 0
 IsTyped j = j.faults ≡ [] → is_some j.type ≡ true
 
@@ -114,7 +114,7 @@ module _ (look : Lookup) (all : AllTyped look) where
       (λ x y is. subst (λ z. Holds (views.roll-Expression z)) is (of_parts y))
       (λ x y is. subst (λ z. HoldsAfter (views.roll-Operand z)) is (of_part y))
 
--- of type boolean, or of std_ulogic with a name
+-- of type boolean, or of type std_ulogic with a name in it
 abbrev IsCondition : Option ty.Type → Bool → Type 0
 IsCondition t named = (t ≡ Some Boolean) ⊎ ((t ≡ Some Logic) × (named ≡ true))
 

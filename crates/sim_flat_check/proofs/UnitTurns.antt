@@ -1,15 +1,15 @@
--- A loop that notes the faults of each item in turn.
+-- A loop that records the faults of each item in turn.
 use Rattle.std.proofs.Common.{◌≡◌, ℕ, ◌+◌, ◌<◌, List, ◌∷◌, ◌++◌, length, drop, get_or, Option, ap, sym, ◌∙◌}
 use Rattle.std.proofs.lemmas.List.{drop_more}
 use Rattle.sim_flat_scope.specs.declared.fault.Fault.{Fault}
 use Rattle.sim_flat_scope.specs.Faults.{earliest}
 use Rattle.sim_flat_scope.proofs.Faults.{of_both}
 
--- what is left of a list, one item on
+-- the rest of a list, one item further
 pub opened : {X : Type 0} (xs : List X) (i : ℕ) (x : X) → i < length xs → x ≡ get_or xs i x → x ∷ drop (i + 1) xs ≡ drop i xs
 opened xs i x below is = ap (λ y. y ∷ drop (i + 1) xs) is ∙ sym (drop_more xs i x below)
 
--- one item on, where the faults of a list are those of each item
+-- one iteration, if the faults of a list are those of its items
 pub one_more : {X : Type 0} (faults : List X → List Fault) (each : X → List Fault) → ((x : X) (xs : List X) → faults (x ∷ xs) ≡ each x ++ faults xs)
     → (xs : List X) (i : ℕ) (x : X) → i < length xs → x ≡ get_or xs i x → (known more start : Option Fault)
     → more ≡ earliest known (each x) → earliest known (faults (drop i xs)) ≡ start → earliest more (faults (drop (i + 1) xs)) ≡ start

@@ -14,23 +14,23 @@ use Rattle.sim_flat_check.specs.Concurrents.{statements_faults}
 
 -- ---- their names (3.3.1, 13.2)
 
--- an architecture of no entity of the file, or of one that has an architecture of its name already
+-- the fault if an architecture's entity is not in the file, or already has an architecture with this name
 abbrev pub unit_faults : Option ℕ → Bool → Architecture → List Fault
 unit_faults None again a = fault k.Unknown a.entity.at
 unit_faults (Some place) again a = where_ again (fault k.Duplicate a.name.at)
 
--- The faults of the names of an architecture, after those that are known. That its own is predefined is reported of one of no entity too.
+-- The faults of the names of an architecture, given those known before it. A predefined name is a fault even without an entity.
 unfoldable pub name_faults : Library → BodyNames → Architecture → List Fault
 name_faults l known a =
     declarations.predefined_name a.name
     ++ unit_faults (first_entity l.entities a.entity.text) (is_known known a.entity.text a.name.text) a
 
--- those of each architecture, in the order of the file
+-- the faults of the names of each architecture, in the order of the file
 unfoldable pub names_faults : Library → BodyNames → List Architecture → List Fault
 names_faults l known [] = []
 names_faults l known (a ∷ more) = name_faults l known a ++ names_faults l (with_name known a.entity.text a.name.text) more
 
--- ---- what they declare and do (3.3.2, 3.3.3)
+-- ---- their declarations and statements (3.3.2, 3.3.3)
 
 -- the faults of the declarations and statements of an architecture of an entity with these ports
 unfoldable pub body_faults : Library → List PortDeclaration → Architecture → List Fault
@@ -39,16 +39,16 @@ body_faults l ps a =
     declarations.architecture_faults region ps a.declarations a.statements
     ++ statements_faults l region (components l a.declarations) a.statements
 
--- the same where the entity is there: of an architecture of no entity nothing is asked
+-- the same if the entity exists; otherwise nothing is checked
 abbrev pub body_of : Library → Option (List PortDeclaration) → Architecture → List Fault
 body_of l None a = []
 body_of l (Some ps) a = body_faults l ps a
 
--- the same of an architecture of the entity that it names
+-- the same for an architecture of the entity that it names
 abbrev pub known_faults : Library → Architecture → List Fault
 known_faults l a = body_of l (ports_in (entity_of l a.entity.text)) a
 
--- those of each architecture
+-- the same for each architecture
 unfoldable pub bodies_faults : Library → List Architecture → List Fault
 bodies_faults l [] = []
 bodies_faults l (a ∷ more) = known_faults l a ++ bodies_faults l more

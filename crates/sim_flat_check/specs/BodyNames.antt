@@ -1,9 +1,9 @@
--- The names of architectures that are known, each with that of its entity (IEEE 1076-2008, 3.3.1).
+-- The known names of architectures, each with the name of its entity (IEEE 1076-2008, 3.3.1).
 use Rattle.std.specs.Prelude.{ℕ, ◌&&◌, List, [], ◌∷◌, ◌++◌, Bool, if◌then◌else◌}
 use Rattle.std.specs.List.{list_any}
 use Rattle.std.specs.Str.{bytes_eq}
 
--- names of architectures, each after that of its entity
+-- names of architectures, each after the name of its entity
 abbrev pub BodyNames : Type 0
 BodyNames = List (List ℕ × List ℕ)
 

@@ -16,7 +16,7 @@ use Rattle.sim_flat_instances.specs.Instances.{instance_faults}
 abbrev pub execution_faults : Lookup → Process → List Fault
 execution_faults look p = sensitivity_faults look p.sensitivity ++ sequence_faults look p.statements
 
--- The faults of a process (11.3): all of it sees the names of the process, and then those of its architecture.
+-- The faults of a process (11.3), in which its own names are visible, and then those of its architecture.
 unfoldable pub process_statement_faults : Region → Process → List Fault
 process_statement_faults region p =
     let own = process_region region p in
@@ -28,7 +28,7 @@ statement_faults l region components (concurrent.Assignment a) = concurrent_assi
 statement_faults l region components (concurrent.Process p) = process_statement_faults region p
 statement_faults l region components (concurrent.Instance i) = instance_faults l (means region []) components i
 
--- those of each statement
+-- the faults of each statement
 unfoldable pub statements_faults : Library → Region → List Component → List Concurrent → List Fault
 statements_faults l region components [] = []
 statements_faults l region components (c ∷ cs) = statement_faults l region components c ++ statements_faults l region components cs

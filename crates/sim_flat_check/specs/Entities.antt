@@ -15,11 +15,11 @@ entity_names (e ∷ es) = e.name ∷ entity_names es
 abbrev pub entity_names_faults : List Entity → List Fault
 entity_names_faults es = names_faults [] (entity_names es)
 
--- the faults of the ports of an entity, which see one another and then the predefined names (12.1)
+-- the faults of the ports of an entity, where its ports and then the predefined names are visible (12.1)
 abbrev pub entity_faults : Entity → List Fault
 entity_faults e = ports_faults (ports_region [] e.ports) [] e.ports
 
--- those of each entity
+-- the faults of the ports of each entity
 unfoldable pub each_entity : List Entity → List Fault
 each_entity [] = []
 each_entity (e ∷ es) = entity_faults e ++ each_entity es

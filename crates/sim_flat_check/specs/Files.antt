@@ -1,4 +1,4 @@
--- The faults of a design file (IEEE 1076-2008, 13.1): those of all its units, whichever are elaborated.
+-- The faults of a design file (IEEE 1076-2008, 13.1): those of all its units, elaborated or not.
 use Rattle.std.specs.Prelude.{List, ◌++◌}
 use Rattle.sim_flat_scope.specs.declared.fault.Fault.{Fault}
 use Rattle.sim_flat_instances.specs.Libraries.{Library}

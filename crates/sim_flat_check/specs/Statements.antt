@@ -74,12 +74,12 @@ module _ (look : Lookup) where
   each [] = []
   each (x ∷ xs) = x ++ each xs
 
-  -- the faults of the statements after `else`, where it is written
+  -- the faults of the statements after `else`, if it is written
   abbrev pub else_rule : Option (List (List Fault)) → List Fault
   else_rule None = []
   else_rule (Some statements) = each statements
 
-  -- a statement from the faults of its parts: those of an if statement are its branches' and those after `else` (10.8)
+  -- a statement, from the faults of its parts: of an if statement, its branches and the statements after `else` (10.8)
   abbrev pub statement_rule : s.Statement-F (List Fault) (List Fault) (List Fault) → List Fault
   statement_rule (s.Signal a) = signal_assignment_faults a
   statement_rule (s.Variable a) = variable_assignment_faults a
@@ -116,14 +116,14 @@ module _ (look : Lookup) where
   branches_faults [] = []
   branches_faults (b ∷ bs) = branch_faults b ++ branches_faults bs
 
-  -- the faults of the statements after `else`, where it is written
+  -- the faults of the statements after `else`, if it is written
   abbrev pub else_faults : Option (List Sequential) → List Fault
   else_faults None = []
   else_faults (Some statements) = sequence_faults statements
 
   -- ---- sensitivity lists (10.2)
 
-  -- the faults of names whose events count
+  -- the faults of the names in a sensitivity list
   unfoldable pub signals_read : List Name → List Fault
   signals_read [] = []
   signals_read (n ∷ ns) = signal_read n.at (look n.text) ++ signals_read ns

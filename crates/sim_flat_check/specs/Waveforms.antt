@@ -17,26 +17,26 @@ use Rattle.sim_flat_check.specs.Types.{judged, clash, ambiguous}
 
 -- ---- times
 
--- how many elements a waveform has at most
+-- the largest number of elements in a waveform
 abbrev pub most_elements : ℕ
 most_elements = 16
 
--- the delay of an element: none where no `after` is written (10.5.2.1)
+-- the delay of an element, in femtoseconds: zero without an `after` (10.5.2.1)
 abbrev pub delay_after : Option TimeLiteral → ℕ
 delay_after None = 0
 delay_after (Some t) = time_of t.digits t.unit
 
--- the fault of an element whose delay is not above that of the element before it (10.5.2.1)
+-- the fault of an element whose delay is not greater than that of the one before it (10.5.2.2)
 abbrev pub not_above : Option ℕ → Element → List Fault
 not_above None x = []
 not_above (Some before) x = where_ (nat_le (delay_after x.after) before) (fault k.NotAscending (start_of x.value))
 
--- the faults of elements whose delays do not rise, after an element of some delay or after none
+-- the faults of elements whose delays do not ascend, after an element with some delay or after none
 unfoldable pub not_rising : Option ℕ → List Element → List Fault
 not_rising before [] = []
 not_rising before (x ∷ xs) = not_above before x ++ not_rising (Some (delay_after x.after)) xs
 
--- the fault of the first element that is too many
+-- the fault of the first element in excess
 abbrev pub excess : Option Element → List Fault
 excess None = []
 excess (Some x) = fault k.TooMany (start_of x.value)
@@ -45,7 +45,7 @@ excess (Some x) = fault k.TooMany (start_of x.value)
 unfoldable pub too_many : List Element → List Fault
 too_many w = excess (slice_get w most_elements)
 
--- the fault of a rejection limit above the first delay of a waveform (10.5.2.1)
+-- the fault of a rejection limit greater than the first delay of a waveform (10.5.2.1)
 abbrev pub limit_above : TimeLiteral → List Element → List Fault
 limit_above t [] = []
 limit_above t (x ∷ xs) = where_ (nat_lt (delay_after x.after) (time_of t.digits t.unit)) (fault k.RejectTooLong t.at)
@@ -60,7 +60,7 @@ delay_faults (delay.Reject t) w = limit_above t w
 -- ---- values and conditions
 
 module _ (look : Lookup) where
-  -- The faults of a condition (10.5.3, 10.8). It is boolean, or `??` is applied to it implicitly: so of std_ulogic it holds a name (9.2.9).
+  -- The faults of a condition (10.5.3, 10.8). It is boolean, or else of type std_ulogic with a name in it, and `??` is implicit (9.2.9).
   unfoldable pub condition_faults : Expression → List Fault
   condition_faults e = (judged look e).faults ++ ambiguous (judged look e).type (judged look e).named (start_of e)
 
@@ -86,7 +86,7 @@ module _ (look : Lookup) where
   conditional_faults mechanism target [] = []
   conditional_faults mechanism target (c ∷ cs) = alternative_faults mechanism target c ++ conditional_faults mechanism target cs
 
-  -- the faults of the waveform without a condition, where there is one
+  -- the faults of the waveform without a condition, if there is one
   abbrev pub otherwise_faults : DelayMechanism → Option ty.Type → Option (List Element) → List Fault
   otherwise_faults mechanism target None = []
   otherwise_faults mechanism target (Some w) = waveform_faults mechanism target w

@@ -19,8 +19,8 @@ use sim_text_tree::declaration::Declaration;
 use sim_text_tree::unit::{Architecture, Concurrent};
 use std::alloc::{AllocError, Global};
 
-/// Notes an architecture of no entity of the file, or of one that has an architecture of its name
-/// already.
+/// Records a fault if an architecture's entity is not in the file, or already has an architecture
+/// with this name.
 #[tactic(auto, unfolding(sim_flat_scope::specs::Faults::earliest))]
 fn check_unit(
     place: Option<usize>,
@@ -40,7 +40,7 @@ fn check_unit(
     }
 }
 
-/// Notes the faults of the names of an architecture, which is known from then on.
+/// Records the faults of the names of an architecture, and adds its name to the known ones.
 #[tactic(auto, using(sim_flat_scope::proofs::Faults::of_both), unfolding(crate::specs::Architectures::name_faults))]
 fn check_name<'a>(
     library: &Library<'_>,
@@ -58,7 +58,7 @@ fn check_name<'a>(
     Ok(())
 }
 
-/// Notes the faults of the names of architectures.
+/// Records the faults of the names of architectures.
 #[tactic(auto, unfolding(crate::specs::Architectures::names_faults, sim_flat_instances::specs::Libraries::bodies_at, sim_flat_scope::specs::Faults::earliest))]
 fn check_names(
     alloc: Global,
@@ -75,7 +75,7 @@ fn check_names(
     Ok(())
 }
 
-/// Notes the faults of the statements of an architecture with this region and these declarations.
+/// Records the faults of the statements of an architecture with this region and these declarations.
 fn check_concurrents(
     alloc: Global,
     library: &Library<'_>,
@@ -92,7 +92,7 @@ fn check_concurrents(
     check_statements(alloc, library, region, known, statements, first)
 }
 
-/// Notes the faults of the declarations and statements of an architecture of an entity with these
+/// Records the faults of the declarations and statements of an architecture of an entity with these
 /// ports.
 #[tactic(auto, using(sim_flat_scope::proofs::Faults::of_both), unfolding(crate::specs::Architectures::body_faults))]
 fn check_body<'a>(
@@ -111,8 +111,7 @@ fn check_body<'a>(
     check_concurrents(alloc, library, &region, declarations, statements, first)
 }
 
-/// Notes the faults of the declarations and statements of an architecture, where its entity is
-/// known.
+/// Records the faults of the declarations and statements of an architecture, if its entity exists.
 #[tactic(auto, unfolding(sim_flat_scope::specs::Faults::earliest))]
 fn check_known<'a>(
     alloc: Global,
@@ -128,7 +127,7 @@ fn check_known<'a>(
     }
 }
 
-/// Notes the faults of the declarations and statements of architectures.
+/// Records the faults of the declarations and statements of architectures.
 #[tactic(auto, unfolding(crate::specs::Architectures::bodies_faults, sim_flat_instances::specs::Libraries::bodies_at, sim_flat_scope::specs::Faults::earliest))]
 fn check_bodies<'a>(
     alloc: Global,
@@ -144,7 +143,7 @@ fn check_bodies<'a>(
     Ok(())
 }
 
-/// Notes the faults of architectures (3.3), each with the first entity of the name that it gives.
+/// Records the faults of architectures (3.3). The entity of each is the first with the given name.
 #[tactic(auto, using(sim_flat_scope::proofs::Faults::of_both), unfolding(crate::specs::Architectures::architectures_faults))]
 pub fn check_architectures<'a>(
     alloc: Global,

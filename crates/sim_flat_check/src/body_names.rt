@@ -1,4 +1,4 @@
-//! The names of architectures, each with that of its entity.
+//! The names of architectures, each with the name of its entity.
 
 ghost use Rattle.std.specs.Prelude.{◌≡◌, [], not, IfOk, OnOk};
 ghost use Rattle.sim_flat_check.specs.BodyNames as spec;
@@ -7,7 +7,7 @@ use indexmap::IndexSet;
 use std::alloc::{AllocError, Global};
 use std::marker::Model;
 
-/// Names of architectures, each with that of its entity.
+/// Names of architectures, each with the name of its entity.
 #[derive(Drop)]
 pub struct BodyNames<'a> {
     names: IndexSet<(&'a [u8], &'a [u8])>,
@@ -23,7 +23,7 @@ impl<'a> Model for BodyNames<'a> {
 }
 
 impl<'a> BodyNames<'a> {
-    /// No names.
+    /// An empty set.
     pub fn new(alloc: Global) -> BodyNames<'a>
         ensures { result ≡ [] }
     {
@@ -32,8 +32,8 @@ impl<'a> BodyNames<'a> {
         }
     }
 
-    /// Adds the name of an architecture, unless it is known for its entity, and says whether it is
-    /// new.
+    /// Adds the name of an architecture, unless it is known for its entity, and returns whether it
+    /// is new.
     pub fn insert(&mut self, entity: &'a [u8], name: &'a [u8]) -> Result<bool, AllocError>
         ensures is_new { IfOk result (λ b. b ≡ not (spec.is_known self.old entity.now name.now)) }
         ensures names { OnOk result (self.new ≡ spec.with_name self.old entity.now name.now) }

@@ -12,7 +12,7 @@ use sim_flat_scope::{Fault, Scope, region};
 use sim_text_tree::unit::{Concurrent, Process};
 use std::alloc::{AllocError, Global};
 
-/// Notes the faults of the sensitivity list and of the statements of a process.
+/// Records the faults of the sensitivity list and of the statements of a process.
 #[tactic(auto, using(sim_flat_scope::proofs::Faults::of_both))]
 fn check_execution(
     inner: &Scope<'_>,
@@ -26,7 +26,7 @@ fn check_execution(
     sequence(inner, outer, process.statements.as_slice(), first);
 }
 
-/// Notes the faults of a process in the region of its architecture.
+/// Records the faults of a process in the region of its architecture.
 #[tactic(auto, using(sim_flat_scope::proofs::Faults::of_both), unfolding(crate::specs::Concurrents::process_statement_faults))]
 fn check_process_statement(
     alloc: Global,
@@ -42,7 +42,7 @@ fn check_process_statement(
     Ok(())
 }
 
-/// Notes the faults of a statement in the region of an architecture with these components.
+/// Records the faults of a statement in the region of an architecture with these components.
 #[tactic(auto, unfolding(crate::specs::Concurrents::statement_faults))]
 fn check_statement(
     alloc: Global,
@@ -69,7 +69,7 @@ fn check_statement(
     }
 }
 
-/// Notes the faults of the statements of an architecture (11) with these components, in its region.
+/// Records the faults of the statements (11) of an architecture with these components.
 #[tactic(auto, unfolding(crate::specs::Concurrents::statements_faults, sim_flat_scope::specs::Faults::earliest))]
 pub fn check_statements(
     alloc: Global,

@@ -22,7 +22,7 @@ fn names_of<'a>(alloc: Global, entities: &[&'a Entity]) -> Result<Names<'a>, All
     Ok(names)
 }
 
-/// Notes the faults of the names of entities.
+/// Records the faults of the names of entities.
 fn check_entity_names(
     alloc: Global,
     entities: &[&Entity],
@@ -35,7 +35,7 @@ fn check_entity_names(
     check_names(&mut known, &names, first)
 }
 
-/// Notes the faults of the ports of an entity.
+/// Records the faults of the ports of an entity.
 fn check_entity(alloc: Global, entity: &Entity, first: &mut Option<Fault>) -> Result<(), AllocError>
     ensures { OnOk result (first.new ≡ earliest first.old (spec.entity_faults entity.now)) }
 {
@@ -44,7 +44,7 @@ fn check_entity(alloc: Global, entity: &Entity, first: &mut Option<Fault>) -> Re
     check_ports(alloc, &own, &nothing, entity.ports.as_slice(), first)
 }
 
-/// Notes the faults of the ports of each entity.
+/// Records the faults of the ports of each entity.
 #[tactic(auto, unfolding(crate::specs::Entities::each_entity, sim_flat_instances::specs::Libraries::entities_at, sim_flat_scope::specs::Faults::earliest))]
 fn check_each(
     alloc: Global,
@@ -59,7 +59,7 @@ fn check_each(
     Ok(())
 }
 
-/// Notes the faults of entities (3.2): of their names, and of their ports.
+/// Records the faults of entities (3.2): of their names, and of their ports.
 #[tactic(auto, using(sim_flat_scope::proofs::Faults::of_both), unfolding(crate::specs::Entities::entities_faults))]
 pub fn check_entities(
     alloc: Global,

@@ -10,9 +10,8 @@ use sim_flat_instances::Library;
 use sim_flat_scope::Fault;
 use std::alloc::{AllocError, Global};
 
-/// The fault of the units of a design file that is reported, if there is one: the first by its
-/// place, and of several at one place by its kind. All units count (13.1), whichever are
-/// elaborated.
+/// The fault that is reported for the units of a design file, if there is one: the first by place,
+/// and of several at one place the first by kind. All units are checked, elaborated or not (13.1).
 #[tactic(auto, using(sim_flat_scope::proofs::Faults::of_both), unfolding(crate::specs::Files::file_faults))]
 pub fn analyze(alloc: Global, library: &Library<'_>) -> Result<Option<Fault>, AllocError>
     ensures { IfOk result (λ found. found ≡ earliest None (spec.file_faults library.now)) }

@@ -20,7 +20,7 @@ use sim_text_tree::sequential::{
 use sim_text_tree::unit::Sensitivity;
 use sim_text_tree::waveform::ConcurrentSignalAssignment;
 
-/// Notes a fault of the target of a signal assignment, and gives its type.
+/// Records the fault of the target of a signal assignment, and returns its type.
 #[tactic(auto, unfolding(crate::specs::Statements::signal_target_faults, sim_flat_scope::specs::Faults::earliest))]
 fn signal_target(meaning: Option<Meaning>, at: usize, first: &mut Option<Fault>) -> Option<Type>
     ensures type_ { result ≡ spec.signal_type meaning }
@@ -49,7 +49,7 @@ fn signal_target(meaning: Option<Meaning>, at: usize, first: &mut Option<Fault>)
     }
 }
 
-/// Notes a fault of the target of a variable assignment, and gives its type.
+/// Records the fault of the target of a variable assignment, and returns its type.
 #[tactic(auto, unfolding(crate::specs::Statements::variable_target_faults, sim_flat_scope::specs::Faults::earliest))]
 fn variable_target(meaning: Option<Meaning>, at: usize, first: &mut Option<Fault>) -> Option<Type>
     ensures type_ { result ≡ spec.variable_type meaning }
@@ -68,7 +68,7 @@ fn variable_target(meaning: Option<Meaning>, at: usize, first: &mut Option<Fault
     }
 }
 
-/// Notes the faults of a concurrent signal assignment.
+/// Records the faults of a concurrent signal assignment.
 #[tactic(auto, using(sim_flat_scope::proofs::Faults::of_both), unfolding(crate::specs::Statements::concurrent_assignment_faults))]
 pub fn concurrent_assignment(
     inner: &Scope<'_>,
@@ -90,7 +90,7 @@ pub fn concurrent_assignment(
     );
 }
 
-/// Notes the faults of a signal assignment in a process.
+/// Records the faults of a signal assignment in a process.
 #[tactic(auto, using(sim_flat_scope::proofs::Faults::of_both), unfolding(crate::specs::Statements::signal_assignment_faults))]
 fn signal_assignment(
     inner: &Scope<'_>,
@@ -112,7 +112,7 @@ fn signal_assignment(
     );
 }
 
-/// Notes the faults of a variable assignment.
+/// Records the faults of a variable assignment.
 #[tactic(auto, using(sim_flat_scope::proofs::Faults::of_both), unfolding(crate::specs::Statements::variable_assignment_faults))]
 fn variable_assignment(
     inner: &Scope<'_>,
@@ -127,7 +127,7 @@ fn variable_assignment(
     value(inner, outer, type_, &assignment.value, first);
 }
 
-/// Notes the faults of a statement without its label.
+/// Records the faults of a statement without its label.
 #[cycle(statements)]
 #[tactic(auto, using(crate::proofs::Sequences::statement_rules), unfolding(sim_flat_scope::specs::Faults::earliest))]
 fn statement(inner: &Scope<'_>, outer: &Scope<'_>, statement: &Statement, first: &mut Option<Fault>)
@@ -151,7 +151,7 @@ fn statement(inner: &Scope<'_>, outer: &Scope<'_>, statement: &Statement, first:
     }
 }
 
-/// Notes the faults of a condition, and then of the statements under it.
+/// Records the faults of a condition, and then of the statements under it.
 #[cycle(statements)]
 #[tactic(auto, using(crate::proofs::Sequences::branch_is, sim_flat_scope::proofs::Faults::of_both))]
 fn if_branch(inner: &Scope<'_>, outer: &Scope<'_>, branch: &Branch, first: &mut Option<Fault>)
@@ -161,7 +161,7 @@ fn if_branch(inner: &Scope<'_>, outer: &Scope<'_>, branch: &Branch, first: &mut 
     sequence(inner, outer, branch.statements.as_slice(), first);
 }
 
-/// Notes the faults of the branches in the order of the text.
+/// Records the faults of the branches, in textual order.
 #[cycle(statements)]
 #[tactic(auto, unfolding(crate::specs::Statements::branches_faults, sim_flat_scope::specs::Faults::earliest))]
 fn branches(inner: &Scope<'_>, outer: &Scope<'_>, branches: &[Branch], first: &mut Option<Fault>)
@@ -172,7 +172,7 @@ fn branches(inner: &Scope<'_>, outer: &Scope<'_>, branches: &[Branch], first: &m
     }
 }
 
-/// Notes the faults of a sequence of statements.
+/// Records the faults of a sequence of statements.
 #[cycle(statements)]
 #[tactic(auto, using(crate::proofs::Sequences::sequential_is), unfolding(crate::specs::Statements::sequence_faults, sim_flat_scope::specs::Faults::earliest))]
 pub fn sequence(
@@ -188,14 +188,14 @@ pub fn sequence(
     }
 }
 
-/// Notes a fault of a name whose events count.
+/// Records the fault of a name in a sensitivity list.
 fn sensitive(inner: &Scope<'_>, outer: &Scope<'_>, name: &Name, first: &mut Option<Fault>)
     ensures { first.new ≡ earliest first.old (types.signal_read name.now.at (means inner.now outer.now name.now.text)) }
 {
     signal_read(look_up(inner, outer, name.text()), name.at(), first);
 }
 
-/// Notes the faults of names whose events count.
+/// Records the faults of the names in a sensitivity list.
 #[tactic(auto, unfolding(crate::specs::Statements::signals_read, sim_flat_scope::specs::Faults::earliest))]
 fn signals_read(inner: &Scope<'_>, outer: &Scope<'_>, names: &[Name], first: &mut Option<Fault>)
     ensures { first.new ≡ earliest first.old (spec.signals_read (means inner.now outer.now) names.now) }
@@ -205,7 +205,7 @@ fn signals_read(inner: &Scope<'_>, outer: &Scope<'_>, names: &[Name], first: &mu
     }
 }
 
-/// Notes the faults of a sensitivity list.
+/// Records the faults of a sensitivity list.
 #[tactic(auto, unfolding(crate::specs::Statements::sensitivity_faults, sim_flat_scope::specs::Faults::earliest))]
 pub fn sensitivity(
     inner: &Scope<'_>,

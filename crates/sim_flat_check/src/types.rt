@@ -1,4 +1,4 @@
-//! Types of expressions, and the faults inside them (IEEE 1076-2008, 9).
+//! The types of expressions, and the faults in them (IEEE 1076-2008, 9).
 
 ghost use Rattle.std.specs.Prelude.{◌≡◌, ◌||◌, ◌++◌, Some, false};
 ghost use Rattle.sim_flat_scope.specs.Faults.{earliest};
@@ -14,16 +14,16 @@ use sim_text_tree::declaration::Mode;
 use sim_text_tree::expression::{Expression, Operand};
 use sim_text_tree::name::Name;
 
-/// What an expression is.
+/// The result of analyzing an expression.
 #[derive(Clone, Copy, PartialEq, Eq)]
 pub struct Judgement {
-    /// Its type, where it has one: one with a fault inside has none.
+    /// Its type, if it has one; an expression with a fault in it has none.
     pub type_: Option<Type>,
-    /// Whether it holds a name.
+    /// Whether it contains a name.
     pub named: bool,
 }
 
-/// A name that is read.
+/// A name whose value is read.
 #[tactic(auto, unfolding(crate::specs::Types::value_read, crate::specs::Carried::carried, sim_flat_scope::specs::Faults::earliest))]
 fn value_read(meaning: Option<Meaning>, at: usize, first: &mut Option<Fault>) -> Judgement
     ensures { record { type = result.type_; named = result.named; first = first.new } ≡ carried.carried first.old (spec.value_read at meaning) }
@@ -56,7 +56,7 @@ fn value_read(meaning: Option<Meaning>, at: usize, first: &mut Option<Fault>) ->
     Judgement { type_, named: true }
 }
 
-/// A name whose events count: boolean, unless it is at fault.
+/// A name whose events are used: boolean, unless it is at fault.
 #[tactic(auto, unfolding(crate::specs::Types::signal_read, sim_flat_scope::specs::Faults::earliest))]
 pub(crate) fn signal_read(
     meaning: Option<Meaning>,
@@ -88,7 +88,7 @@ pub(crate) fn signal_read(
     }
 }
 
-/// The function of a call: boolean, unless its name is at fault.
+/// The name of a called function: boolean, unless it is at fault.
 #[tactic(auto, unfolding(crate::specs::Types::function_called, sim_flat_scope::specs::Faults::earliest))]
 fn function_called(meaning: Option<Meaning>, at: usize, first: &mut Option<Fault>) -> Option<Type>
     ensures type_ { result ≡ spec.boolean_unless (spec.function_called at meaning) }
@@ -129,7 +129,7 @@ fn call(
     Judgement { type_, named: true }
 }
 
-/// The type that two operands have, or a value and its target.
+/// The common type of two operands, or of a value and its target.
 #[tactic(auto, unfolding(sim_flat_scope::specs::Faults::earliest))]
 pub(crate) fn common(
     a: Option<Type>,
@@ -150,7 +150,7 @@ pub(crate) fn common(
     }
 }
 
-/// Both operands are evaluated, so that both are known of in a proof.
+/// Disjunction that evaluates both operands, so that a proof knows both.
 fn either(a: bool, b: bool) -> bool
     ensures { result ≡ (a || b) }
 {
@@ -169,7 +169,7 @@ fn joined(before: Judgement, at: usize, operand: Judgement, first: &mut Option<F
     }
 }
 
-/// What `=` or `/=` gives, where that is what its operands are.
+/// The result of `=` or `/=`, from the combined result of its operands.
 #[tactic(auto, unfolding(crate::specs::Carried::carried_compared, sim_flat_scope::specs::Faults::earliest))]
 fn compared(both: Judgement, at: usize, first: &mut Option<Fault>) -> Judgement
     ensures { record { type = result.type_; named = result.named; first = first.new }
@@ -192,7 +192,7 @@ fn compared(both: Judgement, at: usize, first: &mut Option<Fault>) -> Judgement
     }
 }
 
-/// What a literal of std_ulogic is.
+/// A literal of type std_ulogic.
 fn literal() -> Judgement
     ensures type_ { result.type_ ≡ Some Logic }
     ensures named { result.named ≡ false }
@@ -203,7 +203,7 @@ fn literal() -> Judgement
     }
 }
 
-/// An operator and the operand after it, after what stands before them.
+/// An operator and the operand after it, given the result so far.
 #[cycle(types)]
 #[tactic(auto, using(crate::proofs::Judgements::carried_rules))]
 fn operand(
@@ -221,7 +221,7 @@ fn operand(
     joined(before, next.operator_at, after, first)
 }
 
-/// Operators and the operands after them.
+/// Operators and the operands after them, given the result so far.
 #[cycle(types)]
 #[tactic(auto, unfolding(crate::specs::Carried::carried_through))]
 fn operands(
@@ -242,7 +242,7 @@ fn operands(
     so_far
 }
 
-/// The type of an expression, as far as it has one, and whether it holds a name.
+/// The type of an expression, if it has one, and whether it contains a name.
 #[cycle(types)]
 #[tactic(auto, using(crate::proofs::Judgements::carried_rules))]
 fn judge(
@@ -296,7 +296,7 @@ fn judge(
     }
 }
 
-/// The type of an expression and whether it holds a name; notes the faults in it.
+/// Records the faults in an expression; returns its type and whether it contains a name.
 #[tactic(auto, unfolding(crate::specs::Carried::carried))]
 pub fn expression(
     inner: &Scope<'_>,

@@ -12,7 +12,7 @@ use sim_text_tree::expression::Expression;
 use sim_text_tree::time::TimeLiteral;
 use sim_text_tree::waveform::{ConditionalWaveform, ConditionalWaveforms, DelayMechanism, Element};
 
-/// How many elements a waveform has at most.
+/// The largest number of elements in a waveform.
 const MOST_ELEMENTS: usize = 16;
 
 /// The delay of an element in femtoseconds.
@@ -25,7 +25,7 @@ fn delay_after(after: &Option<TimeLiteral>) -> u64
     }
 }
 
-/// Notes an element whose delay is not above that of the element before it.
+/// Records a fault if the delay of an element is not greater than that of the one before it.
 #[tactic(auto, unfolding(sim_flat_scope::specs::Faults::earliest))]
 fn above(before: Option<u64>, element: &Element, first: &mut Option<Fault>)
     ensures { first.new ≡ earliest first.old (spec.not_above before element.now) }
@@ -37,7 +37,7 @@ fn above(before: Option<u64>, element: &Element, first: &mut Option<Fault>)
     }
 }
 
-/// Notes the elements whose delays do not rise.
+/// Records the faults of elements whose delays do not ascend.
 #[tactic(auto, using(sim_flat_scope::proofs::Faults::of_both), unfolding(crate::specs::Waveforms::not_rising, sim_flat_scope::specs::Faults::earliest))]
 fn rising(waveform: &[Element], first: &mut Option<Fault>)
     ensures { first.new ≡ earliest first.old (spec.not_rising None waveform.now) }
@@ -49,7 +49,7 @@ fn rising(waveform: &[Element], first: &mut Option<Fault>)
     }
 }
 
-/// Notes the first element that is too many.
+/// Records the first element in excess of the limit as a fault.
 #[tactic(auto, unfolding(crate::specs::Waveforms::too_many, sim_flat_scope::specs::Faults::earliest))]
 fn count(waveform: &[Element], first: &mut Option<Fault>)
     ensures { first.new ≡ earliest first.old (spec.too_many waveform.now) }
@@ -59,7 +59,7 @@ fn count(waveform: &[Element], first: &mut Option<Fault>)
     }
 }
 
-/// Notes a rejection limit above the first delay of a waveform.
+/// Records a fault if the rejection limit is greater than the first delay of the waveform.
 #[tactic(auto, unfolding(crate::specs::Waveforms::delay_faults, sim_flat_scope::specs::Faults::earliest))]
 fn delay(mechanism: &DelayMechanism, waveform: &[Element], first: &mut Option<Fault>)
     ensures { first.new ≡ earliest first.old (spec.delay_faults mechanism.now waveform.now) }
@@ -73,7 +73,7 @@ fn delay(mechanism: &DelayMechanism, waveform: &[Element], first: &mut Option<Fa
     }
 }
 
-/// Notes the faults of a condition.
+/// Records the faults of a condition.
 #[tactic(auto, using(sim_flat_scope::proofs::Faults::of_both), unfolding(crate::specs::Waveforms::condition_faults, sim_flat_scope::specs::Faults::earliest))]
 pub(crate) fn condition(
     inner: &Scope<'_>,
@@ -91,7 +91,7 @@ pub(crate) fn condition(
     }
 }
 
-/// Notes the faults of a value that is assigned to a target of this type.
+/// Records the faults of a value that is assigned to a target of this type.
 #[tactic(auto, using(sim_flat_scope::proofs::Faults::of_both), unfolding(crate::specs::Waveforms::value_faults))]
 pub(crate) fn value(
     inner: &Scope<'_>,
@@ -106,7 +106,7 @@ pub(crate) fn value(
     common(target, judgement.type_, value.start(), first);
 }
 
-/// Notes the faults of the values of elements.
+/// Records the faults of the values of elements.
 #[tactic(auto, using(sim_flat_scope::proofs::Faults::of_both), unfolding(crate::specs::Waveforms::values_faults, sim_flat_scope::specs::Faults::earliest))]
 fn values(
     inner: &Scope<'_>,
@@ -122,7 +122,7 @@ fn values(
     }
 }
 
-/// Notes the faults of a waveform after a delay mechanism.
+/// Records the faults of a waveform after a delay mechanism.
 #[tactic(auto, using(sim_flat_scope::proofs::Faults::of_both), unfolding(crate::specs::Waveforms::waveform_faults))]
 pub(crate) fn waveform(
     inner: &Scope<'_>,
@@ -140,7 +140,7 @@ pub(crate) fn waveform(
     values(inner, outer, target, waveform, first);
 }
 
-/// Notes the faults of waveforms with their conditions.
+/// Records the faults of waveforms with their conditions.
 #[tactic(auto, unfolding(crate::specs::Waveforms::conditional_faults, sim_flat_scope::specs::Faults::earliest))]
 fn conditional(
     inner: &Scope<'_>,
@@ -159,7 +159,7 @@ fn conditional(
     }
 }
 
-/// Notes the faults of the waveforms of a concurrent assignment.
+/// Records the faults of the waveforms of a concurrent assignment.
 #[tactic(auto, using(sim_flat_scope::proofs::Faults::of_both), unfolding(crate::specs::Waveforms::waveforms_faults, sim_flat_scope::specs::Faults::earliest))]
 pub(crate) fn waveforms(
     inner: &Scope<'_>,

@@ -1,4 +1,4 @@
--- The flat design and its parts may go to another thread, and be shared with one.
+-- The flat design and its parts can be sent to another thread and shared with one.
 use denote.RattleType.{RattleType}
 use denote.Struct.Field.{usize-field, bool-field}
 use denote.Param.Send.{IsSend, IsSync, sendable}

@@ -1,4 +1,4 @@
--- The first net of a name, by what holds at its place and at those before it.
+-- The first net with a name, from the properties of its position and of the earlier ones.
 use Rattle.std.proofs.Common.{arith, ◌≡◌, ◌≢◌, ℕ, ◌<◌, List, [], Option, Some, None, length, take, length-take}
 use Rattle.std.specs.List.{All, AllWithin, HoldsAt}
 use Rattle.std.specs.Option.{MatchOption}
@@ -7,7 +7,7 @@ use Rattle.std.proofs.lemmas.List.Elements.{All-from_all_within, All-from_get_or
 use Rattle.std.proofs.lemmas.Option.{slice_get-get_or}
 use Rattle.sim_flat_design.specs.Designs.{Net, IsFirstNamed}
 
--- a net to read a list of nets past its end
+-- a net for positions past the end of a list
 nameless : Net
 nameless = record { name = []; sources = [] }
 
@@ -24,7 +24,7 @@ module _ (name : List ℕ) where
       let small : k < i = omega (arith, below, length-take i nets) in
       rw (get_or-take i nets k nameless small) (lacks k nameless (omega arith) small))
 
-  -- where the first place is known, it is that of the first net of the name
+  -- the first position found is that of the first net with the name
   pub first_named_is : (nets : List Net) (r : Option ℕ)
       → MatchOption r (AllWithin Lacks nets 0 (length nets)) (λ i. (i < length nets) × HoldsAt Has nets i × AllWithin Lacks nets 0 i)
       → MatchOption r (All Lacks nets) (λ i. IsFirstNamed name i nets)

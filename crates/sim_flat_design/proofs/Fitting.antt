@@ -1,4 +1,4 @@
--- What keeps to what there is, from its parts.
+-- References are in range if those of the parts are.
 use Rattle.std.proofs.Common.{◌≡◌, ℕ, ◌&&◌, nat_lt, List, map, Bool, true, slice_get, refl, sym, ap, ◌∙◌}
 use Rattle.std.specs.List.{All}
 use Rattle.std.proofs.lemmas.List.Sums.{list_all-from_AllPass}
@@ -28,7 +28,7 @@ use Rattle.sim_flat_design.specs.Bodies.{waveform_fits, is_rejected, conditional
 use Rattle.sim_flat_design.specs.Bodies.{assignment_fits, statement_fits_rule, branch_fits_rule, statement_fits, branch_fits}
 use Rattle.sim_flat_design.specs.Bodies.{all, is_bit, is_truth, logic_fits_rule, logic_fits, boolean_fits_rule, boolean_fits}
 
--- what holds of all is true of the list of what holds
+-- a property of all items, as a list of truth values
 pub all_are : {X : Type 0} (f : X → Bool) (xs : List X) → All (λ (x : X). f x ≡ true) xs → all (map f xs) ≡ true
 all_are f xs h = list_all-map (λ (b : Bool). b) f xs ∙ list_all-from_AllPass f xs h
 

@@ -1,4 +1,4 @@
--- Texts in pieces: where the shorter of two pieces ends, what is left is compared.
+-- Texts in pieces: after the shorter of two pieces, the rest of the longer is compared.
 use Rattle.std.proofs.Common.{
   ◌≡◌,
   ◌≢◌,
@@ -30,11 +30,11 @@ use Rattle.std.proofs.Math.Seq.{take-append_seam}
 use Rattle.std.proofs.lemmas.List.{append_cancel_left, take-append-le, take_rest, take_more}
 use Rattle.std.proofs.lemmas.List.Folds.{concat-append}
 
--- no text is shorter than its front
+-- no text is shorter than its prefix
 pub too_short : (front rest whole : List ℕ) → length whole < length front → front ++ rest ≢ whole
 too_short front rest whole short e = absurd (omega (arith, short, ap length e, length-append front rest))
 
--- a text cut where a front of its length ends
+-- a text split after a prefix of its length
 module _ (front whole head rest : List ℕ) (fore : head ≡ take (length front) whole) (aft : rest ≡ drop (length front) whole) where
   whole_is : head ++ rest ≡ whole
   whole_is = ap (λ (l : List ℕ). l ++ rest) fore ∙ (ap (λ (l : List ℕ). take (length front) whole ++ l) aft ∙ take-append-drop (length front) whole)
@@ -86,14 +86,14 @@ next_piece pieces i item old new lt is so_far e =
     ∙ (sym (one_more (take i pieces) item)
     ∙ ap concat (ap (λ (l : List ℕ). take i pieces ++ l ∷ []) is ∙ sym (take_more pieces i item lt))))
 
--- of two texts that are the same, the shorter front is a front of the other
+-- if two texts are equal, the shorter prefix is a prefix of the longer one
 pub is_front : (front more longer rest : List ℕ) → length front ≤ length longer → front ++ more ≡ longer ++ rest → front ++ drop (length front) longer ≡ longer
 is_front front more longer rest fits e =
     ap (λ (l : List ℕ). l ++ drop (length front) longer)
     (sym (take-append_seam front more) ∙ (ap (take (length front)) e ∙ take-append-le (length front) longer rest fits))
     ∙ take-append-drop (length front) longer
 
--- a text without a front that stands before both
+-- a prefix before both texts does not matter
 module _ (front one other : List ℕ) where
   pub put_before : one ≡ other → front ++ one ≡ front ++ other
   put_before e = ap (λ (l : List ℕ). front ++ l) e
@@ -101,10 +101,10 @@ module _ (front one other : List ℕ) where
   pub left_out : front ++ one ≡ front ++ other → one ≡ other
   left_out e = append_cancel_left front one other e
 
--- a front is put together with what is behind it
+-- a prefix regrouped with the text after it
 pub regrouped : (front rest whole more : List ℕ) → front ++ rest ≡ whole → whole ++ more ≡ front ++ (rest ++ more)
 regrouped front rest whole more cut = ap (λ (l : List ℕ). l ++ more) (sym cut) ∙ append_assoc front rest more
 
--- the same of a text of which the front is the first piece
+-- the same for a text whose prefix is its first piece
 pub first_apart : (all first others last : List ℕ) → all ≡ first ++ others → all ++ last ≡ first ++ (others ++ last)
 first_apart all first others last e = ap (λ (l : List ℕ). l ++ last) e ∙ append_assoc first others last

@@ -1,4 +1,4 @@
--- What the body of a process names, and whether it keeps to what there is.
+-- The objects that the body of a process refers to, and whether all references are in range.
 use Rattle.std.specs.Prelude.{ℕ, ◌&&◌, nat_lt, nat_le, List, [], ◌∷◌, ◌++◌, Bool, true, false, Option, Some, None, slice_get, map}
 use Rattle.std.specs.List.{concat, list_all}
 use Rattle.sim_flat_design.specs.declared.held.Held.{Held}
@@ -20,15 +20,15 @@ use Rattle.sim_flat_design.specs.declared.statement.Statement.TheOpen as s
 use Rattle.sim_flat_design.specs.declared.statement.Statement.TheFolds as folds
 use Rattle.sim_flat_design.specs.Waveforms.{first_time}
 
--- The body of a process: how many ports and signals its architecture has, how many drivers the process has, the first values
--- of its variables, and its statements.
+-- The body of a process: the number of ports and signals of its architecture, the number of drivers of the process, the
+-- initial values of its variables, and its statements.
 pub record Body : Type 0 where
   pub objects : ℕ
   pub drivers : ℕ
   pub variables : List Held
   pub statements : List Statement
 
--- ---- the ports and signals that are read, also by 'event and in edge functions, each as often as it is named
+-- ---- the ports and signals that are read, also by 'event and edge functions, with repetitions
 
 abbrev pub logic_objects_rule : logic.LogicExpression-F (List ℕ) → List ℕ
 logic_objects_rule (logic.Literal value) = []
@@ -91,7 +91,7 @@ statement_objects = folds.fold-Statement (List ℕ) (List ℕ) statement_objects
 unfoldable pub objects_of : List Statement → List ℕ
 objects_of statements = concat (map statement_objects statements)
 
--- ---- whether a body keeps to what there is: this number of ports and signals, of drivers, and these variables, each of its type
+-- ---- whether references are in range: to ports and signals, to drivers, and to variables, each with its type
 
 -- whether there is a variable of type std_ulogic at this place
 abbrev pub is_bit : Option Held → Bool
@@ -107,7 +107,7 @@ is_truth _ = false
 abbrev pub all : List Bool → Bool
 all = list_all (λ b. b)
 
--- whether a rejection limit is no larger than the first time of a waveform (10.5.2.1)
+-- whether a rejection limit is at most the first delay of a waveform (10.5.2.1)
 abbrev pub is_rejected : Delay → List Element → Bool
 is_rejected (delay.Reject limit) w = nat_le limit (first_time w)
 is_rejected _ w = true
@@ -168,6 +168,6 @@ module _ (objects drivers : ℕ) (variables : List Held) where
   unfoldable pub branch_fits : Branch → Bool
   branch_fits = folds.fold-Branch Bool Bool statement_fits_rule branch_fits_rule
 
--- whether a body keeps to its own numbers
+-- whether all references of a body are in range
 unfoldable pub fits : Body → Bool
 fits b = all (map (statement_fits b.objects b.drivers b.variables) b.statements)

@@ -7,23 +7,23 @@ use Rattle.sim_flat_design.specs.declared.design.Source.{Source}
 use Rattle.sim_flat_design.specs.declared.design.Source.TheVariants as source
 use Rattle.sim_flat_design.specs.Processes.{Process}
 
--- a net: its name, and the leaves of the tree of its sources, from left to right
+-- a net: its name, and its flat sources, from left to right
 pub record Net : Type 0 where
   pub name : List ℕ
   pub sources : List Source
 
--- The net of this number has this name, and none before it has.
+-- The net with this number has this name, and no earlier net has it.
 pub record IsFirstNamed (name : List ℕ) (number : ℕ) (nets : List Net) : Type 0 where
   pub named : IsSomeAnd (slice_get nets number) (λ (n : Net). n.name ≡ name)
   pub first : All (λ (n : Net). n.name ≢ name) (take number nets)
 
--- A flat design: its nets, its processes, and the drivers of these, each by number (IEEE 1076-2008, 14).
+-- A flat design: its nets, its processes, and their drivers, each by number (IEEE 1076-2008, 14).
 pub record Design : Type 0 where
   pub nets : List Net
   pub processes : List Process
   pub drivers : List DriverOf
 
--- how many nets, processes and drivers a design may have, of each
+-- the largest number of nets, of processes and of drivers
 abbrev pub most : ℕ
 most = 2 ^ 16
 
@@ -32,27 +32,27 @@ abbrev pub IsSource : ℕ → Source → Type 0
 IsSource drivers (source.Driver n) = n < drivers
 IsSource drivers (source.Constant value) = Unit {0}
 
--- A net has a source, and its sources are there.
+-- A net has at least one source, and its sources exist.
 abbrev pub IsNet : ℕ → Net → Type 0
 IsNet drivers n = (n.sources ≢ []) × All (IsSource drivers) n.sources
 
--- The nets of a process are there.
+-- The nets of a process exist.
 pub record IsPlaced (nets : ℕ) (p : Process) : Type 0 where
   pub object_nets : All (λ (n : ℕ). n < nets) p.nets
   pub sensitive : All (λ (n : ℕ). n < nets) p.sensitivity
 
--- A driver is one of this process, and its net is there.
+-- A driver belongs to this process, and its net exists.
 abbrev pub IsDriverOf : ℕ → ℕ → DriverOf → Type 0
 IsDriverOf nets process d = (d.process ≡ process) × (d.net < nets)
 
--- The drivers from this number on are those of the processes from this number on, process by process.
+-- The drivers from this number are those of the processes from this number, grouped by process.
 abbrev pub AreOwned : ℕ → ℕ → ℕ → List Process → List DriverOf → Type 0
 AreOwned nets number first [] ds = ds ≡ []
 AreOwned nets number first (p ∷ ps) ds =
     (p.first_driver ≡ first) × (p.body.drivers ≤ length ds) × All (IsDriverOf nets number) (take p.body.drivers ds)
     × AreOwned nets (number + 1) (first + p.body.drivers) ps (drop p.body.drivers ds)
 
--- A design is within its limits, all of its numbers are there, and each driver belongs to one process.
+-- A design is within its limits, all of its numbers are in range, and each driver belongs to one process.
 pub record IsDesign (d : Design) : Type 0 where
   pub nets_bound : length d.nets ≤ most
   pub processes_bound : length d.processes ≤ most

@@ -1,4 +1,4 @@
-//! The bodies of processes, which all instances of an architecture share.
+//! Process bodies, which all instances of an architecture share.
 
 ghost use Rattle.std.specs.Prelude.{◌≡◌};
 ghost use Rattle.std.specs.Bool.{Decides};
@@ -18,15 +18,15 @@ struct Parts {
     statements: Items<Statement>,
 }
 
-/// The body of a process. Its copies share it.
+/// The body of a process, which its copies share.
 ///
-/// Its ports and signals are those of its architecture, by place; its drivers and variables are its
-/// own, by place. All of them are there, and each variable is of the type that its use asks for.
+/// It refers to the ports and signals of its architecture, and to its own drivers and variables, by
+/// position. All references are in range, and each variable is used with its own type.
 pub struct Body {
     parts: Arc<Parts, Global>,
 }
 
-/// By hand, so that crates which drop one need no proof of what is in it.
+/// Written by hand so that crates which drop a body need no proof about its contents.
 impl Drop for Body {
     fn drop(self) {
         let Body { parts } = self;
@@ -59,8 +59,8 @@ impl Body {
     ghost use Rattle.std.specs.Bool.{Decides};
     ghost use Rattle.sim_flat_design.specs.Bodies.{fits};
 
-    /// The body with these statements, where there is this number of ports and signals and of
-    /// drivers, and variables with these first values.
+    /// A body with these statements, for this number of ports and signals and of drivers, and with
+    /// variables that have these initial values.
     pub fn new(
         alloc: Global,
         objects: usize,
@@ -83,7 +83,7 @@ impl Body {
         Ok(Body { parts })
     }
 
-    /// The same body, shared. It takes no time that grows with the body.
+    /// The same body, shared, in constant time.
     pub fn try_copy(&self) -> Result<Body, AllocError>
         ensures { IfOk result (λ b. b ≡ self.now) }
     {
@@ -91,21 +91,21 @@ impl Body {
         Ok(Body { parts })
     }
 
-    /// How many ports and signals its architecture has.
+    /// The number of ports and signals of its architecture.
     pub fn objects(&self) -> usize
         ensures { result ≡ self.now.objects }
     {
         self.parts.objects
     }
 
-    /// How many drivers it has.
+    /// The number of its drivers.
     pub fn drivers(&self) -> usize
         ensures { result ≡ self.now.drivers }
     {
         self.parts.drivers
     }
 
-    /// The first values of its variables.
+    /// The initial values of its variables.
     pub fn variables(&self) -> &[Held]
         ensures { result.now ≡ self.now.variables }
     {
@@ -125,7 +125,7 @@ impl Body {
         self.parts.statements.as_slice()
     }
 
-    /// Whether it is the same body as another.
+    /// Whether the two bodies are equal.
     pub fn same(&self, other: &Body) -> bool
         ensures { Decides result (self.now ≡ other.now) }
     {

@@ -12,15 +12,15 @@ use std::alloc::{AllocError, Global};
 use std::marker::Model;
 use std::sync::Arc;
 
-/// A leaf of the sources of a net: a driver, by its number, or a constant.
+/// A flat source of a net: a driver, by number, or a constant.
 #[derive(Clone, Copy, Debug, PartialEq, Eq)]
 pub enum Source {
     Driver(usize),
     Constant(Logic),
 }
 
-/// A net, with its name and the leaves of the tree of its sources, from left to right (14.7.3). The
-/// nets of an instance share what stands before their simple names.
+/// A net, with its name and its flat sources, from left to right (14.7.3). The nets of an instance
+/// share the path of the instance.
 #[derive(Drop)]
 pub struct Net {
     path: InstancePath,
@@ -42,7 +42,7 @@ impl Net {
     ghost use Rattle.std.specs.List.{concat};
     ghost use Rattle.std.specs.Bool.{Decides};
 
-    /// The net with this simple name in the instance of this path, and with these sources.
+    /// The net with this simple name in the instance with this path, and with these sources.
     pub fn new(
         alloc: Global,
         path: &InstancePath,
@@ -60,15 +60,15 @@ impl Net {
         })
     }
 
-    /// The pieces of its name: those of the labels of the instances in which it stands, each label
-    /// with a `.` after it, and its simple name.
+    /// Its name in pieces: the labels of the enclosing instances, each followed by `.`, and its
+    /// simple name.
     pub fn name_pieces(&self) -> (&[PathPiece], &str)
         ensures { concat result.0.now ++ result.1.now ≡ self.now.name }
     {
         (self.path.pieces(), self.simple_name.as_str())
     }
 
-    /// Its whole name: the labels and its simple name, with a `.` between each two.
+    /// Its full name: the labels and its simple name, separated by `.`.
     pub fn to_name(&self, alloc: Global) -> Result<String, AllocError>
         ensures { IfOk result (λ name. string_bytes name ≡ self.now.name) }
     {
@@ -76,7 +76,7 @@ impl Net {
         all_joined(alloc, pieces, simple_name)
     }
 
-    /// Whether this is its whole name. It takes no memory.
+    /// Whether this is its full name. No memory is allocated.
     pub fn is_named(&self, name: &str) -> bool
         ensures { Decides result (self.now.name ≡ name.now) }
     {
@@ -84,7 +84,7 @@ impl Net {
         are_joined(pieces, simple_name.as_bytes(), name.as_bytes())
     }
 
-    /// Whether its name is that of another net.
+    /// Whether the other net has the same name.
     fn is_namesake(&self, other: &Net) -> bool
         ensures { Decides result (self.now.name ≡ other.now.name) }
     {
@@ -98,14 +98,14 @@ impl Net {
         )
     }
 
-    /// The leaves of its sources; a net without drivers has a constant.
+    /// Its flat sources; a net without drivers has a constant.
     pub fn sources(&self) -> &[Source]
         ensures { result.now ≡ self.now.sources }
     {
         self.sources.as_slice()
     }
 
-    /// Whether it is the same net as another.
+    /// Whether the two nets are equal.
     fn same(&self, other: &Net) -> bool
         ensures { Decides result (self.now ≡ other.now) }
     {
@@ -138,8 +138,8 @@ fn same_processes(processes: &[Process], others: &[Process]) -> bool
             .all(|(process, other)| process.same(other))
 }
 
-/// A driver: the process that it belongs to and its net, by number, and its first value, the
-/// default of the name that the process assigns (14.7.2).
+/// A driver: its process and its net, by number, and its initial value, which is the default value
+/// of the name that the process assigns (14.7.2).
 #[derive(Clone, Copy, Debug, PartialEq, Eq)]
 pub struct DriverOf {
     pub process: usize,
@@ -161,12 +161,12 @@ struct Parts {
     drivers: Items<DriverOf>,
 }
 
-/// A flat design. Its copies share it.
+/// A flat design, which its copies share.
 pub struct Design {
     parts: Arc<Parts, Global>,
 }
 
-/// By hand, so that crates which drop one need no proof of what is in it.
+/// Written by hand so that crates which drop a design need no proof about its contents.
 impl Drop for Design {
     fn drop(self) {
         let Design { parts } = self;
@@ -246,8 +246,8 @@ impl Design {
         self.parts.processes.as_slice()
     }
 
-    /// The drivers, by number: process by process, those of one in the order of its first
-    /// assignments to their names.
+    /// The drivers, by number: grouped by process, and within a process in the order of the first
+    /// assignments to their targets.
     pub fn drivers(&self) -> &[DriverOf]
         ensures value { result.now ≡ self.now.drivers }
         ensures bound { length result.now ≤ most }
@@ -257,14 +257,14 @@ impl Design {
     }
 
     /// The number of the first net with this name, which is in lower case (15.4.2); `None` exactly
-    /// where no net has it.
+    /// if no net has it.
     pub fn net_named(&self, name: &str) -> Option<usize>
         ensures { MatchOption result (All (λ (net : Net). net.name ≢ name.now) self.now.nets) (λ n. IsFirstNamed name.now n self.now.nets) }
     {
         self.nets().iter().position(|net| net.is_named(name))
     }
 
-    /// Whether it is the same design as another. It takes no memory.
+    /// Whether the two designs are equal. No memory is allocated.
     pub fn same(&self, other: &Design) -> bool
         ensures { Decides result (self.now ≡ other.now) }
     {

@@ -1,9 +1,9 @@
-//! Expressions of a process (IEEE 1076-2008, 9), by type: each is of its type by the way it is
-//! built.
+//! Expressions of a process (IEEE 1076-2008, 9), by type, so that each is well typed by
+//! construction.
 //!
-//! Signals and ports stand by their place in their architecture, the ports first; variables by
-//! their place in their process. Parentheses are gone. Recursion is through operands alone, and a
-//! chain of operands is a list.
+//! Signals and ports are given by their position in the architecture, ports first, and variables by
+//! their position in the process. Parentheses are not kept. Only operands are recursive, and the
+//! operands of a chain are a list.
 
 ghost use Rattle.std.specs.Prelude.{◌≡◌};
 ghost use Rattle.std.specs.Bool.{Decides};
@@ -20,7 +20,7 @@ pub enum LogicExpression {
     Variable(usize),
     /// `not` of the operand (9.2.2).
     Not(Boxed<LogicExpression>),
-    /// The operator between each two of the operands, grouped from the left (9.2.2).
+    /// The operator between adjacent operands, grouped from the left (9.2.2).
     Chain {
         operator: Logical,
         first: Boxed<LogicExpression>,
@@ -36,20 +36,20 @@ pub enum BooleanExpression {
     Variable(usize),
     /// `'event` of a signal or port (16.2).
     Event(usize),
-    /// `rising_edge` of a signal or port, or else `falling_edge` (IEEE 1164).
+    /// `rising_edge` of a signal or port, or `falling_edge` if not `rising` (IEEE 1164).
     Edge {
         rising: bool,
         object: usize,
     },
     /// `not` of the operand (9.2.2).
     Not(Boxed<BooleanExpression>),
-    /// The operator between each two of the operands, grouped from the left (9.2.2).
+    /// The operator between adjacent operands, grouped from the left (9.2.2).
     Chain {
         operator: Logical,
         first: Boxed<BooleanExpression>,
         rest: Items<BooleanExpression>,
     },
-    /// `??` of a value of std_ulogic, also where a condition applies it implicitly (9.2.9).
+    /// `??` of a value of std_ulogic, explicit or applied implicitly to a condition (9.2.9).
     Condition(LogicExpression),
     /// `=` or `/=` of values of std_ulogic (9.2.3).
     LogicComparison {
@@ -66,7 +66,7 @@ pub enum BooleanExpression {
 }
 
 impl LogicExpression {
-    /// Whether it is the same expression as another.
+    /// Whether the two expressions are equal.
     #[cycle(logic_expressions)]
     pub(crate) fn same(&self, other: &LogicExpression) -> bool
         ensures { Decides result (self.now ≡ other.now) }
@@ -106,7 +106,7 @@ fn same_logic_expressions(expressions: &[LogicExpression], others: &[LogicExpres
 }
 
 impl BooleanExpression {
-    /// Whether it is the same expression as another.
+    /// Whether the two expressions are equal.
     #[cycle(boolean_expressions)]
     pub(crate) fn same(&self, other: &BooleanExpression) -> bool
         ensures { Decides result (self.now ≡ other.now) }

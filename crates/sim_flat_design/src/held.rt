@@ -1,8 +1,8 @@
-//! What a variable holds.
+//! Values of variables.
 
 use sim_logic::Logic;
 
-/// The value of a variable: of type std_ulogic, or boolean.
+/// The value of a variable, of type std_ulogic or boolean.
 #[derive(Clone, Copy, Debug, PartialEq, Eq)]
 pub enum Held {
     Bit(Logic),

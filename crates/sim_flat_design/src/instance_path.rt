@@ -1,4 +1,4 @@
-//! What stands before the simple names of an instance's nets.
+//! The paths of instances, which precede the simple names of their nets.
 
 ghost use Rattle.std.specs.Prelude.{◌≡◌, ◌++◌, ◌∷◌, [], IfOk, MatchOption, codes};
 ghost use Rattle.std.specs.List.{concat};
@@ -9,10 +9,10 @@ use std::alloc::{AllocError, Global};
 use std::marker::Model;
 use std::sync::{Arc, ArcStr};
 
-/// How long a piece is at the most to which a label is added; it is longer only where one label is.
+/// The largest total length of a piece and a label added to it. A piece of one label may be longer.
 const LONGEST: usize = 64;
 
-/// Some labels of a path, each with a `.` after it. Its copies share it.
+/// Some labels of a path, each followed by `.`. Its copies share it.
 #[derive(Drop)]
 pub struct PathPiece {
     labels: ArcStr<Global>,
@@ -30,7 +30,7 @@ impl Model for PathPiece {
 impl PathPiece {
     ghost use Rattle.std.specs.Prelude.{◌≡◌, ◌++◌, IfOk, codes};
 
-    /// These labels, and one more.
+    /// The piece of these labels and one more.
     fn new(alloc: Global, labels: &str, label: &str) -> Result<PathPiece, AllocError>
         ensures { IfOk result (λ p. p ≡ labels.now ++ (label.now ++ codes ".")) }
     {
@@ -48,7 +48,7 @@ impl PathPiece {
         Ok(PathPiece { labels })
     }
 
-    /// Its text.
+    /// The text of the piece.
     pub fn as_str(&self) -> &str
         ensures { result.now ≡ self.now }
     {
@@ -67,9 +67,9 @@ fn copies(alloc: Global, pieces: &[PathPiece]) -> Result<Items<PathPiece>, Alloc
     Ok(copies)
 }
 
-/// The labels of an instance and of those around it, each with a `.` after it, in pieces: short
-/// labels stand together in one, so that most paths are one piece, and a long one is shared by all
-/// instances within its own. Its copies share it.
+/// The labels of an instance and of the enclosing instances, each followed by `.`, in pieces. Short
+/// labels share a piece, so that most paths are a single piece; a long label is a piece that all
+/// instances within its instance share. Copies of the path share it.
 #[derive(Drop)]
 pub struct InstancePath {
     pieces: Arc<Items<PathPiece>, Global>,
@@ -85,8 +85,8 @@ impl Model for InstancePath {
     ghost view = { λ p. concat (arc_value p.pieces) };
 }
 
-/// The last of some pieces, taken out, where it is short enough for a label of this length; `None`
-/// where it stays, or there is none.
+/// Removes the last piece if it is short enough to add a label of this length; `None` if it is not,
+/// or there is none.
 fn take_short(pieces: &mut Items<PathPiece>, length: usize) -> Option<PathPiece>
     ensures { MatchOption result (pieces.new ≡ pieces.old) (λ last. pieces.old ≡ pieces.new ++ last ∷ []) }
 {
@@ -96,8 +96,8 @@ fn take_short(pieces: &mut Items<PathPiece>, length: usize) -> Option<PathPiece>
     }
 }
 
-/// The piece of a path that ends with this label, and some of the labels before it, which are taken
-/// out.
+/// The new last piece of a path, which ends with this label; it replaces the last one if that is
+/// short.
 #[tactic(auto, using(crate::proofs::Joined::to_last))]
 fn ended_with(
     alloc: Global,
@@ -112,7 +112,7 @@ fn ended_with(
     }
 }
 
-/// The pieces of a path and one more label.
+/// The pieces of a path with one more label.
 #[tactic(auto, using(crate::proofs::Joined::one_more))]
 fn more(alloc: Global, pieces: &[PathPiece], label: &str) -> Result<Items<PathPiece>, AllocError>
     ensures { IfOk result (λ r. concat r ≡ concat pieces.now ++ (label.now ++ codes ".")) }
@@ -127,7 +127,7 @@ impl InstancePath {
     ghost use Rattle.std.specs.Prelude.{◌≡◌, ◌++◌, ◌∷◌, [], IfOk, codes};
     ghost use Rattle.std.specs.List.{concat};
 
-    /// The path of the top, which stands in no instance.
+    /// The path of the top, which is in no instance.
     pub fn top(alloc: Global) -> Result<InstancePath, AllocError>
         ensures { IfOk result (λ p. p ≡ []) }
     {
@@ -135,7 +135,7 @@ impl InstancePath {
         Ok(InstancePath { pieces })
     }
 
-    /// The path of an instance that stands in this one and has this label.
+    /// The path of the instance with this label in this one.
     pub fn below(&self, alloc: Global, label: &str) -> Result<InstancePath, AllocError>
         ensures { IfOk result (λ p. p ≡ self.now ++ (label.now ++ codes ".")) }
     {
@@ -152,7 +152,7 @@ impl InstancePath {
         Ok(InstancePath { pieces })
     }
 
-    /// The pieces of its text, from the outermost label on.
+    /// The pieces of its text, outermost label first.
     pub fn pieces(&self) -> &[PathPiece]
         ensures { concat result.now ≡ self.now }
     {

@@ -1,5 +1,5 @@
-//! The flat design that elaboration gives: nets, drivers, and processes whose bodies are laid out
-//! for execution.
+//! The flat design that elaboration produces: nets, drivers, and processes with bodies in the form
+//! that is executed.
 #![tactic(auto)]
 
 pub mod body;

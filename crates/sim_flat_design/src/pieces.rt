@@ -7,7 +7,7 @@ ghost use Rattle.std.specs.List.{concat};
 use crate::instance_path::PathPiece;
 use std::alloc::{AllocError, Global};
 
-/// The text of two pieces, one after the other.
+/// The concatenation of two pieces.
 pub fn joined(alloc: Global, first: &str, last: &str) -> Result<String, AllocError>
     ensures { IfOk result (λ whole. string_bytes whole ≡ first.now ++ last.now) }
 {
@@ -17,7 +17,7 @@ pub fn joined(alloc: Global, first: &str, last: &str) -> Result<String, AllocErr
     Ok(whole)
 }
 
-/// The text of the pieces of a path and a last one, one after another.
+/// The concatenation of the pieces of a path and a last piece.
 pub fn all_joined(alloc: Global, pieces: &[PathPiece], last: &str) -> Result<String, AllocError>
     ensures { IfOk result (λ whole. string_bytes whole ≡ concat pieces.now ++ last.now) }
 {
@@ -29,7 +29,7 @@ pub fn all_joined(alloc: Global, pieces: &[PathPiece], last: &str) -> Result<Str
     Ok(whole)
 }
 
-/// What a text has after this front; `None` where it does not begin so.
+/// The rest of a text after this prefix; `None` if the text does not begin with it.
 fn after<'a>(front: &[u8], text: &'a [u8]) -> Option<&'a [u8]>
     ensures { MatchOption result ((rest : List ℕ) → front.now ++ rest ≢ text.now) (λ rest. front.now ++ rest.now ≡ text.now) }
 {
@@ -43,7 +43,7 @@ fn after<'a>(front: &[u8], text: &'a [u8]) -> Option<&'a [u8]>
     Some(rest)
 }
 
-/// Whether the pieces of a path and a last one, one after another, are this text.
+/// Whether the pieces of a path and a last piece concatenate to this text.
 pub fn are_joined(pieces: &[PathPiece], last: &[u8], whole: &[u8]) -> bool
     ensures { Decides result (concat pieces.now ++ last.now ≡ whole.now) }
 {
@@ -56,8 +56,8 @@ pub fn are_joined(pieces: &[PathPiece], last: &[u8], whole: &[u8]) -> bool
     }
 }
 
-/// Whether a front, the pieces of a path and a last one are the same text as the pieces of another
-/// path and its last one. Where the shorter of two pieces ends, what is left of the longer is a front.
+/// Whether a prefix, the pieces of a path and a last piece are the same text as the pieces of
+/// another path and its last piece. The rest of the longer of two pieces becomes the new prefix.
 fn same_behind(
     front: &[u8],
     pieces: &[PathPiece],
@@ -86,7 +86,7 @@ fn same_behind(
     }
 }
 
-/// Whether the pieces of a path and a last one are the same text as those of another.
+/// Whether the pieces of a path and a last piece are the same text as those of another.
 pub fn are_same_joined(
     pieces: &[PathPiece],
     last: &[u8],

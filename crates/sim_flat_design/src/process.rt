@@ -58,12 +58,12 @@ struct Parts {
     body: Body,
 }
 
-/// A process: what it is sensitive to, what it reads, and what it executes. Its copies share it.
+/// A process: its sensitivity, the nets that it reads, and its body. Its copies share it.
 pub struct Process {
     parts: Arc<Parts, Global>,
 }
 
-/// By hand, so that crates which drop one need no proof of what is in it.
+/// Written by hand so that crates which drop a process need no proof about its contents.
 impl Drop for Process {
     fn drop(self) {
         let Process { parts } = self;
@@ -110,8 +110,8 @@ impl Process {
     ghost use Rattle.sim_flat_design.specs.Bodies.{objects_of};
     ghost use Rattle.sim_flat_design.specs.Processes.{IsProcess, nets_of, rising};
 
-    /// The process with this sensitivity, these nets that it reads, the nets of its architecture's
-    /// ports and signals, this number of its first driver, whether it is postponed, and this body.
+    /// A process from its sensitivity, the nets that it reads, the nets of its architecture's ports
+    /// and signals, the number of its first driver, whether it is postponed, and its body.
     pub fn new(
         alloc: Global,
         sensitivity: Items<usize>,
@@ -152,7 +152,7 @@ impl Process {
         Ok(Process { parts })
     }
 
-    /// The same process, shared. It takes no time that grows with the process.
+    /// The same process, shared, in constant time.
     pub fn try_copy(&self) -> Result<Process, AllocError>
         ensures { IfOk result (λ p. p ≡ self.now) }
     {
@@ -160,7 +160,7 @@ impl Process {
         Ok(Process { parts })
     }
 
-    /// The nets to which it is sensitive, rising (11.3).
+    /// The nets to which it is sensitive, in ascending order (11.3).
     pub fn sensitivity(&self) -> &[usize]
         ensures value { result.now ≡ self.now.sensitivity }
         ensures rises { rising result.now ≡ result.now }
@@ -168,7 +168,7 @@ impl Process {
         self.parts.sensitivity.as_slice()
     }
 
-    /// The nets that it reads, rising; those whose events it asks for are among them.
+    /// The nets that it reads, also by `'event` or an edge function, in ascending order.
     pub fn reads(&self) -> &[usize]
         ensures value { result.now ≡ self.now.reads }
         ensures reads { result.now ≡ rising (nets_of self.now.nets (objects_of self.now.body.statements)) }
@@ -176,7 +176,7 @@ impl Process {
         self.parts.reads.as_slice()
     }
 
-    /// The net of each port and signal of its architecture, by their places in the body.
+    /// The net of each port and signal of its architecture, by position in the body.
     pub fn nets(&self) -> &[usize]
         ensures value { result.now ≡ self.now.nets }
         ensures placed { length result.now ≡ self.now.body.objects }
@@ -184,7 +184,7 @@ impl Process {
         self.parts.object_nets.as_slice()
     }
 
-    /// The number of its first driver; the others follow it.
+    /// The number of its first driver; its other drivers follow.
     pub fn first_driver(&self) -> usize
         ensures { result ≡ self.now.first_driver }
     {
@@ -198,14 +198,14 @@ impl Process {
         self.parts.postponed
     }
 
-    /// What it executes.
+    /// The body that it executes.
     pub fn body(&self) -> &Body
         ensures { result.now ≡ self.now.body }
     {
         &self.parts.body
     }
 
-    /// Whether it is the same process as another. It takes no memory.
+    /// Whether the two processes are equal. No memory is allocated.
     pub fn same(&self, other: &Process) -> bool
         ensures { Decides result (self.now ≡ other.now) }
     {

@@ -28,12 +28,12 @@ pub struct ConditionalWaveform {
 /// The parts of a signal assignment (10.5.2, 10.5.3).
 #[derive(Drop)]
 pub struct SignalAssignment {
-    /// The place of the target's driver among those of the process.
+    /// The position of the target's driver among those of the process.
     pub driver: usize,
     pub delay: Delay,
-    /// The waveforms with a condition: the first is taken whose condition holds.
+    /// The waveforms with conditions, of which the first whose condition holds is assigned.
     pub conditional: Items<ConditionalWaveform>,
-    /// The waveform that is taken where no condition holds; without it nothing is assigned then.
+    /// The waveform assigned if no condition holds; without it, nothing is assigned then.
     pub otherwise: Option<Waveform>,
 }
 
@@ -42,17 +42,17 @@ pub struct SignalAssignment {
 #[cycle(statements)]
 pub enum Statement {
     Signal(SignalAssignment),
-    /// An assignment to a variable of type std_ulogic, by its place (10.6).
+    /// An assignment to a variable of type std_ulogic, by position (10.6).
     LogicVariable {
         place: usize,
         value: LogicExpression,
     },
-    /// An assignment to a variable of type boolean, by its place (10.6).
+    /// An assignment to a variable of type boolean, by position (10.6).
     BooleanVariable {
         place: usize,
         value: BooleanExpression,
     },
-    /// An if statement (10.8): the first branch is taken whose condition holds, else the last
+    /// An if statement (10.8): executes the first branch whose condition holds, or else the last
     /// statements.
     If {
         branches: Items<Branch>,
@@ -62,7 +62,7 @@ pub enum Statement {
     Null,
 }
 
-/// A condition, and the statements that are executed where it holds.
+/// A condition, and the statements that are executed if it holds.
 #[derive(Drop)]
 #[cycle(statements)]
 pub struct Branch {
@@ -71,7 +71,7 @@ pub struct Branch {
 }
 
 impl ConditionalWaveform {
-    /// Whether it is the same waveform as another, with the same condition.
+    /// Whether the two waveforms and their conditions are equal.
     fn same(&self, other: &ConditionalWaveform) -> bool
         ensures { Decides result (self.now ≡ other.now) }
     {
@@ -80,7 +80,7 @@ impl ConditionalWaveform {
 }
 
 impl SignalAssignment {
-    /// Whether it is the same assignment as another.
+    /// Whether the two assignments are equal.
     fn same(&self, other: &SignalAssignment) -> bool
         ensures { Decides result (self.now ≡ other.now) }
     {
@@ -105,7 +105,7 @@ fn same_conditional_waveforms(
             .all(|(waveform, other)| waveform.same(other))
 }
 
-/// Whether both are the same waveform, or there is neither.
+/// Whether both are the same waveform, or both are absent.
 fn same_last_waveform(waveform: &Option<Waveform>, other: &Option<Waveform>) -> bool
     ensures { Decides result (waveform.now ≡ other.now) }
 {
@@ -117,7 +117,7 @@ fn same_last_waveform(waveform: &Option<Waveform>, other: &Option<Waveform>) -> 
 }
 
 impl Statement {
-    /// Whether it is the same statement as another.
+    /// Whether the two statements are equal.
     #[cycle(nested_statements)]
     fn same(&self, other: &Statement) -> bool
         ensures { Decides result (self.now ≡ other.now) }
@@ -158,7 +158,7 @@ impl Statement {
 }
 
 impl Branch {
-    /// Whether it is the same branch as another.
+    /// Whether the two branches are equal.
     #[cycle(nested_statements)]
     fn same(&self, other: &Branch) -> bool
         ensures { Decides result (self.now ≡ other.now) }

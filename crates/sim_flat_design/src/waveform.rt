@@ -8,21 +8,21 @@ use sim_logic::Time;
 use sqlite_items::Items;
 use std::marker::Model;
 
-/// A waveform element: a value, and the time after which it is driven.
+/// A waveform element: a value, and its delay.
 #[derive(Drop)]
 pub struct Element {
     pub value: LogicExpression,
     pub after: Time,
 }
 
-/// A waveform: one element or more, whose times rise strictly.
+/// A waveform: at least one element, with strictly ascending delays.
 #[derive(Drop)]
 pub struct Waveform {
     elements: Items<Element>,
 }
 
 impl Element {
-    /// Whether it is the same element as another.
+    /// Whether the two elements are equal.
     fn same(&self, other: &Element) -> bool
         ensures { Decides result (self.now ≡ other.now) }
     {
@@ -70,7 +70,7 @@ impl Waveform {
         Waveform { elements }
     }
 
-    /// The elements: one at least, with times that rise strictly.
+    /// The elements: at least one, with strictly ascending delays.
     pub fn elements(&self) -> &[Element]
         ensures value { result.now ≡ self.now }
         ensures waveform { IsWaveform result.now }
@@ -78,7 +78,7 @@ impl Waveform {
         self.elements.as_slice()
     }
 
-    /// Whether it is the same waveform as another.
+    /// Whether the two waveforms are equal.
     pub(crate) fn same(&self, other: &Waveform) -> bool
         ensures { Decides result (self.now ≡ other.now) }
     {

@@ -1,4 +1,4 @@
--- The tables that are made level by level say which blocks have a chain.
+-- The tables made level by level tell which blocks have a chain.
 use Rattle.std.proofs.Common.{◌≡◌, ℕ, zero, suc, ◌<◌, ◌||◌, List, [], ◌∷◌, Bool, true, false, length, get_or, refl, ap, ◌∙◌, arith, All}
 use Rattle.std.specs.List.{list_any}
 use Rattle.sim_flat_blocks.specs.declared.parts.Instance.{Instance}

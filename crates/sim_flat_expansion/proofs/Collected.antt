@@ -1,4 +1,4 @@
--- The flat sources that the walk collects of the processes of a block, and those of a source tree.
+-- The flat sources that the walk collects from the processes of a block, and those of a source tree.
 use Rattle.std.proofs.Common.{◌≡◌, ℕ, suc, ◌+◌, ◌<◌, List, [], ◌∷◌, ◌++◌, map, length, get_or, slice_index_or, refl, ap, sym, ◌∙◌, subst, arith}
 use Rattle.std.proofs.Common.{append-nil, append_assoc, length-append, eqb, eqb-true, length-set}
 use Rattle.std.proofs.lemmas.Bool.{eqb-false}
@@ -67,7 +67,7 @@ flat_sources_of_tree blocks all one p b n o =
     ∙ ap (finished (constant_at (link_of p n) o.default))
     (of_with_drivers ds (with_ports ts) ∙ ap (λ (xs : List Source). drivers_in ds ++ xs) (of_with_ports ts))
 
--- ---- what is added at a place
+-- ---- flat sources added at a position
 pub added_length : (ls : FlatSources) (t : ℕ) (more : List Source) → length (added ls t more) ≡ length ls
 unfolding added
 added_length ls t more = length-set ls t (slice_index_or ls t [] ++ more)

@@ -1,4 +1,4 @@
--- What the walk makes of the flat sources of a block's ports and signals.
+-- The walk passes the flat sources of a block's ports and signals to nets or to actuals.
 use Rattle.std.proofs.Common.{◌≡◌, ℕ, suc, ◌+◌, ◌<◌, ◌≤◌, ◌&&◌, List, [], ◌∷◌, ◌++◌, Bool, true, false, if◌then◌else◌, map, length, get_or}
 use Rattle.std.proofs.Common.{slice_index_or, refl, ap, sym, ◌∙◌, subst, arith, append-nil, append_assoc, eqb, eqb-true}
 use Rattle.std.proofs.lemmas.Bool.{eqb-false}
@@ -28,7 +28,7 @@ own_append c n (x ∷ xs) ys =
     own_append c (n + 1) xs ys ∙ ap (λ (i : ℕ). own_from c (n + 1) xs ++ own_from c i ys) z in
     by_cases (is_own (link_of c n)) (λ t. rw t (ap (λ (zs : List Own). record { place = n; object = x } ∷ zs) more)) (λ t. rw t more)
 
--- the one at place n, if it is a net
+-- the object at position n, if it is a net
 abbrev one_own : Link → ℕ → Object → List Own
 one_own (To m) n o = []
 one_own (Constant v) n o = record { place = n; object = o } ∷ []
@@ -80,7 +80,7 @@ ports_more : (one : ℕ → Object → SourceTree) (links : List Link) (m n : �
 unfolding of_ports
 ports_more one links m n p ps = by_cases (p.drives && leads_to m (link_at links n)) (λ t. rw t refl) (λ t. rw t refl)
 
--- ---- those of a block
+-- ---- the objects of a block
 module _ (blocks : List Block) (all : List Scene) (c : Path) (b : Block) (k : ℕ) (links : List Link) (outer : List ℕ)
     (linked : Linked all c links outer) (mine : FlatSources)
     (collected : (n : ℕ) → n < size b → get_or mine n [] ≡ drivers_in (drivers_of all c b n)

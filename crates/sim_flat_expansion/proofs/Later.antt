@@ -1,4 +1,4 @@
--- What is made of flat sources depends on those of the places to come alone.
+-- The expansion of objects depends only on the flat sources at the remaining positions.
 use Rattle.std.proofs.Common.{◌≡◌, ℕ, ◌+◌, ◌≤◌, List, [], ◌∷◌, ◌++◌, length, slice_index_or, refl, ap, ◌∙◌, arith}
 use Rattle.sim_flat_design.specs.declared.design.Source.{Source}
 use Rattle.sim_flat_design.specs.Designs.{Net}
@@ -18,7 +18,7 @@ signals_later prefix own after n (o ∷ os) nets h =
     (nets ++ record { name = prefix ++ o.name.text; sources = finished o.default ls } ∷ [])) (h n (omega arith))
     ∙ signals_later prefix own after (n + 1) os _ (λ m le. h m (omega arith))
 
--- the ports first, and then the signals of what is left
+-- the ports first, and then the remaining signals
 pub objects_are : (prefix : List ℕ) (links : List Link) (own after : FlatSources) (b : Block) (outer up : FlatSources) (ps : List Port) (os : List Object)
     (nets all : List Net) → ps ≡ b.ports → os ≡ b.signals → (nets, up) ≡ ports_expanded prefix links own 0 ps [] outer
     → ((m : ℕ) → length ps ≤ m → slice_index_or after m [] ≡ slice_index_or own m [])

@@ -27,7 +27,7 @@ use Rattle.sim_flat_expansion.proofs.Collected.{processes_flat_sources}
 use Rattle.sim_flat_expansion.proofs.Numbers.{Linked, linked_top, linked_below, object_nets_are, own_count}
 use Rattle.sim_flat_expansion.proofs.ExpandedObjects.{own_append, ports_are, signals_are}
 
--- ---- how many processes and drivers a scene has
+-- ---- the numbers of processes and drivers of a scene
 pub processes_count : (object_nets : List ℕ) (first : ℕ) (ts : List BlockProcess) → length (processes_from object_nets first ts) ≡ length ts
 unfolding processes_from
 processes_count object_nets first [] = refl
@@ -48,14 +48,14 @@ pub gathered : {Y : Type 0} (f : Scene → List Y) (count : Scene → ℕ) → (
 gathered f count h [] = refl
 gathered f count h (s ∷ ss) = let a = length-append (f s) (gather f ss) in let b = h s in let ih = gathered f count h ss in omega arith
 
--- what the walk has made once it has expanded these scenes
+-- the result of the walk once it has expanded these scenes
 pub record At (made : List Scene) (f : Sketch) : Type 0 where
   pub nets : f.nets ≡ counted net_count made
   pub processes : length f.processes ≡ counted process_count made
   pub drivers : length f.drivers ≡ counted driver_count made
 
 module _ (blocks : List Block) (all : List Scene) where
-  -- what the walk adds: the nets, processes and drivers of these scenes, and to the flat sources around those of these trees
+  -- what the walk adds: the nets, processes and drivers of these scenes, and these trees to the flat sources around them
   pub record Adds (ss : List Scene) (trees : ℕ → List SourceTree) (so_far : List Net) (around : FlatSources) (f : Sketch)
       (x : List Net × FlatSources × Sketch) : Type 0 where
     pub nets : x.0 ≡ so_far ++ gather (nets_at blocks all) ss
@@ -144,7 +144,7 @@ module _ (blocks : List Block) (all : List Scene) where
             ∙ ap (λ (xs : List Source). get_or ls m [] ++ xs) (sym (gather_append flat_sources_in (trees1 m) (trees2 m)))));
       }
 
-  -- what the walk from a block adds: its own scene, and those below it
+  -- what the walk from a block adds: its own scene, and those inside it
   module _ (known : All (IsBlock blocks) blocks) (k : ℕ) (law : LawOf k) (c : Path) (b : Block) (links : List Link) (outer : List ℕ) (around : FlatSources)
       (f : Sketch) (made rest : List Scene) (clear : Clear made (spots c)) (a : At made f) (linked : Linked all c links outer)
       (is : IsBlock blocks b) (le : length links ≤ length b.ports) where

@@ -1,4 +1,4 @@
--- A process that is made of a block process is a process of a flat design.
+-- A process made from a block process is a process of a flat design.
 use Rattle.std.proofs.Common.{◌≡◌, ℕ, ◌<◌, Bool, List, length, get_or, All, ap, sym, ◌∙◌, subst}
 use Rattle.sim_flat_design.specs.Bodies.{Body, objects_of}
 use Rattle.sim_flat_design.specs.Processes.{IsProcess, rising, nets_of}

@@ -1,4 +1,4 @@
--- The numbers that the walk carries for ports and signals are those of the objects that have their nets.
+-- The numbers that the walk passes on for ports and signals are those of the objects that have their nets.
 use Rattle.std.proofs.Common.{◌≡◌, ℕ, zero, suc, ◌+◌, ◌<◌, List, [], ◌∷◌, ◌++◌, true, false, length, get_or, refl, ap, sym, ◌∙◌, subst, arith}
 use Rattle.std.proofs.Common.{append-nil, append_assoc, length-append}
 use Rattle.sim_text_tokens.proofs.Tests.{by_cases}
@@ -12,7 +12,7 @@ use Rattle.sim_flat_expansion.specs.Flat.{object_nets_from}
 use Rattle.sim_flat_expansion.specs.Expanding.{object_net_expanded, object_nets_expanded}
 use Rattle.sim_flat_expansion.proofs.Sound.{Each}
 
--- one that is associated with none has a net of its own
+-- an object without an actual that has a net has a net of its own
 led_own : (l : Link) (up : ℕ → Named) (own : Named) → is_own l ≡ true → led l up own ≡ own
 led_own (To m) up own e = cc
 led_own (Constant v) up own e = refl
@@ -36,7 +36,7 @@ net_object_at all p n (suc k) (suc m) lt =
     let e : n + 1 + m ≡ n + suc m = omega arith in
     net_object_at all p (n + 1) k m (omega arith) ∙ ap (λ (i : ℕ). net_number all (net_object p i)) e
 
--- ---- the associations of a block's ports, and the numbers of what they lead to
+-- ---- the links of a block's ports, and the numbers of their objects
 pub record Linked (all : List Scene) (c : Path) (links : List Link) (outer : List ℕ) : Type 0 where
   pub same : (n : ℕ) → link_of c n ≡ link_at links n
   pub object_nets : (n m : ℕ) → link_at links n ≡ To m → get_or outer m 0 ≡ net_number all (net_object c n)
@@ -105,7 +105,7 @@ module _ (all : List Scene) (c : Path) (links : List Link) (outer : List ℕ) (l
         more.1 ∙ ap (λ (i : ℕ). base + own_before c i) z,
       )
 
--- how many nets a scene has
+-- the number of nets of a scene
 pub own_count : (c : Path) (n : ℕ) (os : List Object) → own_before c n + length (own_from c n os) ≡ own_before c (n + length os)
 unfolding own_before own_from
 own_count c n [] = let z : n + 0 ≡ n = omega arith in (let e : own_before c n + 0 ≡ own_before c n = omega arith in e ∙ ap (own_before c) (sym z))

@@ -1,4 +1,4 @@
--- Each scene has its own path, so what stands before a path is what was expanded before it.
+-- Each scene has its own path, so the scenes before a path are those expanded before it.
 use Rattle.std.proofs.Common.{◌≡◌, ℕ, zero, suc, ◌+◌, ◌<◌, ◌≤◌, List, [], ◌∷◌, ◌++◌, true, false, length, refl, ap, sym, ◌∙◌, arith, append_assoc}
 use Rattle.std.proofs.Common.{length-append, bytes_eq}
 use Rattle.std.proofs.lemmas.Slice.Eq.{bytes_eq-Decides}
@@ -9,7 +9,7 @@ use Rattle.sim_flat_blocks.specs.Blocks.{block_of}
 use Rattle.sim_flat_expansion.specs.Hierarchy.{Path, spots, Scene, inner, scenes, before}
 use Rattle.sim_flat_expansion.proofs.Sound.{Each, each_append, each_map}
 
--- no scene's path is at or below this one
+-- no scene's path is this one or extends it
 abbrev pub Clear : List Scene → List ℕ → Type 0
 Clear made sp = (front : List ℕ) → Each (λ (s : Scene). spots s.path ≡ front ++ sp → ⊥) made
 
@@ -22,7 +22,7 @@ pub counted_append : (count : Scene → ℕ) (xs ys : List Scene) → counted co
 counted_append count [] ys = omega arith
 counted_append count (x ∷ xs) ys = let m = counted_append count xs ys in omega arith
 
--- what stands before a scene whose path is none of those before it
+-- the count before a scene whose path differs from all earlier ones
 pub before_is : (count : Scene → ℕ) (made rest : List Scene) (s : Scene) → Each (λ (x : Scene). spots x.path ≡ spots s.path → ⊥) made
     → before count (made ++ s ∷ rest) s.path ≡ counted count made
 unfolding before
@@ -32,7 +32,7 @@ before_is count (x ∷ xs) rest s h =
     by_cases (bytes_eq (spots x.path) (spots s.path)) (λ t. absurd (h.0 ((bytes_eq-Decides (spots x.path) (spots s.path)).0 t))) (λ t. t) in
     rw e (ap (λ (n : ℕ). count x + n) (before_is count xs rest s h.1))
 
--- one tail after two different places is two lists
+-- a list does not extend itself
 no_longer : (front x : List ℕ) (i : ℕ) → x ≡ front ++ i ∷ x → ⊥
 no_longer front x i e = let k : length x ≡ length (front ++ i ∷ x) = ap (λ (ys : List ℕ). length ys) e in let m = length-append front (i ∷ x) in omega arith
 
@@ -42,7 +42,7 @@ one_place [] (y ∷ b) x i j e = let t : x ≡ b ++ j ∷ x = cc in absurd (no_l
 one_place (y ∷ a) [] x i j e = let t : a ++ i ∷ x ≡ x = cc in absurd (no_longer a x i (sym t))
 one_place (y ∷ a) (z ∷ b) x i j e = let t : a ++ i ∷ x ≡ b ++ j ∷ x = cc in one_place a b x i j t
 
--- where the paths of scenes lead
+-- the paths of the scenes extend this one
 abbrev Under : List ℕ → List Scene → Type 0
 Under sp ss = Each (λ (s : Scene). (front : List ℕ) × (spots s.path ≡ front ++ sp)) ss
 
@@ -72,17 +72,17 @@ scenes_under blocks (suc k) p b = (
       (inner_under (scenes blocks k) (scenes_under blocks k) blocks p 0 b.instances),
 )
 
--- what is clear of a path is clear of the paths below it
+-- scenes clear of a path are clear of its extensions
 pub clear_below : (made : List Scene) (sp : List ℕ) (j : ℕ) → Clear made sp → Clear made (j ∷ sp)
 clear_below made sp j h front =
     each_map (λ (s : Scene). spots s.path ≡ (front ++ j ∷ []) ++ sp → ⊥) (λ (s : Scene). spots s.path ≡ front ++ j ∷ sp → ⊥)
     (λ s u e. u (e ∙ sym (append_assoc front (j ∷ []) sp))) made (h (front ++ j ∷ []))
 
--- a scene is clear of the paths below it
+-- a scene is clear of the paths that extend its own
 pub clear_self : (s : Scene) (j : ℕ) → Clear (s ∷ []) (j ∷ spots s.path)
 clear_self s j front = ((λ e. no_longer front (spots s.path) j e), tt)
 
--- an instance's scenes are clear of a later instance's
+-- the scenes of an instance are clear of a later instance
 pub clear_sister : (blocks : List Block) (k : ℕ) (p : Path) (i : Instance) (b : Block) (j m : ℕ) → j < m
     → Clear (scenes blocks k (record { instance = i; place = j } ∷ p) b) (m ∷ spots p)
 clear_sister blocks k p i b j m lt front =

@@ -1,4 +1,4 @@
--- What the walk makes is a flat design: its numbers are there, and each driver has its process.
+-- The walk makes a flat design: its numbers are in range, and each driver has its process.
 use Rattle.std.proofs.Common.{◌≡◌, ◌≢◌, ℕ, zero, suc, ◌+◌, ◌<◌, ◌≤◌, List, [], ◌∷◌, ◌++◌, Bool, true, false, map, length, get_or, slice_index_or}
 use Rattle.std.proofs.Common.{take, drop, replicate, All, refl, ap, sym, ◌∙◌, subst, arith, append-nil, append_assoc, length-append, length-drop, ◌-◌}
 use Rattle.std.proofs.Common.{take_all, drop_of_length-le, eqb, ltb}
@@ -25,7 +25,7 @@ use Rattle.sim_flat_expansion.specs.Expanding.{FlatSources, Walk, object_net_exp
 use Rattle.sim_flat_expansion.specs.Expanding.{targets_expanded, processes_expanded, finished, object_expanded, flat_sources_at}
 use Rattle.sim_flat_expansion.specs.Expanding.{ports_expanded, signals_expanded, instances_expanded, inside_expanded, block_expanded}
 
--- ---- a fact of each item, by recursion
+-- ---- a property of each item, by recursion
 abbrev pub Each : {X : Type 0} → (X → Type 0) → List X → Type 0
 Each P [] = Unit {0}
 Each P (x ∷ xs) = P x × Each P xs
@@ -61,7 +61,7 @@ Below n xs = Each (λ (m : ℕ). m < n) xs
 below_more : (n k : ℕ) (xs : List ℕ) → n ≤ k → Below n xs → Below k xs
 below_more n k xs le h = each_map (λ (m : ℕ). m < n) (λ (m : ℕ). m < k) (λ m lt. omega arith) xs h
 
--- ---- how many objects are nets
+-- ---- the number of objects that are nets
 pub fresh : List Link → ℕ → ℕ → ℕ
 fresh links i zero = 0
 fresh links i (suc k) = own (link_at links i) + fresh links (i + 1) k
@@ -152,7 +152,7 @@ targets_sound object_nets b q (t ∷ ts) ls ds h =
     let more = targets_sound object_nets b q ts (added ls t (source.Driver (length ds) ∷ [])) (ds ++ d ∷ []) all in
     (more.0, more.1 ∙ simp append_assoc)
 
--- ---- who owns which driver
+-- ---- the owner of each driver
 owned_more : (n m q first : ℕ) (ps : List Process) (ds : List DriverOf) → n ≤ m → AreOwned n q first ps ds → AreOwned m q first ps ds
 owned_more n m q first [] ds le h = h
 owned_more n m q first (p ∷ ps) ds le h = (
@@ -163,7 +163,7 @@ owned_more n m q first (p ∷ ps) ds le h = (
       (drop p.body.drivers ds) le h.3,
 )
 
--- one process more, with its drivers
+-- one more process, with its drivers
 owned_push : (n q first : ℕ) (ps : List Process) (ds : List DriverOf) (p : Process) (new : List DriverOf) (at : ℕ)
     → AreOwned n q first ps ds → at ≡ q + length ps → p.first_driver ≡ first + length ds → p.body.drivers ≡ length new
     → All (IsDriverOf n at) new → AreOwned n q first (ps ++ p ∷ []) (ds ++ new)
@@ -312,7 +312,7 @@ signals_sound d prefix mine n (o ∷ os) nets m h =
     let longer : length (nets ++ x ∷ []) ≡ length nets + 1 = length-append nets (x ∷ []) in
     (more.0, (let b = more.1 in omega arith))
 
--- ports and signals: what is past the links is a net
+-- ports and signals: an object past the links is a net
 fresh_past : (links : List Link) (i k : ℕ) → length links ≤ i → fresh links i k ≡ k
 unfolding fresh
 fresh_past links i zero le = refl
@@ -338,7 +338,7 @@ net_more d e le x h = (h.0, λ i s lt. source_more d e le (get_or x.sources i s)
 
 -- ---- the walk
 
--- what a part of the walk makes, where this many of its nets were counted before it
+-- the result of a part of the walk, where this many of its nets were counted before it
 pub record After (count : ℕ) (f : Sketch) (x : List Net × FlatSources × Sketch) : Type 0 where
   pub fine : Fine x.2.nets x.2
   pub in_range : AreInRange (length x.2.drivers) x.1

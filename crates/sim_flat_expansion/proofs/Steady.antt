@@ -1,4 +1,4 @@
--- A level that changes nothing is the last that has to be looked at.
+-- Once a level changes nothing, no further level does.
 use Rattle.std.proofs.Common.{◌≡◌, Bool, ℕ, zero, suc, ◌+◌, ◌-◌, ◌≤◌, List, [], ◌∷◌, ◌++◌, length, slice_index_or, refl, ap, sym, ◌∙◌, arith}
 use Rattle.std.proofs.Common.{length-append, append_assoc}
 use Rattle.std.proofs.Math.Seq.{get_or-append_seam}
@@ -9,7 +9,7 @@ use Rattle.sim_flat_expansion.specs.Counts.{sum, own_counted, step_counted, inst
 use Rattle.sim_flat_expansion.specs.Counts.{table_at}
 use Rattle.sim_flat_expansion.specs.Depth as depth
 
--- what is made again and again of the one before, once it is the same
+-- a step repeated, from where it changes nothing
 steady : {X : Type 0} (f : ℕ → X) (g : X → X) → ((k : ℕ) → f (suc k) ≡ g (f k)) → (k : ℕ) → g (f k) ≡ f k → (d n : ℕ) → n ≡ k + d → f n ≡ f k
 steady f g step k e zero n is = let same : n ≡ k = omega arith in ap f same
 steady f g step k e (suc d) n is =

@@ -1,4 +1,4 @@
--- Counting level by level gives the numbers of the flat design, as far as the limit.
+-- Counting level by level gives the numbers of the flat design, up to the limit.
 use Rattle.std.proofs.Common.{◌≡◌, ℕ, zero, suc, ◌+◌, ◌<◌, ◌≤◌, List, [], ◌∷◌, ◌++◌, true, map, length, get_or}
 use Rattle.std.proofs.Common.{refl, ap, sym, ◌∙◌, arith, length-append, append_assoc, All}
 use Rattle.std.proofs.Math.Seq.{get_or-append_seam}
@@ -48,7 +48,7 @@ step_is Processes i = refl
 step_is Drivers i = refl
 step_is Instances i = refl
 
--- ---- without the cap: what is in a block with a number of levels below it
+-- ---- without the cap: the contents of a block with a number of levels below it
 steps : (Instance → ℕ) → List Instance → ℕ
 steps f [] = 0
 steps f (i ∷ is) = f i + steps f is
@@ -147,7 +147,7 @@ signals_own c n (o ∷ os) h =
     let t : is_own (link_of c n) ≡ true = ap is_own (h n (omega arith)) in
     rw t (ap suc (signals_own c (n + 1) os (λ i le. h i (omega arith))))
 
--- a scene's own, and what its path adds
+-- the number of a scene itself, and what its path adds
 abbrev Stands : Kind → Path → Block → ℕ → Type 0
 Stands kind c b at = (k : ℕ) → measure kind (record { path = c; block = b; levels = k }) ≡ at + own_number kind b
 
@@ -201,7 +201,7 @@ scenes_are kind blocks known (suc k) c b at is h =
 
 -- ---- the top
 
--- what the top's scene has beside its block's own, and whether that is itself
+-- how much the count over all scenes exceeds the number: by one for instances, as the top is a scene but not an instance
 abbrev one_if : Kind → ℕ
 one_if Nets = 0
 one_if Processes = 0
@@ -276,7 +276,7 @@ added_is Instances b = refl
 sum_both : (a b : ℕ) → sum (capped a) (capped b) ≡ capped (b + a)
 sum_both a b = omega arith
 
--- what is counted from the top
+-- the count from the top
 pub count_is : (kind : Kind) (blocks : List Block) (top : ℕ) → All (IsBlock blocks) blocks → top < length blocks → (b : Block) → b ≡ get_or blocks top b
     → (n : ℕ) → n ≡ get_or (table_at kind blocks 32) top 0 → sum n (top_counted kind b) ≡ capped (number kind blocks top)
 count_is kind blocks top known lt b eb n en =

@@ -1,4 +1,4 @@
--- The design that the walk from the top makes.
+-- The result of the walk from the top is a design.
 use Rattle.std.proofs.Common.{◌≡◌, ℕ, ◌<◌, List, [], length, get_or, All, ap, sym, ◌∙◌, subst, arith, refl}
 use Rattle.std.proofs.lemmas.List.{get_or_read}
 use Rattle.sim_flat_design.specs.declared.design.DriverOf.{DriverOf}
@@ -22,7 +22,7 @@ start = record { nets = 0; processes = []; drivers = [] }
 abbrev pub design : Made → Design
 design x = record { nets = x.0; processes = x.2.processes; drivers = x.2.drivers }
 
--- the walk from a block, as the function has it
+-- the walk from a block, in the form of the function
 is_expanded : (blocks : List Block) (top : ℕ) (b : Block) (ps : List Process) (ds : List DriverOf) (x : Made)
     → top < length blocks → b ≡ get_or blocks top b → ps ≡ [] → ds ≡ []
     → x ≡ block_expanded blocks 33 [] [] [] b [] (record { nets = 0; processes = ps; drivers = ds }) → design x ≡ expanded blocks top
@@ -34,7 +34,7 @@ is_expanded blocks top b ps ds x lt eb ep ed e =
     let eb2 : b ≡ get_or blocks top no_block = get_or_read blocks top b lt eb no_block in
     ap design (one ∙ ap (λ (c : Block). block_expanded blocks 33 [] [] [] c [] start) eb2)
 
--- what the walk from the top makes is a flat design, if it keeps to the limits
+-- the result of the walk from the top is a flat design, if it is within the limits
 expanded_is_design : (blocks : List Block) (top : ℕ) → All (IsBlock blocks) blocks → top < length blocks → IsWithinLimits (expanded blocks top)
     → IsDesign (expanded blocks top)
 unfolding expanded
@@ -54,7 +54,7 @@ expanded_is_design blocks top known lt small =
       drivers = fine.owned;
     }
 
--- the same of the flat design of the hierarchy
+-- the same for the flat design of the hierarchy
 pub is_flat : (blocks : List Block) (top : ℕ) (b : Block) (path : List ℕ) (links : List Link) (ps : List Process) (ds : List DriverOf) (x : Made)
     → All (IsBlock blocks) blocks → top < length blocks → b ≡ get_or blocks top b → path ≡ [] → links ≡ [] → ps ≡ [] → ds ≡ []
     → x ≡ block_expanded blocks 33 path links [] b [] (record { nets = 0; processes = ps; drivers = ds }) → design x ≡ flat blocks top

@@ -1,4 +1,4 @@
--- A count up to the limit decides whether a number is within it.
+-- A count up to the limit decides whether a number is within the limit.
 use Rattle.std.proofs.Common.{◌≡◌, ℕ, ◌≤◌, ◌&&◌, not, List, Bool, true, false, Decides, slice_index_or, refl, ap, sym, ◌∙◌}
 use Rattle.std.proofs.Common.{arith}
 use Rattle.sim_flat_design.specs.Designs.{most}

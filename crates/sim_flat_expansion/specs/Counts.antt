@@ -1,4 +1,4 @@
--- How much there is below a block, found without expanding it.
+-- Numbers of nets, processes, drivers and instances below a block, found without expanding it.
 use Rattle.std.specs.Prelude.{ℕ, zero, suc, ◌+◌, ◌-◌, min, List, [], ◌∷◌, length, slice_index_or}
 use Rattle.sim_flat_design.specs.Designs.{most}
 use Rattle.sim_flat_expansion.specs.declared.counts.Kind.{Kind}
@@ -10,42 +10,42 @@ use Rattle.sim_flat_blocks.specs.Links.{unlinked}
 use Rattle.sim_flat_blocks.specs.Blocks.{targets_of}
 use Rattle.sim_flat_expansion.specs.Flat.{scenes_of, flat}
 
--- how many there are in the flat design; the top is no instance
+-- the number of a kind in the flat design; the top is not an instance
 unfoldable pub number : Kind → List Block → ℕ → ℕ
 number Nets blocks top = length (flat blocks top).nets
 number Processes blocks top = length (flat blocks top).processes
 number Drivers blocks top = length (flat blocks top).drivers
 number Instances blocks top = length (scenes_of blocks top) - 1
 
--- counting ends above the limit
+-- counting stops above the limit
 abbrev pub capped : ℕ → ℕ
 capped n = min n (most + 1)
 
 abbrev pub sum : ℕ → ℕ → ℕ
 sum a b = capped (capped a + capped b)
 
--- what a block has by itself, its ports aside
+-- the number that a block has by itself, without its ports
 abbrev pub own_number : Kind → Block → ℕ
 own_number Nets b = length b.signals
 own_number Processes b = length b.processes
 own_number Drivers b = length (targets_of b.processes)
 own_number Instances b = 0
 
--- what an instance adds to its block
+-- the number that an instance adds to its block
 abbrev pub step_number : Kind → Instance → ℕ
 step_number Nets i = unlinked i.links
 step_number Processes i = 0
 step_number Drivers i = 0
 step_number Instances i = 1
 
--- what the top adds: each of its ports is a net
+-- the number that the top adds: each of its ports is a net
 abbrev pub top_added : Kind → Block → ℕ
 top_added Nets b = length b.ports
 top_added Processes b = 0
 top_added Drivers b = 0
 top_added Instances b = 0
 
--- ---- as it is counted: a table with the number of each block, level by level
+-- ---- as the code counts: a table with the number of each block, level by level
 unfoldable pub targets_counted : List BlockProcess → ℕ → ℕ
 targets_counted [] n = n
 targets_counted (t ∷ ts) n = targets_counted ts (sum n (length t.targets))
@@ -69,7 +69,7 @@ unfoldable pub instances_counted : Kind → List ℕ → List Instance → ℕ �
 instances_counted kind table [] n = n
 instances_counted kind table (i ∷ is) n = instances_counted kind table is (sum (sum n (step_counted kind i)) (slice_index_or table i.block 0))
 
--- the same in two parts: what the instances add to their block, and what their blocks have
+-- the same in two parts: what the instances add to their block, and the numbers of their blocks
 unfoldable pub steps_counted : Kind → List Instance → ℕ → ℕ
 steps_counted kind [] n = n
 steps_counted kind (i ∷ is) n = steps_counted kind is (sum n (step_counted kind i))
@@ -78,12 +78,12 @@ unfoldable pub blocks_counted : List ℕ → List Instance → ℕ → ℕ
 blocks_counted table [] n = n
 blocks_counted table (i ∷ is) n = blocks_counted table is (sum n (slice_index_or table i.block 0))
 
--- what each block has, the blocks of its instances aside
+-- the number of each block, without the blocks of its instances
 unfoldable pub alone : Kind → List Block → List ℕ
 alone kind [] = []
 alone kind (b ∷ bs) = steps_counted kind b.instances (own_counted kind b) ∷ alone kind bs
 
--- with the blocks of its instances, from the one at this place on
+-- with the blocks of its instances, from the block at this position
 unfoldable pub level_counted : List ℕ → List ℕ → ℕ → List Block → List ℕ
 level_counted table alone n [] = []
 level_counted table alone n (b ∷ bs) = blocks_counted table b.instances (slice_index_or alone n 0) ∷ level_counted table alone (n + 1) bs

@@ -1,16 +1,16 @@
--- Chains of instances, each in the block of the one before it.
+-- Chains of instances, each in the block of the previous one.
 use Rattle.std.specs.Prelude.{ℕ, zero, suc, ◌||◌, List, [], ◌∷◌, Bool, true, false, slice_index_or}
 use Rattle.std.specs.List.{list_any}
 use Rattle.sim_flat_blocks.specs.declared.parts.Instance.{Instance}
 use Rattle.sim_flat_blocks.specs.declared.parts.Block.{Block}
 use Rattle.sim_flat_blocks.specs.Blocks.{block_of}
 
--- whether a chain of this many instances hangs below a block
+-- whether a block has a chain of this many instances below it
 unfoldable pub has_chain : List Block → ℕ → Block → Bool
 has_chain blocks zero b = true
 has_chain blocks (suc k) b = list_any (λ (i : Instance). has_chain blocks k (block_of blocks i)) b.instances
 
--- ---- as it is found: a table with an answer for each block, level by level
+-- ---- as the code finds it: a table with an answer for each block, level by level
 abbrev pub chain_at : List Bool → ℕ → Bool
 chain_at table n = slice_index_or table n false
 

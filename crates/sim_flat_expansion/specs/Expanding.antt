@@ -1,5 +1,5 @@
--- The walk over the hierarchy: the net of each port and signal, and the flat sources of its sources, are carried along.
--- Of the implementation: what `simulate` promises does not rest on this file.
+-- The walk over the hierarchy, which passes on the net and the flat sources of each port and signal.
+-- Implementation only: what `simulate` promises does not rest on this file.
 use Rattle.std.specs.Prelude.{ℕ, zero, suc, ◌+◌, List, [], ◌∷◌, ◌++◌, Bool, if◌then◌else◌, length, slice_index_or, slice_set, replicate}
 use Rattle.sim_logic.specs.declared.logic.Logic.{Logic}
 use Rattle.sim_flat_design.specs.declared.design.DriverOf.{DriverOf}
@@ -16,20 +16,20 @@ use Rattle.sim_flat_blocks.specs.declared.parts.Block.{Block}
 use Rattle.sim_flat_expansion.specs.declared.processes.Sketch.{Sketch}
 use Rattle.sim_flat_blocks.specs.Blocks.{size, block_of, no_block, link_at, below, driver_of, process_of, constant_at, levels}
 
--- ---- the net of each port and signal, with the number of nets so far
+-- ---- the net of each port and signal, and the number of nets so far
 abbrev pub object_net_expanded : List ℕ → Link → ℕ → ℕ × ℕ
 object_net_expanded outer (To m) nets = (slice_index_or outer m 0, nets)
 object_net_expanded outer (Constant value) nets = (nets, nets + 1)
 object_net_expanded outer Open nets = (nets, nets + 1)
 
--- this many more
+-- the nets of this many more ports and signals
 unfoldable pub object_nets_expanded : List ℕ → List Link → ℕ → List ℕ → ℕ → List ℕ × ℕ
 object_nets_expanded outer links zero object_nets nets = (object_nets, nets)
 object_nets_expanded outer links (suc k) object_nets nets =
     let x = object_net_expanded outer (link_at links (length object_nets)) nets in
     object_nets_expanded outer links k (object_nets ++ x.0 ∷ []) x.1
 
--- those of a block, where so much is expanded
+-- the nets of a block, given what is already expanded
 unfoldable pub block_object_nets : List ℕ → List Link → Block → Sketch → List ℕ × Sketch
 block_object_nets outer links b f =
     let x = object_nets_expanded outer links (size b) [] f.nets in
@@ -39,7 +39,7 @@ block_object_nets outer links b f =
 abbrev pub FlatSources : Type 0
 FlatSources = List (List Source)
 
--- more flat sources of the one at this place
+-- more flat sources of the port or signal at this position
 unfoldable pub added : FlatSources → ℕ → List Source → FlatSources
 added flat_sources n more = slice_set flat_sources n (slice_index_or flat_sources n [] ++ more)
 
@@ -60,9 +60,9 @@ processes_expanded object_nets b (t ∷ ts) flat_sources f =
       drivers = x.1;
     })
 
--- ---- what becomes of the flat sources: a net has them, or the port or signal of the architecture around
+-- ---- flat sources go to a net, or to a port or signal of the enclosing architecture
 
--- a constant stands where there is no source
+-- the flat sources, or a constant if there are none
 abbrev pub finished : Logic → List Source → List Source
 finished value [] = source.Constant value ∷ []
 finished value (s ∷ ss) = s ∷ ss
@@ -86,7 +86,7 @@ signals_expanded prefix own n [] nets = nets
 signals_expanded prefix own n (o ∷ os) nets =
     signals_expanded prefix own (n + 1) os (nets ++ record { name = prefix ++ o.name.text; sources = finished o.default (slice_index_or own n []) } ∷ [])
 
--- those of a block: its ports, and then its signals
+-- the nets and flat sources of a block: its ports, and then its signals
 abbrev pub objects_expanded : List ℕ → List Link → FlatSources → Block → FlatSources → List Net × FlatSources
 objects_expanded prefix links own b outer =
     let x = ports_expanded prefix links own 0 b.ports [] outer in
@@ -112,14 +112,14 @@ module _ (one : Walk) (blocks : List Block) where
       let p = processes_expanded object_nets b b.processes (replicate (size b) []) f in
       instances_expanded object_nets prefix b.instances [] p.0 p.1
 
-  -- what stands in a block, once its ports and signals have their nets
+  -- the contents of a block, given the nets of its ports and signals
   unfoldable pub inside_expanded : List ℕ → List Link → List ℕ → Block → FlatSources → Sketch → List Net × FlatSources × Sketch
   inside_expanded prefix links object_nets b around f =
       let x = occupants_expanded prefix object_nets b f in
       let s = objects_expanded prefix links x.1 b around in
       (s.0 ++ x.0, s.1, x.2)
 
--- a block and what stands below it, this many levels
+-- a block and the instances in it, to this many levels
 unfoldable pub block_expanded : List Block → ℕ → Walk
 block_expanded blocks zero prefix links outer b around f = ([], around, f)
 block_expanded blocks (suc k) prefix links outer b around f =

@@ -17,9 +17,9 @@ use Rattle.sim_flat_blocks.specs.declared.parts.Block.{Block}
 use Rattle.sim_flat_blocks.specs.Blocks.{size, block_of, no_block, link_at, constant_at, below, driver_of, process_of, levels, targets_of}
 use Rattle.sim_flat_expansion.specs.Hierarchy.{Path, Scene, scenes, link_of, net_object, Own, own_at, process_count, driver_count, before, net_number}
 
--- ---- processes and drivers, by scene, then by text
+-- ---- processes and drivers, by scene, then in textual order
 
--- the nets of this many ports and signals from this place on
+-- the nets of this many ports and signals, from this position
 unfoldable pub object_nets_from : List Scene → Path → ℕ → ℕ → List ℕ
 object_nets_from all p n zero = []
 object_nets_from all p n (suc k) = net_number all (net_object p n) ∷ object_nets_from all p (n + 1) k
@@ -27,7 +27,7 @@ object_nets_from all p n (suc k) = net_number all (net_object p n) ∷ object_ne
 abbrev pub object_nets_at : List Scene → Scene → List ℕ
 object_nets_at all s = object_nets_from all s.path 0 (size s.block)
 
--- the processes, where the drivers of the first begin at this number
+-- the processes, where the first driver has this number
 unfoldable pub processes_from : List ℕ → ℕ → List BlockProcess → List Process
 processes_from object_nets first [] = []
 processes_from object_nets first (t ∷ ts) = process_of object_nets first t ∷ processes_from object_nets (first + length t.targets) ts
@@ -45,7 +45,7 @@ drivers_at all s = drivers_from (object_nets_at all s) s.block (before process_c
 
 -- ---- sources: the drivers of a port or signal, then the ports of instances that drive and are associated with it (6.4.2.3)
 
--- the numbers of the drivers of the one at this place, where the drivers of these targets are counted from a number
+-- the numbers of the drivers of the object at position n, where the drivers of these targets are counted from i
 unfoldable pub driving : ℕ → ℕ → List ℕ → List ℕ
 driving n i [] = []
 driving n i (t ∷ ts) = if t == n then i ∷ driving n (i + 1) ts else driving n (i + 1) ts
@@ -70,13 +70,13 @@ leads_to m (To n) = n == m
 leads_to m (Constant value) = false
 leads_to m Open = false
 
--- the trees of the ports that drive and are associated with the one at place m around
+-- the trees of the ports that are sources of the object at position m of the enclosing architecture
 unfoldable pub of_ports : (ℕ → Object → SourceTree) → List Link → ℕ → ℕ → List port.Port → List SourceTree
 of_ports one links m n [] = []
 of_ports one links m n (p ∷ ps) =
     if p.drives && leads_to m (link_at links n) then one n p.object ∷ of_ports one links m (n + 1) ps else of_ports one links m (n + 1) ps
 
--- of each instance in text order
+-- the same for each instance, in textual order
 unfoldable pub of_instances : (Path → Block → List Link → ℕ → List SourceTree) → List Block → Path → ℕ → ℕ → List Instance → List SourceTree
 of_instances one blocks p m j [] = []
 of_instances one blocks p m j (i ∷ is) =
@@ -87,19 +87,19 @@ abbrev pub source_of : FlatSource → Source
 source_of (Driven n) = source.Driver n
 source_of (tree.Constant value) = source.Constant value
 
--- the prefix of a path: each label before a `.`
+-- the prefix of a path: each label followed by `.`
 abbrev pub prefix : Path → List ℕ
 prefix [] = []
 prefix (s ∷ up) = below (prefix up) s.instance.label.text
 
 module _ (blocks : List Block) (all : List Scene) where
-  -- the tree of the port or signal at a place, where the trees of a block's ports are these
+  -- the tree of the port or signal at a position, given a function for the trees of a block's ports
   abbrev pub tree_of : (Path → Block → List Link → ℕ → List SourceTree) → Path → Block → ℕ → Object → SourceTree
   tree_of one p b n o =
       Name (type_of o.resolved) (constant_at (link_of p n) o.default)
       (with_drivers (drivers_of all p b n) (with_ports (of_instances one blocks p n 0 b.instances)))
 
-  -- the trees of the ports of a block that are associated with the one at place m around, this many levels
+  -- the trees of the ports of a block that are sources of the object at position m around it, to this many levels
   unfoldable pub port_trees : ℕ → Path → Block → List Link → ℕ → List SourceTree
   port_trees zero p b links m = []
   port_trees (suc k) p b links m = of_ports (tree_of (port_trees k) p b) links m 0 b.ports
@@ -118,7 +118,7 @@ abbrev pub gather : {X Y : Type 0} → (X → List Y) → List X → List Y
 gather f [] = []
 gather f (x ∷ xs) = f x ++ gather f xs
 
--- the scenes from the top on
+-- the scenes from the top
 unfoldable pub scenes_of : List Block → ℕ → List Scene
 scenes_of blocks top = scenes blocks levels [] (slice_index_or blocks top no_block)
 

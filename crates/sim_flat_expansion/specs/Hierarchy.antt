@@ -1,4 +1,4 @@
--- Paths through the hierarchy, what stands where they lead, and the port or signal that has the net of each (IEEE 1076-2008, 14.7).
+-- Paths through the hierarchy, the block at each, and the port or signal that has the net of each (IEEE 1076-2008, 14.7).
 use Rattle.std.specs.Prelude.{ℕ, zero, suc, ◌+◌, List, [], ◌∷◌, ◌++◌, Bool, true, false, if◌then◌else◌, map, length}
 use Rattle.std.specs.Str.{bytes_eq}
 use Rattle.sim_flat_blocks.specs.declared.links.Link.{Link}
@@ -8,7 +8,7 @@ use Rattle.sim_flat_blocks.specs.declared.parts.Instance.{Instance}
 use Rattle.sim_flat_blocks.specs.declared.parts.Block.{Block}
 use Rattle.sim_flat_blocks.specs.Blocks.{objects, block_of, link_at, targets_of}
 
--- a step of a path: an instance, and which of its architecture it is
+-- a step of a path: an instance, and its position in its architecture
 pub record PathStep : Type 0 where
   pub instance : Instance
   pub place : ℕ
@@ -20,15 +20,15 @@ Path = List PathStep
 abbrev pub spots : Path → List ℕ
 spots p = map (λ (s : PathStep). s.place) p
 
--- ---- scenes: where a path leads, in order, each before what stands below it
+-- ---- scenes: the blocks at paths, in order, each before those inside it
 pub record Scene : Type 0 where
   pub path : Path
   pub block : Block
-  -- how many levels may stand below it
+  -- the number of levels allowed below it
   pub levels : ℕ
 
 module _ (one : Path → Block → List Scene) (blocks : List Block) where
-  -- what stands in these instances, in text order
+  -- the scenes of these instances, in textual order
   unfoldable pub inner : Path → ℕ → List Instance → List Scene
   inner p j [] = []
   inner p j (i ∷ is) = one (record { instance = i; place = j } ∷ p) (block_of blocks i) ++ inner p (j + 1) is
@@ -37,14 +37,14 @@ unfoldable pub scenes : List Block → ℕ → Path → Block → List Scene
 scenes blocks zero p b = []
 scenes blocks (suc k) p b = record { path = p; block = b; levels = k } ∷ inner (scenes blocks k) blocks p 0 b.instances
 
--- ---- the object that has the net of a port or signal: associations are followed upward until there is none
+-- ---- the object that has the net of a port or signal: actuals are followed outward as long as there is one
 
--- a port or signal where a path leads, by place
+-- a port or signal at a path, by position
 pub record Named : Type 0 where
   pub path : Path
   pub place : ℕ
 
--- what it is associated with
+-- its link
 abbrev pub link_of : Path → ℕ → Link
 link_of [] n = Open
 link_of (s ∷ up) n = link_at s.instance.links n
@@ -68,7 +68,7 @@ pub record Own : Type 0 where
   pub place : ℕ
   pub object : Object
 
--- those from this place on
+-- those from this position
 unfoldable pub own_from : Path → ℕ → List Object → List Own
 own_from p n [] = []
 own_from p n (o ∷ os) = if is_own (link_of p n) then record { place = n; object = o } ∷ own_from p (n + 1) os else own_from p (n + 1) os
@@ -76,12 +76,12 @@ own_from p n (o ∷ os) = if is_own (link_of p n) then record { place = n; objec
 abbrev pub own_at : Scene → List Own
 own_at s = own_from s.path 0 (objects s.block)
 
--- how many of the places before this one are nets
+-- the number of positions before this one that are nets
 unfoldable pub own_before : Path → ℕ → ℕ
 own_before p zero = 0
 own_before p (suc n) = if is_own (link_of p n) then own_before p n + 1 else own_before p n
 
--- ---- numbers: how many there are before it
+-- ---- numbers: how many precede it
 
 abbrev pub net_count : Scene → ℕ
 net_count s = length (own_at s)
@@ -92,7 +92,7 @@ process_count s = length s.block.processes
 abbrev pub driver_count : Scene → ℕ
 driver_count s = length (targets_of s.block.processes)
 
--- how many there are in the scenes before this path's
+-- the count over the scenes before that of this path
 unfoldable pub before : (Scene → ℕ) → List Scene → Path → ℕ
 before count [] p = 0
 before count (s ∷ ss) p = if bytes_eq (spots s.path) (spots p) then 0 else count s + before count ss p

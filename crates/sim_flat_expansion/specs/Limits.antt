@@ -7,12 +7,12 @@ use Rattle.sim_flat_expansion.specs.Counts.{number}
 use Rattle.sim_flat_expansion.specs.Depth.{has_chain}
 use Rattle.sim_flat_expansion.specs.Flat.{flat}
 
--- how many instances a hierarchy may have
+-- the largest number of instances
 abbrev pub most_instances : ℕ
 most_instances = 2 ^ 14
 
--- The flat design has no more nets, processes and drivers than it may, the hierarchy has no more instances than it may, and none
--- stands deeper than 32.
+-- The numbers of nets, processes and drivers of the flat design and that of instances are within the limits, and no instance is
+-- deeper than 32 levels.
 pub record Fits (blocks : List Block) (top : ℕ) : Type 0 where
   pub design : IsWithinLimits (flat blocks top)
   pub instances : number Instances blocks top ≤ most_instances

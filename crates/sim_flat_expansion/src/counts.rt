@@ -1,4 +1,4 @@
-//! How much there is below a block, found level by level without expanding it.
+//! Numbers of nets, processes, drivers and instances below a block, found without expanding it.
 
 ghost use Rattle.std.specs.Prelude.{◌≡◌, ◌<◌, IfOk, length};
 ghost use Rattle.std.specs.List.{All};
@@ -10,37 +10,37 @@ use sim_flat_blocks::parts::{Block, BlockProcess, Instance};
 use sqlite_items::Items;
 use std::alloc::{AllocError, Global};
 
-/// What is counted.
+/// The kind that is counted.
 #[derive(Clone, Copy)]
 pub enum Kind {
     Nets,
     Processes,
     Drivers,
-    /// The top is none.
+    /// The top is not one of them.
     Instances,
 }
 
-/// One more than a design may have.
+/// One more than the largest number of nets, of processes or of drivers.
 const ABOVE: usize = 65_537;
 
-/// How many levels of instances there are below the top.
+/// The number of levels of instances below the top.
 const LEVELS: usize = 32;
 
-/// No more than is above the limit.
+/// The smaller of a number and `ABOVE`.
 fn capped(number: usize) -> usize
     ensures { result ≡ spec.capped number }
 {
     number.min(ABOVE)
 }
 
-/// A sum that stays at one above the limit.
+/// A sum, at most `ABOVE`.
 fn sum(left: usize, right: usize) -> usize
     ensures { result ≡ spec.sum left right }
 {
     capped(capped(left) + capped(right))
 }
 
-/// How many drivers processes have.
+/// The number of drivers of the processes.
 #[tactic(auto, unfolding(crate::specs::Counts::targets_counted))]
 fn targets(block_processes: &[BlockProcess]) -> usize
     ensures { result ≡ spec.targets_counted block_processes.now 0 }
@@ -52,7 +52,7 @@ fn targets(block_processes: &[BlockProcess]) -> usize
     number
 }
 
-/// What a block has by itself.
+/// The number that a block has by itself.
 fn own(kind: Kind, block: &Block) -> usize
     ensures { result ≡ spec.own_counted kind block.now }
 {
@@ -64,7 +64,7 @@ fn own(kind: Kind, block: &Block) -> usize
     }
 }
 
-/// What an instance adds to its block.
+/// The number that an instance adds to its block.
 fn step(kind: Kind, instance: &Instance) -> usize
     ensures { result ≡ spec.step_counted kind instance.now }
 {
@@ -75,7 +75,7 @@ fn step(kind: Kind, instance: &Instance) -> usize
     }
 }
 
-/// A number with what each of these instances adds to its block.
+/// A number, plus what each of these instances adds to its block.
 #[tactic(auto, unfolding(crate::specs::Counts::steps_counted))]
 fn steps(kind: Kind, instances: &[Instance], own: usize) -> usize
     ensures { result ≡ spec.steps_counted kind instances.now own }
@@ -87,7 +87,7 @@ fn steps(kind: Kind, instances: &[Instance], own: usize) -> usize
     number
 }
 
-/// A number with those that the blocks of these instances have a level below.
+/// A number, plus those that the table has for the blocks of these instances.
 #[tactic(auto, unfolding(crate::specs::Counts::blocks_counted))]
 fn row(table: &[usize], instances: &[Instance], alone: usize) -> usize
     ensures { result ≡ spec.blocks_counted table.now instances.now alone }
@@ -99,7 +99,7 @@ fn row(table: &[usize], instances: &[Instance], alone: usize) -> usize
     number
 }
 
-/// The numbers of each block alone, with no level below it.
+/// The number of each block alone, without any level below it.
 #[tactic(auto, unfolding(crate::specs::Counts::first_table))]
 fn first(alloc: Global, kind: Kind, blocks: &[Block]) -> Result<Items<usize>, AllocError>
     ensures { IfOk result (λ r. r ≡ spec.first_table kind blocks.now) }
@@ -111,7 +111,7 @@ fn first(alloc: Global, kind: Kind, blocks: &[Block]) -> Result<Items<usize>, Al
     Ok(table)
 }
 
-/// What each block has, the blocks of its instances aside.
+/// The number of each block, without the blocks of its instances.
 #[tactic(auto, unfolding(crate::specs::Counts::alone))]
 fn alone(alloc: Global, kind: Kind, blocks: &[Block]) -> Result<Items<usize>, AllocError>
     ensures { IfOk result (λ r. r ≡ spec.alone kind blocks.now) }
@@ -123,7 +123,7 @@ fn alone(alloc: Global, kind: Kind, blocks: &[Block]) -> Result<Items<usize>, Al
     Ok(numbers)
 }
 
-/// The numbers of the blocks a level up.
+/// The number of each block, with one more level below it.
 #[tactic(auto, unfolding(crate::specs::Counts::level_counted))]
 fn next(
     alloc: Global,
@@ -140,8 +140,8 @@ fn next(
     Ok(rows)
 }
 
-/// The numbers of the blocks with a number of levels below them. Where one level more changes none,
-/// no further one does.
+/// The number of each block with this many levels below it. Once a level changes nothing, further
+/// levels do not either.
 fn tables(
     alloc: Global,
     kind: Kind,
@@ -162,7 +162,7 @@ fn tables(
     Ok(table)
 }
 
-/// What the top adds: each of its ports is a net.
+/// The number that the top adds: each of its ports is a net.
 fn top_added(kind: Kind, block: &Block) -> usize
     ensures { result ≡ spec.top_counted kind block.now }
 {
@@ -172,7 +172,8 @@ fn top_added(kind: Kind, block: &Block) -> usize
     }
 }
 
-/// How many nets, processes, drivers or instances the flat design has, if that is within the limit.
+/// The number of nets, processes, drivers or instances of the flat design; 65,537 if it is above
+/// that.
 pub fn count(alloc: Global, blocks: &[Block], top: usize, kind: Kind) -> Result<usize, AllocError>
     requires known { All (IsBlock blocks.now) blocks.now }
     requires top { top < length blocks.now }

@@ -1,4 +1,4 @@
-//! How deep instances stand in one another, found level by level without expanding them.
+//! How deeply instances are nested, found level by level without expanding them.
 
 ghost use Rattle.std.specs.Prelude.{◌≡◌, ◌<◌, IfOk, length, slice_index_or};
 ghost use Rattle.std.specs.List.{All};
@@ -9,10 +9,10 @@ use sim_flat_blocks::parts::{Block, Instance};
 use sqlite_items::Items;
 use std::alloc::{AllocError, Global};
 
-/// One level more than there may be below the top.
+/// One more level than allowed below the top.
 const TOO_DEEP: usize = 33;
 
-/// Whether the block at a place has a chain; beyond the last none has.
+/// Whether the block at a position has a chain; past the last block, none does.
 fn chain_at(table: &[bool], at: usize) -> bool
     ensures { result ≡ spec.chain_at table.now at }
 {
@@ -22,7 +22,7 @@ fn chain_at(table: &[bool], at: usize) -> bool
     }
 }
 
-/// Whether one of these instances is of a block that has a chain.
+/// Whether the block of one of these instances has a chain.
 #[tactic(auto, unfolding(crate::specs::Depth::any_at))]
 fn any(table: &[bool], instances: &[Instance]) -> bool
     ensures { result ≡ spec.any_at table.now instances.now }
@@ -35,7 +35,7 @@ fn any(table: &[bool], instances: &[Instance]) -> bool
     false
 }
 
-/// Each block has a chain of no instance.
+/// Each block has a chain of zero instances.
 #[tactic(auto, unfolding(crate::specs::Depth::first_table))]
 fn first(alloc: Global, blocks: &[Block]) -> Result<Items<bool>, AllocError>
     ensures { IfOk result (λ r. r ≡ spec.first_table blocks.now) }
@@ -47,7 +47,7 @@ fn first(alloc: Global, blocks: &[Block]) -> Result<Items<bool>, AllocError>
     Ok(table)
 }
 
-/// Which blocks have a chain of one instance more.
+/// Whether each block has a chain of one more instance.
 #[tactic(auto, unfolding(crate::specs::Depth::next_table))]
 fn next(alloc: Global, table: &[bool], blocks: &[Block]) -> Result<Items<bool>, AllocError>
     ensures { IfOk result (λ r. r ≡ spec.next_table table.now blocks.now) }
@@ -59,8 +59,8 @@ fn next(alloc: Global, table: &[bool], blocks: &[Block]) -> Result<Items<bool>, 
     Ok(rows)
 }
 
-/// Which blocks have a chain of this many instances below them. Where one level more changes no
-/// answer, no further one does.
+/// Whether each block has a chain of this many instances below it. Once a level changes nothing,
+/// further levels do not either.
 fn tables(alloc: Global, blocks: &[Block], levels: usize) -> Result<Items<bool>, AllocError>
     ensures { IfOk result (λ r. r ≡ spec.table_at blocks.now levels) }
 {
@@ -75,7 +75,7 @@ fn tables(alloc: Global, blocks: &[Block], levels: usize) -> Result<Items<bool>,
     Ok(table)
 }
 
-/// Whether there is a chain of 33 instances below the top, each in the block of the one before it.
+/// Whether there is a chain of 33 instances below the top, each in the block of the previous one.
 pub fn is_too_deep(alloc: Global, blocks: &[Block], top: usize) -> Result<bool, AllocError>
     requires known { All (IsBlock blocks.now) blocks.now }
     requires top { top < length blocks.now }

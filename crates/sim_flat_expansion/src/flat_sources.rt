@@ -1,4 +1,4 @@
-//! The flat sources of the sources of each port and signal, from left to right.
+//! The flat sources of each port and signal, from left to right.
 
 ghost use Rattle.std.specs.Prelude.{ℕ, ◌≡◌, ◌+◌, ◌++◌, ◌∷◌, ◌≤◌, [], IfOk, OnOk, slice_index_or, slice_set, length, replicate};
 ghost use Rattle.sim_flat_blocks.specs.Blocks.{constant_at};
@@ -13,7 +13,7 @@ use sqlite_items::Items;
 use std::alloc::{AllocError, Global};
 use std::mem;
 
-/// No flat sources for this number of ports and signals.
+/// Empty lists of flat sources for this number of ports and signals.
 pub fn none(alloc: Global, count: usize) -> Result<Vec<Items<Source>>, AllocError>
     ensures { IfOk result (λ r. r.items ≡ replicate count []) }
 {
@@ -24,7 +24,7 @@ pub fn none(alloc: Global, count: usize) -> Result<Vec<Items<Source>>, AllocErro
     Ok(lists)
 }
 
-/// Adds a flat source to those of the port or signal at this place.
+/// Adds a flat source to those of the port or signal at this position.
 #[tactic(auto, using(sim_flat_blocks::proofs::Added::set_past), unfolding(crate::specs::Expanding::added))]
 pub fn add(
     flat_sources: &mut [Items<Source>],
@@ -39,7 +39,7 @@ pub fn add(
     flat_sources[at].push(flat_source)
 }
 
-/// Moves flat sources to the end of those of the port or signal at this place.
+/// Appends flat sources to those of the port or signal at this position.
 #[tactic(auto, using(sim_flat_blocks::proofs::Added::set_past), unfolding(crate::specs::Expanding::added))]
 fn append(
     flat_sources: &mut [Items<Source>],
@@ -54,8 +54,8 @@ fn append(
     flat_sources[at].append(more)
 }
 
-/// Hands flat sources on to the port or signal at this place, or this constant where there are
-/// none.
+/// Appends flat sources, or this constant if there are none, to those of the port or signal at this
+/// position.
 fn hand_on(
     outer: &mut [Items<Source>],
     at: usize,
@@ -70,7 +70,7 @@ fn hand_on(
     append(outer, at, flat_sources)
 }
 
-/// The flat sources, or this constant where there are none.
+/// The flat sources, or this constant if there are none.
 fn finished(
     alloc: Global,
     constant: Logic,
@@ -84,7 +84,7 @@ fn finished(
     Ok(flat_sources)
 }
 
-/// The flat sources at this place, which has none then.
+/// Removes and returns the flat sources at this position.
 #[tactic(auto, using(sim_flat_blocks::proofs::Added::set_past))]
 fn taken(alloc: Global, flat_sources: &mut [Items<Source>], at: usize) -> Items<Source>
     ensures value { result ≡ slice_index_or flat_sources.old at [] }
@@ -96,7 +96,7 @@ fn taken(alloc: Global, flat_sources: &mut [Items<Source>], at: usize) -> Items<
     mem::replace(&mut flat_sources[at], Items::new(alloc))
 }
 
-/// The net of a port or signal with these flat sources, or with this constant where there are none.
+/// The net of a port or signal with these flat sources, or with this constant if there are none.
 fn net(
     alloc: Global,
     prefix: &InstancePath,
@@ -110,7 +110,7 @@ fn net(
     Net::new(alloc, prefix, object.name.as_str(), sources)
 }
 
-/// What becomes of the flat sources of a port: its net has them, or what it is associated with.
+/// Gives the flat sources of a port to its own net, or else to its actual.
 fn expand_object(
     alloc: Global,
     prefix: &InstancePath,
@@ -137,8 +137,7 @@ fn expand_object(
     }
 }
 
-/// The nets of the ports that are associated with none; the flat sources of the others go to what
-/// they are associated with.
+/// The nets of the ports that have their own; the flat sources of other ports go to their actuals.
 #[tactic(auto, unfolding(crate::specs::Expanding::ports_expanded))]
 fn ports(
     alloc: Global,
@@ -167,7 +166,7 @@ fn ports(
     Ok(nets)
 }
 
-/// The nets of signals, of which the first has this place.
+/// The nets of signals, the first of which has this position.
 #[tactic(auto, unfolding(crate::specs::Expanding::signals_expanded))]
 fn signals(
     alloc: Global,
@@ -188,8 +187,8 @@ fn signals(
     Ok(())
 }
 
-/// The nets of a block's ports and signals that are their own; the flat sources of the others go to
-/// what they are associated with.
+/// The nets of the ports and signals of a block that have their own; the flat sources of the others
+/// go to their actuals.
 pub fn objects_expanded(
     alloc: Global,
     prefix: &InstancePath,

@@ -1,4 +1,4 @@
-//! The expansion of a hierarchy: from architectures whose names are places to the flat design.
+//! The expansion of a hierarchy: from architectures with names as positions to the flat design.
 #![tactic(auto)]
 
 pub mod counts;

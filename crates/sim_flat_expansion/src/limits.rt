@@ -1,4 +1,4 @@
-//! Whether a hierarchy keeps to the limits of a design, found without expanding it.
+//! Whether a hierarchy is within the limits of a design, found without expanding it.
 
 ghost use Rattle.std.specs.Prelude.{◌≡◌, ◌<◌, ◌≤◌, IfOk, Decides, length};
 ghost use Rattle.std.specs.List.{All};
@@ -13,13 +13,13 @@ use crate::depth::is_too_deep;
 use sim_flat_blocks::parts::Block;
 use std::alloc::{AllocError, Global};
 
-/// How many nets, processes and drivers there may be, of each.
+/// The largest number of nets, of processes and of drivers.
 const MOST: usize = 65_536;
 
-/// How many instances there may be.
+/// The largest number of instances.
 const MOST_INSTANCES: usize = 16_384;
 
-/// Whether there are no more of a kind than this limit.
+/// Whether the number of a kind is within this limit.
 #[tactic(auto, using(crate::proofs::Within::is_within))]
 fn is_within(
     alloc: Global,
@@ -38,7 +38,7 @@ fn is_within(
     Ok(found)
 }
 
-/// Whether the flat design has no more nets, processes and drivers than it may have.
+/// Whether the numbers of nets, processes and drivers of the flat design are within the limits.
 fn design_fits(alloc: Global, blocks: &[Block], top: usize) -> Result<bool, AllocError>
     requires known { All (IsBlock blocks.now) blocks.now }
     requires top { top < length blocks.now }
@@ -50,7 +50,7 @@ fn design_fits(alloc: Global, blocks: &[Block], top: usize) -> Result<bool, Allo
     Ok(all(nets, processes, drivers))
 }
 
-/// Whether the flat design is within its limits, and so are the instances and their depth.
+/// Whether the flat design, the number of instances and their depth are within the limits.
 pub fn fits(alloc: Global, blocks: &[Block], top: usize) -> Result<bool, AllocError>
     requires known { All (IsBlock blocks.now) blocks.now }
     requires top { top < length blocks.now }
@@ -62,7 +62,7 @@ pub fn fits(alloc: Global, blocks: &[Block], top: usize) -> Result<bool, AllocEr
     Ok(all(!deep, instances, design))
 }
 
-/// Conjunction, in which each part is evaluated.
+/// Conjunction that evaluates all of its parts.
 fn all(first: bool, second: bool, third: bool) -> bool
     ensures { result ≡ spec.all first second third }
 {

@@ -13,7 +13,7 @@ use sim_flat_design::process::ObjectNets;
 use sqlite_items::Items;
 use std::alloc::{AllocError, Global};
 
-/// The net of the port or signal at this place.
+/// The net of the port or signal at this position.
 pub fn net_at(object_nets: &[usize], object: usize) -> usize
     ensures { result ≡ slice_index_or object_nets.now object 0 }
 {
@@ -23,7 +23,7 @@ pub fn net_at(object_nets: &[usize], object: usize) -> usize
     }
 }
 
-/// One number more. More than can be counted do not fit the memory.
+/// The next number. Memory runs out before it can overflow.
 pub fn next(number: usize) -> Result<usize, AllocError>
     ensures { IfOk result (λ n. n ≡ number + 1) }
 {
@@ -33,7 +33,7 @@ pub fn next(number: usize) -> Result<usize, AllocError>
     }
 }
 
-/// The net of a port or signal, and how many nets there are then.
+/// The net of a port or signal, and the number of nets so far.
 fn object_net(outer: &[usize], link: Link, nets: usize) -> Result<(usize, usize), AllocError>
     ensures { IfOk result (λ r. r ≡ spec.object_net_expanded outer.now link nets) }
 {
@@ -44,8 +44,8 @@ fn object_net(outer: &[usize], link: Link, nets: usize) -> Result<(usize, usize)
     }
 }
 
-/// The net of each port and signal of a block, where those of the architecture around have these,
-/// and how many nets there are then.
+/// The net of each port and signal of a block, given those of the enclosing architecture, and the
+/// number of nets so far.
 #[tactic(auto, unfolding(crate::specs::Expanding::object_nets_expanded))]
 fn object_nets(
     alloc: Global,
@@ -68,7 +68,7 @@ fn object_nets(
     Ok((object_nets, total))
 }
 
-/// The net of each port and signal of a block; the nets that are new are counted.
+/// The net of each port and signal of a block; new nets are counted.
 #[tactic(auto, unfolding(crate::specs::Expanding::block_object_nets))]
 pub fn block_object_nets(
     alloc: Global,
@@ -85,7 +85,7 @@ pub fn block_object_nets(
     ObjectNets::new(alloc, object_nets)
 }
 
-/// The nets of ports and signals, each once, from the least on.
+/// The nets of ports and signals, without repetitions and in ascending order.
 pub fn nets_of(
     alloc: Global,
     object_nets: &[usize],

@@ -16,7 +16,7 @@ use sim_logic::Logic;
 use sqlite_items::Items;
 use std::alloc::{AllocError, Global};
 
-/// How many nets there are so far, the processes, and their drivers.
+/// The number of nets so far, the processes, and their drivers.
 #[derive(Drop)]
 pub struct Sketch {
     pub nets: usize,
@@ -24,7 +24,7 @@ pub struct Sketch {
     pub drivers: Items<DriverOf>,
 }
 
-/// The declared first value of the port or signal at this place.
+/// The default value of the port or signal at this position.
 fn default(block: &Block, at: usize) -> Logic
     ensures { result ≡ default_at block.now at }
 {
@@ -38,7 +38,7 @@ fn default(block: &Block, at: usize) -> Logic
     }
 }
 
-/// The drivers of a process, and each as a flat source of what it drives.
+/// The drivers of a process, each also added as a flat source of its target.
 #[tactic(auto, unfolding(crate::specs::Expanding::targets_expanded))]
 fn targets(
     object_nets: &[usize],

@@ -1,4 +1,4 @@
-//! The walk over the hierarchy: each instance before what stands below it, in text order.
+//! The walk over the hierarchy: each instance before those inside it, in textual order.
 
 ghost use Rattle.std.specs.Prelude.{◌≡◌, ◌<◌, [], IfOk, length};
 ghost use Rattle.std.specs.List.{All};
@@ -20,7 +20,7 @@ use std::alloc::{AllocError, Global};
 /// The top, and 32 levels of instances below it.
 const LEVELS: usize = 33;
 
-/// Expands a block and what stands below it, a number of levels, and gives the nets.
+/// Expands a block to a number of levels, and returns its nets and those of its instances.
 #[cycle(walk)]
 #[tactic(auto, unfolding(crate::specs::Expanding::block_expanded))]
 fn block(
@@ -55,7 +55,7 @@ fn block(
     )
 }
 
-/// Expands what stands in a block whose ports and signals have these nets.
+/// Expands the contents of a block whose ports and signals have these nets.
 #[cycle(walk)]
 #[tactic(auto, unfolding(crate::specs::Expanding::inside_expanded))]
 fn inside(
@@ -81,7 +81,7 @@ fn inside(
     Ok(nets)
 }
 
-/// Expands the processes of a block and then its instances. Gives the flat sources of each of its
+/// Expands the processes of a block and then its instances. Returns the flat sources of each of its
 /// ports and signals, and the nets of its instances.
 #[cycle(walk)]
 fn occupants(
@@ -193,8 +193,8 @@ fn instance(
     )
 }
 
-/// The flat design of the hierarchy under a block, in which instances stand no deeper than 32
-/// (`fits` says whether there are deeper ones).
+/// The flat design of the hierarchy under a block, with instances at most 32 levels deep (`fits`
+/// tells whether some are deeper).
 pub fn expand(alloc: Global, blocks: &[Block], top: usize) -> Result<Design, AllocError>
     requires known { All (IsBlock blocks.now) blocks.now }
     requires top { top < length blocks.now }

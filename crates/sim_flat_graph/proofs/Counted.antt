@@ -1,4 +1,4 @@
--- Counting as far as two finds how many sources there are, as far as two.
+-- Counting up to two gives the number of sources, up to two.
 use Rattle.std.proofs.Common.{◌≡◌, ℕ, suc, ◌+◌, ◌==◌, ◌<◌, List, [], ◌∷◌, ◌++◌, Bool, true, false, Option, min, length, get_or, map}
 use Rattle.std.proofs.Common.{refl, ap, sym, ◌∙◌, subst, arith, if◌then◌else◌, append_assoc}
 use Rattle.std.proofs.lemmas.Bool.{eqb-true, eq-eqb}

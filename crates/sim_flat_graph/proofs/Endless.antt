@@ -1,4 +1,4 @@
--- Where an instance stands in itself, chains of instances are of any length: so where a length is not reached, none does.
+-- A recursive instance gives chains of any length, so there is none if some length is not reached.
 use Rattle.std.proofs.Common.{◌≡◌, ℕ, zero, suc, ◌<◌, ◌||◌, List, [], ◌∷◌, Bool, true, false, None, length, refl, ap, sym, ◌∙◌, subst, arith, All}
 use Rattle.std.specs.List.{Contains, list_any}
 use Rattle.std.proofs.lemmas.List.Folds.{list_any_at}
@@ -69,7 +69,7 @@ module _ (blocks : List Block) where
       let e = edge_of (block_at blocks a).instances next (subst (λ (ns : List ℕ). Contains ns next) (led_is blocks a) c) in
       shorter k (block_at blocks a) (longer k a e.instance e.among (subst (λ (n : ℕ). has_chain blocks k (block_at blocks n) ≡ true) (sym e.leads) h))
 
-  -- what leads to the start of a chain starts one as long
+  -- a block that leads to the start of a chain starts one of the same length
   led_on : (k c a : ℕ) → Reaches (graph_of blocks) c a → has_chain blocks k (block_at blocks c) ≡ true → has_chain blocks k (block_at blocks a) ≡ true
   led_on k c a Here h = h
   led_on k c a (Along x next among rest) h = along k a next among (led_on k c next rest h)

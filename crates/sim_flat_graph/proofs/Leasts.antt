@@ -1,15 +1,15 @@
--- The least of a list and of what is known is the least of both.
+-- The least of a list and the known number is the least of both.
 use Rattle.std.proofs.Common.{◌≡◌, ℕ, ◌≤◌, List, [], ◌∷◌, Option, Some, None, min, ◌⊎◌, inl, inr, refl, subst, arith}
 use Rattle.std.specs.List.{Contains}
 use Rattle.sim_flat_graph.specs.Least.{IsLeast, lesser, least_of}
 use Rattle.sim_flat_graph.proofs.Lists.{nothing_in, first_in, later_in, one_of, by_order}
 
--- the least of what is said otherwise
+-- the least number of an equivalent property
 pub said_otherwise : (P Q : ℕ → Type 0) (o : Option ℕ) → ((n : ℕ) → P n → Q n) → ((n : ℕ) → Q n → P n) → IsLeast P o → IsLeast Q o
 said_otherwise P Q None to from h = λ n q. h n (from n q)
 said_otherwise P Q (Some m) to from h = (to m h.0, λ n q. h.1 n (from n q))
 
--- the least of what is known and of one more
+-- the least of the known number and one more
 with_one : (P : ℕ → Type 0) (o : Option ℕ) (n : ℕ) → IsLeast P o → IsLeast (λ m. P m ⊎ (n ≡ m)) (Some (lesser o n))
 with_one P None n h = (inr refl, λ m q. by_either m q)
   where

@@ -1,4 +1,4 @@
--- What is in a list, item by item.
+-- The members of a list, item by item.
 use Rattle.std.proofs.Common.{◌≡◌, ℕ, zero, suc, ◌<◌, ◌≤◌, List, [], ◌∷◌, Bool, true, false, length, get_or, ◌⊎◌, inl, inr}
 use Rattle.std.proofs.Common.{refl, arith}
 use Rattle.std.specs.List.{Contains}

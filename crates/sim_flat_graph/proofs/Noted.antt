@@ -1,4 +1,4 @@
--- Lists that are gone through one after another.
+-- Lists that are counted one after another.
 use Rattle.std.proofs.Common.{◌≡◌, ℕ, ◌+◌, ◌<◌, List, [], ◌∷◌, ◌++◌, Option, Some, length, get_or, drop, refl, ap, sym, ◌∙◌}
 use Rattle.std.proofs.lemmas.List.{drop_more}
 use Rattle.sim_flat_blocks.specs.declared.parts.BlockProcess.{BlockProcess}
@@ -18,7 +18,7 @@ unfolding least_of
 least_both known [] ys = refl
 least_both known (x ∷ xs) ys = least_both (Some (lesser known x)) xs ys
 
--- a turn of a loop over items, each of which has a list of its own
+-- one iteration of a loop over items, each of which has its own list
 pub one_more : {X : Type 0} (places : List X → List ℕ) (each : X → List ℕ) → ((x : X) (xs : List X) → places (x ∷ xs) ≡ each x ++ places xs)
     → (xs : List X) (i : ℕ) (x : X) → i < length xs → x ≡ get_or xs i x → (counts more total : List ℕ) → more ≡ all_noted counts (each x)
     → all_noted counts (places (drop i xs)) ≡ total → all_noted more (places (drop (i + 1) xs)) ≡ total

@@ -1,4 +1,4 @@
--- Recursive instances: block by block the first of them, and where there is one, chains of instances are of any length.
+-- Recursive instances: the first of them, block by block, and that one gives chains of instances of any length.
 use Rattle.std.proofs.Common.{◌≡◌, ℕ, zero, suc, ◌+◌, ◌<◌, ◌≤◌, ◌↔◌, List, [], ◌∷◌, Bool, true, false, ◌||◌, Option, Some, None, length, get_or, ◌⊎◌, inl, inr}
 use Rattle.std.proofs.Common.{refl, ap, sym, ◌∙◌, subst, arith, if◌then◌else◌}
 use Rattle.std.specs.List.{Contains, list_any}
@@ -50,7 +50,7 @@ block_there (j ∷ is) i c = by_one (one_of j i is c) (block_there is i)
 pub led_there : (bs : List Block) (n : ℕ) (i : Instance) → Contains (block_at bs n).instances i → Contains (led (graph_of bs) n) i.block
 led_there bs n i c = subst (λ (ns : List ℕ). Contains ns i.block) (sym (led_is bs n)) (block_there (block_at bs n).instances i c)
 
--- ---- the places of instances of blocks that pass a test
+-- ---- the places of instances whose blocks pass a test
 record Place (test : ℕ → Bool) (is : List Instance) (at : ℕ) : Type 0 where
   instance : Instance
   among : Contains is instance
@@ -91,7 +91,7 @@ place_there test (j ∷ is) i c t =
     not_now n (inl e) = absurd (let a : test j.block ≡ true = ap (λ (k : Instance). test k.block) e ∙ t in cc)
     not_now n (inr d) = d
 
--- ---- instances that stand behind the first place that is known
+-- ---- instances after the known place
 neither : (a b : Bool) → a || b ≡ false → (a ≡ false) × (b ≡ false)
 neither true b e = cc
 neither false b e = (refl, e)
@@ -113,7 +113,7 @@ none_earlier test known (i ∷ is) e =
     by_test true same more = more ∙ ap (λ (o : Option ℕ). least_of o (places_of test is)) same
     by_test false same more = more
 
--- ---- block by block: recursive instances in the blocks of lesser numbers
+-- ---- block by block: recursive instances in blocks with smaller numbers
 pub record Below (blocks : List Block) (top below at : ℕ) : Type 0 where
   pub recursive : IsRecursive blocks top at
   pub less : recursive.block < below
@@ -139,7 +139,7 @@ module _ (blocks : List Block) (top k : ℕ) (marks : List Bool) (reached : (n :
         less = by_order b.recursive.block k (λ lt. lt) (λ ge. absurd (not_here b.recursive.block b.recursive.reached ge b.less));
       }
 
-  -- a block that is reached, with a test that tells which of its instances are of blocks that lead back
+  -- a block that is reached, with a test for the instances whose blocks lead back
   pub looked_at : (test : ℕ → Bool) (known found : Option ℕ)
       → ((i : Instance) → Contains (block_at blocks k).instances i → (test i.block ≡ true) ↔ Reaches (graph_of blocks) k i.block)
       → get_or marks k false ≡ true → found ≡ least_of known (places_of test (block_at blocks k).instances)
@@ -185,7 +185,7 @@ module _ (blocks : List Block) (top k : ℕ) (marks : List Bool) (reached : (n :
           by_order r.block k (λ lt. inl (record { recursive = r; less = lt }))
           (λ ge. inr (now at r.block r.instance (omega arith) r.among r.back r.named))
 
--- by a search from each block
+-- the same, by a search from each block
 pub one_more : (blocks : List Block) (top k : ℕ) (marks : List Bool) (back : Graph) (known found : Option ℕ) (on : Bool) (b : Block)
     → ((n : ℕ) → (get_or marks n false ≡ true) ↔ Reaches (graph_of blocks) n top)
     → ((a c : ℕ) → Reaches back a c ↔ Reaches (graph_of blocks) c a) → on ≡ get_or marks k false → b ≡ block_at blocks k
@@ -204,7 +204,7 @@ one_more blocks top k marks back known found false b reached turned m is h known
 pub none_below : (blocks : List Block) (top : ℕ) → IsLeast (Below blocks top 0) None
 none_below blocks top at b = let l = b.less in absurd (omega arith)
 
--- each recursive instance stands in a block that is there
+-- each recursive instance is in a block that exists
 pub all_below : (blocks : List Block) (top n : ℕ) (o : Option ℕ) → length blocks ≤ n → IsLeast (Below blocks top n) o → IsLeast (IsRecursive blocks top) o
 all_below blocks top n o most h = said_otherwise (Below blocks top n) (IsRecursive blocks top) o (λ at b. b.recursive) (λ at r. record {
   recursive =

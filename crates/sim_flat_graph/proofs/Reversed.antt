@@ -1,4 +1,4 @@
--- The graph the other way round: what is reached in it are those that reach.
+-- The reverse graph: the numbers reached in it are those that reach.
 use Rattle.std.proofs.Common.{◌≡◌, ℕ, zero, suc, ◌+◌, ◌==◌, ◌<◌, ◌↔◌, List, [], ◌∷◌, ◌++◌, Bool, true, false, length, get_or, ◌⊎◌, inl, inr}
 use Rattle.std.proofs.Common.{refl, ap, sym, ◌∙◌, subst, arith, All, if◌then◌else◌, drop, append-nil, ◌≤◌}
 use Rattle.std.specs.List.{Contains}

@@ -1,4 +1,4 @@
--- A search marks exactly what is reached: what is found is reached, each that is found is looked at, and there are no more than there are blocks.
+-- A search marks exactly the numbers reached: it finds only these, visits each one found, and there are no more than there are blocks.
 use Rattle.std.proofs.Common.{◌≡◌, ℕ, zero, suc, ◌+◌, ◌<◌, ◌≤◌, ◌↔◌, List, [], ◌∷◌, ◌++◌, Bool, true, false, Some, None, length, get_or}
 use Rattle.std.proofs.Common.{refl, ap, sym, ◌∙◌, subst, arith, All, length-append, slice_get, slice_set, replicate, ◌⊎◌, inl, inr}
 use Rattle.std.specs.List.{Contains}
@@ -11,7 +11,7 @@ use Rattle.sim_flat_graph.specs.Graph.{Graph, led, Reaches, Here, Along, IsWhole
 use Rattle.sim_flat_graph.proofs.Lists.{by_cases, by_order}
 use Rattle.sim_flat_graph.specs.Search.{Found, noted, all_noted, begun, led_by, searched}
 
--- ---- how many are marked
+-- ---- the number of marks
 bit : Bool → ℕ
 bit true = 1
 bit false = 0
@@ -51,7 +51,7 @@ none_at zero n = refl
 none_at (suc k) zero = refl
 none_at (suc k) (suc n) = none_at k n
 
--- ---- what a search keeps
+-- ---- the invariant of a search
 abbrev pub IsMarked : Found → ℕ → Type 0
 IsMarked f n = get_or f.marks n false ≡ true
 
@@ -67,7 +67,7 @@ record Grows (f more : Found) : Type 0 where
   shorter : length f.order ≤ length more.order
   order : (k : ℕ) → k < length f.order → get_or more.order k 0 ≡ get_or f.order k 0
 
--- ---- one more is noted
+-- ---- one more is recorded
 record IsNoted (f more : Found) (n : ℕ) : Type 0 where
   grows : Grows f more
   there : IsMarked more n
@@ -93,7 +93,7 @@ still (b ∷ bs) zero (suc m) lt h = h
 still (b ∷ bs) (suc n) zero lt h = h
 still (b ∷ bs) (suc n) (suc m) lt h = still bs n m (omega arith) h
 
--- what is marked was so before, or it is this one
+-- a marked number was marked before, or is this one
 was : {P : Type 0} (bs : List Bool) (n m : ℕ) → n < length bs → get_or (slice_set bs n true) m false ≡ true → (get_or bs m false ≡ true → P) → (m ≡ n → P) → P
 was [] n m lt h f g = absurd (omega arith)
 was (b ∷ bs) zero zero lt h f g = g refl
@@ -115,7 +115,7 @@ noted_is f n lt =
     (λ t. rw t (record { grows = same_grows f; there = t }))
     (λ t. rw t (record { grows = one_grows f n lt; there = get_or-set_same f.marks n true false lt }))
 
--- what is known of a search, with one more that is reached
+-- the invariant, with one more number that is reached
 one_found : (g : Graph) (from : ℕ) (f : Found) (n : ℕ) → n < length f.marks → get_or f.marks n false ≡ false → Reaches g n from → IsFound g from f
     → IsFound g from (with_one f n)
 one_found g from f n lt off reached known = record {
@@ -138,7 +138,7 @@ noted_size : (f : Found) (n : ℕ) → length (noted f n).marks ≡ length f.mar
 unfolding noted
 noted_size f n = by_cases (get_or f.marks n false) (λ t. rw t refl) (λ t. rw t (length-set f.marks n true))
 
--- ---- all of a list are noted
+-- ---- all numbers of a list are recorded
 record AreNoted (f more : Found) (ns : List ℕ) : Type 0 where
   grows : Grows f more
   there : All (IsMarked more) ns
@@ -164,7 +164,7 @@ all_noted_found g from f (n ∷ ns) lt reached known =
     all_noted_found g from (noted f n) ns (λ k d below. lt (suc k) d (omega arith)) (λ k d below. reached (suc k) d (omega arith))
     (noted_found g from f n (lt 0 0 (omega arith)) (reached 0 0 (omega arith)) known)
 
--- ---- the search after a number of turns: what those that were looked at lead to is marked
+-- ---- the search after some iterations: the numbers to which those visited lead are marked
 record IsSearched (g : Graph) (from at : ℕ) (f : Found) : Type 0 where
   found : IsFound g from f
   shown : IsMarked f from
@@ -197,7 +197,7 @@ begun_found g from lt =
       looked = λ k less. absurd (omega arith);
     }
 
--- one step more at the end
+-- one more step at the end
 pub one_step : (g : Graph) (n m a : ℕ) → Reaches g n a → Contains (led g n) m → Reaches g m a
 one_step g n m a Here among = Along a m among Here
 one_step g n m a (Along x next first rest) among = Along a next first (one_step g n m next rest among)
@@ -208,7 +208,7 @@ reached_all g from n reached k d less = one_step g n (get_or (led g n) k d) from
 within : (g : Graph) (from : ℕ) (f : Found) → IsFound g from f → length f.order ≤ length g
 within g from f known = let a = count_most f.marks in let b = known.size in let c = known.number in omega arith
 
--- what was looked at before, or now
+-- visited before, or now
 looked_on : (g : Graph) (from at : ℕ) (f more : Found) → IsSearched g from at f → Grows f more
     → length f.order ≤ at ⊎ All (IsMarked more) (led g (get_or f.order at 0))
     → (k : ℕ) → k < at + 1 → k < length f.order → All (IsMarked more) (led g (get_or f.order k 0))
@@ -219,7 +219,7 @@ looked_on g from at f more s grows now k lt before =
     by_now (inl long) last = absurd (omega arith)
     by_now (inr all) last = let e : k ≡ at = omega arith in rw e all
 
--- a turn
+-- one iteration
 turned : (g : Graph) (from at : ℕ) (f : Found) → IsWhole g → IsSearched g from at f → IsSearched g from (at + 1) (all_noted f (led_by g (slice_get f.order at)))
 unfolding all_noted
 turned g from at f whole s = by_place (slice_get_cases f.order at).1
@@ -253,7 +253,7 @@ searched_is g from (suc at) whole lt =
     let e : at + 1 ≡ suc at = omega arith in
     subst (λ (n : ℕ). IsSearched g from n (searched g from (suc at))) e (turned g from at (searched g from at) whole (searched_is g from at whole lt))
 
--- what a marked number reaches is marked, where all that were found were looked at
+-- the numbers reached from a marked one are marked, once all that were found are visited
 marked_on : (g : Graph) (from : ℕ) (f : Found) → IsSearched g from (length g) f → (n a : ℕ) → IsMarked f a → Reaches g n a → IsMarked f n
 marked_on g from f s n a h Here = h
 marked_on g from f s n a h (Along x next among rest) =

@@ -1,4 +1,4 @@
--- Ports and signals with many sources: block by block the first of them.
+-- Ports and signals with many sources: the first of them, block by block.
 use Rattle.std.proofs.Common.{◌≡◌, ℕ, zero, suc, ◌+◌, ◌<◌, ◌≤◌, ◌↔◌, nat_lt, List, [], ◌∷◌, Bool, true, false, Option, Some, None, min, length, get_or}
 use Rattle.std.proofs.Common.{slice_get, ◌⊎◌, inl, inr}
 use Rattle.std.proofs.Common.{refl, ap, sym, ◌∙◌, subst, arith, if◌then◌else◌, map, length-append}
@@ -17,7 +17,7 @@ use Rattle.sim_flat_graph.specs.Sources.{HasManySources, IsLeastIn, IsLeastOn, s
 use Rattle.sim_flat_graph.proofs.Lists.{by_order, nothing_in, first_in, one_of}
 use Rattle.sim_flat_graph.proofs.Leasts.{said_otherwise, with_more}
 
--- ---- those of a list with a count above one
+-- ---- the objects of a list with a count above one
 record Declared (counts : List ℕ) (from : ℕ) (os : List Object) (at : ℕ) : Type 0 where
   place : ℕ
   object : Object
@@ -129,7 +129,7 @@ module _ (blocks : List Block) (b : Block) (counts : List ℕ) (counted : (n : �
       subst (Contains (places_of counts 0 (objects b))) m.declared
       (place_there counts 0 (objects b) m.place m.object m.is m.unresolved (subst (λ (n : ℕ). 1 < get_or counts n 0) z s))
 
--- ---- block by block: those in the blocks of lesser numbers
+-- ---- block by block: those in blocks with smaller numbers
 pub record Below (blocks : List Block) (top below at : ℕ) : Type 0 where
   pub many : HasManySources blocks top at
   pub less : many.block < below

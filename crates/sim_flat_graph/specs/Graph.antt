@@ -1,11 +1,11 @@
--- What the blocks of a hierarchy lead to (IEEE 1076-2008, 14.2).
+-- The blocks to which the blocks of a hierarchy lead (IEEE 1076-2008, 14.2).
 use Rattle.std.specs.Prelude.{ℕ, ◌+◌, ◌==◌, ◌<◌, List, [], ◌∷◌, ◌++◌, if◌then◌else◌, length, slice_index_or}
 use Rattle.std.specs.List.{All, Contains}
 use Rattle.sim_flat_blocks.specs.declared.parts.Instance.{Instance}
 use Rattle.sim_flat_blocks.specs.declared.parts.Block.{Block}
 use Rattle.sim_flat_blocks.specs.Blocks.{no_block}
 
--- for each block, by its number, the numbers of the blocks of which its instances are
+-- for each block, by number, the numbers of the blocks of its instances
 abbrev pub Graph : Type 0
 Graph = List (List ℕ)
 
@@ -18,31 +18,31 @@ unfoldable pub graph_of : List Block → Graph
 graph_of [] = []
 graph_of (b ∷ bs) = blocks_of b.instances ∷ graph_of bs
 
--- the block of a number
+-- the block with this number
 abbrev pub block_at : List Block → ℕ → Block
 block_at blocks n = slice_index_or blocks n no_block
 
--- those to which one leads
+-- the numbers to which a number leads
 abbrev pub led : Graph → ℕ → List ℕ
 led g n = slice_index_or g n []
 
--- From one another is reached where it is that one, or where the one leads to what reaches it.
+-- `to` is reached from itself, and from any number that leads to one from which it is reached.
 pub data Reaches (g : Graph) (to : ℕ) : ℕ → Type 0 where
   Here : Reaches g to to
   Along : (from next : ℕ) → Contains (led g from) next → Reaches g to next → Reaches g to from
 
--- All that is led to is there.
+-- All numbers are in range.
 abbrev pub IsWhole : Graph → Type 0
 IsWhole g = All (λ ns. All (λ n. n < length g) ns) g
 
--- ---- the other way round
+-- ---- the reverse graph
 
--- a number, once for each time that another is in a list
+-- the number `from`, once for each occurrence of `to` in a list
 unfoldable pub each_time : ℕ → ℕ → List ℕ → List ℕ
 each_time from to [] = []
 each_time from to (n ∷ ns) = if n == to then from ∷ each_time from to ns else each_time from to ns
 
--- those, by their numbers from `at` on, that lead to one
+-- the numbers, counted from `at`, that lead to `to`
 unfoldable pub leading : ℕ → ℕ → Graph → List ℕ
 leading to at [] = []
 leading to at (ns ∷ g) = each_time at to ns ++ leading to (at + 1) g

@@ -1,15 +1,15 @@
--- How all that is reached is found: each that is found is looked at once, in the order in which they were found.
--- Of the implementation: what `simulate` promises does not rest on this file.
+-- A search for all numbers that are reached: each is visited once, in the order in which they are found.
+-- Implementation only: what `simulate` promises does not rest on this file.
 use Rattle.std.specs.Prelude.{ℕ, zero, suc, List, [], ◌∷◌, ◌++◌, Bool, true, false, if◌then◌else◌, Option, Some, None, length, replicate, slice_get}
 use Rattle.std.specs.Prelude.{get_or, slice_set}
 use Rattle.sim_flat_graph.specs.Graph.{Graph, led}
 
--- which are found, and in which order
+-- the numbers found, and their order
 pub record Found : Type 0 where
   pub marks : List Bool
   pub order : List ℕ
 
--- one more, unless it is found already
+-- one more, unless it is already found
 unfoldable pub noted : Found → ℕ → Found
 noted f n = if get_or f.marks n false then f else record { marks = slice_set f.marks n true; order = f.order ++ n ∷ [] }
 
@@ -17,16 +17,16 @@ unfoldable pub all_noted : Found → List ℕ → Found
 all_noted f [] = f
 all_noted f (n ∷ ns) = all_noted (noted f n) ns
 
--- at first
+-- the start
 abbrev pub begun : Graph → ℕ → Found
 begun g from = noted (record { marks = replicate (length g) false; order = [] }) from
 
--- what one that was found leads to
+-- the numbers to which a number that was found leads
 abbrev pub led_by : Graph → Option ℕ → List ℕ
 led_by g None = []
 led_by g (Some n) = led g n
 
--- after this many were looked at
+-- the search after this many numbers were visited
 unfoldable pub searched : Graph → ℕ → ℕ → Found
 searched g from zero = begun g from
 searched g from (suc k) = all_noted (searched g from k) (led_by g (slice_get (searched g from k).order k))

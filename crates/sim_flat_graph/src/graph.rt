@@ -1,4 +1,4 @@
-//! Which blocks the instances of each block are of, and the other way round.
+//! The graph of blocks: the blocks of the instances in each block, and the reverse.
 
 ghost use Rattle.std.specs.Prelude.{◌≡◌, ◌<◌, ◌++◌, ℕ, IfOk, OnOk, [], length};
 ghost use Rattle.std.specs.List.{All};
@@ -32,7 +32,7 @@ pub fn graph_of(alloc: Global, blocks: &[Block]) -> Result<Items<Items<usize>>, 
     Ok(rows)
 }
 
-/// A row for each block, with nothing in it.
+/// An empty row for each block.
 fn empty_rows(alloc: Global, count: usize) -> Result<Vec<Items<usize>>, AllocError>
     ensures length { IfOk result (λ r. length r.items ≡ count) }
     ensures rows { IfOk result (λ r. (n : ℕ) → spec.led r.items n ≡ []) }
@@ -44,7 +44,7 @@ fn empty_rows(alloc: Global, count: usize) -> Result<Vec<Items<usize>>, AllocErr
     Ok(rows)
 }
 
-/// Notes that a block leads to these.
+/// Records that a block leads to these.
 #[tactic(auto, unfolding(crate::specs::Graph::each_time))]
 fn note_leads(
     rows: &mut Vec<Items<usize>>,
@@ -61,7 +61,7 @@ fn note_leads(
     Ok(())
 }
 
-/// For each block, those that lead to it.
+/// For each block, the blocks that lead to it.
 #[tactic(auto, unfolding(crate::specs::Graph::leading))]
 pub fn reversed(alloc: Global, graph: &[Items<usize>]) -> Result<Vec<Items<usize>>, AllocError>
     requires { spec.IsWhole graph.now }

@@ -3,7 +3,7 @@
 ghost use Rattle.std.specs.Prelude.{◌≡◌, Some};
 ghost use Rattle.sim_flat_graph.specs.Least as spec;
 
-/// The lesser of a number, where there is one, and another.
+/// The lesser of an optional number and another.
 pub fn lesser(known: Option<usize>, n: usize) -> Option<usize>
     ensures { result ≡ Some (spec.lesser known n) }
 {

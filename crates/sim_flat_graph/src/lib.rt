@@ -1,4 +1,4 @@
-//! What the instances of a hierarchy lead to: recursion, and the sources of what is not resolved.
+//! Checks along the instances of a hierarchy: recursion, and the sources of unresolved signals.
 #![tactic(auto)]
 
 mod graph;

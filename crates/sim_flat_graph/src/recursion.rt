@@ -1,6 +1,6 @@
-//! Instances that stand, in the end, in themselves (IEEE 1076-2008, 14.2): a search from each block
-//! tells which of its instances are of blocks that lead back to it. A block is passed over whose
-//! instances all stand behind the first that is found already.
+//! Recursive instances, whose blocks contain themselves (IEEE 1076-2008, 14.2): a search from each
+//! block tells which of its instances are of blocks that lead back to it. A block is skipped if all
+//! of its instances come after the first one found.
 
 ghost use Rattle.std.specs.Prelude.{◌≡◌, ◌<◌, IfOk, length};
 ghost use Rattle.std.specs.List.{All, list_any};
@@ -17,7 +17,7 @@ use sim_flat_expansion::depth::is_too_deep;
 use sqlite_items::Items;
 use std::alloc::{AllocError, Global};
 
-/// The least place of instances of blocks that are marked, and of what is known.
+/// The least of the known place and the places of instances of marked blocks.
 #[tactic(auto, unfolding(crate::specs::Recursion::places_of, crate::specs::Least::least_of))]
 fn least_in(marks: &[bool], instances: &[Instance], known: Option<usize>) -> Option<usize>
     ensures { result ≡ least_of known (spec.places_of (spec.marked marks.now) instances.now) }
@@ -31,8 +31,8 @@ fn least_in(marks: &[bool], instances: &[Instance], known: Option<usize>) -> Opt
     least
 }
 
-/// The least place of an instance of blocks that reach the one of a number, among these instances
-/// of it and of what is known.
+/// The least of the known place and the places of these instances of block `number` whose blocks
+/// lead back to it.
 fn least_back(
     alloc: Global,
     back: &[Items<usize>],
@@ -49,7 +49,7 @@ fn least_back(
     Ok(least)
 }
 
-/// Whether a place stands before the first that is known.
+/// Whether a place precedes the known one.
 fn is_before(known: Option<usize>, at: usize) -> bool
     ensures { result ≡ spec.is_before known at }
 {
@@ -59,7 +59,7 @@ fn is_before(known: Option<usize>, at: usize) -> bool
     }
 }
 
-/// Whether one of these instances stands before the first that is known.
+/// Whether one of these instances precedes the known place.
 fn has_earlier(instances: &[Instance], known: Option<usize>) -> bool
     ensures { result ≡ list_any (spec.is_earlier known) instances.now }
 {
@@ -71,8 +71,7 @@ fn has_earlier(instances: &[Instance], known: Option<usize>) -> bool
     false
 }
 
-/// The same as `least_back`, with no search where no instance stands before the first that is
-/// known.
+/// The same as `least_back`, without a search if no instance precedes the known place.
 fn least_ahead(
     alloc: Global,
     back: &[Items<usize>],
@@ -90,7 +89,7 @@ fn least_ahead(
     least_back(alloc, back, number, instances, known)
 }
 
-/// The least place so far, with a block more: one that is not marked has none.
+/// The least place so far, with one more block; a block that is not marked adds nothing.
 fn least_on(
     alloc: Global,
     marked: bool,
@@ -109,7 +108,7 @@ fn least_on(
     least_ahead(alloc, back, number, instances, known)
 }
 
-/// The place of the first recursive instance, where there may be one.
+/// The place of the first recursive instance, if there is one.
 fn least_recursive(
     alloc: Global,
     blocks: &[Block],
@@ -132,8 +131,8 @@ fn least_recursive(
     Ok(least)
 }
 
-/// Where the first instance that stands in itself names what it is of, in the blocks that the top
-/// reaches; there is none where no chain of instances is too long.
+/// Where the first recursive instance in a block reached from the top names its component or
+/// entity. Without a chain of more than 32 instances there is none.
 pub fn first_recursive(
     alloc: Global,
     blocks: &[Block],

@@ -1,4 +1,4 @@
-//! All that is reached from a block.
+//! The blocks reached from a block.
 
 ghost use Rattle.std.specs.Prelude.{◌≡◌, ◌<◌, ◌↔◌, ℕ, IfOk, OnOk, get_or, length, replicate, slice_get, true, false};
 ghost use Rattle.std.specs.List.{All};
@@ -9,7 +9,7 @@ use sqlite_items::Items;
 use std::alloc::{AllocError, Global};
 use std::marker::Model;
 
-/// Which numbers are found, and in which order they were.
+/// The numbers found so far, and the order in which they were found.
 #[derive(Drop)]
 struct Search {
     marks: Vec<bool>,
@@ -24,7 +24,7 @@ impl Model for Search {
     ghost view = { λ s. record { marks = s.marks.items; order = s.order.items } };
 }
 
-/// As many marks, none of them set.
+/// This many marks, none of them set.
 fn no_marks(alloc: Global, count: usize) -> Result<Vec<bool>, AllocError>
     ensures { IfOk result (λ m. m.items ≡ replicate count false) }
 {
@@ -43,7 +43,7 @@ pub fn is_marked(marks: &[bool], n: usize) -> bool
     }
 }
 
-/// Notes a number, unless it is found already.
+/// Records a number, unless it is already found.
 #[tactic(auto, unfolding(crate::specs::Search::noted))]
 fn note(search: &mut Search, n: usize) -> Result<(), AllocError>
     requires { n < length search.old.marks }
@@ -57,7 +57,7 @@ fn note(search: &mut Search, n: usize) -> Result<(), AllocError>
     Ok(())
 }
 
-/// Notes each of these numbers.
+/// Records each of these numbers.
 #[tactic(auto, unfolding(crate::specs::Search::all_noted))]
 fn note_all(search: &mut Search, numbers: &[usize]) -> Result<(), AllocError>
     requires { All (λ n. n < length search.old.marks) numbers.now }
@@ -70,7 +70,7 @@ fn note_all(search: &mut Search, numbers: &[usize]) -> Result<(), AllocError>
     Ok(())
 }
 
-/// The search at its beginning: one number is found.
+/// The start of a search: one number is found.
 fn begun(alloc: Global, graph: &[Items<usize>], from: usize) -> Result<Search, AllocError>
     requires { from < length graph.now }
     ensures size { IfOk result (λ s. length s.marks ≡ length graph.now) }
@@ -84,7 +84,7 @@ fn begun(alloc: Global, graph: &[Items<usize>], from: usize) -> Result<Search, A
     Ok(search)
 }
 
-/// Those to which a number leads.
+/// The numbers to which a number leads.
 pub fn led<'a>(graph: &'a [Items<usize>], n: usize) -> &'a [usize]
     requires { IsWhole graph.now }
     ensures value { result.now ≡ led graph.now n }
@@ -96,7 +96,7 @@ pub fn led<'a>(graph: &'a [Items<usize>], n: usize) -> &'a [usize]
     }
 }
 
-/// Notes what the number leads to that was found as this one in the order, if there is one.
+/// Records the numbers to which the number at position `at` of the order leads, if there is one.
 #[tactic(auto, unfolding(crate::specs::Search::all_noted))]
 fn look_at(search: &mut Search, graph: &[Items<usize>], at: usize) -> Result<(), AllocError>
     requires whole { IsWhole graph.now }
@@ -110,7 +110,7 @@ fn look_at(search: &mut Search, graph: &[Items<usize>], at: usize) -> Result<(),
     }
 }
 
-/// Which numbers are reached from one.
+/// The numbers reached from this one.
 #[tactic(auto, unfolding(crate::specs::Search::searched))]
 pub fn reached(alloc: Global, graph: &[Items<usize>], from: usize) -> Result<Vec<bool>, AllocError>
     requires whole { IsWhole graph.now }

@@ -1,4 +1,4 @@
-//! Signals and ports with more sources than one that are not resolved (IEEE 1076-2008, 6.4.2.3).
+//! Unresolved signals and ports with more than one source (IEEE 1076-2008, 6.4.2.3).
 
 ghost use Rattle.std.specs.Prelude.{◌≡◌, ◌+◌, ◌≤◌, ◌<◌, ℕ, IfOk, get_or, length, map, min};
 ghost use Rattle.std.specs.List.{All};
@@ -13,7 +13,7 @@ use sim_flat_blocks::parts::{Block, BlockProcess, Instance, Object, Port};
 use sim_flat_blocks::{Link, Links};
 use std::alloc::{AllocError, Global};
 
-/// A count for each port and signal of a block.
+/// A zero count for each port and signal of a block.
 fn no_counts(alloc: Global, block: &Block) -> Result<Vec<usize>, AllocError>
     ensures length { IfOk result (λ c. length c.items ≡ size block.now) }
     ensures none { IfOk result (λ c. (n : ℕ) → get_or c.items n 0 ≡ 0) }
@@ -28,7 +28,7 @@ fn no_counts(alloc: Global, block: &Block) -> Result<Vec<usize>, AllocError>
     Ok(counts)
 }
 
-/// Notes one source more of the port or signal at a place.
+/// Counts one more source of the port or signal at a position.
 #[tactic(auto, unfolding(crate::specs::Sources::noted))]
 fn note(counts: &mut Vec<usize>, place: usize)
     ensures { counts.new.items ≡ spec.noted counts.old.items place }
@@ -38,7 +38,7 @@ fn note(counts: &mut Vec<usize>, place: usize)
     }
 }
 
-/// Notes a source of each of these.
+/// Counts one more source of each of these.
 #[tactic(auto, unfolding(crate::specs::Sources::all_noted))]
 fn note_all(counts: &mut Vec<usize>, places: &[usize])
     ensures { counts.new.items ≡ spec.all_noted counts.old.items places.now }
@@ -48,7 +48,7 @@ fn note_all(counts: &mut Vec<usize>, places: &[usize])
     }
 }
 
-/// Notes the drivers of processes.
+/// Counts the drivers of processes.
 #[tactic(auto, using(crate::proofs::Noted::noted_both), unfolding(crate::specs::Sources::all_noted, sim_flat_blocks::specs::Blocks::targets_of))]
 fn note_drivers(counts: &mut Vec<usize>, processes: &[BlockProcess])
     ensures { counts.new.items ≡ spec.all_noted counts.old.items (targets_of processes.now) }
@@ -58,7 +58,7 @@ fn note_drivers(counts: &mut Vec<usize>, processes: &[BlockProcess])
     }
 }
 
-/// Notes a port, if it is a source of what it is associated with.
+/// Counts a port, if it is a source of its actual.
 #[tactic(auto, unfolding(crate::specs::Sources::all_noted))]
 fn note_port(counts: &mut Vec<usize>, port: &Port, link: Link)
     ensures { counts.new.items ≡ spec.all_noted counts.old.items (spec.target_of_port port.now link) }
@@ -73,7 +73,7 @@ fn note_port(counts: &mut Vec<usize>, port: &Port, link: Link)
     }
 }
 
-/// Notes the ports of an instance.
+/// Counts the ports of an instance.
 #[tactic(auto, using(crate::proofs::Noted::noted_both), unfolding(crate::specs::Sources::all_noted, crate::specs::Sources::targets_of_ports))]
 fn note_ports(counts: &mut Vec<usize>, links: &Links, ports: &[Port])
     ensures { counts.new.items ≡ spec.all_noted counts.old.items (spec.targets_of_ports links.now 0 ports.now) }
@@ -83,7 +83,7 @@ fn note_ports(counts: &mut Vec<usize>, links: &Links, ports: &[Port])
     }
 }
 
-/// Notes the ports of an instance, whose block is one of these.
+/// Counts the ports of an instance, whose block is one of these.
 #[tactic(auto, unfolding(crate::specs::Sources::all_noted, crate::specs::Sources::targets_of_ports))]
 fn note_instance(counts: &mut Vec<usize>, blocks: &[Block], instance: &Instance)
     ensures { counts.new.items ≡ spec.all_noted counts.old.items (spec.targets_of_ports instance.now.links 0 (block_of blocks.now instance.now).ports) }
@@ -93,7 +93,7 @@ fn note_instance(counts: &mut Vec<usize>, blocks: &[Block], instance: &Instance)
     }
 }
 
-/// Notes the ports of instances.
+/// Counts the ports of instances.
 #[tactic(auto, using(crate::proofs::Noted::noted_both), unfolding(crate::specs::Sources::all_noted, crate::specs::Sources::targets_of_instances))]
 fn note_instances(counts: &mut Vec<usize>, blocks: &[Block], instances: &[Instance])
     ensures { counts.new.items ≡ spec.all_noted counts.old.items (spec.targets_of_instances blocks.now instances.now) }
@@ -103,8 +103,8 @@ fn note_instances(counts: &mut Vec<usize>, blocks: &[Block], instances: &[Instan
     }
 }
 
-/// Of a port or signal that is not resolved and has a count above one, where it is declared, if
-/// that is the least place.
+/// The least of the known place and that of the object's declaration, if the object is unresolved
+/// and has a count above one.
 #[tactic(auto, unfolding(crate::specs::Least::least_of))]
 fn least_with(object: &Object, count: usize, known: Option<usize>) -> Option<usize>
     ensures { result ≡ least_of known (spec.declared_place object.now count) }
@@ -118,7 +118,7 @@ fn least_with(object: &Object, count: usize, known: Option<usize>) -> Option<usi
     known
 }
 
-/// The least place of such ports.
+/// The least of the known place and those of unresolved ports with a count above one.
 #[tactic(auto, using(crate::proofs::Noted::least_both), unfolding(crate::specs::Sources::places_of, crate::specs::Least::least_of))]
 fn least_port(counts: &[usize], ports: &[Port], known: Option<usize>) -> Option<usize>
     requires { length ports.now ≤ length counts.now }
@@ -131,7 +131,7 @@ fn least_port(counts: &[usize], ports: &[Port], known: Option<usize>) -> Option<
     least
 }
 
-/// The least place of such signals, whose counts begin at a place.
+/// The same for signals, whose counts begin at a position.
 #[tactic(auto, using(crate::proofs::Noted::least_both), unfolding(crate::specs::Sources::places_of, crate::specs::Least::least_of))]
 fn least_signal(
     counts: &[usize],
@@ -149,7 +149,7 @@ fn least_signal(
     least
 }
 
-/// How many sources each port and signal of a block has, counted as far as two.
+/// The number of sources of each port and signal of a block, counted up to two.
 fn counts_of(alloc: Global, blocks: &[Block], block: &Block) -> Result<Vec<usize>, AllocError>
     ensures length { IfOk result (λ c. length c.items ≡ size block.now) }
     ensures counts { IfOk result (λ c. (n : ℕ) → n < size block.now → get_or c.items n 0 ≡ min 2 (spec.source_count blocks.now block.now n)) }
@@ -160,8 +160,8 @@ fn counts_of(alloc: Global, blocks: &[Block], block: &Block) -> Result<Vec<usize
     Ok(counts)
 }
 
-/// The least place, in a block, of a port or signal that has more sources than one and is not
-/// resolved, and of what is known.
+/// The least of the known place and the places of unresolved ports and signals of a block with more
+/// than one source.
 fn least_in(
     alloc: Global,
     blocks: &[Block],
@@ -182,7 +182,7 @@ fn least_in(
     Ok(least)
 }
 
-/// The least place so far, with a block more: one that is not marked has none.
+/// The least place so far, with one more block; a block that is not marked adds nothing.
 fn least_on(
     alloc: Global,
     marked: bool,
@@ -198,8 +198,8 @@ fn least_on(
     least_in(alloc, blocks, block, known)
 }
 
-/// Where the first port or signal is declared, in the blocks that the top reaches, that has more
-/// sources than one and is not resolved.
+/// Where the first unresolved port or signal with more than one source is declared, in the blocks
+/// reached from the top.
 pub fn first_with_many_sources(
     alloc: Global,
     blocks: &[Block],

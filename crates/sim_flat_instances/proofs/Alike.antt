@@ -1,4 +1,4 @@
--- Ports of other counts are not alike.
+-- Lists of ports of different lengths are not alike.
 use Rattle.std.proofs.Common.{◌≡◌, ◌&&◌, suc, List, [], ◌∷◌, length, Bool, true, false, refl, ap}
 use Rattle.sim_flat_scope.specs.Ports.{Port}
 use Rattle.sim_flat_instances.specs.Interfaces.{is_like, are_alike}

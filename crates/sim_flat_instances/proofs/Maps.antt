@@ -1,4 +1,4 @@
--- What a map from names or numbers to places says after an insertion.
+-- Lookups in a map from names or numbers to positions, after an insertion.
 use Rattle.std.proofs.Common.{ℕ, ◌≡◌, ◌==◌, ◌&&◌, List, [], ◌∷◌, map, Bool, true, false, cond, Option, Some, refl, ap, sym, ◌∙◌, Bor}
 use Rattle.std.specs.Str.{bytes_eq}
 use Rattle.std.specs.Map.{lookup}
@@ -16,7 +16,7 @@ either_way true false f g = sym (f refl)
 either_way false true f g = g refl
 either_way false false f g = refl
 
--- what is looked up by `now` after a place is put, where it was `before`
+-- the lookup `now` after an insertion, compared with the lookup `before`
 put_at : (same turned : Bool) (place : ℕ) (now before was : Option ℕ) → now ≡ cond same (Some place) before → same ≡ turned → before ≡ was
     → now ≡ option_or (where_at turned place) was
 put_at same turned place now before was made turn view =
@@ -46,7 +46,7 @@ unfolding place_of
 found n [] = refl
 found n (e ∷ es) = ap (cond (bytes_eq n e.0.now) (Some e.1)) (found n es)
 
--- a name that is put stands for its place, and the others for theirs
+-- after an insertion, the name has its new position, and other names keep theirs
 pub put : (k : Bor (List ℕ)) (place : ℕ) (es more : List Entry) (was : List (List ℕ × ℕ))
     → ((q : Bor (List ℕ)) → lookup (same_name q) more ≡ cond (same_name k q) (Some place) (lookup (same_name q) es)) → places_in es ≡ was
     → (n : List ℕ) → place_of (places_in more) n ≡ option_or (where_at (bytes_eq n k.now) place) (place_of was n)
@@ -77,7 +77,7 @@ pair_found n m (e ∷ es) = ap (cond (is_pair n m e.0) (Some e.1)) (pair_found n
 turned_pairs : (a b n m : List ℕ) → (bytes_eq a n && bytes_eq b m) ≡ (bytes_eq n a && bytes_eq m b)
 turned_pairs a b n m = ap (λ (x : Bool). x && bytes_eq b m) (turned_names a n) ∙ ap (λ (x : Bool). bytes_eq n a && x) (turned_names b m)
 
--- two names that are put stand for their place, and others for theirs
+-- after an insertion, the pair has its new position, and other pairs keep theirs
 pub pair_put : (k : Bor (List ℕ) × Bor (List ℕ)) (place : ℕ) (es more : List PairEntry) (was : List ((List ℕ × List ℕ) × ℕ))
     → ((q : Bor (List ℕ) × Bor (List ℕ)) → lookup (same_pair q) more ≡ cond (same_pair k q) (Some place) (lookup (same_pair q) es))
     → pair_places_in es ≡ was → (n m : List ℕ)
@@ -95,7 +95,7 @@ unfolding place_of_number
 number_found n [] = refl
 number_found n (e ∷ es) = ap (cond (n == e.0) (Some e.1)) (number_found n es)
 
--- a number that is put stands for its place, and the others for theirs
+-- after an insertion, the number has its new position, and other numbers keep theirs
 pub number_put : (k place : ℕ) (es more was : List (ℕ × ℕ))
     → ((n : ℕ) → lookup (λ (m : ℕ). n == m) more ≡ cond (k == n) (Some place) (lookup (λ (m : ℕ). n == m) es)) → es ≡ was
     → (n : ℕ) → place_of_number more n ≡ option_or (where_at (k == n) place) (place_of_number was n)

@@ -1,4 +1,4 @@
--- The ports that are missed are one fault, however many they are.
+-- All ports without a required actual are one fault.
 use Rattle.std.proofs.Common.{ℕ, ◌≡◌, ◌+◌, ◌&&◌, List, [], ◌∷◌, ◌++◌, Bool, true, false, cond, Option, Some, None, refl, ap, sym, ◌∙◌}
 use Rattle.std.specs.List.{list_any}
 use Rattle.sim_flat_scope.specs.Ports.{Port}
@@ -15,7 +15,7 @@ reported : (b : Bool) (g f : Fault) → is_before f g ≡ b → sooner (cond b (
 reported true g f is = either (is_before f f) (Some f)
 reported false g f is = rw is refl
 
--- a fault that is noted again changes nothing
+-- recording a fault again changes nothing
 again : (known : Option Fault) (f : Fault) → sooner (sooner known f) f ≡ sooner known f
 again None f = either (is_before f f) (Some f)
 again (Some g) f = reported (is_before f g) g f refl
@@ -49,11 +49,11 @@ module _ (map : PortMap) (label : ℕ) (known : Option Fault) where
       sym (missing_once map label 0 map.ports known
       ∙ ap (λ (x : Bool). cond x (sooner known (record { kind = kind.PortMissing; at = label })) known) is)
 
-  -- where a port is missed
+  -- with a port that lacks its actual
   pub some_missed : list_any (is_missed map) (required_from 0 map.ports) ≡ true
       → sooner known (record { kind = kind.PortMissing; at = label }) ≡ earliest known (missing_faults map label 0 map.ports)
   some_missed is = reported_once true is
 
-  -- where none is
+  -- without one
   pub none_missed : list_any (is_missed map) (required_from 0 map.ports) ≡ false → known ≡ earliest known (missing_faults map label 0 map.ports)
   none_missed is = reported_once false is

@@ -1,4 +1,4 @@
--- Loops that look for the first or the last place of an item.
+-- Loops that search for the first or the last position of an item.
 use Rattle.std.proofs.Common.{ℕ, ◌≡◌, ◌+◌, ◌<◌, ◌≤◌, List, [], ◌∷◌, length, get_or, drop}
 use Rattle.std.proofs.Common.{Bool, true, false, Option, Some, None, refl, ap, sym, ◌∙◌, suc, arith}
 use Rattle.std.proofs.lemmas.List.{drop_all, drop_more}
@@ -15,12 +15,12 @@ pub or_none : (a : Option ℕ) → option_or a None ≡ a
 or_none None = refl
 or_none (Some x) = refl
 
--- what is left of a list, one item on
+-- the rest of a list, one item further
 pub opened : {X : Type 0} (xs : List X) (i : ℕ) (x : X) → i < length xs → x ≡ get_or xs i x → x ∷ drop (i + 1) xs ≡ drop i xs
 opened xs i x below is = ap (λ y. y ∷ drop (i + 1) xs) is ∙ sym (drop_more xs i x below)
 
 module _ {X : Type 0} (test : X → Bool) (xs : List X) (i : ℕ) (x : X) (below : i < length xs) (is : x ≡ get_or xs i x) (known more all : Option ℕ) where
-  -- the first place that is known, one item on
+  -- one iteration of the search for the first position
   pub first_step : option_or known (first_place test i (drop i xs)) ≡ all → more ≡ option_or known (where_at (test x) i)
       → option_or more (first_place test (i + 1) (drop (i + 1) xs)) ≡ all
   unfolding first_place
@@ -28,7 +28,7 @@ module _ {X : Type 0} (test : X → Bool) (xs : List X) (i : ℕ) (x : X) (below
       (or_again known (where_at (test x) i) (first_place test (i + 1) (drop (i + 1) xs))
       ∙ (ap (λ (rest : List X). option_or known (first_place test i rest)) (opened xs i x below is) ∙ so_far))
 
-  -- the last place that is known, one item on
+  -- one iteration of the search for the last position
   pub last_step : option_or (last_place test i (drop i xs)) known ≡ all → more ≡ option_or (where_at (test x) i) known
       → option_or (last_place test (i + 1) (drop (i + 1) xs)) more ≡ all
   unfolding last_place
@@ -37,17 +37,17 @@ module _ {X : Type 0} (test : X → Bool) (xs : List X) (i : ℕ) (x : X) (below
       ∙ (ap (λ (rest : List X). option_or (last_place test i rest) known) (opened xs i x below is) ∙ so_far))
 
 module _ {X : Type 0} (test : X → Bool) (xs : List X) (i : ℕ) (done : length xs ≤ i) (known all : Option ℕ) where
-  -- the first place that is known at the end
+  -- the first position, at the end of the search
   pub first_done : option_or known (first_place test i (drop i xs)) ≡ all → known ≡ all
   unfolding first_place
   first_done so_far = sym (or_none known) ∙ (ap (λ (rest : List X). option_or known (first_place test i rest)) (sym (drop_all i xs done)) ∙ so_far)
 
-  -- the last place that is known at the end
+  -- the last position, at the end of the search
   pub last_done : option_or (last_place test i (drop i xs)) known ≡ all → known ≡ all
   unfolding last_place
   last_done so_far = ap (λ (rest : List X). option_or (last_place test i rest) known) (sym (drop_all i xs done)) ∙ so_far
 
--- a first place is one of the list
+-- a first position is within the list
 by_test : (b : Bool) (at n p : ℕ) (rest : Option ℕ) → (rest ≡ Some p → p < at + 1 + n) → option_or (where_at b at) rest ≡ Some p → p < at + suc n
 by_test true at n p rest inner h = let e : at ≡ p = cc in omega arith
 by_test false at n p rest inner h = let less : p < at + 1 + n = inner h in omega arith

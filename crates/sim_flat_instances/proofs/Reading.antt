@@ -1,4 +1,4 @@
--- What `get` of a list reads.
+-- The item that `get` of a list returns.
 use Rattle.std.proofs.Common.{ℕ, ◌≡◌, ◌<◌, ◌≤◌, List, length, get_or, slice_get, Option, Some, None, Bor, refl, sym}
 use Rattle.std.specs.Option.{option_copied, MatchOption, IfSome}
 use Rattle.std.specs.List.{HoldsAt}

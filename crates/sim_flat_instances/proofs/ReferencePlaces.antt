@@ -63,7 +63,7 @@ entity_some l es n place o view some is =
 pub ports_none : (l : Library) (es : List Entity) (n : List ℕ) → es ≡ l.entities → first_entity es n ≡ None → None ≡ ports_in (entity_of l n)
 ports_none l es n view none = ap ports_in (entity_none l es n view none)
 
--- the ports of the entity at a place
+-- the ports of the entity at a position
 ports_at : (es : List Entity) (i : ℕ) → slice_get (declared_ports es) i ≡ ports_in (slice_get es i)
 unfolding declared_ports
 ports_at [] i = refl

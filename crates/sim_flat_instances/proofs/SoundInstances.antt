@@ -178,7 +178,7 @@ sound look map label none =
       fitting = λ place p a is h. counted_fits look map place (first_of_port map.ports place 0 map.associations) refl each p a is h;
     }
 
--- ---- what an instance is of
+-- ---- the entity and the architecture of an instance
 
 abbrev pub IsThere : Library → Name → Option Name → Type 0
 IsThere l e a = (is_some (interface_of l e.text) ≡ true) × (is_some (place_of l e a) ≡ true)

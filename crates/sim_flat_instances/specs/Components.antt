@@ -7,17 +7,17 @@ use Rattle.sim_flat_instances.specs.declared.component.Component.{Component}
 use Rattle.sim_flat_instances.specs.Interfaces.{are_alike}
 use Rattle.sim_flat_instances.specs.Libraries.{Library, interface_of}
 
--- whether ports are like those of an entity, if it is there
+-- whether the entity exists and has the same ports
 abbrev pub are_like_those : List Port → Option (List Port) → Bool
 are_like_those ports None = false
 are_like_those ports (Some entity) = are_alike ports entity
 
--- the component that a declaration is: it is compared with the entity of its name
+-- the component of a declaration, compared with the entity of the same name
 unfoldable pub components_in : Library → Declaration → List Component
 components_in l (declaration.Signal o) = []
 components_in l (declaration.Component c) = record { is_like_entity = are_like_those (ports_of c.ports) (interface_of l c.name.text) } ∷ []
 
--- the components of an architecture, by place
+-- the components of an architecture, by position
 unfoldable pub components : Library → List Declaration → List Component
 components l [] = []
 components l (d ∷ ds) = components_in l d ++ components l ds

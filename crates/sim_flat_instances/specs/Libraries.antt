@@ -16,7 +16,7 @@ pub record Library : Type 0 where
   pub entities : List Entity
   pub architectures : List Architecture
 
--- the entity that a unit is
+-- a unit, if it is an entity
 abbrev pub entity_in : LibraryUnit → List Entity
 entity_in (unit.Entity e) = e ∷ []
 entity_in (unit.Architecture a) = []
@@ -26,7 +26,7 @@ unfoldable pub entities_in : List DesignUnit → List Entity
 entities_in [] = []
 entities_in (u ∷ us) = entity_in u.library_unit ++ entities_in us
 
--- the architecture that a unit is
+-- a unit, if it is an architecture
 abbrev pub architecture_in : LibraryUnit → List Architecture
 architecture_in (unit.Entity e) = []
 architecture_in (unit.Architecture a) = a ∷ []
@@ -36,16 +36,16 @@ unfoldable pub architectures_in : List DesignUnit → List Architecture
 architectures_in [] = []
 architectures_in (u ∷ us) = architecture_in u.library_unit ++ architectures_in us
 
--- the library of a file of these units
+-- the library of a file with these units
 abbrev pub library_of : List DesignUnit → Library
 library_of us = record { entities = entities_in us; architectures = architectures_in us }
 
--- the entities to which references lead
+-- the entities behind references
 unfoldable pub entities_at : List (Bor Entity) → List Entity
 entities_at [] = []
 entities_at (e ∷ es) = e.now ∷ entities_at es
 
--- the architectures to which references lead
+-- the architectures behind references
 unfoldable pub bodies_at : List (Bor Architecture) → List Architecture
 bodies_at [] = []
 bodies_at (a ∷ more) = a.now ∷ bodies_at more
@@ -54,23 +54,23 @@ bodies_at (a ∷ more) = a.now ∷ bodies_at more
 abbrev pub is_named : List ℕ → Entity → Bool
 is_named n e = bytes_eq n e.name.text
 
--- whether an architecture is one of the entity of this name
+-- whether an architecture belongs to the entity with this name
 abbrev pub is_of : List ℕ → Architecture → Bool
 is_of e a = bytes_eq e a.entity.text
 
--- whether an architecture is one of the entity of a name, by a name of its own
+-- whether an architecture belongs to the entity with this name and has this name
 abbrev pub is_named_of : List ℕ → List ℕ → Architecture → Bool
 is_named_of e n a = bytes_eq e a.entity.text && bytes_eq n a.name.text
 
--- the place of the entity of a name: the first counts
+-- the position of the entity with this name; the first counts
 unfoldable pub first_entity : List Entity → List ℕ → Option ℕ
 first_entity es n = first_place (is_named n) 0 es
 
--- the place of the architecture of an entity, where none is named: the last counts (7.3.3)
+-- the position of the architecture of an entity if none is named; the last counts (7.3.3)
 unfoldable pub last_architecture : List Architecture → List ℕ → Option ℕ
 last_architecture architectures e = last_place (is_of e) 0 architectures
 
--- the place of the architecture of an entity that has a name: the last counts
+-- the position of the architecture of an entity with this name; the last counts
 unfoldable pub last_named : List Architecture → List ℕ → List ℕ → Option ℕ
 last_named architectures e n = last_place (is_named_of e n) 0 architectures
 
@@ -84,20 +84,20 @@ unfoldable pub declared_ports : List Entity → List (List PortDeclaration)
 declared_ports [] = []
 declared_ports (e ∷ es) = e.ports ∷ declared_ports es
 
--- the ports that an entity declares, where it is there
+-- the ports that an entity declares, if it exists
 abbrev pub ports_in : Option Entity → Option (List PortDeclaration)
 ports_in None = None
 ports_in (Some e) = Some e.ports
 
--- what stands at a place
+-- the item at a position
 abbrev pub at_place : {X : Type 0} → List X → Option ℕ → Option X
 at_place xs None = None
 at_place xs (Some place) = slice_get xs place
 
--- the entity of a name
+-- the entity with this name
 unfoldable pub entity_of : Library → List ℕ → Option Entity
 entity_of l n = at_place l.entities (first_entity l.entities n)
 
--- the ports of the entity of a name
+-- the ports of the entity with this name
 unfoldable pub interface_of : Library → List ℕ → Option (List Port)
 interface_of l n = at_place (interfaces l.entities) (first_entity l.entities n)

@@ -24,47 +24,47 @@ pub record PortMap : Type 0 where
   pub ports : List Port
   pub associations : List Association
 
--- ---- which port an association is of
+-- ---- the port of an association
 
--- the port, by its place, of an association at a place of the map: a positional one is of the port at its own place, another one
--- of the first port that its formal names
+-- the position of the port of an association, given the association's position in the map: a positional one is for the port at
+-- its own position, a named one for the first port with the name of its formal
 unfoldable pub port_of : List Port → ℕ → Option Name → Option ℕ
 port_of ports at None = where_at (nat_lt at (length ports)) at
 port_of ports at (Some formal) = port_place ports formal.text
 
--- whether a port is the one at a place
+-- whether a port is the one at this position
 abbrev pub is_port : Option ℕ → ℕ → Bool
 is_port None place = false
 is_port (Some p) place = p == place
 
--- the place in the map of the first association of the port at a place, among associations from `at` on: the first counts
+-- the position of the first association of the port at `place`, among associations from position `at`
 unfoldable pub first_of_port : List Port → ℕ → ℕ → List Association → Option ℕ
 first_of_port ports place at [] = None
 first_of_port ports place at (x ∷ xs) = option_or (where_at (is_port (port_of ports at x.formal) place) at) (first_of_port ports place (at + 1) xs)
 
--- the actual of an association, where there is one
+-- the actual of an association, if it exists
 abbrev pub actual_of : Option Association → Option Actual
 actual_of None = None
 actual_of (Some x) = Some x.actual
 
--- the actual at a place of a map, where there is one
+-- the actual at a position of a map, if it exists
 abbrev pub actual_at : List Association → Option ℕ → Option Actual
 actual_at xs None = None
 actual_at xs (Some at) = actual_of (slice_get xs at)
 
--- what the port at a place is associated with
+-- the actual of the port at a position
 unfoldable pub associated : List Port → List Association → ℕ → Option Actual
 associated ports xs place = actual_at xs (first_of_port ports place 0 xs)
 
 -- ---- actuals
 
--- where an actual stands
+-- where an actual starts
 abbrev pub actual_start : Actual → ℕ
 actual_start (actual.Named n) = n.at
 actual_start (actual.Literal v at) = at
 actual_start (actual.Open at) = at
 
--- the fault of an actual that is a port of some mode, for a port of a mode
+-- the fault of an actual port with the second mode for a formal with the first
 abbrev pub clash : Mode → Mode → ℕ → List Fault
 clash In Out at = fault k.ModeClash at
 clash In In at = []
@@ -76,12 +76,12 @@ clash Inout In at = fault k.ModeClash at
 clash Inout Out at = fault k.ModeClash at
 clash Inout Inout at = []
 
--- the same, where it is a port at all
+-- the same, if the formal is a port
 abbrev pub port_clash : Option Mode → Mode → ℕ → List Fault
 port_clash None mode at = []
 port_clash (Some formal) mode at = clash formal mode at
 
--- the fault of an actual that is a name: it is that of a signal or a port
+-- the fault of an actual that is a name, which must be that of a signal or a port
 unfoldable pub named_faults : Option Mode → ℕ → Option Meaning → List Fault
 named_faults formal at None = fault k.Unknown at
 named_faults formal at (Some (m.Port object mode type)) = port_clash formal mode at
@@ -94,14 +94,14 @@ named_faults formal at (Some m.BooleanMark) = fault k.WrongKind at
 named_faults formal at (Some (m.Truth v)) = fault k.WrongKind at
 named_faults formal at (Some (m.Edge rising)) = fault k.WrongKind at
 
--- the fault of an actual that is a literal: only a port of mode in takes one
+-- the fault of a literal as actual: only a port of mode in can have one
 abbrev pub literal_faults : Option Mode → ℕ → List Fault
 literal_faults None at = []
 literal_faults (Some In) at = []
 literal_faults (Some Out) at = fault k.ModeClash at
 literal_faults (Some Inout) at = fault k.ModeClash at
 
--- the faults of an actual for a port of a mode, or where its formal is no port
+-- the faults of an actual for a formal with this mode, or for one that is not a port
 unfoldable pub actual_faults : Lookup → Option Mode → Actual → List Fault
 actual_faults look formal (actual.Named n) = named_faults formal n.at (look n.text)
 actual_faults look formal (actual.Literal v at) = literal_faults formal at
@@ -114,44 +114,44 @@ abbrev pub mode_of : Option Port → Option Mode
 mode_of None = None
 mode_of (Some p) = Some p.mode
 
--- whether an association is there that stands before a place
+-- whether an association exists and is before this position
 abbrev pub is_before : Option ℕ → ℕ → Bool
 is_before None at = false
 is_before (Some first) at = nat_lt first at
 
--- the fault of a formal whose port has an association already
+-- the fault of a formal whose port already has an association
 abbrev pub twice : Option Name → Option ℕ → ℕ → List Fault
 twice None first at = []
 twice (Some formal) first at = where_ (is_before first at) (fault k.PortTwice formal.at)
 
--- the faults of an association of no port: a positional one is reported at its actual, of which nothing more is said
+-- the faults of an association without a port; a positional one is reported at its actual, which is not checked further
 abbrev pub stray_faults : Lookup → Option Name → Actual → List Fault
 stray_faults look None a = fault k.Unknown (actual_start a)
 stray_faults look (Some formal) a = fault k.Unknown formal.at ++ actual_faults look None a
 
 module _ (look : Lookup) (map : PortMap) where
-  -- the faults of an association of the port at a place
+  -- the faults of an association of the port at a position
   abbrev pub port_faults : ℕ → ℕ → Association → List Fault
   port_faults place at x =
       twice x.formal (first_of_port map.ports place 0 map.associations) at ++ actual_faults look (mode_of (slice_get map.ports place)) x.actual
 
-  -- the faults of an association of the port at a place, or of none
+  -- the faults of an association of the port at a position, or without a port
   abbrev pub faults_of : Option ℕ → ℕ → Association → List Fault
   faults_of None at x = stray_faults look x.formal x.actual
   faults_of (Some place) at x = port_faults place at x
 
-  -- the faults of the association at a place of the map
+  -- the faults of the association at a position of the map
   unfoldable pub association_faults : ℕ → Association → List Fault
   association_faults at x = faults_of (port_of map.ports at x.formal) at x
 
-  -- the faults of associations from a place of the map on
+  -- the faults of associations from a position of the map
   unfoldable pub associations_faults : ℕ → List Association → List Fault
   associations_faults at [] = []
   associations_faults at (x ∷ xs) = association_faults at x ++ associations_faults (at + 1) xs
 
 -- ---- ports without an actual
 
--- whether there is no first value
+-- whether there is no default expression
 abbrev pub has_none : Option Initial → Bool
 has_none None = true
 has_none (Some i) = false
@@ -166,38 +166,38 @@ is_input Inout = false
 abbrev pub needs_actual : Port → Bool
 needs_actual p = is_input p.mode && has_none p.initial
 
--- the place of a port that must have an actual
+-- the position of a port that must have an actual
 abbrev pub required_place : ℕ → Port → List ℕ
 required_place place p = if needs_actual p then place ∷ [] else []
 
--- the places of such ports, among ports from a place on, in order
+-- the positions of such ports, where positions start at `place`
 unfoldable pub required_from : ℕ → List Port → List ℕ
 required_from place [] = []
 required_from place (p ∷ ps) = required_place place p ++ required_from (place + 1) ps
 
--- whether nothing is associated
+-- whether a port is unconnected
 abbrev pub is_open : Option Actual → Bool
 is_open None = true
 is_open (Some (actual.Open at)) = true
 is_open (Some (actual.Named n)) = false
 is_open (Some (actual.Literal v at)) = false
 
--- whether the port at a place has no actual
+-- whether the port at a position has no actual
 abbrev pub is_missed : PortMap → ℕ → Bool
 is_missed map place = is_open (associated map.ports map.associations place)
 
--- the fault of the port at a place that must have an actual and has none, reported at the label of the instance
+-- the fault of a port that must have an actual and has none, reported at the label of the instance
 abbrev pub missing_fault : PortMap → ℕ → ℕ → Port → List Fault
 missing_fault map label place p =
     where_ (needs_actual p && is_missed map place) (fault k.PortMissing label)
 
--- the faults of such ports, from a place on
+-- the faults of such ports, from a position
 unfoldable pub missing_faults : PortMap → ℕ → ℕ → List Port → List Fault
 missing_faults map label place [] = []
 missing_faults map label place (p ∷ ps) = missing_fault map label place p ++ missing_faults map label (place + 1) ps
 
 -- ---- port maps
 
--- the faults of a port map, by the place of the label of its instance
+-- the faults of a port map, given the place of the label of its instance
 unfoldable pub port_map_faults : Lookup → PortMap → ℕ → List Fault
 port_map_faults look map label = associations_faults look map 0 map.associations ++ missing_faults map label 0 map.ports

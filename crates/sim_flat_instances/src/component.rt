@@ -10,15 +10,14 @@ use sim_text_tree::declaration::Declaration;
 use sim_text_tree::name::Name;
 use std::alloc::{AllocError, Global};
 
-/// What is known of a component of an architecture. An instance of it stands for one of the entity
-/// of its name (7.3.3).
+/// A component of an architecture. Its instances are bound to the entity with its name (7.3.3).
 #[derive(Clone, Copy)]
 pub struct Component {
-    /// Whether the entity of its name is there and has the same ports in name, mode and type mark.
+    /// Whether the entity exists and has the same ports, by name, mode and type mark.
     pub is_like_entity: bool,
 }
 
-/// Whether ports are those of the entity of a name, if it is there.
+/// Whether the entity with this name exists and has the same ports.
 fn is_like_entity(library: &Library<'_>, name: &Name, ports: &Interface<'_>) -> bool
     ensures { result ≡ spec.are_like_those ports.now (interface_of library.now name.now.text) }
 {
@@ -28,7 +27,7 @@ fn is_like_entity(library: &Library<'_>, name: &Name, ports: &Interface<'_>) -> 
     }
 }
 
-/// Puts a component at the end.
+/// Appends a component.
 #[tactic(auto, unfolding(crate::specs::Components::components_in))]
 fn push_component(
     alloc: Global,
@@ -49,8 +48,8 @@ fn push_component(
     }
 }
 
-/// The components of an architecture with these declarations, by place. Each is compared with its
-/// entity once, however many instances it has.
+/// The components of an architecture with these declarations, by position. Each is compared with
+/// its entity once, however many instances it has.
 #[tactic(auto, unfolding(crate::specs::Components::components))]
 pub fn components(
     alloc: Global,

@@ -1,4 +1,4 @@
-//! What an instance is of, and its faults (IEEE 1076-2008, 11.7).
+//! The entity, architecture and faults of an instance (IEEE 1076-2008, 11.7).
 
 ghost use Rattle.std.specs.Prelude.{◌≡◌, OnOk, slice_get};
 ghost use Rattle.sim_flat_scope.specs.Faults.{earliest};
@@ -15,7 +15,7 @@ use sim_text_tree::name::Name;
 use sim_text_tree::unit::{Instance, Instantiated};
 use std::alloc::{AllocError, Global};
 
-/// The name of the entity of an instance: a component stands for the entity of its name.
+/// The name of an instance's entity; a component is bound to the entity with its own name.
 pub fn entity_name(unit: &Instantiated) -> &Name
     ensures { result.now ≡ spec.entity_name unit.now }
 {
@@ -25,7 +25,7 @@ pub fn entity_name(unit: &Instantiated) -> &Name
     }
 }
 
-/// The place of the architecture of an entity that is named, or else of its last one.
+/// The position of the named architecture of an entity, or of its last one if none is named.
 fn place_of(library: &Library<'_>, entity: &Name, architecture: &Option<Name>) -> Option<usize>
     ensures { result ≡ spec.place_of library.now entity.now architecture.now }
 {
@@ -35,7 +35,7 @@ fn place_of(library: &Library<'_>, entity: &Name, architecture: &Option<Name>) -
     }
 }
 
-/// The place of the architecture of an instance, among those of the file.
+/// The position of the architecture of an instance, among those of the file.
 pub fn architecture_place(library: &Library<'_>, unit: &Instantiated) -> Option<usize>
     ensures { result ≡ spec.architecture_place library.now unit.now }
 {
@@ -59,7 +59,7 @@ fn fault_at(kind: Kind, name: &Name) -> Option<Fault>
     })
 }
 
-/// The fault of an entity that has no architecture, or not the one that is named.
+/// The fault if an entity has no architecture, or not the named one.
 fn architecture_fault(
     library: &Library<'_>,
     entity: &Name,
@@ -76,7 +76,7 @@ fn architecture_fault(
     }
 }
 
-/// The fault of the names of an instance of an entity.
+/// The fault in the names of an instance of an entity.
 fn entity_fault(
     library: &Library<'_>,
     name: &Name,
@@ -94,7 +94,7 @@ fn entity_fault(
     architecture_fault(library, entity, architecture)
 }
 
-/// The fault of an instance of a component that is named.
+/// The fault of an instance of the component with this name.
 fn binding_fault(library: &Library<'_>, name: &Name, component: Component) -> Option<Fault>
     ensures { result ≡ spec.binding_fault library.now name.now component }
 {
@@ -107,7 +107,7 @@ fn binding_fault(library: &Library<'_>, name: &Name, component: Component) -> Op
     fault_at(Kind::ComponentDiffers, name)
 }
 
-/// The fault of an instance of the component at a place.
+/// The fault of an instance of the component at a position.
 fn declared_fault(
     library: &Library<'_>,
     components: &[Component],
@@ -122,7 +122,7 @@ fn declared_fault(
     }
 }
 
-/// The fault of an instance of what its name means, which has to be a component.
+/// The fault of an instance of a name with this meaning, which must be a component.
 #[tactic(auto, unfolding(crate::specs::Instances::component_fault))]
 fn component_fault(
     library: &Library<'_>,
@@ -139,7 +139,7 @@ fn component_fault(
     }
 }
 
-/// The fault of the names that say what an instance is of.
+/// The fault in the names of the component, entity or architecture of an instance.
 #[tactic(auto, unfolding(crate::specs::Instances::unit_fault))]
 fn unit_fault(
     library: &Library<'_>,
@@ -163,7 +163,7 @@ fn unit_fault(
     }
 }
 
-/// Notes the faults of the port map of an instance.
+/// Records the faults of the port map of an instance.
 #[tactic(auto, unfolding(sim_flat_scope::specs::Faults::earliest))]
 fn check_port_map(
     alloc: Global,
@@ -185,7 +185,7 @@ fn check_port_map(
     }
 }
 
-/// Notes the faults of an instance in an architecture with these components, one region in another.
+/// Records the faults of an instance, in nested regions and given the architecture's components.
 #[tactic(auto, unfolding(crate::specs::Instances::instance_faults, sim_flat_scope::specs::Faults::earliest))]
 pub fn check_instance(
     alloc: Global,

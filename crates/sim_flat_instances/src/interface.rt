@@ -1,4 +1,4 @@
-//! The ports of an entity or a component, by place and by name.
+//! The ports of an entity or a component, by position and by name.
 
 ghost use Rattle.std.specs.Prelude.{◌≡◌, ◌++◌, IfOk, OnOk};
 ghost use Rattle.sim_flat_scope.specs.Ports.{ports_of};
@@ -21,7 +21,7 @@ pub struct Interface<'a> {
     required: Vec<usize>,
 }
 
-/// By hand, so that what drops one needs no proof of what is in it.
+/// Written by hand so that code which drops it needs no proof about its contents.
 impl<'a> Drop for Interface<'a> {
     fn drop(self) {
         let Interface {
@@ -50,7 +50,7 @@ impl<'a> Model for Interface<'a> {
         ((n : List ℕ) → place_of i.places n ≡ port_place i.ports.items n) × (i.required.items ≡ required_from 0 i.ports.items) };
 }
 
-/// The places of ports by their names, of which the first of each name counts.
+/// The positions of ports by name; the first port with a name counts.
 fn places_of<'a>(alloc: Global, ports: &[Port<'a>]) -> Result<Places<'a>, AllocError>
     ensures { IfOk result (λ places. (n : List ℕ) → place_of places n ≡ spec.port_place ports.now n) }
 {
@@ -61,14 +61,14 @@ fn places_of<'a>(alloc: Global, ports: &[Port<'a>]) -> Result<Places<'a>, AllocE
     Ok(places)
 }
 
-/// Whether a port must have an actual: it is of mode in and has no first value.
+/// Whether a port must have an actual: it is of mode in and has no default expression.
 fn needs_actual(port: &Port<'_>) -> bool
     ensures { result ≡ maps.needs_actual port.now }
 {
     matches!(port.mode(), Mode::In) && port.initial().is_none()
 }
 
-/// Puts the place of a port at the end, if it must have an actual.
+/// Appends the position of a port, if it must have an actual.
 fn push_required(places: &mut Vec<usize>, place: usize, port: &Port<'_>) -> Result<(), AllocError>
     ensures { OnOk result (places.new.items ≡ places.old.items ++ maps.required_place place port.now) }
 {
@@ -78,7 +78,7 @@ fn push_required(places: &mut Vec<usize>, place: usize, port: &Port<'_>) -> Resu
     Ok(())
 }
 
-/// The places of the ports that must have an actual, in order.
+/// The positions of the ports that must have an actual, in order.
 #[tactic(auto, unfolding(crate::specs::PortMaps::required_from))]
 fn required_places(alloc: Global, ports: &[Port<'_>]) -> Result<Vec<usize>, AllocError>
     ensures { IfOk result (λ places. places.items ≡ maps.required_from 0 ports.now) }
@@ -120,7 +120,7 @@ impl<'a> Interface<'a> {
         self.ports.as_slice()
     }
 
-    /// The place of the first port of a name.
+    /// The position of the first port with this name.
     pub fn place(&self, name: &[u8]) -> Option<usize>
         ensures place { result ≡ spec.port_place self.now name.now }
         ensures within { IfSome result (λ place. place < length self.now) }
@@ -128,14 +128,14 @@ impl<'a> Interface<'a> {
         self.places.find(name)
     }
 
-    /// The places of the ports that must have an actual, in order.
+    /// The positions of the ports that must have an actual, in order.
     pub fn required(&self) -> &[usize]
         ensures { result.now ≡ required_from 0 self.now }
     {
         self.required.as_slice()
     }
 
-    /// Whether the ports of both are the same in name, mode and type mark.
+    /// Whether both have ports with the same names, modes and type marks, in the same order.
     pub fn is_like(&self, other: &Interface<'_>) -> bool
         ensures { result ≡ spec.are_alike self.now other.now }
     {
@@ -154,7 +154,7 @@ fn same_mode(first: Mode, second: Mode) -> bool
     }
 }
 
-/// Whether two ports are the same in name, mode and type mark.
+/// Whether two ports have the same name, mode and type mark.
 fn same_port(first: &Port<'_>, second: &Port<'_>) -> bool
     ensures { result ≡ spec.is_like first.now second.now }
 {
@@ -163,7 +163,7 @@ fn same_port(first: &Port<'_>, second: &Port<'_>) -> bool
         && first.mark().text() == second.mark().text()
 }
 
-/// Whether ports are the same, one by one.
+/// Whether the ports of two lists are pairwise the same.
 #[tactic(auto, unfolding(crate::specs::Interfaces::are_alike))]
 fn same_ports(first: &[Port<'_>], second: &[Port<'_>]) -> bool
     ensures { result ≡ spec.are_alike first.now second.now }

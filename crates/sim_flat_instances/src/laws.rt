@@ -8,8 +8,8 @@ ghost use Rattle.sim_flat_instances.specs.Libraries.{Library};
 ghost use Rattle.sim_flat_instances.specs.Instances.{instance_faults};
 ghost use Rattle.sim_flat_instances.specs.Laws.{IsBound};
 
-/// An instance without faults is of an architecture that is there; each port of mode in without a
-/// first value has an actual, and each actual fits its port.
+/// An instance without faults is bound to an existing architecture; each port of mode in without a
+/// default expression has an actual, and each actual fits its port.
 pub fn an_instance_without_faults_is_bound()
     ensures { (l : Library) (look : Lookup) (components : List Component) (i : Instance) →
         instance_faults l look components i ≡ [] → IsBound l look i }

@@ -1,4 +1,4 @@
-//! The faults of instances: what an instance is of, and its port map.
+//! The faults of instances: in the component, entity or architecture, and in the port map.
 #![tactic(auto)]
 
 pub mod component;

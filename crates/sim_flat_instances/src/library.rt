@@ -12,21 +12,21 @@ use sim_text_tree::unit::{Architecture, DesignUnit, Entity, LibraryUnit};
 use std::alloc::{AllocError, Global};
 use std::marker::Model;
 
-/// The ports of entities, by place: as port maps see them, and with the regions that they make.
+/// The ports of entities, by position, for port maps and with their regions.
 #[derive(Drop)]
 struct EntityInterfaces<'a> {
     interfaces: Vec<Interface<'a>>,
     ports: Vec<EntityPorts<'a>>,
 }
 
-/// The entities of a file, with the place of the first of each name.
+/// The entities of a file, and the position of the first with each name.
 struct EntityList<'a> {
     list: Vec<&'a Entity>,
     declared: EntityInterfaces<'a>,
     first: Places<'a>,
 }
 
-/// By hand, so that what drops one needs no proof of what is in it.
+/// Written by hand so that code which drops it needs no proof about its contents.
 impl<'a> Drop for EntityList<'a> {
     fn drop(self) {
         let EntityList {
@@ -40,14 +40,14 @@ impl<'a> Drop for EntityList<'a> {
     }
 }
 
-/// The architectures of a file, with the place of the last of each entity, and of each name.
+/// The architectures of a file, and the position of the last of each entity, and of each name.
 struct ArchitectureList<'a> {
     list: Vec<&'a Architecture>,
     last: Places<'a>,
     named: PairPlaces<'a>,
 }
 
-/// By hand, so that what drops one needs no proof of what is in it.
+/// Written by hand so that code which drops it needs no proof about its contents.
 impl<'a> Drop for ArchitectureList<'a> {
     fn drop(self) {
         let ArchitectureList { list, last, named } = self;
@@ -63,7 +63,7 @@ pub struct Library<'a> {
     architectures: ArchitectureList<'a>,
 }
 
-/// By hand, so that what drops one needs no proof of what is in it.
+/// Written by hand so that code which drops it needs no proof about its contents.
 impl<'a> Drop for Library<'a> {
     fn drop(self) {
         let Library {
@@ -98,7 +98,7 @@ impl<'a> Model for Library<'a> {
         × ((e n : List ℕ) → place_of_both l.architectures.named e n ≡ spec.last_named (spec.bodies_at l.architectures.list.items) e n) };
 }
 
-/// Puts a unit at the end that is an entity.
+/// Appends the unit if it is an entity.
 #[tactic(auto, using(crate::proofs::ReferencePlaces::entities_at_more))]
 fn push_entity<'a>(entities: &mut Vec<&'a Entity>, unit: &'a DesignUnit) -> Result<(), AllocError>
     ensures { OnOk result (spec.entities_at entities.new.items ≡ spec.entities_at entities.old.items ++ spec.entity_in unit.now.library_unit) }
@@ -124,7 +124,7 @@ fn entities_in<'a>(alloc: Global, units: &'a [DesignUnit]) -> Result<Vec<&'a Ent
     Ok(entities)
 }
 
-/// Puts a unit at the end that is an architecture.
+/// Appends the unit if it is an architecture.
 #[tactic(auto, using(crate::proofs::ReferencePlaces::architectures_at_more))]
 fn push_architecture<'a>(
     architectures: &mut Vec<&'a Architecture>,
@@ -169,7 +169,7 @@ fn interfaces<'a>(alloc: Global, entities: &[&'a Entity]) -> Result<Vec<Interfac
     Ok(interfaces)
 }
 
-/// The ports of each entity with the region that they make.
+/// The ports of each entity with their region.
 #[tactic(auto, unfolding(crate::specs::Libraries::declared_ports, crate::specs::Libraries::entities_at))]
 fn entity_ports<'a>(
     alloc: Global,
@@ -184,7 +184,7 @@ fn entity_ports<'a>(
     Ok(ports)
 }
 
-/// The places of entities by their names, of which the first of each name counts.
+/// The positions of entities by name; the first with a name counts.
 fn first_entities<'a>(alloc: Global, entities: &[&'a Entity]) -> Result<Places<'a>, AllocError>
     ensures { IfOk result (λ places. (n : List ℕ) → place_of places n ≡ spec.first_entity (spec.entities_at entities.now) n) }
 {
@@ -195,7 +195,7 @@ fn first_entities<'a>(alloc: Global, entities: &[&'a Entity]) -> Result<Places<'
     Ok(places)
 }
 
-/// The places of architectures by the names of their entities, of which the last of each counts.
+/// The positions of architectures by the name of their entity; the last for an entity counts.
 fn last_architectures<'a>(
     alloc: Global,
     architectures: &[&'a Architecture],
@@ -209,8 +209,8 @@ fn last_architectures<'a>(
     Ok(places)
 }
 
-/// The places of architectures by the names of their entities and their own, of which the last of
-/// each counts.
+/// The positions of architectures by the name of their entity and their own; the last for both
+/// counts.
 fn named_architectures<'a>(
     alloc: Global,
     architectures: &[&'a Architecture],
@@ -237,7 +237,7 @@ fn entity_interfaces<'a>(
     Ok(EntityInterfaces { interfaces, ports })
 }
 
-/// The entities among units, with their ports and places.
+/// The entities among units, with their ports and positions.
 fn entity_list<'a>(alloc: Global, units: &'a [DesignUnit]) -> Result<EntityList<'a>, AllocError>
     ensures list { IfOk result (λ r. spec.entities_at r.list.items ≡ spec.entities_in units.now) }
     ensures interfaces { IfOk result (λ r. r.declared.interfaces.items ≡ spec.interfaces (spec.entities_at r.list.items)) }
@@ -254,7 +254,7 @@ fn entity_list<'a>(alloc: Global, units: &'a [DesignUnit]) -> Result<EntityList<
     })
 }
 
-/// The architectures among units, with their places.
+/// The architectures among units, with their positions.
 fn architecture_list<'a>(
     alloc: Global,
     units: &'a [DesignUnit],
@@ -274,7 +274,7 @@ impl<'a> Library<'a> {
     ghost use Rattle.std.specs.Option.{option_copied};
     ghost use Rattle.sim_flat_instances.specs.Libraries as spec;
 
-    /// The units of a file, by kind.
+    /// The entities and architectures of a file.
     pub fn of(alloc: Global, file: &'a DesignFile) -> Result<Library<'a>, AllocError>
         ensures { IfOk result (λ l. l ≡ spec.library_of file.now.units) }
     {
@@ -286,14 +286,14 @@ impl<'a> Library<'a> {
         })
     }
 
-    /// The place of the entity of a name, among the entities.
+    /// The position of the entity with this name, among the entities.
     pub fn entity_place(&self, name: &[u8]) -> Option<usize>
         ensures { result ≡ spec.first_entity self.now.entities name.now }
     {
         self.entities.first.find(name)
     }
 
-    /// The entity of a name: the first of the file counts.
+    /// The entity with this name; the first in the file counts.
     pub fn entity(&self, name: &[u8]) -> Option<&'a Entity>
         ensures { option_copied result ≡ spec.entity_of self.now name.now }
     {
@@ -303,7 +303,7 @@ impl<'a> Library<'a> {
         }
     }
 
-    /// The ports that the entity of a name declares, with the region that they make.
+    /// The ports that the entity with this name declares, with their region.
     pub fn entity_ports(&self, name: &[u8]) -> Option<&EntityPorts<'a>>
         ensures { option_copied result ≡ spec.ports_in (spec.entity_of self.now name.now) }
     {
@@ -313,14 +313,14 @@ impl<'a> Library<'a> {
         }
     }
 
-    /// The ports that each entity declares, by its place.
+    /// The ports that each entity declares, by the entity's position.
     pub fn ports(&self) -> &[EntityPorts<'a>]
         ensures { result.now ≡ spec.declared_ports self.now.entities }
     {
         self.entities.declared.ports.as_slice()
     }
 
-    /// The ports of the entity of a name.
+    /// The ports of the entity with this name.
     pub fn interface(&self, entity: &[u8]) -> Option<&Interface<'a>>
         ensures { option_copied result ≡ spec.interface_of self.now entity.now }
     {
@@ -330,28 +330,28 @@ impl<'a> Library<'a> {
         }
     }
 
-    /// The place of the last architecture of an entity, among the architectures.
+    /// The position of the last architecture of an entity, among the architectures.
     pub fn last_architecture(&self, entity: &[u8]) -> Option<usize>
         ensures { result ≡ spec.last_architecture self.now.architectures entity.now }
     {
         self.architectures.last.find(entity)
     }
 
-    /// The place of the last architecture of an entity that has this name.
+    /// The position of the last architecture of an entity that has this name.
     pub fn architecture_named(&self, entity: &[u8], name: &[u8]) -> Option<usize>
         ensures { result ≡ spec.last_named self.now.architectures entity.now name.now }
     {
         self.architectures.named.find(entity, name)
     }
 
-    /// The entities, by place.
+    /// The entities, by position.
     pub fn entities(&self) -> &[&'a Entity]
         ensures { spec.entities_at result.now ≡ self.now.entities }
     {
         self.entities.list.as_slice()
     }
 
-    /// The architectures, by place.
+    /// The architectures, by position.
     pub fn architectures(&self) -> &[&'a Architecture]
         ensures { spec.bodies_at result.now ≡ self.now.architectures }
     {

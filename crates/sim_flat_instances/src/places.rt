@@ -1,4 +1,4 @@
-//! Names, and the places for which they stand.
+//! Maps from names and numbers to positions.
 
 ghost use Rattle.std.specs.Prelude.{◌≡◌, ◌==◌, ◌&&◌, ℕ, List, [], OnOk};
 ghost use Rattle.std.specs.Option.{option_or};
@@ -9,12 +9,12 @@ use indexmap::IndexMap;
 use std::alloc::{AllocError, Global};
 use std::marker::Model;
 
-/// The place for which each name stands.
+/// A map from names to positions.
 pub struct Places<'a> {
     places: IndexMap<&'a [u8], usize>,
 }
 
-/// By hand, so that what drops one needs no proof of what is in it.
+/// Written by hand so that code which drops it needs no proof about its contents.
 impl<'a> Drop for Places<'a> {
     fn drop(self) {
         let Places { places } = self;
@@ -31,7 +31,7 @@ impl<'a> Model for Places<'a> {
 }
 
 impl<'a> Places<'a> {
-    /// No names.
+    /// An empty map.
     pub fn new(alloc: Global) -> Places<'a>
         ensures { result ≡ [] }
     {
@@ -40,14 +40,14 @@ impl<'a> Places<'a> {
         }
     }
 
-    /// The place for which a name stands.
+    /// The position of a name.
     pub fn find(&self, name: &[u8]) -> Option<usize>
         ensures { result ≡ spec.place_of self.now name.now }
     {
         self.places.get(name).copied()
     }
 
-    /// Lets a name stand for a place, whatever it stood for.
+    /// Sets the position of a name, and replaces the previous one.
     pub fn put(&mut self, name: &'a [u8], place: usize) -> Result<(), AllocError>
         ensures { OnOk result ((n : List ℕ) → spec.place_of self.new n ≡ option_or (spec.where_at (bytes_eq n name.now) place) (spec.place_of self.old n)) }
     {
@@ -55,7 +55,7 @@ impl<'a> Places<'a> {
         Ok(())
     }
 
-    /// Lets a name stand for a place, unless it stands for another one.
+    /// Sets the position of a name, unless it has one.
     pub fn put_first(&mut self, name: &'a [u8], place: usize) -> Result<(), AllocError>
         ensures { OnOk result ((n : List ℕ) → spec.place_of self.new n ≡ option_or (spec.place_of self.old n) (spec.where_at (bytes_eq n name.now) place)) }
     {
@@ -66,12 +66,12 @@ impl<'a> Places<'a> {
     }
 }
 
-/// The place for which each two names stand.
+/// A map from pairs of names to positions.
 pub struct PairPlaces<'a> {
     places: IndexMap<(&'a [u8], &'a [u8]), usize>,
 }
 
-/// By hand, so that what drops one needs no proof of what is in it.
+/// Written by hand so that code which drops it needs no proof about its contents.
 impl<'a> Drop for PairPlaces<'a> {
     fn drop(self) {
         let PairPlaces { places } = self;
@@ -88,7 +88,7 @@ impl<'a> Model for PairPlaces<'a> {
 }
 
 impl<'a> PairPlaces<'a> {
-    /// No names.
+    /// An empty map.
     pub fn new(alloc: Global) -> PairPlaces<'a>
         ensures { result ≡ [] }
     {
@@ -97,14 +97,14 @@ impl<'a> PairPlaces<'a> {
         }
     }
 
-    /// The place for which two names stand.
+    /// The position of a pair of names.
     pub fn find(&self, first: &[u8], second: &[u8]) -> Option<usize>
         ensures { result ≡ spec.place_of_both self.now first.now second.now }
     {
         self.places.get(&(first, second)).copied()
     }
 
-    /// Lets two names stand for a place, whatever they stood for.
+    /// Sets the position of a pair of names, and replaces the previous one.
     pub fn put(&mut self, first: &'a [u8], second: &'a [u8], place: usize) -> Result<(), AllocError>
         ensures { OnOk result ((n m : List ℕ) → spec.place_of_both self.new n m
             ≡ option_or (spec.where_at (bytes_eq n first.now && bytes_eq m second.now) place) (spec.place_of_both self.old n m)) }
@@ -114,12 +114,12 @@ impl<'a> PairPlaces<'a> {
     }
 }
 
-/// The place for which each number stands.
+/// A map from numbers to positions.
 pub struct NumberPlaces {
     places: IndexMap<usize, usize>,
 }
 
-/// By hand, so that what drops one needs no proof of what is in it.
+/// Written by hand so that code which drops it needs no proof about its contents.
 impl Drop for NumberPlaces {
     fn drop(self) {
         let NumberPlaces { places } = self;
@@ -136,7 +136,7 @@ impl Model for NumberPlaces {
 }
 
 impl NumberPlaces {
-    /// No numbers.
+    /// An empty map.
     pub fn new(alloc: Global) -> NumberPlaces
         ensures { result ≡ [] }
     {
@@ -145,14 +145,14 @@ impl NumberPlaces {
         }
     }
 
-    /// The place for which a number stands.
+    /// The position of a number.
     pub fn find(&self, number: usize) -> Option<usize>
         ensures { result ≡ spec.place_of_number self.now number }
     {
         self.places.get(&number).copied()
     }
 
-    /// Lets a number stand for a place, whatever it stood for.
+    /// Sets the position of a number, and replaces the previous one.
     fn put(&mut self, number: usize, place: usize) -> Result<(), AllocError>
         ensures { OnOk result ((n : ℕ) → spec.place_of_number self.new n
             ≡ option_or (spec.where_at (number == n) place) (spec.place_of_number self.old n)) }
@@ -161,7 +161,7 @@ impl NumberPlaces {
         Ok(())
     }
 
-    /// Lets a number stand for a place, unless it stands for another one.
+    /// Sets the position of a number, unless it has one.
     pub fn put_first(&mut self, number: usize, place: usize) -> Result<(), AllocError>
         ensures { OnOk result ((n : ℕ) → spec.place_of_number self.new n
             ≡ option_or (spec.place_of_number self.old n) (spec.where_at (number == n) place)) }

@@ -1,4 +1,4 @@
-//! Port maps: what each port is associated with, and the faults (IEEE 1076-2008, 6.5.7).
+//! Port maps: the actual of each port, and the faults (IEEE 1076-2008, 6.5.7).
 
 ghost use Rattle.std.specs.Prelude.{◌≡◌, ◌<◌, ℕ, length, IfOk, OnOk, IfSome, slice_get};
 ghost use Rattle.std.specs.Option.{option_copied, option_or};
@@ -18,9 +18,10 @@ use sim_text_tree::unit::{Actual, Association};
 use std::alloc::{AllocError, Global};
 use std::marker::Model;
 
-/// The port, by its place, of the association at a place of a port map (IEEE 1076-2008, 6.5.7): a
-/// positional association, which has no formal, is of the port at its own place; a named one is of
-/// the first port of the name that is its formal. `None` where there is no such port.
+/// The position of the port of an association, given the association's position in the port map
+/// (IEEE 1076-2008, 6.5.7). A positional association, which has no formal, is for the port at its
+/// own position; a named one is for the first port with the name of its formal. `None` if there is
+/// none.
 #[tactic(auto, unfolding(crate::specs::PortMaps::port_of))]
 pub fn port_of(ports: &Interface<'_>, at: usize, formal: &Option<Name>) -> Option<usize>
     ensures port { result ≡ spec.port_of ports.now at formal.now }
@@ -38,7 +39,7 @@ pub fn port_of(ports: &Interface<'_>, at: usize, formal: &Option<Name>) -> Optio
     }
 }
 
-/// Notes an association of a port, where it is the first one.
+/// Records an association of a port, if it is the first.
 fn note_first(firsts: &mut NumberPlaces, port: Option<usize>, at: usize) -> Result<(), AllocError>
     ensures { OnOk result ((p : ℕ) → place_of_number firsts.new p ≡ option_or (place_of_number firsts.old p) (where_at (spec.is_port port p) at)) }
 {
@@ -48,7 +49,7 @@ fn note_first(firsts: &mut NumberPlaces, port: Option<usize>, at: usize) -> Resu
     }
 }
 
-/// The place in the map of the first association of each port that has one.
+/// The position in the map of the first association of each port that has one.
 fn first_associations(
     alloc: Global,
     ports: &Interface<'_>,
@@ -63,7 +64,7 @@ fn first_associations(
     Ok(firsts)
 }
 
-/// The actual of the association at a place of a map.
+/// The actual of the association at a position of the map.
 fn actual_at(associations: &[Association], at: usize) -> Option<&Actual>
     ensures { option_copied result ≡ spec.actual_of (slice_get associations.now at) }
 {
@@ -80,7 +81,7 @@ pub struct PortMap<'m, 'a> {
     firsts: NumberPlaces,
 }
 
-/// By hand, so that what drops one needs no proof of what is in it.
+/// Written by hand so that code which drops it needs no proof about its contents.
 impl<'m, 'a> Drop for PortMap<'m, 'a> {
     fn drop(self) {
         let PortMap {
@@ -128,14 +129,14 @@ impl<'m, 'a> PortMap<'m, 'a> {
         })
     }
 
-    /// The place of the first association of the port at a place.
+    /// The position of the first association of the port at a position.
     fn first(&self, place: usize) -> Option<usize>
         ensures { result ≡ spec.first_of_port self.now.ports place 0 self.now.associations }
     {
         self.firsts.find(place)
     }
 
-    /// What the port at a place is associated with: its first association counts.
+    /// The actual of the port at a position; its first association counts.
     #[tactic(auto, unfolding(crate::specs::PortMaps::associated))]
     fn associated(&self, place: usize) -> Option<&'m Actual>
         ensures { option_copied result ≡ spec.associated self.now.ports self.now.associations place }
@@ -146,7 +147,7 @@ impl<'m, 'a> PortMap<'m, 'a> {
         }
     }
 
-    /// Notes the faults of an association of the port at a place.
+    /// Records the faults of an association of the port at a position.
     #[tactic(auto, using(sim_flat_scope::proofs::Faults::of_both))]
     fn check_port(
         &self,
@@ -164,7 +165,7 @@ impl<'m, 'a> PortMap<'m, 'a> {
         check_actual(inner, outer, mode, &association.actual, first);
     }
 
-    /// Notes the faults of the association at a place of the map.
+    /// Records the faults of the association at a position of the map.
     #[tactic(auto, unfolding(crate::specs::PortMaps::association_faults))]
     fn check_association(
         &self,
@@ -182,7 +183,7 @@ impl<'m, 'a> PortMap<'m, 'a> {
         }
     }
 
-    /// Notes the faults of the associations.
+    /// Records the faults of the associations.
     fn check_associations(&self, inner: &Scope<'_>, outer: &Scope<'_>, first: &mut Option<Fault>)
         ensures { first.new ≡ earliest first.old (spec.associations_faults (means inner.now outer.now) self.now 0 self.now.associations) }
     {
@@ -204,8 +205,8 @@ impl<'m, 'a> PortMap<'m, 'a> {
         false
     }
 
-    /// Notes ports that must have an actual and have none, at the label of the instance: all of
-    /// them are one fault.
+    /// Records a fault at the label of the instance if ports that must have an actual have none:
+    /// one fault for all of them.
     fn check_missing(&self, label: usize, first: &mut Option<Fault>)
         ensures { first.new ≡ earliest first.old (spec.missing_faults self.now label 0 self.now.ports) }
     {
@@ -214,7 +215,7 @@ impl<'m, 'a> PortMap<'m, 'a> {
         }
     }
 
-    /// Notes the faults of the port map of an instance with this label.
+    /// Records the faults of the port map of an instance with this label.
     #[tactic(auto, using(sim_flat_scope::proofs::Faults::of_both), unfolding(crate::specs::PortMaps::port_map_faults))]
     pub fn check(
         &self,
@@ -230,7 +231,7 @@ impl<'m, 'a> PortMap<'m, 'a> {
     }
 }
 
-/// Whether nothing is associated.
+/// Whether a port is unconnected.
 fn is_open(actual: Option<&Actual>) -> bool
     ensures { result ≡ spec.is_open (option_copied actual.entry) }
 {
@@ -240,7 +241,7 @@ fn is_open(actual: Option<&Actual>) -> bool
     }
 }
 
-/// Notes an actual that is a port whose mode its formal does not allow.
+/// Records a fault if the actual is a port with a mode that the formal does not allow.
 #[tactic(auto, unfolding(sim_flat_scope::specs::Faults::earliest))]
 fn check_modes(formal: Option<Mode>, mode: Mode, at: usize, first: &mut Option<Fault>)
     ensures { first.new ≡ earliest first.old (spec.port_clash formal mode at) }
@@ -253,7 +254,7 @@ fn check_modes(formal: Option<Mode>, mode: Mode, at: usize, first: &mut Option<F
     }
 }
 
-/// Notes a fault of an actual that is a name.
+/// Records the fault of an actual that is a name.
 #[tactic(auto, unfolding(crate::specs::PortMaps::named_faults, sim_flat_scope::specs::Faults::earliest))]
 fn check_named(formal: Option<Mode>, at: usize, meaning: Option<Meaning>, first: &mut Option<Fault>)
     ensures { first.new ≡ earliest first.old (spec.named_faults formal at meaning) }
@@ -266,7 +267,7 @@ fn check_named(formal: Option<Mode>, at: usize, meaning: Option<Meaning>, first:
     }
 }
 
-/// Notes a literal as the actual of a port that is not of mode in.
+/// Records a fault if the actual is a literal and the port is not of mode in.
 #[tactic(auto, unfolding(sim_flat_scope::specs::Faults::earliest))]
 fn check_literal(formal: Option<Mode>, at: usize, first: &mut Option<Fault>)
     ensures { first.new ≡ earliest first.old (spec.literal_faults formal at) }
@@ -277,7 +278,7 @@ fn check_literal(formal: Option<Mode>, at: usize, first: &mut Option<Fault>)
     }
 }
 
-/// Notes the faults of an actual, for a port of this mode.
+/// Records the faults of an actual for a port of this mode.
 #[tactic(auto, unfolding(crate::specs::PortMaps::actual_faults, sim_flat_scope::specs::Faults::earliest))]
 fn check_actual(
     inner: &Scope<'_>,
@@ -297,7 +298,7 @@ fn check_actual(
     }
 }
 
-/// Where an actual stands.
+/// Where an actual starts.
 fn actual_start(actual: &Actual) -> usize
     ensures { result ≡ spec.actual_start actual.now }
 {
@@ -307,7 +308,7 @@ fn actual_start(actual: &Actual) -> usize
     }
 }
 
-/// The mode of the port at a place.
+/// The mode of the port at a position.
 fn mode_at(ports: &[Port<'_>], place: usize) -> Option<Mode>
     ensures { result ≡ spec.mode_of (slice_get ports.now place) }
 {
@@ -317,7 +318,7 @@ fn mode_at(ports: &[Port<'_>], place: usize) -> Option<Mode>
     }
 }
 
-/// Notes the faults of an association of no port.
+/// Records the faults of an association that has no port.
 #[tactic(auto, using(sim_flat_scope::proofs::Faults::of_both), unfolding(sim_flat_scope::specs::Faults::earliest))]
 fn check_stray(
     inner: &Scope<'_>,
@@ -336,7 +337,7 @@ fn check_stray(
     }
 }
 
-/// Notes a formal whose port has an association already.
+/// Records a fault if the port of a formal already has an association.
 #[tactic(auto, unfolding(sim_flat_scope::specs::Faults::earliest))]
 fn check_twice(formal: &Option<Name>, known: Option<usize>, at: usize, first: &mut Option<Fault>)
     ensures { first.new ≡ earliest first.old (spec.twice formal.now known at) }

@@ -1,4 +1,4 @@
--- Regions, put together piece by piece.
+-- Regions, built piece by piece.
 use Rattle.std.proofs.Common.{◌≡◌, ℕ, ◌+◌, ◌<◌, List, [], ◌∷◌, ◌++◌, length, get_or, drop, refl, ap, sym, ◌∙◌}
 use Rattle.std.proofs.lemmas.List.{drop_more}
 use Rattle.sim_flat_scope.specs.declared.scope.Meaning.{Meaning}
@@ -31,11 +31,11 @@ labels_both (n ∷ ns) more = ap (λ (ds : List Declared). (n.text, m.Label) ∷
 pub naming_both : (region : Region) (ns more : List Name) → naming (naming region ns) more ≡ naming region (ns ++ more)
 naming_both region ns more = declaring_both region (labels ns) (labels more) ∙ ap (declaring region) (sym (labels_both ns more))
 
--- what is left of a list, one item on
+-- the rest of a list, one item further
 pub opened : {X : Type 0} (xs : List X) (i : ℕ) (x : X) → i < length xs → x ≡ get_or xs i x → x ∷ drop (i + 1) xs ≡ drop i xs
 opened xs i x below is = ap (λ y. y ∷ drop (i + 1) xs) is ∙ sym (drop_more xs i x below)
 
--- a loop over port declarations, one of them on
+-- one iteration of a loop over port declarations
 pub ports_step : (look : Lookup) (region more all : Region) (place after i : ℕ) (ps : List PortDeclaration) (p : PortDeclaration)
     → i < length ps → p ≡ get_or ps i p → declaring region (ports look place (drop i ps)) ≡ all
     → more ≡ declaring region (port_objects look place p) → after ≡ place + length p.names
@@ -45,7 +45,7 @@ ports_step look region more all place after i ps p below is so_far made counted 
     (declaring_both region (port_objects look place p) (ports look (place + length p.names) (drop (i + 1) ps))
     ∙ (ap (λ (xs : List PortDeclaration). declaring region (ports look place xs)) (opened ps i p below is) ∙ so_far))
 
--- a loop over variable declarations, one of them on
+-- one iteration of a loop over variable declarations
 pub variables_step : (look : Lookup) (region more all : Region) (place after i : ℕ) (os : List ObjectDeclaration) (o : ObjectDeclaration)
     → i < length os → o ≡ get_or os i o → declaring region (variables look place (drop i os)) ≡ all
     → more ≡ declaring region (variable_objects look place o) → after ≡ place + length o.names
@@ -55,7 +55,7 @@ variables_step look region more all place after i os o below is so_far made coun
     (declaring_both region (variable_objects look place o) (variables look (place + length o.names) (drop (i + 1) os))
     ∙ (ap (λ (xs : List ObjectDeclaration). declaring region (variables look place xs)) (opened os i o below is) ∙ so_far))
 
--- a loop over declarations of an architecture, one of them on
+-- one iteration of a loop over the declarations of an architecture
 pub declarations_step : (look : Lookup) (region more all : Region) (s s' c c' i : ℕ) (ds : List Declaration) (d : Declaration)
     → i < length ds → d ≡ get_or ds i d → declaring region (declarations look s c (drop i ds)) ≡ all
     → more ≡ declaring region (declared look s c d) → s' ≡ s + signal_count d → c' ≡ c + component_count d

@@ -1,4 +1,4 @@
--- A loop that notes the faults of one item after another.
+-- Loops that record the faults of one item after another.
 use Rattle.std.proofs.Common.{◌≡◌, ℕ, ◌+◌, ◌<◌, List, ◌∷◌, ◌++◌, length, get_or, drop, true, false, Bor, Option, refl, ap, sym, ◌∙◌}
 use Rattle.sim_text_tree.specs.declared.declaration.PortDeclaration.{PortDeclaration}
 use Rattle.sim_text_tree.specs.declared.declaration.ObjectDeclaration.{ObjectDeclaration}
@@ -14,7 +14,7 @@ use Rattle.sim_flat_scope.specs.DeclarationFaults.{name_faults, names_faults, ob
 use Rattle.sim_flat_scope.specs.DeclarationFaults.{declarations_faults}
 use Rattle.sim_flat_scope.proofs.Declaring.{opened}
 
--- one item on, where the faults of a list are those of each item
+-- one iteration, if the faults of a list are those of its items
 pub faults_step : {X : Type 0} (each : X → List Fault) (whole : List X → List Fault) → ((x : X) (xs : List X) → whole (x ∷ xs) ≡ each x ++ whole xs)
     → (known after all : Option Fault) (xs : List X) (i : ℕ) (x : X) → i < length xs → x ≡ get_or xs i x
     → earliest known (whole (drop i xs)) ≡ all → after ≡ earliest known (each x) → earliest after (whole (drop (i + 1) xs)) ≡ all
@@ -37,7 +37,7 @@ pub declarations_faults_cons : (region : Region) (d : Declaration) (ds : List De
 unfolding declarations_faults
 declarations_faults_cons region d ds = refl
 
--- a loop over names that are declared after those of a region, one of them on
+-- one iteration of a loop over names declared after those of a region
 pub names_step : (known more : Region) (first after all : Option Fault) (ns : List (Bor Name)) (i : ℕ) (n : Bor Name) → i < length ns → n ≡ get_or ns i n
     → earliest first (names_faults known (named_by (drop i ns))) ≡ all → after ≡ earliest first (name_faults known n.now)
     → more ≡ with_first known n.now.text m.Label → earliest after (names_faults more (named_by (drop (i + 1) ns))) ≡ all

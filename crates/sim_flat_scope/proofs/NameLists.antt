@@ -1,4 +1,4 @@
--- Lists of names, put together piece by piece.
+-- Lists of names, built piece by piece.
 use Rattle.std.proofs.Common.{◌≡◌, suc, length, List, [], ◌∷◌, ◌++◌, refl, ap, append_assoc, Bor}
 use Rattle.std.proofs.lemmas.List.{append-nil}
 use Rattle.sim_text_tree.specs.Name.{Name}

@@ -1,4 +1,4 @@
--- A region as a map of its names keeps it, and what is declared in it.
+-- A region as a map from names, and the declarations in it.
 use Rattle.std.proofs.Common.{ℕ, ◌≡◌, List, [], ◌∷◌, ◌++◌, map, Bool, true, false, cond, Option, Some, None, is_some, is_none, refl, ap, sym, ◌∙◌, Bor}
 use Rattle.std.specs.Str.{bytes_eq}
 use Rattle.std.specs.Map.{lookup}
@@ -60,7 +60,7 @@ choose : (b : Bool) (x o o' : Option Meaning) (y : Meaning) → o ≡ or_else x 
 choose true x o o' y h = refl
 choose false x o o' y h = h
 
--- what a name means in two parts: the first counts
+-- the meaning of a name in two parts: the first part takes precedence
 pub found_both : (xs ys : Region) (n : List ℕ) → found (xs ++ ys) n ≡ or_else (found xs n) (found ys n)
 unfolding found
 found_both [] ys n = refl
@@ -79,28 +79,28 @@ either : (b : Bool) (n : List ℕ) (m : Meaning) (xs ys : Region)
 either true n m xs ys = refl
 either false n m xs ys = sym (append_assoc xs ys ((n, m) ∷ []))
 
--- a name that the first part does not declare
+-- a name that the first part does not declare is looked up in the second
 pub found_later : (xs ys : Region) (n : List ℕ) → is_some (found xs n) ≡ false → found (xs ++ ys) n ≡ found ys n
 found_later xs ys n h = found_both xs ys n ∙ or_else_none (found xs n) (found ys n) h
 
--- a name of the first part is declared
+-- a name of the first part is declared in both together
 pub there_first : (xs ys : Region) (n : List ℕ) → is_some (found xs n) ≡ true → is_some (found (xs ++ ys) n) ≡ true
 there_first xs ys n h = ap is_some (found_both xs ys n) ∙ or_else_some (found xs n) (found ys n) h
 
--- and not again
+-- such a name is not declared again
 pub there_both : (n : List ℕ) (m : Meaning) (xs ys : Region) → is_some (found xs n) ≡ true → xs ++ ys ≡ with_first (xs ++ ys) n m
 there_both n m xs ys h = there n m (xs ++ ys) (there_first xs ys n h)
 
--- another name is declared in the second part
+-- a name that the first part does not declare is declared in the second
 pub with_first_later : (n : List ℕ) (m : Meaning) (xs ys : Region) → is_some (found xs n) ≡ false
     → xs ++ with_first ys n m ≡ with_first (xs ++ ys) n m
 unfolding with_first
 with_first_later n m xs ys h = rw (found_later xs ys n h) (either (is_some (found ys n)) n m xs ys)
 
--- what the first part says counts
+-- a meaning in the first part takes precedence
 pub found_first : (xs ys : Region) (n : List ℕ) (m : Meaning) → found xs n ≡ Some m → Some m ≡ found (xs ++ ys) n
 found_first xs ys n m h = sym (found_both xs ys n ∙ ap (λ (o : Option Meaning). or_else o (found ys n)) h)
 
--- where it says nothing, the second part is asked
+-- without one, the second part is searched
 pub found_next : (xs ys : Region) (n : List ℕ) → found xs n ≡ None → found ys n ≡ found (xs ++ ys) n
 found_next xs ys n h = sym (found_both xs ys n ∙ ap (λ (o : Option Meaning). or_else o (found ys n)) h)

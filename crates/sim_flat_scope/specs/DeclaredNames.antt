@@ -1,4 +1,4 @@
--- The names that declarations and statements declare, in the order in which they stand.
+-- The names that declarations and statements declare, in textual order.
 use Rattle.std.specs.Prelude.{List, [], ◌∷◌, ◌++◌, Option, Some, None}
 use Rattle.std.specs.Borrow.{Bor}
 use Rattle.sim_text_tree.specs.Name.{Name}
@@ -15,7 +15,7 @@ use Rattle.sim_text_tree.specs.declared.sequential.Branch.{Branch}
 use Rattle.sim_text_tree.specs.declared.sequential.Statement.TheOpen as s
 use Rattle.sim_text_tree.specs.declared.sequential.Statement.TheFolds as folds
 
--- the names that references lead to
+-- the names behind references
 unfoldable pub named_by : List (Bor Name) → List Name
 named_by [] = []
 named_by (n ∷ ns) = n.now ∷ named_by ns
@@ -40,7 +40,7 @@ unfoldable pub declaration_names : List Declaration → List Name
 declaration_names [] = []
 declaration_names (d ∷ ds) = names_of d ++ declaration_names ds
 
--- a label, where it is written
+-- a label, if there is one
 abbrev pub label_name : Option Name → List Name
 label_name None = []
 label_name (Some n) = n ∷ []
@@ -61,7 +61,7 @@ unfoldable pub joined : List (List Name) → List Name
 joined [] = []
 joined (ns ∷ more) = ns ++ joined more
 
--- the labels after `else`, where it is written
+-- the labels after `else`, if it is written
 abbrev pub otherwise_rule : Option (List (List Name)) → List Name
 otherwise_rule None = []
 otherwise_rule (Some labels) = joined labels
@@ -77,7 +77,7 @@ statement_rule s.Null = []
 abbrev pub branch_rule : s.Branch-F (List Name) (List Name) (List Name) → List Name
 branch_rule b = joined b.statements
 
--- a statement's own label, then those inside it
+-- the label of a statement, then those inside it
 abbrev pub sequential_rule : s.Sequential-F (List Name) (List Name) (List Name) → List Name
 sequential_rule x = label_name x.label ++ x.statement
 

@@ -6,14 +6,14 @@ use Rattle.sim_text_tree.specs.declared.declaration.Initial.{Initial}
 use Rattle.sim_text_tree.specs.declared.declaration.PortDeclaration.{PortDeclaration}
 use Rattle.sim_flat_scope.specs.Regions.{mode_of}
 
--- a port: its name, mode, type mark and first value
+-- a port: its name, mode, type mark and default expression
 pub record Port : Type 0 where
   pub name : Name
   pub mode : Mode
   pub mark : Name
   pub initial : Option Initial
 
--- a port of a declaration, by its name
+-- the port of a declaration with this name
 abbrev pub port_of : PortDeclaration → Name → Port
 port_of p n = record { name = n; mode = mode_of p.mode; mark = p.mark; initial = p.initial }
 

@@ -20,7 +20,7 @@ use sim_text_tree::name::Name;
 use sim_text_tree::unit::{Concurrent, Process};
 use std::alloc::{AllocError, Global};
 
-/// Notes a declared name that is predefined.
+/// Records a fault if a declared name is predefined.
 #[tactic(auto, unfolding(crate::specs::Faults::earliest))]
 pub fn check_predefined(name: &Name, first: &mut Option<Fault>)
     ensures { first.new ≡ earliest first.old (spec.predefined_name name.now) }
@@ -30,7 +30,7 @@ pub fn check_predefined(name: &Name, first: &mut Option<Fault>)
     }
 }
 
-/// Notes a name that is declared already.
+/// Records a fault if a name is already declared.
 #[tactic(auto, unfolding(crate::specs::Faults::earliest))]
 fn check_twice(known: &Scope<'_>, name: &Name, first: &mut Option<Fault>)
     ensures { first.new ≡ earliest first.old (spec.twice known.now name.now) }
@@ -40,7 +40,7 @@ fn check_twice(known: &Scope<'_>, name: &Name, first: &mut Option<Fault>)
     }
 }
 
-/// Notes the faults of a name that is declared after others, and declares it.
+/// Records the faults of a name declared after others, and declares it.
 #[tactic(auto, using(crate::proofs::Faults::of_both))]
 fn check_name<'a>(
     known: &mut Scope<'a>,
@@ -56,7 +56,7 @@ fn check_name<'a>(
     Ok(())
 }
 
-/// Notes the faults of names that are declared after those of a region.
+/// Records the faults of names declared after those of a region, and declares them.
 #[tactic(auto, unfolding(crate::specs::DeclarationFaults::names_faults, crate::specs::DeclaredNames::named_by, crate::specs::Faults::earliest))]
 fn check_each<'a>(
     known: &mut Scope<'a>,
@@ -71,7 +71,7 @@ fn check_each<'a>(
     Ok(())
 }
 
-/// Notes the faults of names that are declared after those of a region, which may get them.
+/// Records the faults of names declared after those of a region, which may then contain them.
 pub fn check_names<'a>(
     known: &mut Scope<'a>,
     names: &Names<'a>,
@@ -82,7 +82,7 @@ pub fn check_names<'a>(
     check_each(known, names.as_slice(), first)
 }
 
-/// Notes the faults of the marks and first values of ports.
+/// Records the faults of the type marks and initial values of ports.
 #[tactic(auto, unfolding(crate::specs::DeclarationFaults::port_types, crate::specs::Faults::earliest))]
 fn check_port_types(
     inner: &Scope<'_>,
@@ -97,7 +97,7 @@ fn check_port_types(
     }
 }
 
-/// Notes the faults of the marks and first values of variables.
+/// Records the faults of the type marks and initial values of variables.
 #[tactic(auto, unfolding(crate::specs::DeclarationFaults::variable_types, crate::specs::Faults::earliest))]
 fn check_variable_types(
     inner: &Scope<'_>,
@@ -112,8 +112,8 @@ fn check_variable_types(
     }
 }
 
-/// Notes the faults of the ports of an entity, whose region stands in an empty one, or of a
-/// component, whose region stands in that of its architecture.
+/// Records the faults of the ports of an entity, whose region is enclosed by an empty one, or of a
+/// component, whose region is enclosed by that of its architecture.
 #[tactic(auto, using(crate::proofs::Faults::of_both), unfolding(crate::specs::DeclarationFaults::ports_faults))]
 pub fn check_ports(
     alloc: Global,
@@ -131,8 +131,8 @@ pub fn check_ports(
     Ok(())
 }
 
-/// Notes the faults of the variables and labels of a process, whose region stands in that of its
-/// architecture.
+/// Records the faults of the variables and labels of a process, whose region is enclosed by that of
+/// its architecture.
 #[tactic(auto, using(crate::proofs::Faults::of_both), unfolding(crate::specs::DeclarationFaults::process_faults))]
 pub fn check_process(
     alloc: Global,
@@ -150,7 +150,7 @@ pub fn check_process(
     Ok(())
 }
 
-/// Notes the faults of the ports of a component, in the region of its architecture.
+/// Records the faults of the ports of a component, in the region of its architecture.
 fn check_component(
     alloc: Global,
     scope: &Scope<'_>,
@@ -163,7 +163,7 @@ fn check_component(
     check_ports(alloc, &own, scope, ports, first)
 }
 
-/// Notes the faults of a declaration of an architecture, but those of its names.
+/// Records the faults of a declaration of an architecture, except those of its names.
 fn check_declaration(
     alloc: Global,
     scope: &Scope<'_>,
@@ -191,7 +191,7 @@ fn check_declaration(
     }
 }
 
-/// Notes the faults of the declarations of an architecture, but those of their names.
+/// Records the faults of the declarations of an architecture, except those of their names.
 #[tactic(auto, unfolding(crate::specs::DeclarationFaults::declarations_faults, crate::specs::Faults::earliest))]
 fn check_declarations(
     alloc: Global,
@@ -207,8 +207,8 @@ fn check_declarations(
     Ok(())
 }
 
-/// Notes the faults of the names that an architecture declares; its entity's ports have its names
-/// already.
+/// Records the faults of the names that an architecture declares. The names of its entity's ports
+/// are taken.
 fn check_body_names<'a>(
     alloc: Global,
     entity: &'a EntityPorts<'a>,
@@ -223,8 +223,8 @@ fn check_body_names<'a>(
     check_names(&mut known, &names, first)
 }
 
-/// Notes the faults of the names of an architecture and of its declarations, by its region and the
-/// ports of its entity.
+/// Records the faults of the names of an architecture and of its declarations, given its region and
+/// the ports of its entity.
 #[tactic(auto, using(crate::proofs::Faults::of_both), unfolding(crate::specs::DeclarationFaults::architecture_faults))]
 pub fn check_architecture<'a>(
     alloc: Global,

@@ -1,4 +1,4 @@
-//! The ports of an entity with the region that they make, in which those of its architectures go on
+//! The ports of an entity and their region, which the region of each of its architectures extends
 //! (IEEE 1076-2008, 12.1).
 
 ghost use Rattle.std.specs.Prelude.{◌≡◌, [], IfOk};
@@ -10,7 +10,7 @@ use sim_text_tree::declaration::PortDeclaration;
 use std::alloc::{AllocError, Global};
 use std::marker::Model;
 
-/// The ports of an entity. Their region is made once, however many architectures there are.
+/// The ports of an entity. Their region is made only once, for all of its architectures.
 pub struct EntityPorts<'a> {
     declarations: &'a [PortDeclaration],
     labels: DeclarativeRegion<'a>,
@@ -18,7 +18,7 @@ pub struct EntityPorts<'a> {
     count: usize,
 }
 
-/// By hand, so that what drops one needs no proof of what is in it.
+/// Written by hand so that code which drops it needs no proof about its contents.
 impl<'a> Drop for EntityPorts<'a> {
     fn drop(self) {
         let EntityPorts {
@@ -47,7 +47,7 @@ impl<'a> Model for EntityPorts<'a> {
         × (e.count ≡ spec.port_count e.declarations.now) };
 }
 
-/// The region of the ports of an entity, which stands in none.
+/// The region of the ports of an entity, which no other encloses.
 fn region_of<'a>(
     alloc: Global,
     declarations: &'a [PortDeclaration],
@@ -85,21 +85,21 @@ impl<'a> EntityPorts<'a> {
         self.declarations
     }
 
-    /// Their names, of which nothing else is known.
+    /// Their names, declared as labels only.
     pub fn labels(&self) -> &DeclarativeRegion<'a>
         ensures { result.now ≡ spec.port_labels self.now }
     {
         &self.labels
     }
 
-    /// What their names mean.
+    /// The meanings of their names.
     pub fn region(&self) -> &DeclarativeRegion<'a>
         ensures { result.now ≡ spec.ports_region [] self.now }
     {
         &self.region
     }
 
-    /// How many ports there are.
+    /// The number of ports.
     pub fn count(&self) -> usize
         ensures { result ≡ spec.port_count self.now }
     {

@@ -1,9 +1,9 @@
-//! The faults of a design, and the first of several.
+//! The faults of a design, and the one that is reported.
 
 ghost use Rattle.std.specs.Prelude.{◌≡◌};
 ghost use Rattle.sim_flat_scope.specs.Faults.{number_of, sooner};
 
-/// What is wrong. Of two faults at one place the one that comes first here is reported.
+/// The kind of a fault. Of two faults at one place, the kind listed first here is reported.
 #[derive(Clone, Copy, PartialEq, Eq)]
 pub enum Kind {
     /// A name is declared twice.
@@ -12,18 +12,18 @@ pub enum Kind {
     Predefined,
     /// No such name is declared.
     Unknown,
-    /// A name means something else than its place asks for.
+    /// A name has a meaning that is not allowed at its place.
     WrongKind,
     /// Two operands, or a value and its target, have different types.
     TypeClash,
-    /// Both operands of `=` or `/=` are of type std_ulogic, or the operand of `??` or a condition is,
-    /// and none holds a name.
+    /// The operands of `=` or `/=`, the operand of `??`, or a condition are of type std_ulogic and
+    /// contain no name.
     Ambiguous,
     /// A port of mode out is read.
     ReadOut,
     /// A port of mode in is assigned.
     WriteIn,
-    /// A port of mode in without a default is left open.
+    /// A port of mode in without a default expression is left open or unassociated.
     PortMissing,
     /// A port is associated twice.
     PortTwice,
@@ -31,36 +31,36 @@ pub enum Kind {
     ModeClash,
     /// The ports of a component differ from those of its entity.
     ComponentDiffers,
-    /// An entity has no architecture, or not the one that is named.
+    /// An entity has no architecture, or not the named one.
     NoArchitecture,
-    /// An architecture stands, by instances, in itself.
+    /// An architecture contains itself, through instances.
     Recursive,
     /// A signal or port of type std_ulogic has more than one source.
     ManySources,
-    /// The times of a waveform do not rise.
+    /// The delays of a waveform do not ascend.
     NotAscending,
     /// A rejection limit is larger than the first delay of its waveform.
     RejectTooLong,
-    /// There are too many elements, nets, processes, drivers or instances, or instances stand too
-    /// deep in one another.
+    /// There are too many elements, nets, processes, drivers or instances, or instances are nested
+    /// too deeply.
     TooMany,
 }
 
-/// A fault, and the place of the first byte of the token at which it stands.
+/// A fault, and the offset of the first byte of the token at fault.
 #[derive(Clone, Copy, PartialEq, Eq)]
 pub struct Fault {
     pub kind: Kind,
     pub at: usize,
 }
 
-/// The number of a kind: of two faults at one place the one with the lesser number is reported.
+/// The number of a kind: of two faults at one place, the one with the smaller number is reported.
 fn number_of(kind: Kind) -> usize
     ensures { result ≡ number_of kind }
 {
     kind as usize
 }
 
-/// Notes a fault, where it is sooner than the one that is known.
+/// Records a fault if it precedes the known one.
 pub fn note(first: &mut Option<Fault>, kind: Kind, at: usize)
     ensures { first.new ≡ sooner first.old (record { kind = kind; at = at }) }
 {

@@ -1,5 +1,5 @@
-//! What names mean: scopes, declarative regions (IEEE 1076-2008, 12), the faults of declarations,
-//! and which of several faults is reported.
+//! The meanings of names: declarative regions and scopes (IEEE 1076-2008, 12), the faults of
+//! declarations, and which of several faults is reported.
 #![tactic(auto)]
 
 pub mod check;

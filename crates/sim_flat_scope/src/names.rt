@@ -1,4 +1,4 @@
-//! The names that declarations and statements declare, in the order in which they stand.
+//! The names that declarations and statements declare, in textual order.
 
 ghost use Rattle.std.specs.Prelude.{◌≡◌, ◌∷◌, ◌++◌, [], length, IfOk, OnOk};
 ghost use Rattle.sim_flat_scope.specs.DeclaredNames as spec;
@@ -15,7 +15,7 @@ pub struct Names<'a> {
     names: Vec<&'a Name>,
 }
 
-/// By hand, so that what drops one needs no proof of the list that is in it.
+/// Written by hand so that code which drops it needs no proof about its contents.
 impl<'a> Drop for Names<'a> {
     fn drop(self) {
         let Names { names } = self;
@@ -34,7 +34,7 @@ impl<'a> Model for Names<'a> {
 }
 
 impl<'a> Names<'a> {
-    /// No names.
+    /// An empty list.
     #[tactic(auto, unfolding(crate::specs::DeclaredNames::named_by))]
     pub fn new(alloc: Global) -> Names<'a>
         ensures { result ≡ [] }
@@ -53,7 +53,7 @@ impl<'a> Names<'a> {
         Ok(names)
     }
 
-    /// The names that an architecture declares itself: those of its declarations, then its labels.
+    /// The names that an architecture itself declares: those of its declarations, then its labels.
     pub fn of_body(
         alloc: Global,
         declarations: &'a [Declaration],
@@ -89,7 +89,7 @@ impl<'a> Names<'a> {
         Ok(names)
     }
 
-    /// The labels of sequential statements, with those in ifs.
+    /// The labels of sequential statements, including those inside ifs.
     pub fn of_statements(
         alloc: Global,
         statements: &'a [Sequential],
@@ -101,14 +101,14 @@ impl<'a> Names<'a> {
         Ok(names)
     }
 
-    /// The names, by references.
+    /// References to the names.
     pub fn as_slice(&self) -> &[&'a Name]
         ensures { spec.named_by result.now ≡ self.now }
     {
         self.names.as_slice()
     }
 
-    /// How many there are.
+    /// The number of names.
     #[tactic(auto, using(crate::proofs::NameLists::length_named))]
     pub fn len(&self) -> usize
         ensures { result ≡ length self.now }
@@ -116,7 +116,7 @@ impl<'a> Names<'a> {
         self.names.len()
     }
 
-    /// Puts a name at the end.
+    /// Appends a name.
     #[tactic(auto, using(crate::proofs::NameLists::named_by_more))]
     pub fn push(&mut self, name: &'a Name) -> Result<(), AllocError>
         ensures { OnOk result (self.new ≡ self.old ++ name.now ∷ []) }
@@ -125,7 +125,7 @@ impl<'a> Names<'a> {
         Ok(())
     }
 
-    /// Puts several names at the end.
+    /// Appends several names.
     #[tactic(auto, using(crate::proofs::NameLists::appends))]
     fn push_all(&mut self, names: &'a [Name]) -> Result<(), AllocError>
         ensures { OnOk result (self.new ≡ self.old ++ names.now) }
@@ -136,7 +136,7 @@ impl<'a> Names<'a> {
         Ok(())
     }
 
-    /// Puts the names of ports at the end.
+    /// Appends the names of ports.
     #[tactic(auto, using(crate::proofs::NameLists::appends), unfolding(crate::specs::DeclaredNames::port_names))]
     fn push_ports(&mut self, ports: &'a [PortDeclaration]) -> Result<(), AllocError>
         ensures { OnOk result (self.new ≡ self.old ++ spec.port_names ports.now) }
@@ -147,7 +147,7 @@ impl<'a> Names<'a> {
         Ok(())
     }
 
-    /// Puts the names of variables at the end.
+    /// Appends the names of variables.
     #[tactic(auto, using(crate::proofs::NameLists::appends), unfolding(crate::specs::DeclaredNames::variable_names))]
     fn push_variables(&mut self, variables: &'a [ObjectDeclaration]) -> Result<(), AllocError>
         ensures { OnOk result (self.new ≡ self.old ++ spec.variable_names variables.now) }
@@ -158,7 +158,7 @@ impl<'a> Names<'a> {
         Ok(())
     }
 
-    /// Puts the names of a declaration at the end.
+    /// Appends the names of a declaration.
     fn push_declaration(&mut self, declaration: &'a Declaration) -> Result<(), AllocError>
         ensures { OnOk result (self.new ≡ self.old ++ spec.names_of declaration.now) }
     {
@@ -168,7 +168,7 @@ impl<'a> Names<'a> {
         }
     }
 
-    /// Puts the names of an architecture's declarations at the end.
+    /// Appends the names of an architecture's declarations.
     #[tactic(auto, using(crate::proofs::NameLists::appends), unfolding(crate::specs::DeclaredNames::declaration_names))]
     fn push_declarations(&mut self, declarations: &'a [Declaration]) -> Result<(), AllocError>
         ensures { OnOk result (self.new ≡ self.old ++ spec.declaration_names declarations.now) }
@@ -179,7 +179,7 @@ impl<'a> Names<'a> {
         Ok(())
     }
 
-    /// Puts a label at the end, where one is written.
+    /// Appends a label, if there is one.
     #[tactic(auto, using(crate::proofs::NameLists::appends))]
     fn push_label(&mut self, label: &'a Option<Name>) -> Result<(), AllocError>
         ensures { OnOk result (self.new ≡ self.old ++ spec.label_name label.now) }
@@ -190,7 +190,7 @@ impl<'a> Names<'a> {
         }
     }
 
-    /// Puts the label of a concurrent statement at the end, where it has one.
+    /// Appends the label of a concurrent statement, if it has one.
     fn push_concurrent(&mut self, statement: &'a Concurrent) -> Result<(), AllocError>
         ensures { OnOk result (self.new ≡ self.old ++ spec.concurrent_label statement.now) }
     {
@@ -201,7 +201,7 @@ impl<'a> Names<'a> {
         }
     }
 
-    /// Puts the labels of an architecture's statements at the end.
+    /// Appends the labels of an architecture's statements.
     #[tactic(auto, using(crate::proofs::NameLists::appends), unfolding(crate::specs::DeclaredNames::concurrent_labels))]
     fn push_concurrents(&mut self, statements: &'a [Concurrent]) -> Result<(), AllocError>
         ensures { OnOk result (self.new ≡ self.old ++ spec.concurrent_labels statements.now) }
@@ -212,7 +212,7 @@ impl<'a> Names<'a> {
         Ok(())
     }
 
-    /// Puts the label of a sequential statement and those inside it at the end.
+    /// Appends the label of a sequential statement and those inside it.
     #[cycle(labels)]
     #[tactic(auto, using(crate::proofs::LabelRules::label_rules))]
     fn push_statement(&mut self, statement: &'a Sequential) -> Result<(), AllocError>
@@ -222,7 +222,7 @@ impl<'a> Names<'a> {
         self.push_inner(&statement.statement)
     }
 
-    /// Puts the labels inside a statement at the end.
+    /// Appends the labels inside a statement.
     #[cycle(labels)]
     #[tactic(auto, using(crate::proofs::LabelRules::label_rules))]
     fn push_inner(&mut self, statement: &'a Statement) -> Result<(), AllocError>
@@ -244,7 +244,7 @@ impl<'a> Names<'a> {
         }
     }
 
-    /// Puts the labels of the statements after a `then` at the end.
+    /// Appends the labels of the statements after a `then`.
     #[cycle(labels)]
     #[tactic(auto, using(crate::proofs::LabelRules::label_rules))]
     fn push_branch(&mut self, branch: &'a Branch) -> Result<(), AllocError>
@@ -253,7 +253,7 @@ impl<'a> Names<'a> {
         self.push_statements(branch.statements.as_slice())
     }
 
-    /// Puts the labels in the branches of an if at the end.
+    /// Appends the labels in the branches of an if.
     #[cycle(labels)]
     #[tactic(auto, using(crate::proofs::LabelRules::label_rules), unfolding(crate::specs::DeclaredNames::branches_labels))]
     fn push_branches(&mut self, branches: &'a [Branch]) -> Result<(), AllocError>
@@ -265,7 +265,7 @@ impl<'a> Names<'a> {
         Ok(())
     }
 
-    /// Puts the labels of sequential statements at the end, with those in ifs.
+    /// Appends the labels of sequential statements, including those inside ifs.
     #[cycle(labels)]
     #[tactic(auto, using(crate::proofs::LabelRules::label_rules), unfolding(crate::specs::DeclaredNames::statement_labels))]
     fn push_statements(&mut self, statements: &'a [Sequential]) -> Result<(), AllocError>

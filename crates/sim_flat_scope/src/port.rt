@@ -9,7 +9,7 @@ use sim_text_tree::name::Name;
 use std::alloc::{AllocError, Global};
 use std::marker::Model;
 
-/// A mode as it is written; `in` where none is (IEEE 1076-2008, 6.5.2).
+/// The mode that is written, or `in` if there is none (IEEE 1076-2008, 6.5.2).
 pub fn mode_of(written: Option<Mode>) -> Mode
     ensures { result ≡ mode_of written }
 {
@@ -19,7 +19,7 @@ pub fn mode_of(written: Option<Mode>) -> Mode
     }
 }
 
-/// A port: its name, and the declaration in which it stands.
+/// A port: its name, and the declaration that contains it.
 #[derive(Drop)]
 pub struct Port<'a> {
     name: &'a Name,
@@ -56,7 +56,7 @@ impl<'a> Port<'a> {
         &self.declaration.mark
     }
 
-    /// Its first value, where one is written.
+    /// Its default expression, if it has one.
     pub fn initial(&self) -> &'a Option<Initial>
         ensures { result.now ≡ self.now.initial }
     {
@@ -64,7 +64,7 @@ impl<'a> Port<'a> {
     }
 }
 
-/// Puts the ports of a declaration at the end.
+/// Appends the ports of a declaration.
 #[tactic(auto, using(crate::proofs::NameLists::appends), unfolding(crate::specs::Ports::ports_named))]
 fn push_ports<'a>(
     ports: &mut Vec<Port<'a>>,
@@ -78,7 +78,7 @@ fn push_ports<'a>(
     Ok(())
 }
 
-/// The ports of declarations, each with its place: the first has place 0.
+/// The ports of declarations, by position, from 0.
 #[tactic(auto, using(crate::proofs::NameLists::appends), unfolding(crate::specs::Ports::ports_of))]
 pub fn ports_of<'a>(
     alloc: Global,

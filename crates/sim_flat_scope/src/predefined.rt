@@ -5,7 +5,7 @@ ghost use Rattle.sim_flat_scope.specs.Scopes as spec;
 
 use crate::scope::Meaning;
 
-/// What a name means that is declared nowhere.
+/// The predefined meaning of a name, if it has one.
 #[tactic(auto, unfolding(crate::specs::Scopes::predefined))]
 pub fn predefined(name: &[u8]) -> Option<Meaning>
     ensures { result ≡ spec.predefined name.now }

@@ -1,4 +1,4 @@
-//! The declarative regions of a design (IEEE 1076-2008, 12.1), from its declarations.
+//! The declarative regions of a design (IEEE 1076-2008, 12.1), made from its declarations.
 
 ghost use Rattle.std.specs.Prelude.{◌≡◌, ◌+◌, [], length, OnOk, IfOk};
 ghost use Rattle.sim_flat_scope.specs.Scopes.{declaring, means};
@@ -15,8 +15,7 @@ use sim_text_tree::sequential::Sequential;
 use sim_text_tree::unit::{Concurrent, Process};
 use std::alloc::{AllocError, Global};
 
-/// What an object is that is declared: all but its place. Its type is absent where the type mark is
-/// at fault.
+/// A declared object without its position. It has no type if its type mark is at fault.
 #[derive(Clone, Copy)]
 pub enum Object {
     Port { mode: Mode, type_: Option<Type> },
@@ -25,7 +24,7 @@ pub enum Object {
 }
 
 impl Object {
-    /// What its name means, by its place.
+    /// The meaning of its name, at this position.
     fn meaning(self, place: usize) -> Meaning
         ensures { result ≡ spec.meaning_of self place }
     {
@@ -44,14 +43,14 @@ impl Object {
     }
 }
 
-/// Where the next signal and the next component of an architecture stand.
+/// The positions of the next signal and the next component of an architecture.
 #[derive(Clone, Copy)]
 struct Places {
     signal: usize,
     component: usize,
 }
 
-/// The type that a mark of this meaning stands for: boolean only where an object may be boolean.
+/// The type that a mark with this meaning denotes; boolean only if `may_be_boolean`.
 pub fn type_marked(may_be_boolean: bool, meaning: Option<Meaning>) -> Option<Type>
     ensures { result ≡ spec.type_marked may_be_boolean meaning }
 {
@@ -62,14 +61,14 @@ pub fn type_marked(may_be_boolean: bool, meaning: Option<Meaning>) -> Option<Typ
     }
 }
 
-/// The next place: there is one for each name that memory can hold.
+/// The next position; there is one for each name that fits in memory.
 fn next(place: usize) -> Result<usize, AllocError>
     ensures { IfOk result (λ n. n ≡ place + 1) }
 {
     place.checked_add(1).ok_or(AllocError)
 }
 
-/// Declares names of which nothing else is known.
+/// Declares names as labels only.
 #[tactic(auto, unfolding(crate::specs::Regions::labels, crate::specs::DeclaredNames::named_by, crate::specs::Scopes::declaring))]
 fn declare_each<'a, D: Declare<'a>>(region: &mut D, names: &[&'a Name]) -> Result<(), AllocError>
     ensures { OnOk result (D.declared region.new ≡ spec.naming (D.declared region.old) (named_by names.now)) }
@@ -80,14 +79,14 @@ fn declare_each<'a, D: Declare<'a>>(region: &mut D, names: &[&'a Name]) -> Resul
     Ok(())
 }
 
-/// Declares names of which nothing else is known, as labels.
+/// Declares names as labels only.
 fn declare_labels<'a, D: Declare<'a>>(region: &mut D, names: &Names<'a>) -> Result<(), AllocError>
     ensures { OnOk result (D.declared region.new ≡ spec.naming (D.declared region.old) names.now) }
 {
     declare_each(region, names.as_slice())
 }
 
-/// Declares objects in a row, the first at this place, and gives the place after the last.
+/// Declares objects at consecutive positions from this one, and returns the position after them.
 #[tactic(auto, using(crate::proofs::Declaring::in_pieces), unfolding(crate::specs::Regions::objects, crate::specs::Scopes::declaring))]
 fn declare_objects<'a, D: Declare<'a>>(
     region: &mut D,
@@ -106,7 +105,7 @@ fn declare_objects<'a, D: Declare<'a>>(
     Ok(place)
 }
 
-/// The type that the mark of objects names, where one region stands in another.
+/// The type that the mark of objects denotes, in an inner region within an outer one.
 fn mark_type(
     inner: &Scope<'_>,
     outer: &Scope<'_>,
@@ -118,7 +117,7 @@ fn mark_type(
     type_marked(may_be_boolean, look_up(inner, outer, mark.text()))
 }
 
-/// Declares ports, the first at place 0. A mark is looked up in two regions.
+/// Declares ports, the first at position 0. A mark is looked up in two regions.
 #[tactic(auto, using(crate::proofs::Declaring::in_pieces), unfolding(crate::specs::Regions::ports, crate::specs::Scopes::declaring))]
 fn declare_ports<'a>(
     part: &mut DeclarativeRegion<'a>,
@@ -139,8 +138,8 @@ fn declare_ports<'a>(
     Ok(())
 }
 
-/// Declares the variables of a process, whose region stands in that of its architecture, the first
-/// at place 0.
+/// Declares the variables of a process, whose region is enclosed by that of its architecture; the
+/// first has position 0.
 #[tactic(auto, using(crate::proofs::Declaring::in_pieces), unfolding(crate::specs::Regions::variables, crate::specs::Scopes::declaring))]
 fn declare_variables<'a>(
     part: &mut DeclarativeRegion<'a>,
@@ -159,7 +158,7 @@ fn declare_variables<'a>(
     Ok(())
 }
 
-/// Declares the signals of a declaration, or its component, and gives the places after them.
+/// Declares the signals or the component of a declaration, and returns the positions after them.
 #[tactic(auto, using(crate::proofs::Declaring::in_pieces))]
 fn declare_declaration<'a>(
     scope: &mut Scope<'a>,
@@ -196,7 +195,7 @@ fn declare_declaration<'a>(
     }
 }
 
-/// Declares signals and components, the first signal at this place. A mark is looked up in two
+/// Declares signals and components, the first signal at this position. A mark is looked up in two
 /// regions.
 #[tactic(auto, using(crate::proofs::Declaring::in_pieces), unfolding(crate::specs::Regions::declarations, crate::specs::Scopes::declaring))]
 fn declare_declarations<'a>(
@@ -218,7 +217,7 @@ fn declare_declarations<'a>(
     Ok(())
 }
 
-/// Names of which nothing else is known, as a region.
+/// A region in which names are labels only.
 pub fn labels<'a>(alloc: Global, names: &Names<'a>) -> Result<DeclarativeRegion<'a>, AllocError>
     ensures { IfOk result (λ part. part ≡ spec.naming [] names.now) }
 {
@@ -227,7 +226,7 @@ pub fn labels<'a>(alloc: Global, names: &Names<'a>) -> Result<DeclarativeRegion<
     Ok(part)
 }
 
-/// The names of ports, of which nothing else is known, as a region.
+/// A region in which the names of ports are labels only.
 fn port_labels<'a>(alloc: Global, ports: &'a [PortDeclaration]) -> Result<Scope<'a>, AllocError>
     ensures { IfOk result (λ s. s ≡ spec.port_labels ports.now) }
 {
@@ -236,7 +235,7 @@ fn port_labels<'a>(alloc: Global, ports: &'a [PortDeclaration]) -> Result<Scope<
     Ok(Scope::of(part))
 }
 
-/// Ports as a region of their own, the first at place 0. A mark is looked up in two regions.
+/// Ports as a region of their own, the first at position 0. A mark is looked up in two regions.
 fn declared_ports<'a>(
     alloc: Global,
     inner: &Scope<'_>,
@@ -250,8 +249,8 @@ fn declared_ports<'a>(
     Ok(part)
 }
 
-/// The region of the ports of an entity, in an empty one, or of a component, in that of its
-/// architecture.
+/// The region of the ports of an entity, enclosed by an empty one, or of a component, enclosed by
+/// that of its architecture.
 #[tactic(auto, unfolding(crate::specs::Regions::ports_region))]
 pub fn ports<'a>(
     alloc: Global,
@@ -264,7 +263,7 @@ pub fn ports<'a>(
     declared_ports(alloc, &own, outer, ports)
 }
 
-/// The names that an architecture of an entity sees, of which nothing else is known.
+/// The names visible in an architecture of an entity, as labels only.
 fn architecture_labels<'a>(
     alloc: Global,
     entity: &'a EntityPorts<'a>,
@@ -279,8 +278,8 @@ fn architecture_labels<'a>(
     Ok(scope)
 }
 
-/// Declares the signals and components of an architecture, whose region stands in none, the first
-/// signal at this place.
+/// Declares the signals and components of an architecture, whose region no other encloses; the
+/// first signal has this position.
 fn declare_own<'a>(
     alloc: Global,
     scope: &mut Scope<'a>,
@@ -322,8 +321,8 @@ fn declare_concurrents<'a>(
     declare_labels(scope, &labels)
 }
 
-/// The region of an architecture: it goes on from that of the ports of its entity with its
-/// declarations and its labels.
+/// The region of an architecture: that of the ports of its entity, extended by its declarations and
+/// its labels.
 #[tactic(auto, unfolding(crate::specs::Regions::architecture_region))]
 pub fn architecture<'a>(
     alloc: Global,
@@ -338,7 +337,7 @@ pub fn architecture<'a>(
     Ok(scope)
 }
 
-/// The names that a process declares, of which nothing else is known, as a region.
+/// A region in which the names that a process declares are labels only.
 fn process_labels<'a>(alloc: Global, process: &'a Process) -> Result<Scope<'a>, AllocError>
     ensures { IfOk result (λ s. s ≡ spec.naming [] (process_names process.now)) }
 {
@@ -362,7 +361,7 @@ fn process_variables<'a>(
     Ok(part)
 }
 
-/// Declares the labels of sequential statements, of those in ifs too.
+/// Declares the labels of sequential statements, including those inside ifs.
 fn declare_statements<'a>(
     alloc: Global,
     part: &mut DeclarativeRegion<'a>,
@@ -374,7 +373,7 @@ fn declare_statements<'a>(
     declare_labels(part, &labels)
 }
 
-/// The region of a process, which stands in that of its architecture.
+/// The region of a process, which that of its architecture encloses.
 #[tactic(auto, unfolding(crate::specs::Regions::process_region))]
 pub fn process<'a>(
     alloc: Global,

@@ -1,4 +1,4 @@
-//! Declarative regions: what the names that are declared in one mean (IEEE 1076-2008, 12).
+//! Declarative regions: the meanings of the names declared in one (IEEE 1076-2008, 12).
 
 ghost use Rattle.std.specs.Prelude.{◌≡◌, [], OnOk, OnErr, IfOk, is_none};
 ghost use Rattle.sim_flat_scope.specs.Scopes as spec;
@@ -9,33 +9,33 @@ use sim_text_tree::declaration::Mode;
 use std::alloc::{AllocError, Global};
 use std::marker::Model;
 
-/// A type of expressions: std_ulogic, of which std_logic is a subtype, or boolean (5.2.3).
+/// A type of expressions: std_ulogic, with its subtype std_logic, or boolean (5.2.3).
 #[derive(Clone, Copy, PartialEq, Eq)]
 pub enum Type {
     Logic,
     Boolean,
 }
 
-/// What a name means. A type is absent where the type mark is at fault.
+/// The meaning of a name. It has no type if the type mark is at fault.
 #[derive(Clone, Copy)]
 pub enum Meaning {
-    /// A port, with its place among the ports and signals of its architecture, the ports first.
+    /// A port, with its position among the ports and signals of its architecture, ports first.
     Port {
         object: usize,
         mode: Mode,
         type_: Option<Type>,
     },
-    /// A signal, with its place among the ports and signals of its architecture.
+    /// A signal, with its position among the ports and signals of its architecture.
     Signal {
         object: usize,
         type_: Option<Type>,
     },
-    /// A variable, with its place among the variables of its process.
+    /// A variable, with its position among the variables of its process.
     Variable {
         place: usize,
         type_: Option<Type>,
     },
-    /// A component, with its place among the components of its architecture.
+    /// A component, with its position among the components of its architecture.
     Component {
         place: usize,
     },
@@ -49,7 +49,7 @@ pub enum Meaning {
     BooleanMark,
     /// `true` or `false`.
     Truth(bool),
-    /// `rising_edge`, or else `falling_edge`.
+    /// `rising_edge`, or `falling_edge` if not `rising`.
     Edge {
         rising: bool,
     },
@@ -57,24 +57,24 @@ pub enum Meaning {
 
 /// A declarative region, or a part of one, to which names are added.
 pub trait Declare<'a> {
-    /// Its names, each with what its first declaration says.
+    /// Its names, each with its first declaration.
     ghost declared: { Self → spec.Region };
 
-    /// Declares a name, unless it is declared already, and says whether it is new.
+    /// Declares a name, unless it is already declared, and returns whether it is new.
     fn declare(&mut self, name: &'a [u8], meaning: Meaning) -> Result<bool, AllocError>
         ensures declared { OnOk result (declared self.new ≡ spec.with_first (declared self.old) name.now meaning) }
         ensures is_new { IfOk result (λ b. b ≡ is_none (spec.found (declared self.old) name.now)) }
         ensures kept { OnErr result (declared self.new ≡ declared self.old) };
 }
 
-/// A part of a declarative region by itself: the ports of an entity, which go on in each of its
-/// architectures.
+/// A part of a declarative region: the ports of an entity, which the region of each of its
+/// architectures extends.
 pub struct DeclarativeRegion<'a> {
-    /// What each name is declared to be, in the order of the declarations.
+    /// The meaning of each name, in the order of the declarations.
     meanings: IndexMap<&'a [u8], Meaning>,
 }
 
-/// By hand, so that what drops one needs no proof of the map that is in it.
+/// Written by hand so that code which drops it needs no proof about its contents.
 impl<'a> Drop for DeclarativeRegion<'a> {
     fn drop(self) {
         let DeclarativeRegion { meanings } = self;
@@ -92,7 +92,7 @@ impl<'a> Model for DeclarativeRegion<'a> {
 }
 
 impl<'a> DeclarativeRegion<'a> {
-    /// A part without names.
+    /// An empty part.
     pub fn new(alloc: Global) -> DeclarativeRegion<'a>
         ensures { result ≡ [] }
     {
@@ -101,7 +101,7 @@ impl<'a> DeclarativeRegion<'a> {
         }
     }
 
-    /// What a name means, where it is declared in this part.
+    /// The meaning of a name, if it is declared in this part.
     pub fn find(&self, name: &[u8]) -> Option<Meaning>
         ensures { result ≡ spec.found self.now name.now }
     {
@@ -123,7 +123,7 @@ impl<'a> Declare<'a> for DeclarativeRegion<'a> {
     }
 }
 
-/// What a name means in the part from which a region goes on, where there is one.
+/// The meaning of a name in the part that a region extends, if there is one.
 #[tactic(auto, unfolding(crate::specs::Scopes::found))]
 fn found_in(part: Option<&DeclarativeRegion<'_>>, name: &[u8]) -> Option<Meaning>
     ensures { result ≡ spec.found (spec.part_at part.entry) name.now }
@@ -134,14 +134,14 @@ fn found_in(part: Option<&DeclarativeRegion<'_>>, name: &[u8]) -> Option<Meaning
     }
 }
 
-/// The names of a declarative region, each with what its first declaration says. Where it goes on
-/// from another part, as an architecture does from its entity, that part is shared.
+/// The names of a declarative region, each with its first declaration. If it extends another part,
+/// as an architecture does its entity's, that part is shared.
 pub struct Scope<'a> {
     first: Option<&'a DeclarativeRegion<'a>>,
     own: DeclarativeRegion<'a>,
 }
 
-/// By hand, so that what drops one needs no proof of what is in it.
+/// Written by hand so that code which drops it needs no proof about its contents.
 impl<'a> Drop for Scope<'a> {
     fn drop(self) {
         let Scope { first: _, own } = self;
@@ -160,7 +160,7 @@ impl<'a> Model for Scope<'a> {
 }
 
 impl<'a> Scope<'a> {
-    /// A region without names.
+    /// An empty region.
     pub fn new(alloc: Global) -> Scope<'a>
         ensures { result ≡ [] }
     {
@@ -180,7 +180,7 @@ impl<'a> Scope<'a> {
         }
     }
 
-    /// The region that goes on from a part.
+    /// A region that extends this part.
     pub fn after(alloc: Global, part: &'a DeclarativeRegion<'a>) -> Scope<'a>
         ensures { result ≡ part.now }
     {
@@ -190,7 +190,7 @@ impl<'a> Scope<'a> {
         }
     }
 
-    /// What a name means, where it is declared in this region.
+    /// The meaning of a name, if it is declared in this region.
     pub fn find(&self, name: &[u8]) -> Option<Meaning>
         ensures { result ≡ spec.found self.now name.now }
     {
@@ -215,7 +215,7 @@ impl<'a> Declare<'a> for Scope<'a> {
     }
 }
 
-/// What a name means where one region stands in another; what neither declares may be predefined.
+/// The meaning of a name in an inner region within an outer one; otherwise its predefined one.
 #[tactic(auto, unfolding(crate::specs::Scopes::means))]
 pub fn look_up(inner: &Scope<'_>, outer: &Scope<'_>, name: &[u8]) -> Option<Meaning>
     ensures { result ≡ spec.means inner.now outer.now name.now }

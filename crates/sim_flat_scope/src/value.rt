@@ -1,4 +1,4 @@
-//! The faults of type marks and of first values.
+//! The faults of type marks and of initial values.
 
 ghost use Rattle.std.specs.Prelude.{◌≡◌};
 ghost use Rattle.sim_flat_scope.specs.Faults.{earliest};
@@ -11,7 +11,7 @@ use crate::scope::{Meaning, Scope, Type, look_up};
 use sim_text_tree::declaration::Initial;
 use sim_text_tree::name::Name;
 
-/// Notes a mark that is not declared, or that stands for no type that the object may have.
+/// Records a fault if a mark is not declared, or denotes no type that the object may have.
 #[tactic(auto, unfolding(crate::specs::Faults::earliest))]
 fn check_mark(may_be_boolean: bool, at: usize, meaning: Option<Meaning>, first: &mut Option<Fault>)
     ensures { first.new ≡ earliest first.old (spec.mark_faults may_be_boolean at meaning) }
@@ -25,7 +25,7 @@ fn check_mark(may_be_boolean: bool, at: usize, meaning: Option<Meaning>, first: 
     }
 }
 
-/// Notes a literal for an object that is boolean.
+/// Records a fault if the object of a literal is boolean.
 #[tactic(auto, unfolding(crate::specs::Faults::earliest))]
 fn check_literal(type_: Option<Type>, at: usize, first: &mut Option<Fault>)
     ensures { first.new ≡ earliest first.old (spec.literal_faults type_ at) }
@@ -36,7 +36,7 @@ fn check_literal(type_: Option<Type>, at: usize, first: &mut Option<Fault>)
     }
 }
 
-/// Notes `true` or `false` for an object that is not boolean.
+/// Records a fault if the object of `true` or `false` is not boolean.
 #[tactic(auto, unfolding(crate::specs::Faults::earliest))]
 fn check_truth(type_: Option<Type>, at: usize, first: &mut Option<Fault>)
     ensures { first.new ≡ earliest first.old (spec.truth_faults type_ at) }
@@ -47,7 +47,7 @@ fn check_truth(type_: Option<Type>, at: usize, first: &mut Option<Fault>)
     }
 }
 
-/// Notes a name that is no first value of an object.
+/// Records a fault if a name is not a valid initial value of an object.
 #[tactic(auto, unfolding(crate::specs::Faults::earliest))]
 fn check_value(type_: Option<Type>, at: usize, meaning: Option<Meaning>, first: &mut Option<Fault>)
     ensures { first.new ≡ earliest first.old (spec.value_faults type_ at meaning) }
@@ -59,7 +59,7 @@ fn check_value(type_: Option<Type>, at: usize, meaning: Option<Meaning>, first: 
     }
 }
 
-/// Notes the faults of a first value, where one is written.
+/// Records the faults of an initial value, if there is one.
 #[tactic(auto, unfolding(crate::specs::Faults::earliest))]
 fn check_initial(
     inner: &Scope<'_>,
@@ -79,7 +79,7 @@ fn check_initial(
     }
 }
 
-/// Notes the faults of the mark and the first value of objects, in a region that stands in another.
+/// Records the faults of the mark and the initial value of objects, in nested regions.
 #[tactic(auto, using(crate::proofs::Faults::of_both), unfolding(crate::specs::DeclarationFaults::object_faults))]
 pub fn check_object(
     inner: &Scope<'_>,

@@ -17,7 +17,7 @@ fold-resolution_table a b [] = refl
 fold-resolution_table a b (x ∷ xs) =
     ap (λ (v : Logic). fold resolution_table v xs) (resolution_table-assoc a b x) ∙ fold-resolution_table a (resolution_table b x) xs
 
--- a fold over values that are there goes by their resolution
+-- a fold over a non-empty list resolves its start with the resolution of the list
 fold-resolved : (a : Logic) (xs : List Logic) → 0 < length xs → fold resolution_table a xs ≡ resolution_table a (resolved xs)
 fold-resolved a [] some = absurd (omega arith)
 fold-resolved a (x ∷ []) some = refl
@@ -25,7 +25,7 @@ fold-resolved a (x ∷ (y ∷ ys)) some =
     ap (λ (v : Logic). fold resolution_table v (y ∷ ys)) (sym (resolution_table-passes_z a x))
     ∙ fold-resolution_table a (resolution_table Z x) (y ∷ ys)
 
--- several values are folded
+-- two or more values are folded
 pub resolved-many : (xs : List Logic) → 1 < length xs → resolved xs ≡ fold resolution_table Z xs
 resolved-many [] many = absurd (omega arith)
 resolved-many (x ∷ []) many = absurd (omega arith)
@@ -50,7 +50,7 @@ length-map : (f : FlatSource → Logic) (xs : List FlatSource) → length (map f
 length-map f [] = refl
 length-map f (x ∷ xs) = let ih = length-map f xs in omega arith
 
--- each source has a flat source
+-- each source has at least one flat source
 mutual
   pub some_flat_sources : (tree : SourceTree) → 0 < length (flat_sources tree)
   some_flat_sources (Name type default No_more) = omega arith
@@ -70,7 +70,7 @@ append-none : (xs : List FlatSource) → xs ++ [] ≡ xs
 append-none [] = refl
 append-none (x ∷ xs) = ap (λ (ys : List FlatSource). x ∷ ys) (append-none xs)
 
--- two sources or more, by their flat sources and by their values
+-- folding the flat sources of two or more sources gives the same as folding their values
 resolved-flat_sources_of : (driving : ℕ → Logic) (type : SignalType) (default : Logic) (sources : Sources)
     → AllowsSources type (count_of sources) → 1 < count_of sources
     → fold resolution_table Z (map (flat_source_value driving) (flat_sources_of sources)) ≡ fold resolution_table Z (values_of driving sources)

@@ -1,4 +1,4 @@
--- What the resolution table is as an operation: each law is one computed test over the whole table.
+-- Laws of the resolution table. Each law is one computed test over the whole table.
 use Rattle.std.proofs.Common.{◌≡◌, Bool, true, false, ◌&&◌, refl}
 use Rattle.sim_logic.specs.declared.logic.Logic.{Logic}
 use Rattle.sim_logic.specs.declared.logic.Logic.TheVariants.{U, X, Zero, One, Z, W, L, H, Dash}

@@ -14,10 +14,10 @@ abbrev pub is_one : Logic → Bool
 is_one One = true
 is_one _ = false
 
--- a value rises (IEEE 1164, function rising_edge)
+-- whether the change from old to new is a rising edge (IEEE 1164, function rising_edge)
 abbrev pub rises : Logic → Logic → Bool
 rises old new = is_zero (to_x01 old) && is_one (to_x01 new)
 
--- a value falls (IEEE 1164, function falling_edge)
+-- whether the change from old to new is a falling edge (IEEE 1164, function falling_edge)
 abbrev pub falls : Logic → Logic → Bool
 falls old new = is_one (to_x01 old) && is_zero (to_x01 new)

@@ -1,4 +1,4 @@
--- The nine values of std_ulogic and the characters that write them.
+-- The nine values of std_ulogic and their characters.
 use Rattle.std.specs.Prelude.{ℕ, Bool, ◌==◌, if◌then◌else◌}
 use Rattle.sim_logic.specs.declared.logic.Logic.{Logic}
 use Rattle.sim_logic.specs.declared.logic.Logic.TheVariants.{U, X, Zero, One, Z, W, L, H, Dash}
@@ -15,7 +15,7 @@ byte_of L = 76
 byte_of H = 72
 byte_of Dash = 45
 
--- the value that a character writes, where one does
+-- the value of a character; '-' for a byte that is none of the nine
 abbrev pub value_of : ℕ → Logic
 value_of byte =
     if byte == 85 then U else

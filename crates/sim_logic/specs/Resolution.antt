@@ -4,7 +4,7 @@ use Rattle.sim_logic.specs.declared.logic.Logic.{Logic}
 use Rattle.sim_logic.specs.declared.logic.Logic.TheVariants.{Z}
 use Rattle.sim_logic.specs.Tables.{resolution_table}
 
--- the value of one driver, else the drivers' values folded by the table from 'Z' (IEEE 1164, function resolved)
+-- the value of a single driver; otherwise the values folded by the table from 'Z' (IEEE 1164, function resolved)
 abbrev pub resolved : List Logic → Logic
 resolved (only ∷ []) = only
 resolved values = fold resolution_table Z values

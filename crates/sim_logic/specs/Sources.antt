@@ -1,4 +1,4 @@
--- The sources of a signal or port, and the value that they give it.
+-- The sources of a signal or port, and the value that they determine.
 use Rattle.std.specs.Prelude.{ℕ, ◌+◌, ◌≤◌, ⊤, List, [], ◌∷◌, ◌++◌}
 use Rattle.sim_logic.specs.declared.logic.Logic.{Logic}
 use Rattle.sim_logic.specs.Resolution.{resolved}
@@ -8,8 +8,8 @@ pub data SignalType : Type 0 where
   Std_logic : SignalType
   Std_ulogic : SignalType
 
--- A name (a signal or a port), with its type, its default and its sources in order: drivers, by their numbers, and
--- ports that are associated with it (IEEE 1076, 6.4.2.3).
+-- A name (a signal or a port), with its type, its default value and its sources in order: drivers, by number, and
+-- associated ports (IEEE 1076, 6.4.2.3).
 mutual
   pub data SourceTree : Type 0 where
     Name : SignalType → Logic → Sources → SourceTree
@@ -19,7 +19,7 @@ mutual
     Driver : ℕ → Sources → Sources
     Port : SourceTree → Sources → Sources
 
--- how many sources a name has
+-- the number of sources of a name
 abbrev pub count_of : Sources → ℕ
 count_of No_more = 0
 count_of (Driver number more) = count_of more + 1
@@ -30,7 +30,7 @@ abbrev pub AllowsSources : SignalType → ℕ → Type 0
 AllowsSources Std_logic count = ⊤
 AllowsSources Std_ulogic count = count ≤ 1
 
--- each name of type std_ulogic has one source at most, since nothing resolves it (IEEE 1076, 6.4.2.3)
+-- each name of type std_ulogic has at most one source, since it has no resolution function (IEEE 1076, 6.4.2.3)
 abbrev mutual
   pub IsResolvable : SourceTree → Type 0
   IsResolvable (Name type default sources) = AllowsSources type (count_of sources) × AreResolvable sources
@@ -46,7 +46,7 @@ driving_value type default [] = default
 driving_value Std_logic default (value ∷ values) = resolved (value ∷ values)
 driving_value Std_ulogic default (value ∷ values) = value
 
--- the value of a name, each associated port by its own, where each driver has the value that `driving` gives
+-- the value of a name, where driver n has the value `driving n` and each associated port is resolved by itself
 abbrev mutual
   pub nested : (ℕ → Logic) → SourceTree → Logic
   nested driving (Name type default sources) = driving_value type default (values_of driving sources)
@@ -56,7 +56,7 @@ abbrev mutual
   values_of driving (Driver number more) = driving number ∷ values_of driving more
   values_of driving (Port tree more) = nested driving tree ∷ values_of driving more
 
--- a flat source of a source tree: a driver, or the default of a name that has no source
+-- a flat source of a source tree: a driver, or the default value of a name without sources
 pub data FlatSource : Type 0 where
   Driven : ℕ → FlatSource
   Constant : Logic → FlatSource

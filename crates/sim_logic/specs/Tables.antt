@@ -1,5 +1,4 @@
--- The tables of std_logic_1164. A row is a text with one character for each column, in the order of the values:
--- U X 0 1 Z W L H -.
+-- The tables of std_logic_1164. A row has one character per column, in the order U X 0 1 Z W L H -.
 use Rattle.std.specs.Prelude.{ℕ, List, codes, slice_index}
 use Rattle.sim_logic.specs.declared.logic.Logic.{Logic}
 use Rattle.sim_logic.specs.declared.logic.Logic.TheVariants.{U, X, Zero, One, Z, W, L, H, Dash}
@@ -17,7 +16,7 @@ column_of L = 6
 column_of H = 7
 column_of Dash = 8
 
--- the value that a row has in the column of a value
+-- the entry of a row in the column of a value
 abbrev pub in_row : List ℕ → Logic → Logic
 in_row row value = value_of (slice_index row (column_of value))
 

@@ -1,4 +1,4 @@
-//! Laws of resolution: each is what an empty function ensures.
+//! Laws of resolution. Each law is the contract of an empty function.
 
 ghost use Rattle.std.specs.Prelude.{◌≡◌, ◌<◌, ℕ, List, [], ◌∷◌, fold, length, map};
 ghost use Rattle.sim_logic.specs.declared.logic.Logic as logic;
@@ -17,19 +17,19 @@ pub fn resolution_is_commutative()
     ensures { (a : logic.Logic) (b : logic.Logic) → resolution_table a b ≡ resolution_table b a }
 {}
 
-/// A single value is its own resolution.
+/// A single value resolves to itself.
 pub fn a_single_value_stands()
     ensures { (value : logic.Logic) → resolved (value ∷ []) ≡ value }
 {}
 
-/// Two values or more are resolved one after another, from `'Z'` on.
+/// Two or more values are resolved one after another, starting from `'Z'`.
 pub fn several_values_are_folded()
     ensures { (values : List logic.Logic) → 1 < length values
         → resolved values ≡ fold resolution_table logic.Logic.Z values }
 {}
 
-/// The flat sources of a source tree, resolved as one flat list, have the value that the tree has
-/// where each port is resolved by itself.
+/// Resolving the flat sources of a source tree as one list gives the value of the tree, in which
+/// each port is resolved by itself.
 pub fn flat_sources_resolve_as_the_nested_names()
     ensures { (driving : ℕ → logic.Logic) (tree : SourceTree) → IsResolvable tree
         → resolved (map (flat_source_value driving) (flat_sources tree)) ≡ nested driving tree }

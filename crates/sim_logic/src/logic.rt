@@ -7,7 +7,7 @@ ghost use Rattle.sim_logic.specs.Logic.{byte_of};
 /// A value of std_ulogic, in the order of its declaration (IEEE 1164, type `std_ulogic`).
 #[derive(Clone, Copy, Debug, Default, PartialEq, Eq, Hash)]
 pub enum Logic {
-    /// `'U'`, uninitialized: the leftmost value, and so the default of a signal.
+    /// `'U'`, uninitialized: the leftmost value, and therefore the default value of a signal.
     #[default]
     U,
     /// `'X'`, forcing unknown.
@@ -29,8 +29,8 @@ pub enum Logic {
 }
 
 impl Logic {
-    /// The value whose character literal has this byte; `None` where no value has.
-    /// The literals are case sensitive.
+    /// The value whose character literal has this byte, or `None` if there is none. The literals
+    /// are case sensitive.
     pub fn from_byte(byte: u8) -> Option<Logic>
         ensures some { IfSome result (λ value. byte_of value ≡ byte) }
         ensures none { IfNone result ((value : logic.Logic) → byte_of value ≢ byte) }

@@ -1,4 +1,4 @@
-//! The operators that an expression names (IEEE 1076-2008, 9.2).
+//! The relational and binary logical operators of expressions (IEEE 1076-2008, 9.2).
 
 /// A relational operator (9.2.3).
 #[derive(Clone, Copy, Debug, PartialEq, Eq)]
@@ -7,7 +7,7 @@ pub enum Relational {
     Unequal,
 }
 
-/// A logical operator of two operands (9.2.2).
+/// A binary logical operator (9.2.2).
 #[derive(Clone, Copy, Debug, PartialEq, Eq)]
 pub enum Logical {
     And,

@@ -1,4 +1,4 @@
-//! The logical operators of std_logic_1164, its strength stripper and its edges.
+//! The logical operators of std_logic_1164, its strength stripper and its edge functions.
 
 ghost use Rattle.std.specs.Prelude.{◌≡◌};
 ghost use Rattle.sim_logic.specs.Edge as edge;
@@ -101,21 +101,21 @@ impl Logic {
         NOT_TABLE[self as usize]
     }
 
-    /// The function `To_X01`: `'0'` for both strengths of 0, `'1'` for both of 1, else `'X'`.
+    /// `To_X01`: `'0'` for `'0'` and `'L'`, `'1'` for `'1'` and `'H'`, otherwise `'X'`.
     pub fn to_x01(self) -> Logic
         ensures { result ≡ to_x01 self }
     {
         TO_X01[self as usize]
     }
 
-    /// A change from the old value to the new one is a rising edge (function `rising_edge`).
+    /// Whether a change from `old` to `new` is a rising edge (function `rising_edge`).
     pub fn rises(old: Logic, new: Logic) -> bool
         ensures { result ≡ edge.rises old new }
     {
         old.to_x01() == Zero && new.to_x01() == One
     }
 
-    /// A change from the old value to the new one is a falling edge (function `falling_edge`).
+    /// Whether a change from `old` to `new` is a falling edge (function `falling_edge`).
     pub fn falls(old: Logic, new: Logic) -> bool
         ensures { result ≡ edge.falls old new }
     {

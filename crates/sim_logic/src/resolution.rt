@@ -6,7 +6,7 @@ ghost use Rattle.sim_logic.specs.Tables.{resolution_table};
 
 use crate::logic::Logic::{self, Dash, H, L, One, U, W, X, Z, Zero};
 
-/// A row for each first value, a column for each second (IEEE 1164, `resolution_table`).
+/// Row: first value; column: second value (IEEE 1164, `resolution_table`).
 static RESOLUTION_TABLE: [[Logic; 9]; 9] = [
     [U, U, U, U, U, U, U, U, U],
     [U, X, X, X, X, X, X, X, X],
@@ -19,16 +19,16 @@ static RESOLUTION_TABLE: [[Logic; 9]; 9] = [
     [U, X, X, X, X, X, X, X, X],
 ];
 
-/// The resolution of two values (IEEE 1164, `resolution_table`). By it a caller resolves two
-/// sources or more with no list of their values, one after another from `'Z'` on; the value of a
-/// single source stands as it is.
+/// The resolution of two values (IEEE 1164, `resolution_table`). A caller can resolve two or more
+/// sources with it, one after another from `'Z'`, without a list of their values; a single source
+/// keeps its value.
 pub fn resolve_two(first: Logic, second: Logic) -> Logic
     ensures { result ≡ resolution_table first second }
 {
     RESOLUTION_TABLE[first as usize][second as usize]
 }
 
-/// The values of the drivers, resolved from the left.
+/// The values of the drivers, resolved from left to right.
 fn merge(drivers: &[Logic]) -> Logic
     ensures { result ≡ fold resolution_table Logic.Z drivers.now }
 {
@@ -36,7 +36,7 @@ fn merge(drivers: &[Logic]) -> Logic
 }
 
 /// The value of a signal of type std_logic whose sources have these values (IEEE 1164, function
-/// `resolved`). A single value stands as it is; no value at all gives `'Z'`, as in the standard.
+/// `resolved`). A single value is returned unchanged; no values give `'Z'`, as in the standard.
 pub fn resolve(drivers: &[Logic]) -> Logic
     ensures { result ≡ resolved drivers.now }
 {

@@ -6,7 +6,7 @@ ghost use Rattle.sim_logic.specs.Time.{femtoseconds_in, largest_time};
 
 use std::marker::Model;
 
-/// The greatest time in femtoseconds, 2^62 - 1: the sum of two times fits a `u64`.
+/// The greatest time in femtoseconds, 2^62 - 1: the sum of two times fits in a `u64`.
 pub const LATEST: u64 = 4_611_686_018_427_387_903;
 
 /// A unit of time (IEEE 1076-2008, 5.2.4.2).
@@ -23,7 +23,7 @@ pub enum Unit {
 }
 
 impl Unit {
-    /// How many femtoseconds the unit has.
+    /// The number of femtoseconds in the unit.
     pub fn femtoseconds(self) -> u64
         ensures { result ≡ femtoseconds_in self }
     {
@@ -40,7 +40,7 @@ impl Unit {
     }
 }
 
-/// A time of at most `LATEST`, which contracts see as its number of femtoseconds.
+/// A time of at most `LATEST`; in contracts, its number of femtoseconds.
 #[derive(Clone, Copy, Debug, PartialEq, Eq, PartialOrd, Ord, Hash)]
 pub struct Time {
     fs: u64,
@@ -60,7 +60,7 @@ impl Model for Time {
 }
 
 impl Time {
-    /// `count` of a unit; `None` exactly where that is more than `LATEST`.
+    /// The time of `count` units; `None` exactly if it is more than `LATEST`.
     pub fn of(count: u64, unit: Unit) -> Option<Time>
         ensures { let fs = count * femtoseconds_in unit in SomeIff result (fs ≤ largest_time) fs }
     {

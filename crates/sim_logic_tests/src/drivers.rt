@@ -11,7 +11,7 @@ use sim_wave::{Delay, Driver, Transaction};
 use std::alloc::{AllocError, Global};
 use std::test::Fail;
 
-/// A pulse from 2 to 3, and then an inertial assignment of '1' at 5.
+/// A pulse from 2 to 3 fs, and then an inertial assignment of '1' at 5 fs.
 fn pulse_rejected_by(alloc: Global, reject: u64) -> Result<Driver, AllocError>
     requires { reject ≤ 5 }
 {
@@ -51,7 +51,7 @@ fn drivers_that_differ_in_what_is_pending_are_not_the_same(rt: HostRuntime) -> R
     Ok(())
 }
 
-/// Whether a waveform is scheduled whole.
+/// Whether all elements of a waveform are scheduled.
 fn is_scheduled(alloc: Global) -> Result<bool, AllocError> {
     let mut driver = Driver::new(alloc, Zero);
     driver.edit(0, Delay::Transport, &[(3, One), (5, Zero)])?;
@@ -64,7 +64,7 @@ fn a_waveform_is_scheduled(rt: HostRuntime) -> Result<(), Fail> {
     Ok(())
 }
 
-/// A pulse from 3 to 5, of which a later inertial assignment flat sources the rise.
+/// A pulse from 3 to 5 fs; a later inertial assignment keeps its rise and deletes its fall.
 fn short_pulse(alloc: Global) -> Result<Driver, AllocError> {
     let mut driver = Driver::new(alloc, Zero);
     driver.edit(0, Delay::Transport, &[(3, One), (5, Zero)])?;
@@ -72,7 +72,7 @@ fn short_pulse(alloc: Global) -> Result<Driver, AllocError> {
     Ok(driver)
 }
 
-/// Whether the transactions at 3 and 4 are taken at their times alone.
+/// Whether the transactions at 3 and 4 fs are taken only at their times.
 fn takes_in_turn(driver: &mut Driver) -> bool {
     driver.pending() == [(3, One), (4, One)].as_slice()
         && driver.next() == Some(3)
@@ -94,8 +94,8 @@ fn transactions_are_taken_at_their_times(rt: HostRuntime) -> Result<(), Fail> {
     Ok(())
 }
 
-/// A driver that at each time from 0 to 7 is assigned a value 5 fs ahead, and takes what is due.
-/// The value is '1', or else it alternates, beginning with '0'.
+/// A driver that is assigned a value 5 fs ahead at each time from 0 to 7 fs, and then takes the
+/// transactions that are due. The value is '1', or else it alternates, beginning with '0'.
 fn assigned_each_time(alloc: Global, delay: Delay, same: bool) -> Result<Driver, AllocError>
     requires { IsWithin delay 5 }
     ensures { IfOk result (λ driver. RisesFrom 8 driver.pending) }
@@ -109,7 +109,7 @@ fn assigned_each_time(alloc: Global, delay: Delay, same: bool) -> Result<Driver,
     Ok(driver)
 }
 
-/// Whether a driver is left so that is assigned each time, and is the same as its copy.
+/// Whether these are the value and the transactions of such a driver, and its copy is the same.
 fn leaves_each_time(
     alloc: Global,
     delay: Delay,
@@ -135,7 +135,7 @@ fn equal_values_stay_and_others_are_rejected(rt: HostRuntime) -> Result<(), Fail
     Ok(())
 }
 
-/// Whether these are left, of a line of many, by an inertial assignment at 8 of a value 4 fs ahead.
+/// Whether an inertial assignment at 8 fs, 4 fs ahead, leaves these of many transactions.
 fn leaves_of_many(alloc: Global, wanted: &[Transaction]) -> Result<bool, AllocError> {
     let mut driver = assigned_each_time(alloc, Delay::Transport, false)?;
     driver.edit(8, Delay::Inertial { reject: 2 }, &[(4, One)])?;
@@ -148,7 +148,7 @@ fn a_line_of_many_is_edited(rt: HostRuntime) -> Result<(), Fail> {
     Ok(())
 }
 
-/// A driver with one transaction at 5.
+/// A driver with one transaction, at 5 fs.
 fn one_pending(alloc: Global) -> Result<Driver, AllocError>
     ensures { IfOk result (λ driver. driver.pending ≡ (5, logic.Logic.One) ∷ []) }
 {
@@ -157,7 +157,7 @@ fn one_pending(alloc: Global) -> Result<Driver, AllocError>
     Ok(driver)
 }
 
-/// Whether these are left of it by an inertial assignment at 3 of a value 5 fs ahead.
+/// Whether an inertial assignment to it at 3 fs, 5 fs ahead, leaves these.
 fn leaves_of_one(
     alloc: Global,
     reject: u64,
@@ -178,7 +178,7 @@ fn a_single_one_is_kept_or_rejected(rt: HostRuntime) -> Result<(), Fail> {
     Ok(())
 }
 
-/// The drivers' values, resolved one after another.
+/// The values of the drivers, resolved one after another.
 fn resolved_in_turn(drivers: &[Driver]) -> Logic
     ensures { result ≡ fold resolution_table Logic.Z (map (λ driver. driver.value) drivers.now) }
 {
@@ -189,7 +189,7 @@ fn resolved_in_turn(drivers: &[Driver]) -> Logic
     value
 }
 
-/// The value of a signal with these drivers, with no list of their values.
+/// The value of a signal with these drivers, computed without a list of their values.
 fn driving_value(drivers: &[Driver]) -> Logic
     ensures { result ≡ resolved (map (λ driver. driver.value) drivers.now) }
 {
@@ -199,7 +199,7 @@ fn driving_value(drivers: &[Driver]) -> Logic
     }
 }
 
-/// Whether no driver, one and two have the values of their signals.
+/// Whether signals with no driver, one and two have the right values.
 fn are_resolved(alloc: Global) -> bool {
     let drivers = [Driver::new(alloc, Dash), Driver::new(alloc, One)];
     driving_value(&drivers[..1]) == Dash

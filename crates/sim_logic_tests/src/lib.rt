@@ -1,5 +1,5 @@
 //! Tests of values and times, of drivers, and of sets and queues: each public call once, against
-//! values that were worked by hand.
+//! values worked out by hand.
 #![tactic(auto)]
 
 #[cfg(test)]

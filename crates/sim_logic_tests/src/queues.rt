@@ -7,7 +7,7 @@ use std::test::Fail;
 /// Numbers at both ends of words and of top words.
 const NUMBERS: [usize; 6] = [0, 63, 64, 4095, 4096, 4999];
 
-/// Adds these numbers or takes them out.
+/// Adds or removes these numbers.
 fn put_each(set: &mut NumberSet, numbers: &[usize], is_member: bool) {
     for number in numbers {
         if *number < set.len() {
@@ -16,14 +16,14 @@ fn put_each(set: &mut NumberSet, numbers: &[usize], is_member: bool) {
     }
 }
 
-/// The members, rising.
+/// The members, in ascending order.
 fn listed(alloc: Global, set: &NumberSet) -> Result<Vec<usize>, AllocError> {
     let mut numbers = Vec::with_capacity(alloc, set.len())?;
     set.list(&mut numbers);
     Ok(numbers)
 }
 
-/// From where members are looked for, and the next one.
+/// Where the search for a member starts, and the next member.
 static NEXT: [(usize, Option<usize>); 6] = [
     (0, Some(0)),
     (1, Some(63)),
@@ -33,7 +33,7 @@ static NEXT: [(usize, Option<usize>); 6] = [
     (5000, None),
 ];
 
-/// Whether the next member is found from each place of the table.
+/// Whether the search finds the next member from each place in the table.
 fn finds_each_next(set: &NumberSet) -> bool {
     for row in NEXT.iter() {
         if set.next(row.0) != row.1 {
@@ -43,7 +43,7 @@ fn finds_each_next(set: &NumberSet) -> bool {
     true
 }
 
-/// Whether these are the members, rising.
+/// Whether these are the members, in ascending order.
 fn lists(alloc: Global, set: &NumberSet, wanted: &[usize]) -> Result<bool, AllocError> {
     Ok(listed(alloc, set)?.as_slice() == wanted)
 }
@@ -57,7 +57,7 @@ fn members_are_found_in_many_words(rt: HostRuntime) -> Result<(), Fail> {
     Ok(())
 }
 
-/// Whether these are members.
+/// Numbers, and whether they are members.
 static MEMBERS: [(usize, bool); 5] = [
     (0, false),
     (1, true),
@@ -66,7 +66,7 @@ static MEMBERS: [(usize, bool); 5] = [
     (130, false),
 ];
 
-/// Whether the set has the members of the table, and not the others.
+/// Whether exactly the members in the table are in the set.
 fn has_members(set: &NumberSet) -> bool {
     for row in MEMBERS.iter() {
         if set.contains(row.0) != row.1 {
@@ -116,7 +116,7 @@ fn three(alloc: Global) -> Result<TimeQueue, AllocError>
     Ok(queue)
 }
 
-/// Whether this is the least time, and these are its drivers. They are taken.
+/// Whether this is the least time and these are the drivers due then, which are taken.
 fn are_due(
     alloc: Global,
     queue: &mut TimeQueue,
@@ -131,7 +131,7 @@ fn are_due(
     Ok(queue.take_due(alloc, time)?.as_slice() == wanted)
 }
 
-/// Whether driver 2 is due at 3 and driver 0 next, at 5; with its time cleared, driver 1 at 9.
+/// Whether driver 2 is due at 3, driver 0 at 5 and, with the latter cleared, driver 1 at 9.
 fn takes_at_the_last_times(alloc: Global, queue: &mut TimeQueue) -> Result<bool, AllocError>
     requires { length queue.old ≡ 3 }
 {
@@ -148,7 +148,7 @@ fn drivers_are_taken_at_their_last_times(rt: HostRuntime) -> Result<(), Fail> {
     Ok(())
 }
 
-/// Whether drivers that are put at 3, after 3 was taken, are due at 3 once more.
+/// Whether drivers put at 3 after 3 was taken are due at 3 again.
 fn takes_at_one_time_again(alloc: Global, queue: &mut TimeQueue) -> Result<bool, AllocError>
     requires { length queue.old ≡ 3 }
 {

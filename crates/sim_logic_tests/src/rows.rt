@@ -2,7 +2,7 @@ use sim_store_sets::{DividedRows, RowArray};
 use std::alloc::{AllocError, Global};
 use std::test::Fail;
 
-/// So many lists of one number each.
+/// This many lists of one number each.
 fn numbers(alloc: Global, lists: usize) -> Result<RowArray<usize>, AllocError> {
     let mut rows = RowArray::new(alloc)?;
     for number in 0..lists {
@@ -11,14 +11,14 @@ fn numbers(alloc: Global, lists: usize) -> Result<RowArray<usize>, AllocError> {
     Ok(rows)
 }
 
-/// The same, in about so many parts.
+/// The same lists, in about this many parts.
 fn divided(alloc: Global, lists: usize, parts: usize) -> Result<DividedRows<usize>, AllocError> {
     let whole = DividedRows::of(alloc, numbers(alloc, lists)?)?;
     whole.divide(alloc, parts)
 }
 
-/// How many lists there are, for how many parts, how many there are then, and how many lists the
-/// first one has.
+/// The number of lists, the number of parts requested, the number of parts made, and the number of
+/// lists in the first.
 static PARTS: [(usize, usize, usize, usize); 6] = [
     (0, 4, 1, 0),
     (1, 4, 1, 1),
@@ -28,7 +28,7 @@ static PARTS: [(usize, usize, usize, usize); 6] = [
     (3, 8, 3, 1),
 ];
 
-/// Whether there are so many parts, of which the first has so many lists.
+/// Whether there are this many parts, and this many lists in the first.
 fn are_so_many(parts: &[RowArray<usize>], count: usize, lists: usize) -> bool {
     match parts.first() {
         Some(first) => parts.len() == count && first.len() == lists,
@@ -36,7 +36,7 @@ fn are_so_many(parts: &[RowArray<usize>], count: usize, lists: usize) -> bool {
     }
 }
 
-/// Whether a row of the table is divided so, and can be put together again.
+/// Whether a row of the table is divided like this, and can be put together again.
 fn is_divided(alloc: Global, row: &(usize, usize, usize, usize)) -> Result<bool, AllocError> {
     let (parts, each) = divided(alloc, row.0, row.1)?.into_parts();
     if !are_so_many(parts.as_slice(), row.2, row.3) {
@@ -46,7 +46,7 @@ fn is_divided(alloc: Global, row: &(usize, usize, usize, usize)) -> Result<bool,
     Ok(are_so_many(parts.as_slice(), row.2, row.3))
 }
 
-/// Whether each row of the table is.
+/// Whether this is true of each row of the table.
 fn is_each_divided(alloc: Global) -> Result<bool, AllocError> {
     for row in PARTS.iter() {
         if !is_divided(alloc, row)? {

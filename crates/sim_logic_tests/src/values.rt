@@ -1,11 +1,11 @@
 use sim_logic::{LATEST, Logic, Time, Unit, resolve};
 
-/// A number of a unit in femtoseconds; `None` above the latest time.
+/// A number of units in femtoseconds; `None` above the latest time.
 fn femtoseconds(count: u64, unit: Unit) -> Option<u64> {
     Time::of(count, unit).map(|time| time.fs())
 }
 
-/// Whether characters name values, and values characters.
+/// Whether characters name values, and values have characters.
 fn are_named() -> bool {
     matches!(Logic::from_byte(b'-'), Some(Logic::Dash))
         && Logic::from_byte(b'z').is_none()
@@ -17,8 +17,8 @@ fn characters_name_values(rt: HostRuntime) {
     assert!(rt; are_named());
 }
 
-/// The first value, what the operators make of weak values, and what drivers resolve to; each beside
-/// the value that is wanted.
+/// The default value, results of operators on weak values, and resolved values, each with the
+/// expected value.
 fn values() -> [(Logic, Logic); 8] {
     [
         (Logic::default(), Logic::U),
@@ -32,7 +32,7 @@ fn values() -> [(Logic, Logic); 8] {
     ]
 }
 
-/// The place of the first value that is another one than is wanted.
+/// The index of the first value that is not the expected one.
 fn first_other() -> Option<usize> {
     for (place, row) in values().iter().enumerate() {
         if row.0 != row.1 {
@@ -47,7 +47,7 @@ fn operators_look_through_weak_values_and_drivers_are_resolved(rt: HostRuntime) 
     assert_eq!(rt; first_other(), None);
 }
 
-/// Whether edges go from a zero to a one, or from a one to a zero.
+/// Whether edges are detected between a zero and a one, strong or weak, and only there.
 fn are_edges() -> bool {
     Logic::rises(Logic::L, Logic::H)
         && !Logic::rises(Logic::X, Logic::One)
@@ -59,7 +59,7 @@ fn edges_go_from_a_zero_to_a_one(rt: HostRuntime) {
     assert!(rt; are_edges());
 }
 
-/// Times of units, in femtoseconds.
+/// Numbers of units, in femtoseconds.
 static TIMES: [(u64, Unit, Option<u64>); 4] = [
     (1, Unit::Hr, Some(3_600_000_000_000_000_000)),
     (2, Unit::Hr, None),
@@ -67,7 +67,7 @@ static TIMES: [(u64, Unit, Option<u64>); 4] = [
     (LATEST + 1, Unit::Fs, None),
 ];
 
-/// The place of the first row whose time is another one.
+/// The index of the first row with another time.
 fn first_other_time() -> Option<usize> {
     for (place, row) in TIMES.iter().enumerate() {
         if femtoseconds(row.0, row.1) != row.2 {

@@ -171,7 +171,7 @@ module _ (n word : ℕ) (views : List View) (l : IsLawful n word views) where
   none_of g [] h = refl
   none_of g (x ∷ xs) h = omega (arith, h zero x refl, none_of g xs (λ j u e. h (suc j) u e))
 
-  -- who has all of the allowance, used or not, has drawn all
+  -- a seat with the whole allowance, used or not, has drawn all
   alone : (g : View → ℕ) (vs : List View) (id : ℕ) (v : View) → get_elem? vs id ≡ some v
       → ((j : ℕ) (u : View) → j ≢ id → get_elem? vs j ≡ some u → g u ≡ 0)
       → total g vs ≡ g v
@@ -179,7 +179,7 @@ module _ (n word : ℕ) (views : List View) (l : IsLawful n word views) where
   alone g (x ∷ xs) zero v at h = omega (arith, ap g (some-injective x v at), none_of g xs (λ j u e. h (suc j) u (λ z. omega arith) e))
   alone g (x ∷ xs) (suc id) v at h = omega (arith, h zero x (λ z. omega arith) refl, alone g xs id v at (λ j u ne e. h (suc j) u (λ z. ne (omega arith)) e))
 
-  -- then all others have drawn nothing
+  -- then no other seat has drawn anything
   others : (id : ℕ) (v : View) → get_elem? views id ≡ some v → v.allowance + v.overdraws ≡ 64
       → (j : ℕ) (u : View) → j ≢ id → get_elem? views j ≡ some u → u.drawn ≡ []
   others id v at full j u ne e =

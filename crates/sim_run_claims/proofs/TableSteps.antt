@@ -62,7 +62,7 @@ joins n id v other w s h at apart there = record {
   lawful = join_stays_lawful n h.word s.views h.lawful id other v w at apart there;
 }
 
--- What `close` reads: where a seat has the whole allowance, used or not, the word tells what it drew.
+-- What `close` reads: if a seat has the whole allowance, used or not, the word says what it drew.
 module _ (n id : ℕ) (v : View) (ws xs : List ℕ) (word : ℕ) (final : Final (Seen (Holds n) id v) ws xs) (read : get_elem? ws 0 ≡ some word) where
   word_is : final.1.0.word ≡ word
   word_is = some-injective final.1.0.word word (subst (λ (l : List ℕ). get_elem? l 0 ≡ some word) (sym final.2 ∙ final.1.0.words) read)

@@ -1,11 +1,11 @@
--- What all seats together have drawn, and how it fits the word.
--- Of the implementation: what `simulate` promises does not rest on this file.
+-- What all seats together have drawn, and how it agrees with the word.
+-- Implementation only: what `simulate` promises does not rest on this file.
 use Rattle.std.specs.Prelude.{◌≡◌, ℕ, ◌+◌, ◌<◌, ◌≤◌, List, [], ◌∷◌, length, ◌==◌, nat_lt, cond}
 use mathlib.Core.Option.{some}
 use lib.ListN.{get_elem?}
 use Rattle.sim_run_claims.specs.declared.view.View.{View}
 
--- the sum of f over a list
+-- the sum of `f` over a list
 abbrev pub total : {A : Type 0} → (A → ℕ) → List A → ℕ
 total f [] = 0
 total f (x ∷ xs) = f x + total f xs
@@ -16,7 +16,7 @@ one_if_same x y = cond (y == x) 1 0
 abbrev pub one_if_below : ℕ → ℕ → ℕ
 one_if_below x count = cond (nat_lt x count) 1 0
 
--- how often x stands in a list
+-- how often `x` occurs in a list
 abbrev pub occurrences : ℕ → List ℕ → ℕ
 occurrences x xs = total (one_if_same x) xs
 
@@ -33,7 +33,7 @@ overdraws_in views = total (λ (v : View). v.overdraws) views
 abbrev pub allowance_in : List View → ℕ
 allowance_in views = total (λ (v : View). v.allowance) views
 
--- The word counts all draws. Those that drew a number drew the numbers below some count, each once; there is one in vain only after all numbers are drawn.
+-- The word counts all draws. Those that gave a number gave the numbers below some count, each once; one is in vain only after all numbers are drawn.
 pub record IsLawful (count word : ℕ) (views : List View) : Type 0 where
   pub counted : word ≡ drawn_in views + overdraws_in views
   pub allowed : overdraws_in views + allowance_in views ≡ 64

@@ -1,5 +1,5 @@
--- The rule of the table, which holds between any two steps of any threads, and what a step tells its thread.
--- Of the implementation: what `simulate` promises does not rest on this file.
+-- The rule of the table, which holds between any two steps of any threads, and what a step says to its thread.
+-- Implementation only: what `simulate` promises does not rest on this file.
 use Rattle.std.specs.Prelude.{◌≡◌, ℕ, ◌<◌, ◌≤◌, [], ◌∷◌}
 use Rattle.atomic_table.specs.Table.{State, Me, Step}
 use Rattle.sim_run_claims.specs.declared.view.View.{View}
@@ -13,13 +13,13 @@ pub record Holds (count : ℕ) (table : State ℕ View) : Type 0 where
   pub few : count ≤ 1000000
   pub lawful : IsLawful count word table.views
 
--- One was added to the word: a number found below the limit is drawn, any other is an overdraw.
+-- The word was incremented: a number found below the limit is drawn, any other is an overdraw.
 abbrev pub Drew : Step ℕ → Me ℕ View → ℕ → Me ℕ View → Type 0
 Drew step before found after =
     (after.1 ≡ before.1)
     × (found < before.0.limit → after.0 ≡ with_number before.0 found)
     × (before.0.limit ≤ found → after.0 ≡ overdrawn before.0)
 
--- The word was read: the seat's allowance is within the whole one.
+-- The word was read: the seat's allowance is at most the whole one.
 abbrev pub Looked : Step ℕ → Me ℕ View → ℕ → Me ℕ View → Type 0
 Looked step before found after = (after ≡ before) × (before.0.allowance ≤ 64)

@@ -1,11 +1,11 @@
--- What callers may know of claims and their seats.
--- Of the implementation: what `simulate` promises does not rest on this file.
+-- What callers may know about claims and their seats.
+-- Implementation only: what `simulate` promises does not rest on this file.
 use Rattle.std.specs.Prelude.{◌≡◌, ℕ, ◌+◌}
 use Rattle.sim_run_claims.specs.declared.view.View.{View}
 use Rattle.sim_run_claims.specs.declared.drawing.Claims.{Claims}
 use Rattle.sim_run_claims.specs.declared.drawing.ClaimSeat.{ClaimSeat}
 
--- how many numbers there are to draw
+-- the number of numbers to draw
 abbrev pub count_of : Claims → ℕ
 count_of claims = claims.count
 
@@ -17,6 +17,6 @@ seen seat = seat.seat.me.0
 abbrev pub balance : ClaimSeat → ℕ
 balance seat = (seen seat).allowance + (seen seat).overdraws
 
--- The seat is one of these claims.
+-- The seat belongs to these claims.
 abbrev pub IsOf : Claims → ClaimSeat → Type 0
 IsOf claims seat = (seat.seat.table_id ≡ claims.table.shared.table_id) × ((seen seat).limit ≡ count_of claims)

@@ -1,5 +1,5 @@
 -- The view of a seat: what it has drawn, and how a draw, a split and a join change that.
--- Of the implementation: what `simulate` promises does not rest on this file.
+-- Implementation only: what `simulate` promises does not rest on this file.
 use Rattle.std.specs.Prelude.{◌≡◌, ℕ, ◌+◌, ◌-◌, ◌/◌, ◌<◌, List, [], ◌∷◌, ◌++◌, Option, MatchOption}
 use Rattle.sim_run_claims.specs.declared.view.View.{View}
 
@@ -10,27 +10,27 @@ view_of drawn allowance overdraws limit = record { drawn = drawn; allowance = al
 abbrev pub first_view : ℕ → View
 first_view count = view_of [] 64 0 count
 
--- the seat that drew a number
+-- a seat after it drew a number
 abbrev pub with_number : View → ℕ → View
 with_number v number = view_of (v.drawn ++ number ∷ []) v.allowance v.overdraws v.limit
 
--- the seat that drew in vain
+-- a seat after a draw in vain
 abbrev pub overdrawn : View → View
 overdrawn v = view_of v.drawn (v.allowance - 1) (v.overdraws + 1) v.limit
 
--- the seat that split
+-- a seat after it was split
 abbrev pub kept_half : View → View
 kept_half v = view_of v.drawn (v.allowance - v.allowance / 2) v.overdraws v.limit
 
--- the new seat
+-- the new seat of a split
 abbrev pub handed_half : View → View
 handed_half v = view_of [] (v.allowance / 2) 0 v.limit
 
--- the seat that took another in
+-- a seat after it took over another one
 abbrev pub joined : View → View → View
 joined v other = view_of (v.drawn ++ other.drawn) (v.allowance + other.allowance) (v.overdraws + other.overdraws) v.limit
 
--- what is left of the other
+-- what is left of that other one
 abbrev pub spent_view : View
 spent_view = view_of [] 0 0 0
 

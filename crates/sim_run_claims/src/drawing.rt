@@ -1,4 +1,4 @@
-//! Claims on the numbers below a count, and the seats that draw them.
+//! Claims: the numbers below a count, which threads draw by their seats.
 
 ghost use Rattle.std.specs.Prelude.{◌≡◌, ◌<◌, ◌≤◌, [], length, None, IfOk, OnOk, OnErr};
 
@@ -7,11 +7,11 @@ use crate::view::View;
 use atomic_table::{Seat, Table};
 use std::alloc::{AllocError, Global};
 
-/// How often seats may draw in vain, all together.
+/// The number of draws in vain that all seats together may make.
 const ALLOWANCE: u32 = 64;
 
-/// The numbers below a count, of which each draw takes the next one. Any number of threads may draw
-/// at once.
+/// The numbers below a count. Each draw takes the next one. Any number of threads may draw at the
+/// same time.
 #[derive(Drop)]
 pub struct Claims {
     table: Table<u8, View, usize, EachOnce, Global>,
@@ -22,7 +22,7 @@ pub struct Claims {
     ghost few: { count ≤ 1000000 },
 }
 
-/// The right to draw, and a share of the allowance for draws in vain.
+/// The right to draw, and a share of the allowance of draws in vain.
 #[derive(Drop)]
 pub struct ClaimSeat {
     seat: Seat<u8, View>,
@@ -51,8 +51,8 @@ impl Claims {
         Ok((Claims { table, count }, seat))
     }
 
-    /// The next number, or none where all are drawn, which uses up one of the allowance. A seat
-    /// with no allowance draws nothing, and makes no step.
+    /// The next number, or `None` if all are drawn, which uses up one of the allowance. A seat
+    /// without allowance draws nothing, and leaves the word alone.
     pub fn draw(&self, seat: &mut ClaimSeat) -> Option<usize>
         requires { IsOf self.now seat.old }
         ensures of { IsOf self.now seat.new }
@@ -98,7 +98,7 @@ impl Claims {
         })
     }
 
-    /// Takes in another seat, with all that it has drawn, its allowance and its overdraws.
+    /// Takes over another seat: what it has drawn, its allowance and its overdraws.
     pub fn join(&self, seat: &mut ClaimSeat, other: ClaimSeat)
         requires seat { IsOf self.now seat.old }
         requires other { IsOf self.now other }
@@ -115,12 +115,12 @@ impl Claims {
             ..
         } = seat;
         self.table.shared.join_seat::<Halves>(seat, joining);
-        // The joining tells nothing of the sum: a look at the word does, by the rule.
+        // Joining says nothing about the sum; looking at the word does, by the rule.
         self.table.shared.load::<Looks>(seat, 0);
         *allowance += gained;
     }
 
-    /// How many numbers were drawn, once a seat has the whole allowance, used or not.
+    /// The number of draws that gave a number. The seat must have the whole allowance, used or not.
     pub fn close(self, seat: ClaimSeat) -> usize
         requires of { IsOf self seat }
         requires whole { balance seat ≡ 64 }

@@ -1,8 +1,8 @@
-//! Numbers that threads draw: each number below a count once, and none left out.
+//! Numbers that threads draw: each number below a count exactly once.
 //!
 //! A thread draws by a seat of its own, in one step on one word that all threads share. No call
-//! takes `Wait`, so a draw over a counter in a `Mutex` cannot be formed: to take its lock needs
-//! that bound.
+//! takes `Wait`, so none can take the lock of a `Mutex`, which needs that bound: a draw over a
+//! counter under a lock cannot be written.
 #![tactic(auto)]
 
 mod drawing;

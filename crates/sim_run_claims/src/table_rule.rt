@@ -1,4 +1,4 @@
-//! The rule of the table with the word, and what its steps are called.
+//! The rule of the table with the word, and the names of its steps.
 
 ghost use Rattle.sim_run_claims.specs.Rule.{Holds, Drew, Looked};
 ghost use Rattle.sim_run_claims.specs.Views.{first_view, kept_half, handed_half, joined, spent_view};
@@ -6,7 +6,7 @@ ghost use Rattle.sim_run_claims.specs.Views.{first_view, kept_half, handed_half,
 use crate::view::View;
 use atomic_table::{Join, Play, Split, TableRule};
 
-/// The numbers drawn are those below some number, each by one seat and once.
+/// The numbers drawn are those below some number, each drawn once and by one seat.
 pub struct EachOnce;
 
 impl TableRule<u8, View, usize> for EachOnce {
@@ -15,7 +15,7 @@ impl TableRule<u8, View, usize> for EachOnce {
     ghost first = { first_view };
 }
 
-/// One is added to the word: what was found there is drawn.
+/// The word is incremented; the number found there is drawn.
 pub struct Draws;
 
 impl Play<u8, View> for Draws {
@@ -29,7 +29,7 @@ impl Play<u8, View> for Looks {
     ghost then = { Looked };
 }
 
-/// Half of an allowance goes to a new seat, or all that a seat has to another.
+/// Half of an allowance goes to a new seat, or all of a seat to another.
 pub struct Halves;
 
 impl Split<View> for Halves {

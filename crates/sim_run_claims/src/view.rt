@@ -1,12 +1,12 @@
-//! What is known of a seat.
+//! What is known about a seat.
 
 ghost use Rattle.std.specs.Prelude.{ℕ, List};
 ghost use Rattle.std.specs.Borrow.{ftrue};
 
 use std::marker::Model;
 
-/// The numbers that a seat has drawn, how often it may still draw in vain, how often it did, and
-/// the number below which all draws are. It stands in proofs alone: no value of it is made.
+/// The numbers that a seat has drawn, how many draws in vain it has left, how many it has made, and
+/// the number below which all draws are. It exists in proofs alone: no value of it is made.
 pub struct View {
     pub ghost drawn: { List ℕ },
     pub ghost allowance: { ℕ },

@@ -1,4 +1,4 @@
-//! What no clause says of a run: which numbers come, and in which order.
+//! What the contracts do not say of threads that draw: which numbers come, and in which order.
 
 ghost use Rattle.std.specs.Prelude.{◌≡◌, ◌+◌, OnOk};
 ghost use Rattle.sim_run_claims.specs.Seats.{IsOf, balance};
@@ -8,7 +8,7 @@ use std::alloc::{AllocError, Global};
 use std::test::Fail;
 use std::thread::{Threads, join};
 
-/// Draws so many times, and gives what came.
+/// Draws this many times, and returns the results.
 fn draw_times(
     alloc: Global,
     claims: &Claims,
@@ -26,7 +26,7 @@ fn draw_times(
     Ok(drawn)
 }
 
-/// Splits a seat so many times, draws by the last new seat and then by the seat, and joins all
+/// Splits a seat this many times, draws by the last new seat and then by the seat, and joins all
 /// again.
 fn draw_after_splits(
     alloc: Global,
@@ -48,7 +48,7 @@ fn draw_after_splits(
     Ok(drawn)
 }
 
-/// Draws in two threads, and gives both seats in one.
+/// Draws in two threads, and returns both seats as one.
 fn draw_in_two_threads<R: Threads + Sync>(
     rt: &R,
     alloc: Global,
@@ -84,7 +84,7 @@ fn draw_in_two_threads<R: Threads + Sync>(
     (seat, both(drawn, drawn_too))
 }
 
-/// What one thread drew, and then what the other did.
+/// What one thread drew, followed by what the other drew.
 fn appended(
     drawn: Result<Vec<Option<usize>>, AllocError>,
     drawn_too: Result<Vec<Option<usize>>, AllocError>,
@@ -95,7 +95,7 @@ fn appended(
     Ok(drawn)
 }
 
-/// What both threads drew, in order.
+/// What both threads drew, sorted.
 fn both(
     drawn: Result<Vec<Option<usize>>, AllocError>,
     drawn_too: Result<Vec<Option<usize>>, AllocError>,
@@ -105,7 +105,7 @@ fn both(
     Ok(drawn)
 }
 
-/// How many numbers there are, and how often one is drawn.
+/// The number of numbers, and the number of draws.
 static DRAWS: [(u8, u32); 4] = [(100, 165), (3, 3), (1, 2), (0, 1)];
 
 #[test]

@@ -7,7 +7,7 @@ use Rattle.sim_logic.specs.declared.logic.Logic.{Logic}
 use Rattle.sim_logic.specs.Logic.{byte_of}
 use Rattle.sim_run_listing.specs.Listing.{joined, pieces_of}
 
--- what a line has after the name
+-- the end of a line, after the name
 abbrev after_name : Logic → List ℕ
 after_name value = joined (codes " " ∷ (byte_of value ∷ []) ∷ codes "\n" ∷ [])
 

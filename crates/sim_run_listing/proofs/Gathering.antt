@@ -1,4 +1,4 @@
--- Pieces of text that are gathered and written one after another.
+-- Pieces of text that are buffered, and written one after another.
 use Rattle.std.proofs.Common.{◌≡◌, ℕ, zero, suc, ◌+◌, ◌-◌, ◌<◌, ◌≤◌, List, [], ◌∷◌, ◌++◌, length, take, drop, refl, sym, ap, ◌∙◌, arith, subst}
 use Rattle.std.proofs.Common.{get_or, append_assoc, append-nil, length-append, length-drop, map, take-append-drop}
 use Rattle.std.specs.Prelude.{Option, None, Some, Result, Ok, Err, OnErr, All, flat_map}
@@ -71,7 +71,7 @@ fails (Some us) None c bytes rest p some k = absurd p.2
 fails (Some us) (Some vs) None bytes rest p some k = absurd k
 fails (Some us) (Some vs) (Some ws) bytes rest p some k = ends_short us ws p.0 rest bytes p.1 some (k ∙ p.2)
 
--- the last write took nothing
+-- the last write wrote nothing
 pub takes_none : (a b c : Option (List ℕ)) (bytes rest : List ℕ) → ((done : List ℕ) × (done ++ rest ≡ bytes) × Appends a b done) → 0 < length rest
     → Appends b c (take 0 rest) → AppendsPart a c bytes
 takes_none None b c bytes rest p some k = tt
@@ -79,7 +79,7 @@ takes_none (Some us) None c bytes rest p some k = absurd p.2
 takes_none (Some us) (Some vs) None bytes rest p some k = absurd k
 takes_none (Some us) (Some vs) (Some ws) bytes rest p some k = ends_short us ws p.0 rest bytes p.1 some (k ∙ (append-nil vs ∙ p.2))
 
--- ---- what is gathered
+-- ---- what is buffered
 
 pub gathers_nothing : (a : Option (List ℕ)) (held : List ℕ) → Gathers a held a held []
 gathers_nothing a held = record { written = []; appended = Appends-nil a; kept = append-nil held }
@@ -101,7 +101,7 @@ stops_then a b c h m xs ys p q =
 pub stops_within : (a c : Option (List ℕ)) (h xs ys : List ℕ) → AppendsPart a c (h ++ xs) → AppendsPart a c (h ++ (xs ++ ys))
 stops_within a c h xs ys p = subst (λ (l : List ℕ). AppendsPart a c l) (append_assoc h xs ys) (part_of_more a c (h ++ xs) ys p)
 
--- what is gathered was written out
+-- the buffered bytes were written
 pub gathers_out : (a b c : Option (List ℕ)) (h m xs : List ℕ) → Gathers a h b m xs → Appends b c m → Gathers a h c [] xs
 gathers_out a b c h m xs p q = record {
   written = p.written ++ m;
@@ -109,7 +109,7 @@ gathers_out a b c h m xs p q = record {
   kept = p.kept ∙ sym (append-nil (p.written ++ m));
 }
 
--- more is gathered, and nothing written
+-- more is buffered, and nothing written
 pub gathers_more : (a b : Option (List ℕ)) (h m xs more : List ℕ) → Gathers a h b m xs → Gathers a h b (m ++ more) (xs ++ more)
 gathers_more a b h m xs more p = record {
   written = p.written;
@@ -117,15 +117,15 @@ gathers_more a b h m xs more p = record {
   kept = sym (append_assoc h xs more) ∙ (ap (λ (l : List ℕ). l ++ more) p.kept ∙ append_assoc p.written m more);
 }
 
--- the bytes are gathered, and nothing written
+-- the bytes are buffered, and nothing written
 pub gathers_held : (a : Option (List ℕ)) (h xs left : List ℕ) → left ≡ h ++ xs → Gathers a h a left xs
 gathers_held a h xs left e = record { written = []; appended = Appends-nil a; kept = sym e }
 
--- what is gathered was written out, and no more is given
+-- the buffered bytes were written, and no more is given
 pub gathers_empty : (a b : Option (List ℕ)) (h m : List ℕ) → Appends a b h → m ≡ [] → Gathers a h b m []
 gathers_empty a b h m p e = record { written = h; appended = p; kept = ap (λ (l : List ℕ). h ++ l) (sym e) }
 
--- one more front of the bytes is gathered
+-- one more prefix of the bytes is buffered
 pub put_goes_on : (a b c : Option (List ℕ)) (h m k bytes rest front back new : List ℕ) → ((done : List ℕ) × (done ++ rest ≡ bytes) × Gathers a h b m done)
     → Gathers b m c k [] → new ≡ k ++ front → front ++ back ≡ rest → (done : List ℕ) × (done ++ back ≡ bytes) × Gathers a h c new done
 put_goes_on a b c h m k bytes rest front back new p q is cut =
@@ -135,18 +135,18 @@ put_goes_on a b c h m k bytes rest front back new p q is cut =
       subst (λ (l : List ℕ). Gathers a h c l (p.0 ++ front)) (sym is) (gathers_more a c h k p.0 front moved),
     )
 
--- what is gathered fails to go out
+-- writing the buffered bytes fails
 pub put_stops : (a b c : Option (List ℕ)) (h m bytes rest : List ℕ) → ((done : List ℕ) × (done ++ rest ≡ bytes) × Gathers a h b m done)
     → AppendsPart b c m → AppendsPart a c (h ++ bytes)
 put_stops a b c h m bytes rest p q =
     subst (λ (l : List ℕ). AppendsPart a c (h ++ l)) p.1 (stops_then a b c h m p.0 rest p.2 (part_of_more b c m rest q))
 
--- what was gathered from nothing was all written out
+-- what was buffered from nothing was all written
 pub all_out : (a b c : Option (List ℕ)) (h m xs : List ℕ) → h ≡ [] → Gathers a h b m xs → Appends b c m → Appends a c xs
 all_out a b c h m xs e p q =
     subst (λ (l : List ℕ). Appends a c l) (sym p.kept ∙ ap (λ (l : List ℕ). l ++ xs) e) (Appends-trans a b c p.written m p.appended q)
 
--- what was gathered from nothing fails to go out
+-- writing what was buffered from nothing fails
 pub all_stops : (a b c : Option (List ℕ)) (h m xs : List ℕ) → h ≡ [] → Gathers a h b m xs → AppendsPart b c m → AppendsPart a c xs
 all_stops a b c h m xs e p q =
     subst (λ (l : List ℕ). AppendsPart a c l) (sym p.kept ∙ ap (λ (l : List ℕ). l ++ xs) e) (then_part a b c p.written m p.appended q)
@@ -168,7 +168,7 @@ module _ {A : Type 0} (f : A → List ℕ) (d : A) where
       (append_assoc (f y) (flat_map f (take i ys) ++ f x) (flat_map f (drop (suc i) ys))) ∙ ap (λ (l : List ℕ). l ++ flat_map f (drop (suc i) ys))
       (sym (append_assoc (f y) (flat_map f (take i ys)) (f x))))
 
-  -- one more of them is gathered
+  -- one more of them is buffered
   pub next_part : (a b c : Option (List ℕ)) (h m k : List ℕ) (xs : List A) (i : ℕ) → i < length xs → Gathers a h b m (flat_map f (take i xs))
       → Gathers b m c k (f (get_or xs i d)) → Gathers a h c k (flat_map f (take (i + 1) xs))
   next_part a b c h m k xs i lt p q = let e : i + 1 ≡ suc i = omega arith in
@@ -189,7 +189,7 @@ module _ {A : Type 0} (f : A → List ℕ) where
       → Gathers a h b m (flat_map f (take i xs)) → AppendsPart b c (m ++ f x) → AppendsPart a c (h ++ flat_map f xs)
   item_fails a b c h m xs i x e lt p q = part_fails f x a b c h m xs i lt p (subst (λ (y : A). AppendsPart b c (m ++ f y)) e q)
 
--- the same over what a function gives of each of them
+-- the same over the values of a function
 module _ {A B : Type 0} (f : B → List ℕ) (g : A → B) where
   at_item : (xs : List A) (i : ℕ) (x : A) → x ≡ get_or xs i x → i < length xs → g x ≡ get_or (map g xs) i (g x)
   at_item xs i x e lt = sym (get_or-map g xs i x (g x) lt ∙ ap g (sym e))

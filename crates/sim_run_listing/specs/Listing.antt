@@ -5,15 +5,15 @@ use Rattle.sim_logic.specs.Logic.{byte_of}
 use Rattle.sim_standard.specs.declared.record.Record.{Record}
 use Rattle.sim_standard.specs.Histories.{event_count}
 
--- some pieces of text, one after another
+-- pieces of text, one after another
 abbrev pub joined : List (List ℕ) → List ℕ
 joined pieces = flat_map (λ (piece : List ℕ). piece) pieces
 
--- how each line of a cycle begins: TIME DELTA
+-- the start of each line of a cycle: TIME DELTA
 abbrev pub head_of : Record → List ℕ
 head_of r = decimal r.time ++ codes " " ++ decimal r.delta ++ codes " "
 
--- a line of how it begins, a name and a value
+-- a line: its start, a name and a value
 abbrev pub pieces_of : List ℕ → List ℕ → Logic → List ℕ
 pieces_of head name value = joined (head ∷ name ∷ codes " " ∷ (byte_of value ∷ []) ∷ codes "\n" ∷ [])
 
@@ -33,6 +33,6 @@ end_of cycles events = joined (codes "done " ∷ decimal cycles ∷ codes " " �
 abbrev pub last_line : List Record → List ℕ
 last_line records = end_of (length records - 1) (event_count records)
 
--- the lines of the initialization and of each cycle, and last how many cycles and events there were
+-- the lines of the initialization and of each cycle, then the number of cycles and of events
 abbrev pub listing : List (List ℕ) → List Record → List ℕ
 listing names records = flat_map (lines_of names) records ++ last_line records

@@ -1,4 +1,4 @@
-//! Bytes to a writer, gathered in blocks.
+//! Bytes for a writer, buffered in blocks.
 ghost use Rattle.std.specs.Prelude.{◌≡◌, ◌<◌, ◌++◌, [], OnOk, OnErr, flat_map};
 ghost use Rattle.std.specs.Io.KnownBytes.{Appends};
 ghost use Rattle.arrayvec.specs.ArrayVec.{array_vec_len};
@@ -10,14 +10,14 @@ use arrayvec::ArrayVec;
 use sim_flat_design::PathPiece;
 use std::io::Write;
 
-/// How many bytes a full block has.
+/// The number of bytes of a full block.
 pub const SIZE: usize = 8192;
 
-/// What is gathered for a writer.
+/// The bytes that are buffered for a writer.
 pub type Block = ArrayVec<u8, SIZE>;
 
-/// Writes all of the bytes, by as many calls as it takes. A call that fails or takes nothing is the
-/// last.
+/// Writes all of the bytes, by as many calls as it takes. It stops at a call that fails or writes
+/// nothing.
 pub fn write_whole<W: Write>(out: &mut W, bytes: &[u8]) -> Result<(), WriteError>
     ensures ok { OnOk result (Appends (W.contents out.old) (W.contents out.new) bytes.now) }
     ensures part { OnErr result (AppendsPart (W.contents out.old) (W.contents out.new) bytes.now) }
@@ -32,7 +32,7 @@ pub fn write_whole<W: Write>(out: &mut W, bytes: &[u8]) -> Result<(), WriteError
     Ok(())
 }
 
-/// Writes what is gathered.
+/// Writes the buffered bytes.
 pub fn write_out<W: Write>(out: &mut W, block: &mut Block) -> Result<(), WriteError>
     ensures ok { OnOk result (Appends (W.contents out.old) (W.contents out.new) block.old.items) }
     ensures empty { OnOk result (block.new.items ≡ []) }
@@ -43,7 +43,7 @@ pub fn write_out<W: Write>(out: &mut W, block: &mut Block) -> Result<(), WriteEr
     Ok(())
 }
 
-/// Writes a block that is full, so that there is room in it.
+/// Writes a block if it is full, so that there is room in it.
 fn make_room<W: Write>(out: &mut W, block: &mut Block) -> Result<(), WriteError>
     ensures ok { OnOk result (Gathers (W.contents out.old) block.old.items (W.contents out.new) block.new.items []) }
     ensures room { OnOk result (array_vec_len block.new < SIZE) }
@@ -55,7 +55,7 @@ fn make_room<W: Write>(out: &mut W, block: &mut Block) -> Result<(), WriteError>
     Ok(())
 }
 
-/// Gathers the bytes, and writes each block that is full.
+/// Buffers the bytes, and writes each full block.
 pub fn put<W: Write>(out: &mut W, block: &mut Block, bytes: &[u8]) -> Result<(), WriteError>
     ensures ok { OnOk result (Gathers (W.contents out.old) block.old.items (W.contents out.new) block.new.items bytes.now) }
     ensures part { OnErr result (AppendsPart (W.contents out.old) (W.contents out.new) (block.old.items ++ bytes.now)) }
@@ -70,7 +70,7 @@ pub fn put<W: Write>(out: &mut W, block: &mut Block, bytes: &[u8]) -> Result<(),
     Ok(())
 }
 
-/// Gathers the pieces, one after another.
+/// Buffers the pieces, one after another.
 pub fn put_all<W: Write>(out: &mut W, block: &mut Block, pieces: &[&[u8]]) -> Result<(), WriteError>
     ensures ok { OnOk result (Gathers (W.contents out.old) block.old.items (W.contents out.new) block.new.items (flat_map (λ p. p.now) pieces.now)) }
     ensures part { OnErr result (AppendsPart (W.contents out.old) (W.contents out.new) (block.old.items ++ flat_map (λ p. p.now) pieces.now)) }
@@ -81,7 +81,7 @@ pub fn put_all<W: Write>(out: &mut W, block: &mut Block, pieces: &[&[u8]]) -> Re
     Ok(())
 }
 
-/// Gathers the pieces of a path, one after another.
+/// Buffers the pieces of a path, one after another.
 pub fn put_path<W: Write>(
     out: &mut W,
     block: &mut Block,

@@ -1,4 +1,4 @@
-//! What holds the records of a run.
+//! Sources of the records of a run.
 
 ghost use Rattle.std.specs.Prelude.{◌≡◌, ◌<◌, ℕ, List, length, map};
 ghost use Rattle.sim_logic.specs.declared.logic.Logic as logic;
@@ -8,7 +8,7 @@ ghost use Rattle.sim_store_state.specs.Log.{record_at};
 use sim_logic::Logic;
 use sim_store_state::{Log, Record};
 
-/// A net that has an event, and its new value, in whatever form.
+/// A net that has an event, and its new value, in any representation.
 pub trait Change: Copy {
     /// The net's number and the value.
     ghost change_of: { Self → ℕ × logic.Logic };
@@ -37,22 +37,22 @@ impl Change for (usize, Logic) {
 /// The records of a run (IEEE 1076-2008, 14.7.5), by number: 0 is the initialization, which has
 /// every net.
 pub trait Records {
-    /// The form of a change.
+    /// The representation of a change.
     type Item: Change;
 
     /// The records.
     ghost contents: { Self → List record_type.Record };
 
-    /// How many records there are.
+    /// The number of records.
     fn len(&self) -> usize
         ensures { result ≡ length (contents self.now) };
 
-    /// When the record with a number is: its time in femtoseconds, and its delta number.
+    /// The time of a record in femtoseconds, and its delta number.
     fn time(&self, number: usize) -> (u64, u64)
         requires { number < length (contents self.now) }
         ensures { result ≡ ((record_at (contents self.now) number).time, (record_at (contents self.now) number).delta) };
 
-    /// The changes of the record with a number.
+    /// The changes in a record.
     fn changes(&self, number: usize) -> &[Self::Item]
         requires { number < length (contents self.now) }
         ensures { map Self.Item.change_of result.now ≡ (record_at (contents self.now) number).changes };

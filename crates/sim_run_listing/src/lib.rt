@@ -1,4 +1,4 @@
-//! The listing of a simulation's history, from whatever holds its records.
+//! The listing of a simulation's history, from any source of records.
 #![tactic(auto)]
 
 mod block;

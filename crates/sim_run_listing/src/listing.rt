@@ -19,10 +19,10 @@ use sim_flat_design::PathPiece;
 use sim_logic::Logic;
 use std::io::Write;
 
-/// How each line of a cycle begins, of two numbers.
+/// The start of each line of a cycle: two numbers.
 type Head = ArrayVec<u8, 96>;
 
-/// How many bytes a line has after the name.
+/// The number of bytes of a line after the name.
 const TAIL: usize = 3;
 
 /// `TIME DELTA `.
@@ -41,7 +41,7 @@ fn head_at(time: u64, delta: u64) -> Head
     head
 }
 
-/// Whether there is room for a line.
+/// Whether a block has room for a line.
 fn has_room(block: &Block, head: &Head, path: &[u8], simple_name: &[u8]) -> bool
     ensures { result ≡ true → array_vec_len block.now + array_vec_len head.now + length path.now + length simple_name.now + TAIL ≤ SIZE }
 {
@@ -50,7 +50,7 @@ fn has_room(block: &Block, head: &Head, path: &[u8], simple_name: &[u8]) -> bool
     beside <= room && simple_name.len() <= room - beside
 }
 
-/// Gathers a line, where there is room for it.
+/// Buffers a line in a block that has room for it.
 fn gather_line(block: &mut Block, head: &Head, path: &[u8], simple_name: &[u8], value: Logic)
     requires { array_vec_len block.old + array_vec_len head.now + length path.now + length simple_name.now + TAIL ≤ SIZE }
     ensures { block.new.items ≡ block.old.items ++ pieces_of head.now.items (path.now ++ simple_name.now) value }
@@ -63,7 +63,7 @@ fn gather_line(block: &mut Block, head: &Head, path: &[u8], simple_name: &[u8], 
         .unwrap();
 }
 
-/// Gathers a line, and writes each block that is full.
+/// Buffers a line, and writes each full block.
 #[inline(never)]
 fn put_pieces<'a, W: Write>(
     out: &mut W,
@@ -82,7 +82,7 @@ fn put_pieces<'a, W: Write>(
     put_all(out, block, &[head, path, simple_name, &tail])
 }
 
-/// A line of how it begins, the pieces of a name, and a value.
+/// A line: its start, a name as a path and a simple name, and a value.
 fn put_named<W: Write>(
     out: &mut W,
     block: &mut Block,
@@ -103,7 +103,7 @@ fn put_named<W: Write>(
     Ok(())
 }
 
-/// The text of a path of one piece at the most; `None` for more.
+/// The text of a path of at most one piece; `None` for more.
 fn undivided(path: &[PathPiece]) -> Option<&[u8]>
     ensures { IfSome result (λ text. text.now ≡ concat path.now) }
 {
@@ -114,7 +114,7 @@ fn undivided(path: &[PathPiece]) -> Option<&[u8]>
     }
 }
 
-/// A line of how it begins, a path of several pieces, the simple name, and a value.
+/// A line: its start, a path of several pieces, the simple name, and a value.
 fn put_divided<W: Write>(
     out: &mut W,
     block: &mut Block,
@@ -233,10 +233,10 @@ fn put_last<W: Write>(
 }
 
 /// Writes the listing of a run: for each record, in order, a line `TIME DELTA NAME VALUE` for each
-/// of its changes, with the time in femtoseconds, and last `done CYCLES EVENTS`. Names are those of
-/// the nets by number; `events_in` counts the events of a `Log`. The lines are gathered and go out
-/// in blocks of 8 KiB; nothing is allocated. The error comes where a write fails or takes nothing;
-/// a prefix of the listing is then written.
+/// of its changes, with the time in femtoseconds, and finally `done CYCLES EVENTS`. `names` are
+/// those of the nets by number; `events_in` counts the events of a `Log`. The lines are written in
+/// blocks of 8 KiB; nothing is allocated. `WriteError` if a write fails or writes nothing: then a
+/// prefix of the listing has been written.
 pub fn write_listing<N: Named, R: Records, W: Write>(
     names: &[N],
     records: &R,

@@ -1,11 +1,11 @@
-//! What has a name.
+//! Names in pieces.
 
 ghost use Rattle.std.specs.Prelude.{◌≡◌, ◌++◌, ℕ, List, string_bytes};
 ghost use Rattle.std.specs.List.{concat};
 
 use sim_flat_design::{Net, PathPiece};
 
-/// What has a name in pieces: the nets of an instance share what stands before their simple names.
+/// A name in pieces: the nets of an instance share the pieces before their simple names.
 pub trait Named {
     /// The name.
     ghost name_of: { Self → List ℕ };

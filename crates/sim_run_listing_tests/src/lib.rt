@@ -1,4 +1,4 @@
-//! Tests of listings: their bytes, and the prefix of them that a writer has which takes no more.
+//! Tests of listings: their bytes, and the prefix that is written to a writer that stops early.
 #![tactic(auto)]
 
 #[cfg(test)]

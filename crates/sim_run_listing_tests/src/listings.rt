@@ -1,4 +1,4 @@
-//! Listings to a writer that takes a byte at a time, and records in both of the forms that a
+//! Listings to a writer that accepts one byte at a time, and records in both representations that a
 //! listing reads.
 
 ghost use Rattle.std.specs.Prelude.{◌≡◌, ◌<◌, length, All, IfOk, ℕ};
@@ -15,7 +15,7 @@ use std::io;
 use std::io::Write;
 use std::test::Fail;
 
-/// A writer that takes a byte at a time, and a number of them in all.
+/// A writer that accepts one byte at a time, and a limited number in all.
 #[derive(Drop)]
 struct Narrow {
     bytes: Vec<u8>,
@@ -36,7 +36,7 @@ impl Write for Narrow {
     }
 }
 
-/// Net 0 has this value.
+/// The change of net 0 to this value.
 fn changes(alloc: Global, value: Logic) -> Result<Items<(usize, Logic)>, AllocError>
     ensures length { IfOk result (λ found. length found ≡ 1) }
     ensures named { IfOk result (λ found. All (λ (c : ℕ × logic.Logic). c.0 < 1) found) }
@@ -79,7 +79,7 @@ fn records(alloc: Global) -> Result<Vec<Record>, AllocError>
     Ok(records)
 }
 
-/// What is written of these records to a writer with this room, and how it ended.
+/// What is written of two records to a writer with this room, and how it ended.
 fn listed(alloc: Global, room: usize) -> Result<(Vec<u8>, Result<(), WriteError>), AllocError> {
     let names = names(alloc)?;
     let records = records(alloc)?;
@@ -91,7 +91,7 @@ fn listed(alloc: Global, room: usize) -> Result<(Vec<u8>, Result<(), WriteError>
     Ok((out.bytes, ended))
 }
 
-/// How much a writer takes in all, what it then has, and how the listing ends.
+/// The number of bytes that a writer accepts in all, what it then has, and how the listing ends.
 static LISTINGS: [(usize, &[u8], Result<(), WriteError>); 4] = [
     (1_000, b"0 0 s 0\n5000000 0 s 1\ndone 1 1\n", Ok(())),
     (31, b"0 0 s 0\n5000000 0 s 1\ndone 1 1\n", Ok(())),
@@ -115,7 +115,7 @@ fn path(alloc: Global) -> Result<InstancePath, AllocError> {
     top.below(alloc, "u")
 }
 
-/// Net 0, which stands in that instance.
+/// Net 0, which is in that instance.
 fn nets(alloc: Global) -> Result<Vec<Net>, AllocError>
     ensures { IfOk result (λ v. length v.items ≡ 1) }
 {
@@ -125,7 +125,7 @@ fn nets(alloc: Global) -> Result<Vec<Net>, AllocError>
     Ok(nets)
 }
 
-/// What is written of these records with the names of nets.
+/// What is written of the records with the names of nets.
 fn listed_by_nets(alloc: Global) -> Result<Vec<u8>, AllocError> {
     let nets = nets(alloc)?;
     let records = records(alloc)?;
@@ -162,7 +162,7 @@ fn is_one(changes: &[(usize, Logic)], net: usize, value: Logic) -> bool {
     }
 }
 
-/// Whether the one record of a slice is read.
+/// Whether the only record of a slice is read.
 fn is_read(alloc: Global) -> Result<bool, AllocError> {
     let records = vec![in alloc; record(alloc, 7, Logic::H)?]?;
     let records = records.as_slice();
@@ -186,7 +186,7 @@ fn a_log_begins_with_no_records(rt: HostRuntime) {
     assert!(rt; Records::len(&Log::new(rt.alloc())) == 0);
 }
 
-/// Whether a change in either form names its net and its value.
+/// Whether changes in both representations give their net and value.
 fn are_named() -> bool {
     matches!((3u32, Logic::H).to_change(), (3, Logic::H))
         && matches!((4usize, Logic::Z).to_change(), (4, Logic::Z))

@@ -94,7 +94,7 @@ top_found : (name : Text) → first_of (codes "top") (finished rules (after_name
 unfolding clap_on_literals
 top_found name = refl
 
--- the number that rows give for an option
+-- the number that rows give to an option
 abbrev number_in : Text → List Row → Option ℕ
 number_in id rs = option_map (λ t. digits_value 10 (without_leading_plus t)) (one_of id rs)
 
@@ -131,7 +131,7 @@ no_kind : (words : List Text) (name : Text) (k : ErrorKind) → words ≡ codes 
     → IsAmong k (fault_of program words) → ⊥
 no_kind words name k is e among = subst (IsAmong k) (ap (fault_of program) is ∙ name_taken name e) among
 
--- so the answer is these options, or that there is no memory
+-- so the answer is these options, or that memory ran out
 pub answered : (words : List Text) (name : Text) (r : Result Options CliFault) → MatchResult r (Asks words) (Explains words)
     → words ≡ codes "--top" ∷ name ∷ [] → starts_with_minus name ≡ false → MatchResult r (IsDefault name) (λ f. f ≡ fault.Memory)
 answered words name (Ok options) h is e = defaults words name options is e h

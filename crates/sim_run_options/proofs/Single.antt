@@ -1,4 +1,4 @@
--- A parse of the program's words ends with one kind of error at most.
+-- Parsing the program's words ends with at most one kind of error.
 use Rattle.std.proofs.Common.{◌≡◌, ◌∙◌, ◌&&◌, ◌+◌, ℕ, Bool, true, false, not, List, [], ◌∷◌, Option, Some, None, length, min, refl, sym, inl, inr}
 use Rattle.std.proofs.Common.{zero, suc}
 use Rattle.clap.specs.Matches.{count_text}
@@ -36,7 +36,7 @@ none = record { single = tt }
 sole : {k : ErrorKind} → IsSingle (k ∷ [])
 sole = record { single = tt }
 
--- both of two kinds are the one
+-- two kinds are the same one
 pub same_kind : (ks : Kinds) (j k : ErrorKind) → IsSingle ks → IsAmong j ks → IsAmong k ks → j ≡ k
 same_kind [] j k one a b = absurd a
 same_kind (x ∷ []) j k one (inl a) (inl b) = a ∙ sym b
@@ -152,7 +152,7 @@ flag_one : (c : List Rule) (again : Bool) (o : Option (Text × Option Text)) (wo
 flag_one c again (Some p) word h = long_one c again (arg_by_long c p.0) p.1 h
 flag_one c again None word h = optional _ (λ flags. letters_one c again _ flags _ _)
 
--- of a command with no subcommand
+-- a command without subcommands
 no_help_word : (t : Bool) (two : Kinds) → IsSingle (if t && not true then two else [])
 no_help_word true two = none
 no_help_word false two = none

@@ -1,4 +1,4 @@
--- What a parse of the command line leaves for each option.
+-- What a parse of the command line gives for each option.
 use Rattle.std.proofs.Common.{◌≡◌, ◌≢◌, ◌⊎◌, ◌∙◌, ◌<◌, ◌≤◌, ◌&&◌, ◌==◌, ◌^◌, ℕ, Bool, true, false, List, [], ◌∷◌, length, map}
 use Rattle.std.proofs.Common.{Option, Some, None, Result, inl, inr, refl, sym, ap, subst, arith}
 use Rattle.std.proofs.Common.{suc, zero, codes, option_map, slice_get, pos, not, if◌then◌else◌}
@@ -74,7 +74,7 @@ rules_same c e = ap (λ (a : App). a.top.rules) e
 four : (c : Command) → app_of c ≡ program → length (args_of c) ≡ 4
 four c e = sym (length-map (args_of c) rule_of) ∙ ap length (rules_same c e)
 
--- the rule of the argument at a place
+-- the rule of the argument at an index
 abbrev at : ℕ → Rule
 at k = slice_index_or program.top.rules k top_rule
 
@@ -110,7 +110,7 @@ placed (suc (suc zero)) lt = refl
 placed (suc (suc (suc zero))) lt = refl
 placed (suc (suc (suc (suc k)))) lt = absurd (omega arith)
 
--- what the arguments of the command share
+-- what holds for each argument of the command
 record Fits (c : Command) (k : ℕ) (d : Arg) : Type 0 where
   rule : rule_of (slice_index_or (args_of c) k d) ≡ at k
   inside : k < length (args_of c)
@@ -173,14 +173,14 @@ only c e k d lt j x inside same =
 
 -- ---- values
 
--- What was found for an option with a number: a text, which is a numeral in decimal below 2^bits.
+-- What was found for an option with a number: a text that is a decimal numeral below 2^bits.
 pub record IsNumber (f : Found) (id : Text) (bits : ℕ) : Type 0 where
   pub text : Text
   pub read : one_text f id ≡ Some text
   pub numeral : IsNumeral 10 (without_leading_plus text)
   pub small : digits_value 10 (without_leading_plus text) < 2 ^ bits
 
--- what `from_str` of an unsigned type says, with what it says of errors
+-- what `from_str` of an unsigned type answers, including its errors
 abbrev Parses : {E : Type 0} → (List ℕ → Result ℕ E → Type 0) → ℕ → List ℕ → Result ℕ E → Type 0
 Parses explains bits t r = ParsesUnsigned bits 10 t r × explains t r × HasUnsignedDigitsIfOk t r
 
@@ -204,7 +204,7 @@ no_group c x id groups named key passes is = elim (passes.3 is) [
       omega arith
 ]
 
--- the arguments with this id are read as `a` is
+-- all arguments with this id are read like `a`
 abbrev AreAs : Command → Text → Arg → Type 0
 AreAs c id a = (j : ℕ) (x : Arg) → j < length (args_of c) → slice_index_or (args_of c) j x ≡ x → bytes_eq x.id.now id ≡ true → SameRules a x
 
@@ -266,7 +266,7 @@ value_read c x id a q groups named key passes same parser some = first x.1.vals.
     first (v ∷ vs) lt all =
         (v.now, ap (λ how. Some (read_as how v.now)) reading_is, accepted v.now (All-get_or (λ y. PassesArg c id y.now) (v ∷ vs) 0 v (omega arith) all))
 
--- an id that an entry has is found
+-- if an entry has an id, it is found
 entry_found : (xs : List Entry) (id : Text) → HasIn xs id → is_some (option_map (λ e. e.1) (find (λ e. bytes_eq e.0.now id) xs)) ≡ true
 entry_found [] id h = absurd (omega (arith, h.1))
 entry_found (x ∷ xs) id h = go (bytes_eq x.0.now id) refl h.0 h.1 h.2 (λ i lt at_i. entry_found xs id (i, lt, at_i))
@@ -297,7 +297,7 @@ plus_off (d ∷ ds) h =
     let digit : (d == 43) ≡ false = ne_eqb _ _ (λ e. omega (arith, digit_from_value d h.1.0)) in
     ap (λ (b : Bool). drop (cond b 1 0) (d ∷ ds)) digit
 
--- a value that passes the parser of an option is a numeral below 2^bits, as it is read
+-- a value that passes the parser of an option is read as a numeral below 2^bits
 abbrev ReadsBelow : ValueParser → ℕ → Type 0
 ReadsBelow q bits = (b : Bool) (t : Text) → Accepts b q t
     → IsNumeral 10 (without_leading_plus (read_as (reading_of q) t)) × (digits_value 10 (without_leading_plus (read_as (reading_of q) t)) < 2 ^ bits)
@@ -425,7 +425,7 @@ top_there c m e p =
 
 -- ---- the answer
 
--- the command has none of the settings that the model leaves out
+-- the command uses no setting that the model omits
 simple_and_free : is_simple_and_free program ≡ true
 simple_and_free = refl
 

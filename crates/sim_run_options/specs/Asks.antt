@@ -1,4 +1,4 @@
--- What the words of the command line ask for, by the model that `clap` has of its own parse.
+-- What the words of the command line ask for, by `clap`'s model of its parser.
 use Rattle.std.specs.Prelude.{◌≡◌, ◌≢◌, ℕ, List, [], ◌∷◌, Option, Some, codes, option_map, true}
 use Rattle.std.specs.String.{string_bytes}
 use Rattle.std.specs.Str.Parse.{digits_value, without_leading_plus}
@@ -21,7 +21,7 @@ use Rattle.std.specs.Prelude.{pos}
 abbrev pub valued : Text → Rule
 valued id = record (new_rule id) { long = Some id; action = Some Set; value_names = 1 }
 
--- `--top NAME`, which may not be left out
+-- `--top NAME`, which is required
 abbrev pub top_rule : Rule
 top_rule = record (valued (codes "top")) { required = true }
 
@@ -40,7 +40,7 @@ limit_rule = record (valued (codes "limit")) { parser = Some (parser.Signed (pos
 abbrev pub workers_rule : Rule
 workers_rule = record (valued (codes "workers")) { parser = Some (parser.Unsigned 0 18446744073709551615); defaults = codes "1" ∷ [] }
 
--- the four options; `clap` adds `--help` and `-h`, and the words come without the program's name
+-- the four options; `clap` adds `--help` and `-h`, and the words do not include the program's name
 abbrev pub program : App
 program =
     with_rule (with_rule (with_rule (with_rule (on_top (λ s. record s { no_binary_name = true }) (new_app (codes "vsim")))
@@ -48,7 +48,7 @@ program =
 
 -- ---- words
 
--- the number that the words give for an option, or its default, in decimal
+-- the number that the words give to an option, or its default, in decimal
 abbrev pub number_of : Text → List Text → Option ℕ
 number_of id words = option_map (λ t. digits_value 10 (without_leading_plus t)) (one_of id (matches_of program words))
 
@@ -67,23 +67,23 @@ pub record IsDefault (name : Text) (options : Options) : Type 0 where
   pub limit : options.limit ≡ 10000
   pub workers : options.workers ≡ 1
 
--- what a kind of error is to the program
+-- the fault that the program makes of a kind of error
 abbrev pub Tells : ErrorKind → CliFault → Type 0
 Tells k (fault.Help text) = k ≡ kinds.DisplayHelp
 Tells k (fault.Refused text) = (k ≢ kinds.DisplayHelp) × (k ≢ kinds.OutOfMemory)
 Tells k fault.Memory = Unit {0}
 
--- A parse of the words ends with help.
+-- Parsing the words ends with the help.
 pub record AsksForHelp (words : List Text) : Type 0 where
   pub among : IsAmong kinds.DisplayHelp (fault_of program words)
 
--- A parse of the words ends with a mistake, and this is its kind.
+-- Parsing the words ends with an error of this kind.
 pub record AreRefused (words : List Text) : Type 0 where
   pub kind : ErrorKind
   pub among : IsAmong kind (fault_of program words)
   pub other : kind ≢ kinds.DisplayHelp
 
--- why words are no options
+-- why words give no options
 abbrev pub Explains : List Text → CliFault → Type 0
 Explains words (fault.Help text) = AsksForHelp words
 Explains words (fault.Refused text) = AreRefused words

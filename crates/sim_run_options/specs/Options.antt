@@ -1,4 +1,4 @@
--- The ranges of what a run is asked for.
+-- The ranges of the options.
 use Rattle.std.specs.Prelude.{ℕ, Bool, ◌&&◌, nat_le}
 
 -- a stop time of at most 2^62 - 1 fs, 1 to 1,000,000 cycles and 1 to 16 workers

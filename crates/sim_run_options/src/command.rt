@@ -1,4 +1,4 @@
-//! The command line, as `clap` has it.
+//! The command line, as `clap` parses it.
 ghost use Rattle.std.specs.Prelude.{◌≡◌, ◌∷◌, [], IfOk, Some, false};
 ghost use Rattle.clap.specs.Words.{rule_of, app_of};
 ghost use Rattle.sim_run_options.specs.Asks.{top_rule, stop_rule, limit_rule, workers_rule, valued, program};
@@ -7,7 +7,7 @@ use clap::builder::ValueParser;
 use clap::{Arg, ArgAction, Command, value_parser};
 use std::alloc::{AllocError, Global};
 
-/// What the program does.
+/// The purpose of the program.
 const ABOUT: &str = "Reads a design in a subset of VHDL from standard input, simulates it, and lists
 every change of a signal on standard output.";
 
@@ -51,7 +51,7 @@ Example:
       5000000 0 s 1
       done 1 1";
 
-/// An option with one value: its name, and what help calls the value.
+/// An option with one value. `value` is its placeholder in the help.
 fn valued_argument<'a>(alloc: Global, name: &'a str, value: &'a str) -> Arg<'a>
     ensures rule { rule_of result ≡ valued name.now }
     ensures local { result.global ≡ false }
@@ -62,7 +62,7 @@ fn valued_argument<'a>(alloc: Global, name: &'a str, value: &'a str) -> Arg<'a>
         .value_name(value)
 }
 
-/// An option with one number: also how it is read, its default, and what it is.
+/// An option with one number, with its parser, its default and its help.
 fn number_argument<'a>(
     alloc: Global,
     name: &'a str,
@@ -80,7 +80,7 @@ fn number_argument<'a>(
         .help(help)
 }
 
-/// `--top NAME`, which has to be there.
+/// `--top NAME`, which is required.
 fn top_argument<'a>(alloc: Global) -> Arg<'a>
     ensures rule { rule_of result ≡ top_rule }
     ensures local { result.global ≡ false }
@@ -118,7 +118,7 @@ fn workers_argument<'a>(alloc: Global) -> Arg<'a>
     number_argument(alloc, "workers", "N", value_parser!(usize), "1", help)
 }
 
-/// The command line of the program, whose words come without its name.
+/// The command line of the program, whose words do not include its name.
 pub(crate) fn command_line<'a>(alloc: Global) -> Result<Command<'a>, AllocError>
     ensures { IfOk result (λ c. app_of c ≡ program) }
 {

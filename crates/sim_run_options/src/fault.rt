@@ -1,4 +1,4 @@
-//! Why words are no options.
+//! Why the words of a command line give no options.
 ghost use Rattle.sim_run_options.specs.Asks.{Tells};
 ghost use Rattle.clap.specs.Words.{kind_of};
 
@@ -8,18 +8,18 @@ use std::error::Error;
 use std::fmt;
 use std::fmt::Display;
 
-/// Why the words of a command line are no options.
+/// Why the words of a command line give no options.
 #[derive(Debug, Drop)]
 pub enum CliFault {
-    /// They ask for help, and this is its text: some 40 lines, each ended by a line feed.
+    /// They ask for help. This is its text: some 40 lines, each ended by a line feed.
     Help(String),
-    /// They are refused, and this is the reason: some lines, each ended by a line feed.
+    /// They are refused. This is the reason: some lines, each ended by a line feed.
     Refused(String),
-    /// No memory.
+    /// Memory ran out.
     Memory,
 }
 
-// (written out: what is derived takes twice as long to prove)
+// (written by hand: a derived implementation takes twice as long to prove)
 impl Display for CliFault {
     fn fmt<W: fmt::Write>(&self, f: &mut fmt::Formatter<W>) -> fmt::Result {
         match self {
@@ -31,7 +31,7 @@ impl Display for CliFault {
 
 impl Error for CliFault {}
 
-/// What an error of the command line is to the program.
+/// The fault that the program makes of an error of the parser.
 pub(crate) fn fault_of_error(alloc: Global, error: clap::Error) -> CliFault
     ensures { Tells (kind_of error) result }
 {

@@ -5,7 +5,7 @@ ghost use Rattle.clap.specs.Walk.{Text};
 ghost use Rattle.sim_run_options.specs.Asks.{Asks, AreRefused, AsksForHelp};
 ghost use Rattle.sim_run_options.specs.declared.options.Options.{Options};
 
-/// Words ask for one run.
+/// Words ask for at most one run.
 pub fn words_ask_for_one_run()
     ensures { (words : List Text) (a b : Options) → Asks words a → Asks words b →
         (string_bytes a.top ≡ string_bytes b.top) × (a.stop ≡ b.stop) × (a.limit ≡ b.limit) × (a.workers ≡ b.workers) }
@@ -16,7 +16,7 @@ pub fn a_run_is_not_refused()
     ensures { (words : List Text) (options : Options) → Asks words options → AreRefused words → ⊥ }
 {}
 
-/// Words that ask for a run ask for no help.
+/// Words that ask for a run do not ask for help.
 pub fn a_run_is_no_help()
     ensures { (words : List Text) (options : Options) → Asks words options → AsksForHelp words → ⊥ }
 {}

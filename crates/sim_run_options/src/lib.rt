@@ -1,4 +1,4 @@
-//! What the program is asked for, by the words of its command line.
+//! The options that the words of the command line give.
 #![tactic(auto)]
 
 mod command;

@@ -1,4 +1,4 @@
-//! Words, read as options.
+//! Words read as options.
 ghost use Rattle.std.specs.Prelude.{◌≡◌, ◌∷◌, [], false, codes, MatchResult, map, string_bytes};
 ghost use Rattle.sim_run_options.specs.Asks.{Asks, Explains, IsDefault};
 ghost use Rattle.std.specs.Str.Parse.{starts_with_minus};
@@ -9,8 +9,8 @@ use crate::fault::{CliFault, fault_of_error};
 use crate::options::Options;
 use std::alloc::Global;
 
-/// Reads the words of a command line, without the program's name: `--top NAME [--stop FS] [--limit
-/// N] [--workers N]` in any order, or `--help`.
+/// Reads the words of a command line, without the program's name:
+/// `--top NAME [--stop FS] [--limit N] [--workers N]` in any order, or `--help`.
 pub fn read_options(alloc: Global, words: Vec<String>) -> Result<Options, CliFault>
     ensures read { MatchResult result (Asks (map string_bytes words.items)) (Explains (map string_bytes words.items)) }
     ensures alone { (name : Text) → map string_bytes words.items ≡ codes "--top" ∷ name ∷ [] → starts_with_minus name ≡ false

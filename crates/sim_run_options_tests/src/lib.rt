@@ -1,4 +1,4 @@
-//! Tests of the command line: what no clause says of its words and its texts.
+//! Tests of the command line: what the contracts do not say about its words and its texts.
 #![tactic(auto)]
 
 #[cfg(test)]

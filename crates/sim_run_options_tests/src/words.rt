@@ -1,15 +1,15 @@
-//! What no clause says: that words which are meant are taken, with these values, and what refusals
-//! and the help say.
+//! What the contracts do not say: the right words are accepted, with these values, and what
+//! refusals and the help contain.
 
 use sim_run_options::{CliFault, Options, read_options};
 use std::alloc::{AllocError, Global};
 use std::test::Fail;
 
-/// A line of words; the top, the time to stop at, the limit and the number of workers that it asks
-/// for; whether these are in range.
+/// A line of words; the top, the stop time, the limit and the number of workers that it gives; and
+/// whether these are in range.
 type Row<'a> = (&'a str, &'a str, u64, u32, usize, bool);
 
-/// Lines that are taken.
+/// Lines that are accepted.
 static TAKEN: [Row<'_>; 5] = [
     ("--top t", "t", 4_611_686_018_427_387_903, 10_000, 1, true),
     (
@@ -39,7 +39,7 @@ static TAKEN: [Row<'_>; 5] = [
     ),
 ];
 
-/// Lines that are refused, and parts of what the refusal says.
+/// Lines that are refused, and parts of the refusal.
 static REFUSED: [(&str, &[&str]); 13] = [
     ("", &[]),
     ("t", &[]),
@@ -74,7 +74,7 @@ static PARTS: [&str; 8] = [
     "vsim --top t < pulse.vhd",
 ];
 
-/// What is made of a line of words.
+/// The options or the fault of a line of words.
 fn read(alloc: Global, line: &str) -> Result<Result<Options, CliFault>, AllocError> {
     let mut words = Vec::new(alloc);
     for word in line.split_ascii_whitespace() {
@@ -83,7 +83,7 @@ fn read(alloc: Global, line: &str) -> Result<Result<Options, CliFault>, AllocErr
     Ok(read_options(alloc, words))
 }
 
-/// Whether the line of a row is taken, with its values.
+/// Whether the line of a row is accepted, with its values.
 fn is_taken(alloc: Global, row: &Row<'_>) -> Result<bool, AllocError> {
     let (line, top, stop, limit, workers, in_range) = *row;
     match read(alloc, line)? {
@@ -98,7 +98,7 @@ fn is_taken(alloc: Global, row: &Row<'_>) -> Result<bool, AllocError> {
     }
 }
 
-/// Whether each of these parts stands in a text.
+/// Whether a text contains each of these parts.
 fn has_all(text: &str, parts: &[&str]) -> bool {
     for part in parts {
         if !text.contains(*part) {
@@ -108,7 +108,7 @@ fn has_all(text: &str, parts: &[&str]) -> bool {
     true
 }
 
-/// Whether a line is refused, by a text with these parts.
+/// Whether a line is refused, with a text that contains these parts.
 fn is_refused(alloc: Global, line: &str, parts: &[&str]) -> Result<bool, AllocError> {
     match read(alloc, line)? {
         Err(CliFault::Refused(text)) => Ok(has_all(text.as_str(), parts)),
@@ -116,7 +116,7 @@ fn is_refused(alloc: Global, line: &str, parts: &[&str]) -> Result<bool, AllocEr
     }
 }
 
-/// Whether a line asks for the help, which has its parts.
+/// Whether a line asks for the help, and this contains its parts.
 fn is_help(alloc: Global, line: &str) -> Result<bool, AllocError> {
     match read(alloc, line)? {
         Err(CliFault::Help(text)) => Ok(has_all(text.as_str(), &PARTS)),

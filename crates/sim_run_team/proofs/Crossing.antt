@@ -1,4 +1,4 @@
--- What a worker takes along may go to another thread.
+-- What a worker takes along can be sent to another thread.
 use denote.RattleType.{RattleType}
 use denote.Exit.{Kept}
 use denote.Struct.Field.{shr_ref_field}
@@ -39,6 +39,6 @@ worker_send i δ k ν W R ℓ ℓ₁ ℓ₂ w r =
     ) in
     search (all, param_send, arg_send, recorded_send, struct_send)
 
--- a worker's ends may go to another thread where orders and answers may
+-- a worker's ends can be sent to another thread if orders and answers can
 pub ends_send : (W O A : RattleType) → IsSend O → IsSend A → IsSend (Worker.the_row W O A)
 ends_send W O A o a = search (o, a, workers.the_send, crosses, sendable) depth 30

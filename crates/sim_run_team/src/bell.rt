@@ -3,23 +3,23 @@
 use std::sync::Wait;
 use std::sync::atomic::{AtomicU64, Ordering};
 
-/// Wakes a thread that sleeps. Who waits announces it, looks once more and sleeps; whoever has
-/// something for it rings after that is there. So no message is slept through.
+/// Wakes a sleeping thread. A thread that waits announces it, looks once more, and sleeps; another
+/// one rings after its message is there. So no message is missed.
 #[derive(Drop)]
 pub struct Bell {
-    /// 1 where somebody sleeps or is about to.
+    /// 1 if a thread sleeps or is about to.
     asleep: AtomicU64,
 }
 
 impl Bell {
-    /// Nobody sleeps.
+    /// A bell that no thread waits for.
     pub fn new() -> Bell {
         Bell {
             asleep: AtomicU64::new(0),
         }
     }
 
-    /// Wakes who sleeps. Where nobody does, it costs a look.
+    /// Wakes the sleeping thread. If none sleeps, this costs one load.
     #[inline(always)]
     pub fn ring(&self) {
         if self.asleep.load(Ordering::SeqCst) != 0 {
@@ -27,19 +27,19 @@ impl Bell {
         }
     }
 
-    /// Wakes who sleeps.
+    /// Wakes the sleeping thread.
     #[inline(never)]
     fn wake(&self) {
         self.asleep.store(0, Ordering::SeqCst);
         self.asleep.wake_one();
     }
 
-    /// Says that somebody is about to sleep.
+    /// Announces that the calling thread is about to sleep.
     pub fn announce(&self) {
         self.asleep.store(1, Ordering::SeqCst);
     }
 
-    /// Says that nobody sleeps after all.
+    /// Withdraws the announcement.
     pub fn withdraw(&self) {
         self.asleep.store(0, Ordering::SeqCst);
     }

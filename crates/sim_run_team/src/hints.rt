@@ -1,25 +1,24 @@
-//! From when on it pays to give work to other threads.
+//! When it pays to give work to other threads.
 
-/// How much work there has to be for other threads to get a part of it. No result depends on these
-/// numbers; how long a run takes does.
+/// How much work there must be for other threads to get a part of it. Only the duration of a run
+/// depends on these numbers, no result.
 #[derive(Clone, Copy)]
 pub struct Hints {
-    /// How many steps a process takes at the least, by the mean of all. Where it is fewer a run has
-    /// one thread: what another saves is less than what it costs to hand out and take back what the
-    /// processes own.
+    /// The least mean number of steps of a process. Below it, a run uses one thread: another would
+    /// save less than it costs to hand out and take back what the processes own.
     pub least_steps_of_a_process: usize,
-    /// How many steps the processes of a phase take together at the least. Where it is fewer the
-    /// phase is over before another thread has its order.
+    /// The least number of steps of all processes of a phase. Below it, the phase is over before
+    /// another thread has its order.
     pub least_steps_of_a_phase: usize,
-    /// How many processes an order is to execute at the least. With fewer it is carried out by the
-    /// thread that has it.
+    /// The least number of processes of an order for a worker. A smaller order is carried out by
+    /// the main thread.
     pub least_processes_of_an_order: usize,
-    /// How many steps are taken on the main thread alone after a first answer that came late.
+    /// The number of steps that the main thread takes alone after the first late answer.
     pub steps_after_a_late_answer: usize,
 }
 
 impl Hints {
-    /// What was measured: a phase is some tens of microseconds long, and a late answer costs about a
+    /// Measured values: a phase takes some tens of microseconds, and a late answer costs about a
     /// millisecond.
     pub const fn measured() -> Hints {
         Hints {
@@ -30,8 +29,8 @@ impl Hints {
         }
     }
 
-    /// Each phase is handed out, to as many threads as there are, whatever it costs: so small work
-    /// tries the threads.
+    /// Every phase is handed out to all threads, whatever it costs, so that small runs exercise the
+    /// threads.
     pub const fn all_handed_out() -> Hints {
         Hints {
             least_steps_of_a_process: 0,

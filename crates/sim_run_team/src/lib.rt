@@ -1,5 +1,5 @@
-//! A team of threads that is kept for a run: workers, each of which carries out an order at a time,
-//! by value. What an order is, and what is known of its answer, is for the caller to say.
+//! A team of threads that lasts for a run: each worker carries out one order at a time, by value.
+//! The caller decides what an order is, and what is known about its answer.
 #![tactic(auto)]
 
 mod bell;

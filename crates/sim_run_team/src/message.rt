@@ -5,7 +5,7 @@ use rtrb::Consumer;
 use std::hint::spin_loop;
 use std::sync::Wait;
 
-/// The message, if it comes within so many looks.
+/// Spins for the message, at most this many looks.
 fn seen<T: Drop>(from: &mut Consumer<T>, looks: u32) -> Option<T> {
     for _ in 0..looks {
         match from.pop() {
@@ -16,7 +16,7 @@ fn seen<T: Drop>(from: &mut Consumer<T>, looks: u32) -> Option<T> {
     None
 }
 
-/// Looks once more, and sleeps where there is nothing yet.
+/// Looks once more, and sleeps if nothing has arrived.
 fn look_or_sleep<R: Wait, T: Drop>(rt: &R, from: &mut Consumer<T>, bell: &Bell) -> Option<T> {
     bell.announce();
     match from.pop() {
@@ -33,11 +33,11 @@ fn look_or_sleep<R: Wait, T: Drop>(rt: &R, from: &mut Consumer<T>, bell: &Bell) 
     }
 }
 
-/// The next message, asleep until it comes; none where the other end is gone.
+/// The next message, asleep until it arrives; `None` if the other end is gone.
 fn awaited<R: Wait, T: Drop>(rt: &R, from: &mut Consumer<T>, bell: &Bell) -> Option<T> {
     for _ in rt.forever() {
         if from.is_abandoned() {
-            // what was sent before the other end went
+            // a message sent before the other end went
             return from.pop().ok();
         }
         if let Some(message) = look_or_sleep(rt, from, bell) {
@@ -47,8 +47,8 @@ fn awaited<R: Wait, T: Drop>(rt: &R, from: &mut Consumer<T>, bell: &Bell) -> Opt
     None
 }
 
-/// The next message, and whether it came later than within so many looks; none where the other end
-/// is gone. Who has looked so often sleeps, so that another thread may have the processor.
+/// The next message, and whether it took more than `looks` looks; `None` if the other end is gone.
+/// It spins for that many looks and then sleeps, so that another thread may have the processor.
 pub fn next<R: Wait, T: Drop>(
     rt: &R,
     from: &mut Consumer<T>,

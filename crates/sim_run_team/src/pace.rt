@@ -1,39 +1,39 @@
-//! Whether the machine has processors left for a team.
+//! Whether the machine has processors to spare for a team.
 //!
-//! Beside other load a worker may be without a processor for milliseconds, while its order waits.
-//! So an answer that comes late has its price: so much work is executed on the main thread alone
-//! before anything is handed out again, four times as much each time in a row. It bounds what a run
-//! loses by its workers to a part of what it takes on one thread.
+//! Under other load a worker may be without a processor for milliseconds while its order waits. So
+//! a late answer has a price: a number of steps that the main thread executes alone before it hands
+//! out anything again, four times as many for each late answer in a row. This bounds the time that
+//! a run loses by its workers to a part of its time on one thread.
 
-/// How often the price is raised at the most, to about a thousand times the first.
+/// The most times that the price is raised, to about a thousand times the first price.
 const MOST: u32 = 5;
 
-/// After how many phases whose answers all came in time the price is lowered.
+/// The number of phases in a row with all answers in time after which the price is lowered.
 const CALM: u32 = 16;
 
-/// How often a worker looks for its next order before it sleeps: about a millisecond, in which the
-/// main thread goes from one phase to the next.
+/// The number of looks for which an idle worker spins before it sleeps: about a millisecond, in
+/// which the main thread goes from one phase to the next.
 const LOOKS: u32 = 128_000;
 
-/// How often the main thread looks for an answer at the least before it counts as late: longer than it
-/// takes to wake a worker that sleeps.
+/// The least number of looks of the main thread for an answer before it counts as late: longer than
+/// it takes to wake a sleeping worker.
 const PATIENCE: usize = 100_000;
 
-/// How answers came so far.
+/// How answers have come so far.
 #[derive(Drop)]
 pub struct Pace {
-    /// How many steps are executed alone after a first late answer.
+    /// The number of steps that are executed alone after the first late answer.
     price: usize,
-    /// How often the price was raised, four times each.
+    /// The number of times that the price was raised, each time fourfold.
     raised: u32,
-    /// How many steps are still to be executed alone.
+    /// The number of steps that are still to be executed alone.
     owed: usize,
-    /// How many phases in a row had all answers in time.
+    /// The number of phases in a row with all answers in time.
     calm: u32,
 }
 
 impl Pace {
-    /// No answer came late; the first that does has this price.
+    /// No answer was late so far; the first late one has this price.
     pub fn new(price: usize) -> Pace {
         Pace {
             price,
@@ -48,12 +48,12 @@ impl Pace {
         self.owed == 0
     }
 
-    /// So many steps were executed alone.
+    /// Records that steps were executed alone.
     pub fn pay(&mut self, steps: usize) {
         self.owed = self.owed.saturating_sub(steps);
     }
 
-    /// The answers of a phase came, one of them late or all in time.
+    /// Records the answers of a phase: one of them late, or all in time.
     pub fn came(&mut self, is_late: bool) {
         if is_late {
             self.owed = self.price.saturating_mul(1 << (2 * self.raised.min(MOST)));
@@ -69,13 +69,13 @@ impl Pace {
         self.raised = self.raised.saturating_sub(1);
     }
 
-    /// How often a worker looks for its next order before it sleeps.
+    /// The number of looks for which an idle worker spins before it sleeps.
     pub fn looks(&self) -> u32 {
         LOOKS >> (2 * self.raised.min(MOST))
     }
 }
 
-/// How often is looked for the answers of a phase with so many steps before they count as late.
+/// The number of looks for the answers of a phase with this many steps before they count as late.
 pub fn patience(steps: usize) -> u32 {
     PATIENCE.saturating_add(steps).min(10_000_000) as u32
 }

@@ -1,4 +1,4 @@
-//! Workers, and who gives them orders.
+//! Workers, and the team by which the main thread gives them orders.
 
 ghost use Rattle.std.specs.Prelude.{◌≡◌, ◌+◌, IfSome, length};
 
@@ -10,37 +10,37 @@ use rtrb::{Consumer, Producer, PushError, RingBuffer};
 use std::alloc::{AllocError, Global};
 use std::sync::Wait;
 
-/// Work that any thread may carry out, an order at a time. What is known of an answer is what its
-/// type says.
+/// Work that any thread may carry out, one order at a time. The type of an answer says all that is
+/// known about it.
 pub trait Work {
-    /// A part of it.
+    /// A part of the work.
     type Order: Drop;
 
-    /// What comes of an order.
+    /// The result of an order.
     type Answer: Drop;
 
-    /// Whether an order is to execute so many processes.
+    /// Whether an order has at least this many processes to execute.
     fn is_large(order: &Self::Order, least: usize) -> bool;
 
-    /// Carries an order out; none where memory is refused.
+    /// Carries out an order; `None` if memory runs out.
     fn carry_out(alloc: Global, order: Self::Order) -> Option<Self::Answer>;
 }
 
-/// An order for a worker, and how often it is to look for the next one before it sleeps.
+/// An order for a worker, and the number of looks for the next one before it sleeps.
 #[derive(Drop)]
 struct Errand<O> {
     order: O,
     looks: u32,
 }
 
-/// The ends of a worker: it takes orders and hands in answers, one at a time.
+/// A worker's ends: it takes orders and gives answers, one at a time.
 #[derive(Drop)]
 pub struct Worker<W: Work> {
     orders: Consumer<Errand<W::Order>>,
     answers: Producer<Option<W::Answer>>,
 }
 
-/// The other ends, which the main thread has. Where they are dropped the worker is woken and ends.
+/// The main thread's ends. When they are dropped, the worker wakes up and ends.
 pub struct Line<'a, W: Work> {
     orders: Producer<Errand<W::Order>>,
     answers: Consumer<Option<W::Answer>>,
@@ -60,7 +60,7 @@ impl<W: Work> Drop for Line<'_, W> {
     }
 }
 
-/// The ends of the main thread and of a worker, who sleeps until this bell rings.
+/// The ends of the main thread and of a worker, which sleeps until this bell rings.
 pub fn pair<W: Work>(alloc: Global, bell: &Bell) -> Result<(Line<'_, W>, Worker<W>), AllocError> {
     let (orders, their_orders) = RingBuffer::new(alloc, 1)?;
     let (their_answers, answers) = RingBuffer::new(alloc, 1)?;
@@ -78,7 +78,7 @@ pub fn pair<W: Work>(alloc: Global, bell: &Bell) -> Result<(Line<'_, W>, Worker<
 }
 
 impl<W: Work> Worker<W> {
-    /// Carries out order after order, until the main thread's ends are gone.
+    /// Carries out one order after another, until the main thread's ends are gone.
     pub fn work<R: Wait>(self, rt: &R, alloc: Global, mine: &Bell, main: &Bell) {
         let Worker { orders, answers } = self;
         let mut orders = orders;
@@ -96,14 +96,14 @@ impl<W: Work> Worker<W> {
     }
 }
 
-/// An order that was begun: it was carried out here, or given to the worker with a number.
+/// An order that was begun: carried out here, or given to the worker with a number.
 #[derive(Drop)]
 enum Begun<A> {
     Done(Option<A>),
     Given(usize),
 }
 
-/// The workers of a run, as the main thread has them, and the bell by which they wake it.
+/// The main thread's ends of all workers of a run, and the bell by which they wake it.
 #[derive(Drop)]
 pub struct Team<'a, W: Work> {
     lines: Vec<Line<'a, W>>,
@@ -113,7 +113,7 @@ pub struct Team<'a, W: Work> {
 }
 
 impl<'a, W: Work> Team<'a, W> {
-    /// A team of nobody.
+    /// An empty team.
     pub fn new(alloc: Global, bell: &'a Bell, hints: Hints) -> Team<'a, W> {
         Team {
             lines: Vec::new(alloc),
@@ -123,24 +123,24 @@ impl<'a, W: Work> Team<'a, W> {
         }
     }
 
-    /// A worker more; none where memory is refused.
+    /// Adds a worker; `None` if memory runs out.
     pub fn add(&mut self, line: Line<'a, W>) -> Option<()> {
         self.lines.push(line).ok()
     }
 
-    /// Whether orders of so many steps in all may be given: there is work enough, there are workers,
-    /// and their answers come in time.
+    /// Whether orders of this many steps in all may be given: there is enough work, there are
+    /// workers, and their answers come in time.
     pub fn is_free(&self, steps: usize) -> bool {
         steps >= self.hints.least_steps_of_a_phase && !self.lines.is_empty() && self.pace.is_free()
     }
 
-    /// So many steps were executed without the team.
+    /// Records that steps were executed without the team.
     pub fn pay(&mut self, steps: usize) {
         self.pace.pay(steps);
     }
 
-    /// Gives an order to the worker with a number, or carries it out here where it is small or
-    /// there is no such worker.
+    /// Gives an order to the worker with a number, or carries it out here if it is small or there
+    /// is no such worker.
     fn begin(&mut self, alloc: Global, order: W::Order, number: usize) -> Begun<W::Answer> {
         let is_large = W::is_large(&order, self.hints.least_processes_of_an_order);
         if !is_large || number >= self.lines.len() {
@@ -157,7 +157,7 @@ impl<'a, W: Work> Team<'a, W> {
         }
     }
 
-    /// The answer of the worker with a number, and whether it came late; none where that worker is
+    /// The answer of the worker with a number, and whether it was late; `None` if that worker is
     /// gone, or had no memory.
     fn received<R: Wait>(
         &mut self,
@@ -173,7 +173,7 @@ impl<'a, W: Work> Team<'a, W> {
         Some((message?, is_late))
     }
 
-    /// The answer of an order that was begun, and whether it came late; none where there is none.
+    /// The answer to an order that was begun, and whether it was late; `None` if there is none.
     fn answer<R: Wait>(
         &mut self,
         rt: &R,
@@ -186,9 +186,8 @@ impl<'a, W: Work> Team<'a, W> {
         }
     }
 
-    /// Begins each order: it is given to the worker with its number, so that a worker has the same
-    /// share each time; where there is none it is carried out here meanwhile. None where memory is
-    /// refused.
+    /// Begins each order: it is given to the worker with the same number, so that a worker has the
+    /// same share each time, or carried out here if there is none. `None` if memory runs out.
     fn begin_all(&mut self, alloc: Global, orders: Vec<W::Order>) -> Option<Vec<Begun<W::Answer>>>
         ensures { IfSome result (λ v. length v.items ≡ length orders.items) }
     {
@@ -200,8 +199,8 @@ impl<'a, W: Work> Team<'a, W> {
         Some(begun)
     }
 
-    /// The answers of orders, in their order, and whether one came late. All that were given away
-    /// are waited for; none where one has no answer.
+    /// The answers to orders, in order, and whether one was late. Waits for all that were given
+    /// away; `None` if one has no answer.
     fn answers<R: Wait>(
         &mut self,
         rt: &R,
@@ -227,9 +226,9 @@ impl<'a, W: Work> Team<'a, W> {
         late
     }
 
-    /// Has orders of so many steps in all carried out by the workers and this thread, and gives
-    /// their answers in the same order. None where the team fails: memory was refused, to this thread
-    /// or a worker, or a worker is gone; what the orders held is then lost.
+    /// Has orders of this many steps in all carried out by the workers and this thread, and returns
+    /// their answers in order. `None` if the team fails: this thread or a worker had no memory, or
+    /// a worker is gone. What the orders held is then lost.
     pub fn carry_out<R: Wait>(
         &mut self,
         rt: &R,

@@ -1,4 +1,4 @@
-//! Tests of threads that are given orders and answer them.
+//! Tests of a team: orders, the threads that carry them out, and their answers.
 #![tactic(auto)]
 
 #[cfg(test)]

@@ -1,4 +1,4 @@
-//! Who carries orders out, and in which order answers come.
+//! The threads that carry out orders, and the order of the answers.
 
 use crate::board::Board;
 use crate::visits::{Visit, Visits, orders};
@@ -8,22 +8,22 @@ use std::sync::{Arc, Wait};
 use std::test::Fail;
 use std::thread::{self, Threads};
 
-/// What a team is given.
+/// The input of a test.
 #[derive(Clone, Copy)]
 struct Given {
-    /// How many threads there are beside the main thread.
+    /// The number of threads beside the main thread.
     workers: usize,
-    /// How many have to have arrived before one of these begins to work.
+    /// The number of arrivals before one of these threads begins to work.
     begins_after: u64,
-    /// How many orders there are.
+    /// The number of orders.
     orders: usize,
-    /// How many are to be carried out at once.
+    /// The number of orders that must be carried out at the same time.
     at_once: u64,
-    /// Which has no answer.
+    /// The order without an answer, if there is one.
     silent: Option<usize>,
 }
 
-/// A bell for each of so many workers.
+/// A bell for each worker.
 fn bells(alloc: Global, workers: usize) -> Result<Vec<Bell>, AllocError> {
     let mut bells = Vec::new(alloc);
     for _worker in 0..workers {
@@ -32,7 +32,7 @@ fn bells(alloc: Global, workers: usize) -> Result<Vec<Bell>, AllocError> {
     Ok(bells)
 }
 
-/// The bells of the workers, the orders, and the board that all of these look at.
+/// The bells of the workers, the orders, and the board that all of them use.
 fn ready(alloc: Global, given: Given) -> Option<(Vec<Bell>, Vec<Visit>, Arc<Board, Global>)> {
     let bells = bells(alloc, given.workers).ok()?;
     let board = Arc::new(alloc, Board::new()).ok()?;
@@ -40,7 +40,7 @@ fn ready(alloc: Global, given: Given) -> Option<(Vec<Bell>, Vec<Visit>, Arc<Boar
     Some((bells, orders, board))
 }
 
-/// What a team answers to visits.
+/// A team's answers to visits.
 fn answered<R: Threads + Wait + Sync>(rt: &R, alloc: Global, given: Given) -> Option<Vec<usize>> {
     let main = &Bell::new();
     let (bells, orders, board) = ready(alloc, given)?;
@@ -61,7 +61,7 @@ fn answered<R: Threads + Wait + Sync>(rt: &R, alloc: Global, given: Given) -> Op
     })
 }
 
-/// Whether a team has the answers of so many visits, in their order.
+/// Whether a team answers all visits, in order.
 fn is_answered<R: Threads + Wait + Sync>(rt: &R, alloc: Global, given: Given) -> bool {
     let Some(answers) = answered(rt, alloc, given) else {
         return false;
@@ -74,9 +74,9 @@ fn is_answered<R: Threads + Wait + Sync>(rt: &R, alloc: Global, given: Given) ->
     answers.len() == given.orders
 }
 
-/// Workers, when they begin, orders, and how many of these are carried out at once. Where all are,
-/// none would be answered if one thread carried out two, as each waits for all. Workers that begin
-/// late have their orders before they look for them.
+/// The numbers of workers, of arrivals before they begin, of orders, and of orders at the same
+/// time. If the last two are equal, a thread that carries out two orders would leave all without an
+/// answer, as each waits for all. Workers that begin late have their orders before they first look.
 static ANSWERED: [(usize, u64, usize, u64); 13] = [
     (1, 0, 2, 2),
     (2, 0, 3, 3),
@@ -126,7 +126,7 @@ fn a_team_fails_where_an_order_has_no_answer(rt: HostRuntime) -> Result<(), Fail
     Ok(())
 }
 
-/// What a team answers to a visit whose worker is gone.
+/// A team's answers to visits when a worker is gone.
 fn answered_by_nobody<R: Wait>(rt: &R, alloc: Global, given: Given) -> Option<Vec<usize>> {
     let (main, theirs) = (Bell::new(), Bell::new());
     let (_bells, orders, _board) = ready(alloc, given)?;

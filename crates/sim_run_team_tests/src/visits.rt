@@ -5,8 +5,7 @@ use sim_run_team::Work;
 use std::alloc::{AllocError, Global};
 use std::sync::Arc;
 
-/// An order to arrive, and to wait until so many have arrived. It answers with its number, or not at
-/// all.
+/// An order to arrive, and to wait until this many have arrived. The answer is its number, or none.
 #[derive(Drop)]
 pub struct Visit {
     pub number: usize,
@@ -37,8 +36,8 @@ impl Work for Visits {
     }
 }
 
-/// Visits with the numbers from 0, each of which waits until so many have arrived; the one with a
-/// number has no answer.
+/// Visits numbered from 0, each of which waits until this many have arrived. The one with the
+/// number `silent` has no answer.
 pub fn orders(
     alloc: Global,
     count: usize,

@@ -1,4 +1,4 @@
--- What a worker takes along may go to another thread, and what workers have in common may be shared.
+-- What a worker takes along can be sent to another thread, and what workers have in common can be shared.
 use denote.RattleType.{RattleType}
 use denote.Exit.{Kept}
 use denote.Struct.Field.{shr_ref_field, u64-field}
@@ -21,8 +21,7 @@ use Rattle.sim_run_workers.proofs.round.Round.TheSendSync as rounds
 round_sync : IsSync Round.the_row
 round_sync = search (rounds.the_sync, crosses, sendable) depth 20
 
--- the types of what a worker takes along: the handle, the allocator, the store under its lock, the gate, the round, its seat, and how many workers it is
--- to be
+-- the types of what a worker takes along: the handle, the allocator, the store under its lock, the gate, the round, its seat, and the number of workers
 abbrev pub baggage : RattleType → RattleType → NamedLft → NamedLft → NamedLft → NamedLft → List RattleType
 baggage R G ℓ ℓ₁ ℓ₂ ℓ₃ =
     (shr_ref_field ℓ (param 0 R) tt).row ∷ Global.the_row ∷ (shr_ref_field ℓ₁ (Mutex.the_row WaveStore.the_row) tt).row

@@ -15,7 +15,7 @@ use std::alloc::Global;
 use std::sync::{Mutex, Wait};
 use std::thread::{Threads, join};
 
-/// What two workers came to: a stranger goes before want of memory.
+/// The result of two workers. `Stranger` takes precedence over `Memory`.
 fn both(one: Result<(), Fault>, other: Result<(), Fault>) -> Result<(), Fault>
     ensures stranger { (result ≡ Err fault.Stranger) ↔ ((one ≡ Err fault.Stranger) ⊎ (other ≡ Err fault.Stranger)) }
     ensures executed { (result ≡ Ok tt) ↔ ((one ≡ Ok tt) × (other ≡ Ok tt)) }
@@ -27,8 +27,8 @@ fn both(one: Result<(), Fault>, other: Result<(), Fault>) -> Result<(), Fault>
     }
 }
 
-/// As many workers, each with a seat of its own that is split off; all seats come back as one. The
-/// threads are forked by halves.
+/// The work of this many workers, each with a seat that is split off; all seats come back as one.
+/// Threads are forked by halves.
 fn share<R: Threads + Wait + Sync, G: Gate + Sync>(
     rt: &R,
     alloc: Global,
@@ -66,8 +66,8 @@ fn share<R: Threads + Wait + Sync, G: Gate + Sync>(
     (seat, both(one, another))
 }
 
-/// Executes these processes, each drawn by one of the workers. No more threads are at work than
-/// there are processes.
+/// Executes these processes, each drawn by one of the workers. There are no more threads than
+/// processes.
 pub fn execute_all<R: Threads + Wait + Sync, G: Gate + Sync>(
     rt: &R,
     alloc: Global,

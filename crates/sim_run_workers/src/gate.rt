@@ -1,14 +1,14 @@
-//! Who is reported of executions.
+//! Gates, which are called before each execution.
 
-/// Is reported of each execution before it begins, by the worker that is about to carry it out.
+/// Is called before each execution, by the worker that is about to carry it out.
 pub trait Gate {
-    /// Whether anybody watches. Where nobody does, a run need not tell of its executions.
+    /// Whether the gate watches. If it does not, a run need not call it.
     fn watches(&self) -> bool {
         true
     }
 
-    /// A process with this number is about to be executed. No lock is held meanwhile, and the
-    /// execution waits until this returns.
+    /// Called before the process with this number is executed. No lock is held, and the execution
+    /// waits until this returns.
     fn before(&self, process: usize);
 }
 

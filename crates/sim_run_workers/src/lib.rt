@@ -1,5 +1,5 @@
-//! The workers of a run: threads that share a store under a lock and execute the processes that a
-//! cycle resumed.
+//! The workers of a run: threads that share a store under a lock and execute the processes that
+//! resume in a cycle.
 #![tactic(auto)]
 
 mod cycle;

@@ -6,7 +6,7 @@ ghost use Rattle.sim_run_claims.specs.Seats.{count_of};
 use sim_run_claims::{ClaimSeat, Claims};
 use std::alloc::{AllocError, Global};
 
-/// The processes that a cycle resumed, each of which one worker draws.
+/// The processes that resume in a cycle. Each is drawn by one worker.
 #[derive(Drop)]
 pub struct Round {
     due: Vec<usize>,
@@ -31,8 +31,8 @@ impl Round {
         Ok((Round { due, claims }, seat))
     }
 
-    /// The number of a process that no other worker draws: the one at the place that the seat draws
-    /// among those that are due. None where all are drawn, or the seat has no allowance.
+    /// The number of a process that no other worker draws: the seat draws an index into the list of
+    /// those that are due. `None` if all are drawn, or the seat has no allowance.
     pub fn draw(&self, seat: &mut ClaimSeat) -> Option<usize>
         requires { IsOf self.now.claims seat.old }
         ensures of { IsOf self.now.claims seat.new }
@@ -54,7 +54,7 @@ impl Round {
         self.claims.split(alloc, seat)
     }
 
-    /// Takes the seat of another worker back in.
+    /// Takes over the seat of another worker.
     pub fn join(&self, seat: &mut ClaimSeat, other: ClaimSeat)
         requires seat { IsOf self.now.claims seat.old }
         requires other { IsOf self.now.claims other }
@@ -64,7 +64,7 @@ impl Round {
         self.claims.join(seat, other)
     }
 
-    /// How many processes were drawn, once all seats are joined in one.
+    /// The number of processes that were drawn, once all seats are joined in one.
     pub fn close(self, seat: ClaimSeat) -> usize
         requires of { IsOf self.claims seat }
         requires whole { balance seat ≡ 64 }

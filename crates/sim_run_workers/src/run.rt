@@ -1,4 +1,4 @@
-//! From where a store stands to the end of its run.
+//! A run, from the present state of its store to its end.
 
 ghost use Rattle.std.specs.Prelude.{◌≡◌, ◌≢◌, ◌≤◌, None, vec_len, IfOk, MatchOption};
 ghost use Rattle.sim_flat_design.specs.Designs.{most};
@@ -12,17 +12,17 @@ use std::alloc::{AllocError, Global};
 use std::sync::{Mutex, Wait};
 use std::thread::Threads;
 
-/// How far workers have carried a run on.
+/// How far workers have carried on a run.
 #[derive(Clone, Copy)]
 pub enum Carried {
     /// To its end.
     ToEnd,
-    /// Up to a result that did not fit: the store under the lock is not the one that its job was
-    /// taken from.
+    /// To a result that did not fit: the store under the lock is not the one from which its job was
+    /// taken.
     ToStranger,
 }
 
-/// A copy of the processes that are due; none where the run has ended.
+/// A copy of the processes that are due; `None` if the run has ended.
 fn due_of(alloc: Global, run: &WaveStore) -> Result<Option<Vec<usize>>, AllocError>
     ensures { IfOk result (λ found. MatchOption found (run.now.ended ≢ None) (λ due. (run.now.ended ≡ None) × (due.items ≡ store.due_of run.now)
         × (vec_len due ≤ most))) }
@@ -34,8 +34,8 @@ fn due_of(alloc: Global, run: &WaveStore) -> Result<Option<Vec<usize>>, AllocErr
     Ok(Some(due))
 }
 
-/// Goes on to the next cycle. Where others have gone on meanwhile, or have not executed all, there
-/// is nothing to do but to look again.
+/// Goes on to the next cycle. If other threads have already done so, or have not executed all
+/// processes, there is nothing to do but to look again.
 fn advance<R: Wait>(rt: &R, alloc: Global, store: &Mutex<WaveStore>) -> Result<(), AllocError> {
     match store.lock(rt).advance(alloc) {
         Err(StoreError::Memory) => Err(AllocError),
@@ -43,10 +43,10 @@ fn advance<R: Wait>(rt: &R, alloc: Global, store: &Mutex<WaveStore>) -> Result<(
     }
 }
 
-/// Carries a run on from where its store stands, cycle by cycle, until it has ended. In each cycle
-/// the processes that are due are executed by at most so many threads, none under the lock; then
-/// the calling thread goes on. The lock is free in between, so that others may look, or carry the
-/// run on as well. An error is want of memory, once all workers are joined.
+/// Carries on a run from the present state of its store, cycle by cycle, until it has ended. In
+/// each cycle the processes that are due are executed by at most `workers` threads, none under the
+/// lock; then the calling thread goes on. The lock is free in between, so that other threads may
+/// look, or carry on the run as well. `AllocError` comes once all workers are joined.
 pub fn run_to_end<R: Threads + Wait + Sync, G: Gate + Sync>(
     rt: &R,
     alloc: Global,

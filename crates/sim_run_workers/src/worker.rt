@@ -15,14 +15,14 @@ use std::sync::{Mutex, Wait};
 /// Why workers gave up.
 #[derive(Clone, Copy)]
 pub enum Fault {
-    /// The store under the lock is not the one that a job was taken from.
+    /// The store under the lock is not the one from which a job was taken.
     Stranger,
-    /// No memory.
+    /// Memory ran out.
     Memory,
 }
 
-/// What a refusal of the store means to a worker. Where others have executed the process, or have
-/// carried the run on, there is nothing left to do.
+/// The meaning of a store's refusal to a worker. If other threads have executed the process, or
+/// carried on the run, there is nothing left to do.
 fn fault_of(refusal: StoreError) -> Result<(), Fault>
     ensures { result ≡ meaning_of refusal }
 {
@@ -33,7 +33,7 @@ fn fault_of(refusal: StoreError) -> Result<(), Fault>
     }
 }
 
-/// Executes a job, and takes the lock to hand in its result.
+/// Executes a job, and takes the lock to give back its result.
 fn carry_out<R: Wait>(
     rt: &R,
     alloc: Global,
@@ -50,8 +50,8 @@ fn carry_out<R: Wait>(
 }
 
 /// Executes a process, if it is due and has not been executed since the last cycle. The lock is
-/// taken for its job and for its result, and is free while the gate is reported and while the
-/// process is executed.
+/// taken for its job and for its result; it is free during the report to the gate and the
+/// execution.
 fn execute<R: Wait, G: Gate>(
     rt: &R,
     alloc: Global,
@@ -69,7 +69,7 @@ fn execute<R: Wait, G: Gate>(
     }
 }
 
-/// Draws processes until none is left, and executes each.
+/// Draws processes and executes them, until none is left.
 pub fn work<R: Wait, G: Gate>(
     rt: &R,
     alloc: Global,

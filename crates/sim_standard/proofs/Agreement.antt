@@ -1,4 +1,4 @@
--- The values and the totals of nets are those that the records tell.
+-- The values and totals of nets are those in the records.
 use Rattle.std.proofs.Common.{ℕ, zero, suc, ◌+◌, ◌<◌, ◌≤◌, ◌≡◌, eqb, Bool, true, false, not, if◌then◌else◌, List, [], ◌∷◌, ◌++◌, Option, None, Some}
 use Rattle.std.proofs.Common.{length, map, drop, refl, ap, sym, ◌∙◌, subst, arith, cond, append-nil}
 use Rattle.std.specs.List.{All, enumerate_from, filter, fold}
@@ -26,7 +26,7 @@ use Rattle.sim_standard.proofs.Records.{first-recorded}
 
 -- ---- filters
 
--- of one filter after another, the order doesn't matter
+-- the order of two filters makes no difference
 filter-filter : {X : Type 0} (p q : X → Bool) (xs : List X) → filter p (filter q xs) ≡ filter q (filter p xs)
 filter-filter p q [] = refl
 filter-filter {X} p q (x ∷ xs) = go (p x) (q x) refl refl (filter-filter p q xs)
@@ -79,7 +79,7 @@ one-there (v ∷ nets) i n (suc m) e lt =
 pub first-changes : (nets : List NetView) (n : ℕ) → n < length nets → filter (is_of n) (values_of nets) ≡ (n, (net_at nets n).value) ∷ []
 first-changes nets n lt = of-net n (enumerate_from 0 nets) ∙ ap (map numbered_value) (one-there nets 0 n n (omega arith) lt)
 
--- a later one has a net once where it has an event, and otherwise not
+-- a later one has a net once if it has an event, else not at all
 pub later-changes : (nets : List NetView) (n : ℕ) → n < length nets
     → filter (is_of n) (changes_from 0 nets) ≡ (if (net_at nets n).event then (n, (net_at nets n).value) ∷ [] else [])
 later-changes nets n lt =
@@ -92,7 +92,7 @@ later-changes nets n lt =
     go true = refl
     go false = refl
 
--- ---- one record more
+-- ---- one more record
 
 changes-more : (rs : List Record) (r : Record) (n : ℕ) → changes_of (rs ++ r ∷ []) n ≡ changes_of rs n ++ filter (is_of n) r.changes
 changes-more rs r n =
@@ -137,7 +137,7 @@ record Follows (d : Design) (before now : State) : Type 0 where
   nets : now.nets ≡ nets_updated drivers d.nets before.nets
 
 module _ (d : Design) (is : All IsProcess d.processes) where
-  -- where there is a state after one cycle more, there is the state before that cycle
+  -- if there is a state after one more cycle, there is the state before that cycle
   record HasBefore (k : ℕ) (now : State) : Type 0 where
     before : State
     there : standard d k ≡ Some before

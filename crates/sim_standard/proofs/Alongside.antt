@@ -1,4 +1,4 @@
--- Statements that are carried out on two things keep what relates these, where each step keeps it.
+-- Statements carried out on two things keep a relation between these, if each step keeps it.
 use Rattle.std.proofs.Common.{◌≡◌, ℕ, List, [], ◌∷◌, ◌++◌, map, Bool, true, false, if◌then◌else◌, sym, subst}
 use Rattle.std.specs.List.{concat}
 use Rattle.sim_flat_design.specs.declared.expression.LogicExpression.{LogicExpression}
@@ -13,7 +13,7 @@ use Rattle.sim_flat_design.specs.Bodies.{logic_objects, boolean_objects, assignm
 use Rattle.sim_flat_design.specs.Bodies.{statement_objects, objects_of}
 use Rattle.sim_standard.specs.Statements.{Steps, Guarded, in_turn, if_taken, statement_rule, branch_rule, statement_done, branch_done, carried_out}
 
--- each number is such a one
+-- each number has the property
 abbrev pub Each : (ℕ → Type 0) → List ℕ → Type 0
 Each P [] = Unit {0}
 Each P (n ∷ ns) = P n × Each P ns
@@ -34,7 +34,7 @@ each_of_all P h (n ∷ ns) = (h n, each_of_all P h ns)
 unfoldable pub branch_objects : Branch → List ℕ
 branch_objects = folds.fold-Branch (List ℕ) (List ℕ) statement_objects_rule branch_objects_rule
 
--- the steps on both sides keep what relates them, where they name only such ports and signals
+-- the steps on both sides keep the relation, if they name only such ports and signals
 pub record Keeps {S T : Type 0} (one : Steps S) (other : Steps T) (P : ℕ → Type 0) (R : S → T → Type 0) : Type 0 where
   pub holds : (c : BooleanExpression) → Each P (boolean_objects c) → (s : S) (t : T) → R s t → one.holds c s ≡ other.holds c t
   pub signal : (a : SignalAssignment) → Each P (assignment_objects a) → (s : S) (t : T) → R s t → R (one.signal a s) (other.signal a t)

@@ -1,4 +1,4 @@
--- The state at the end of a cycle is the one after its update, once what it resumes has been executed.
+-- The state at the end of a cycle is the one after its update, once the resumed processes have been executed.
 use Rattle.std.proofs.Common.{◌≡◌, ℕ, zero, suc, Option, Some, None, refl, ap, ◌∙◌}
 use Rattle.sim_flat_design.specs.Designs.{Design}
 use Rattle.sim_standard.specs.State.{State}

@@ -97,7 +97,7 @@ marked_of-split limit v (suc e) (suc c) (x ∷ xs) le within early late broken c
 at_take : (n : ℕ) (xs : List Transaction) (k : ℕ) → k < n → transaction_at (take n xs) k ≡ transaction_at xs k
 at_take n xs k h = get_or-take n xs k (0, U) h
 
--- what the places that the pass finds in the first `end` transactions say
+-- what the places mean that the pass finds in the first `end` transactions
 pub kept_places-marked_of : (limit : ℕ) (v : Logic) (front back end : ℕ) (xs : List Transaction)
     → front ≤ back → back ≤ end → end ≤ length xs
     → ((k : ℕ) → back ≤ k → k < end → (transaction_at xs k).1 ≡ v)

@@ -12,11 +12,11 @@ use Rattle.sim_standard.specs.Drivers.{Transaction, transaction_at}
 use Rattle.sim_standard.specs.Editing.{Marked, Is_new, Is_early, Is_before, at_places, is_marked, is_marked_at, marked_of}
 use Rattle.sim_standard.proofs.Keeping.{early-marked, or-true}
 
--- the last old one is marked where it has the value of the first new one
+-- the last old one is marked if it has the value of the first new one
 before-new : (limit : ℕ) (v : Logic) (x : Transaction) → x.1 ≡ v → is_marked limit v x [] ≡ true
 before-new limit v x e = or-true (ltb x.0 limit) (is_same_from_same x.1 v e)
 
--- one is marked where it has the value of a marked one after it
+-- one is marked if it has the value of a marked one after it
 before-old : (limit : ℕ) (v : Logic) (x y : Transaction) (ys : List Transaction) → x.1 ≡ y.1 → is_marked limit v y ys ≡ true
     → is_marked limit v x (y ∷ ys) ≡ true
 before-old limit v x y ys e m =
@@ -31,7 +31,7 @@ value_of_old old new i h = ap (λ (t : Transaction). t.1) (get_or_append_left ol
 value_of_first : (old : List Transaction) (n : Transaction) (ns : List Transaction) (i : ℕ) → length old ≡ i → (transaction_at (old ++ n ∷ ns) i).1 ≡ n.1
 value_of_first old n ns i e = ap (λ (t : Transaction). t.1) (get_or_at old n ns (0, U) i e)
 
--- what the next place says of a place
+-- a place, by the next one
 step : (limit : ℕ) (old : List Transaction) (n : Transaction) (ns : List Transaction) (i : ℕ) → i < length old
     → (transaction_at (old ++ n ∷ ns) i).1 ≡ (transaction_at (old ++ n ∷ ns) (suc i)).1
     → (suc i < length old → is_marked_at limit old n.1 (suc i) ≡ true)
@@ -76,7 +76,7 @@ why-before limit v x y ys m = go (ltb x.0 limit) (is_same x.1 y.1) refl refl m
     go false true p q m = inr (same_from_is_same x.1 y.1 q, m)
     go false false p q m = absurd cc
 
--- a place that passes the test is marked; by how many old ones come after it
+-- a place that passes the test is marked, by induction on the number of old ones after it
 pub Marked_from_test : (limit : ℕ) (old : List Transaction) (n : Transaction) (ns : List Transaction) (after i : ℕ) → i + suc after ≡ length old
     → is_marked_at limit old n.1 i ≡ true → Marked limit old (n ∷ ns) i
 Marked_from_test limit old n ns zero i q m =
@@ -160,7 +160,7 @@ at_places-append test k (x ∷ xs) ys =
     go true e = ap (λ (w : List Transaction). x ∷ w) e
     go false e = e
 
--- where the test holds of each place, all stand there
+-- if the test holds of each place, all stay
 at_places-all : (test : ℕ → Bool) (k : ℕ) (xs : List Transaction) → ((i : ℕ) → k ≤ i → i < k + length xs → test i ≡ true) → at_places test k xs ≡ xs
 at_places-all test k [] holds = refl
 at_places-all test k (x ∷ xs) holds =

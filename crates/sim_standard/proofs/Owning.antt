@@ -1,4 +1,4 @@
--- A process changes nothing of a state but what it owns, and that as statements change it alone.
+-- A process changes only what it owns, and does so as its statements do when executed on that alone.
 use Rattle.std.proofs.Common.{◌≡◌, ◌<◌, ℕ, zero, List, length, sym, ap, ◌∙◌}
 use Rattle.std.proofs.lemmas.List.{get_or-set_same, set-set, set-get_or}
 use Rattle.sim_flat_design.specs.declared.statement.Statement.{Statement}

@@ -1,4 +1,4 @@
--- What is executed depends on the ports and signals that are named, and on no others.
+-- Execution depends only on the ports and signals that are named.
 use Rattle.std.proofs.Common.{◌≡◌, ℕ, List, [], ◌∷◌, map, fold, Bool, true, false, not, if◌then◌else◌, Option, Some, None, slice_set, refl, sym, ap, ◌∙◌, subst}
 use Rattle.std.specs.List.{concat}
 use Rattle.sim_logic.specs.declared.logic.Logic.{Logic}
@@ -188,7 +188,7 @@ module _ (f g : ℕ → NetView) where
         ∙ ap ((own_steps g now).boolean_variable n x) is;
   }
 
-  -- where all that is named is seen alike, statements leave the same
+  -- if all that is named is seen alike, statements leave the same
   pub executed_same : (now : ℕ) (xs : List Statement) (own : Owned) → Each Alike (objects_of xs) → executed f now xs own ≡ executed g now xs own
   unfolding executed
   executed_same now xs own e = all_go (own_steps f now) (own_steps g now) Alike (λ (a b : Owned). a ≡ b) (keeps now) xs e own own refl

@@ -24,7 +24,7 @@ unfolding in_turn
 carried-append steps [] ys x = refl
 carried-append steps (y ∷ xs) ys x = carried-append steps xs ys (statement_done steps y x)
 
--- the steps go by these values of conditions, and a signal assignment by the waveform that they take
+-- the steps use these values of conditions, and a signal assignment uses the waveform that they select
 pub record Sees {S : Type 0} (steps : Steps S) (x : S) (look : ℕ → NetView) (variables : List Held) : Type 0 where
   pub holds : (c : BooleanExpression) → steps.holds c x ≡ boolean_value look variables c
   pub signal : (a : SignalAssignment) → steps.signal a x ≡ steps.signal (unconditional look variables a) x

@@ -1,4 +1,4 @@
--- One after another is together: a process keeps to its part, and those before it leave its part as it was.
+-- Processes executed one after another leave what they leave together: each keeps to its part, and those before it leave its part as it was.
 use Rattle.std.proofs.Common.{ℕ, zero, suc, ◌+◌, ◌<◌, ◌≤◌, ◌≡◌, ◌≢◌, ◌==◌, ◌||◌, eqb, Bool, true, false, if◌then◌else◌, List, [], ◌∷◌}
 use Rattle.std.proofs.Common.{length, set, map, refl, ap, sym, ◌∙◌, arith}
 use Rattle.std.specs.List.{All}
@@ -11,7 +11,7 @@ use Rattle.sim_standard.proofs.Frame.{the_frame}
 use Rattle.sim_standard.specs.Orders.{is_among, one_by_one, NoRepeats, AllBelow}
 use Rattle.sim_standard.specs.Together.{merged, together}
 
--- a process as well
+-- a set and one more process
 abbrev pub also : ℕ → (ℕ → Bool) → ℕ → Bool
 also p f q = (p == q) || f q
 
@@ -69,7 +69,7 @@ module _ (ps : List Process) (s : State) where
       ap (λ (o : Owned). record { time = s.time; delta = 0; nets = map (net_at s.nets) (process_at ps p).reads; owned = o ∷ []; waiting = [] })
       (merged-out f results 0 p p s.owned (omega arith) out)
 
-  -- a process more
+  -- one more process
   meaning-together : (f : ℕ → Bool) (p : ℕ) → IsProcess (process_at ps p) → f p ≡ false → p < length s.owned
       → meaning (process_at ps p) p (together ps f s) ≡ together ps (also p f) s
   meaning-together f p is out h =

@@ -72,7 +72,7 @@ finishing-step looks now b c i (suc p) n (x ∷ os) own q same step =
 
 -- ---- what there is to do
 
--- who has something to do has a place
+-- a process that has something to do has a place
 busy : (todo : List (List Statement)) (p : ℕ) → (to_do todo p ≡ [] → ⊥) → p < length todo
 busy todo p h = go (upto p (length todo))
   where
@@ -115,7 +115,7 @@ module _ (n : Names) (s : State) where
   at_once_rule (so.If bs os) e = absurd cc
   at_once_rule so.Null e = with-itself n.process s
 
-  -- it changes what its process owns, as it changes that alone
+  -- it changes what its process owns just as it does by itself
   at_once : (x : Statement) → selected_in n s x ≡ None
       → statement_done (state_steps n) x s ≡ with_owned n.process (statement_done (own_steps (seen n s) s.time) x (owned_of n s)) s
   unfolding statement_done branch_done
@@ -258,7 +258,7 @@ module _ (ps : List Process) (p : ℕ) (t : State) where
       go true rest = q.1
       go false rest = rest
 
-  -- by its outermost part, a statement selects so
+  -- what a statement selects, by its outermost part
   rolled : (z : so.Statement-F Statement Branch) (s : State) → selected_in names s (views.roll-Statement z)
       ≡ selected_rule (seen names s) (owned_of names s).variables z
   rolled z s = ap (selected_rule (seen names s) (owned_of names s).variables) (views.out-roll-Statement z)

@@ -1,4 +1,4 @@
--- Drivers, their transactions, and the time of the next one (IEEE 1076-2008, 14.7.2, 14.7.5.1).
+-- Drivers, their transactions, and the time of the next cycle (IEEE 1076-2008, 14.7.2, 14.7.5.1).
 use Rattle.std.specs.Prelude.{ℕ, suc, ◌≡◌, ◌≤◌, ◌==◌, min, List, [], ◌∷◌, ⊤, Option, None, Some, MatchOption, map, slice_index_or, if◌then◌else◌}
 use Rattle.std.specs.List.{All, Contains, flat_map, reduce}
 use Rattle.sim_logic.specs.declared.logic.Logic.{Logic}
@@ -17,7 +17,7 @@ pub record Waveform : Type 0 where
   pub value : Logic
   pub pending : List Transaction
 
--- The times rise strictly, none below a time.
+-- The times rise strictly, and none is below this one.
 abbrev pub RisesFrom : ℕ → List Transaction → Type 0
 RisesFrom time [] = ⊤
 RisesFrom time (x ∷ xs) = (time ≤ x.0) × RisesFrom (suc x.0) xs
@@ -29,7 +29,7 @@ next_of (x ∷ xs) = Some x.0
 
 -- ---- an active driver takes its transaction
 
--- a waveform once its first transaction has become the value, if that one is at this time (14.7.3.2)
+-- a waveform after its first transaction has become its value, if it is of this time (14.7.2)
 abbrev pub taken_at : ℕ → Logic → List Transaction → Waveform
 taken_at time value [] = record { value = value; pending = [] }
 taken_at time value (x ∷ xs) =
@@ -44,11 +44,11 @@ taken time waveform = taken_at time waveform.value waveform.pending
 abbrev pub pending_times : List Waveform → List ℕ
 pending_times drivers = flat_map (λ (d : Waveform). map (λ (x : Transaction). x.0) d.pending) drivers
 
--- The time of the next cycle: the least of all pending times, or none where nothing is pending.
+-- The time of the next cycle: the earliest of all pending times; none if nothing is pending, where the standard has TIME'HIGH.
 abbrev pub IsNext : List Waveform → Option ℕ → Type 0
 IsNext drivers next =
     MatchOption next (pending_times drivers ≡ []) (λ time. Contains (pending_times drivers) time × All (λ (t : ℕ). time ≤ t) (pending_times drivers))
 
--- that time, as a function
+-- the same, as a function
 unfoldable pub next_time : List Waveform → Option ℕ
 next_time drivers = reduce min (pending_times drivers)

@@ -1,4 +1,4 @@
--- The values of expressions (IEEE 1076-2008, 9), where a process sees its ports and signals so and its variables hold this.
+-- The values of expressions (IEEE 1076-2008, 9), given what a process sees of its ports and signals and what its variables hold.
 use Rattle.std.specs.Prelude.{ℕ, List, [], ◌∷◌, Bool, true, false, ◌&&◌, ◌||◌, not, fold, map, if◌then◌else◌, Option, Some, slice_get}
 use Rattle.sim_logic.specs.declared.logic.Logic.{Logic}
 use Rattle.sim_logic.specs.declared.logic.Logic.TheVariants.{U, One, H}
@@ -47,12 +47,12 @@ boolean_operation logical.Xnor a b = is_as_true a b
 boolean_operation logical.Nand a b = not (a && b)
 boolean_operation logical.Nor a b = not (a || b)
 
--- what `=` or `/=` gives, where its operands are the same or not (9.2.3)
+-- the value of `=` or `/=`, given whether the operands are the same (9.2.3)
 abbrev pub relation : Relational → Bool → Bool
 relation relational.Equal same = same
 relation relational.Unequal same = not same
 
--- what the condition operator `??` gives of a value of std_ulogic: true of '1' and 'H', false of the other seven (9.2.9; IEEE 1164, function "??")
+-- the condition operator `??` on a value of std_ulogic: true for '1' and 'H', false for the other seven (9.2.9; IEEE 1164, function "??")
 abbrev pub condition : Logic → Bool
 condition One = true
 condition H = true
@@ -70,7 +70,7 @@ abbrev pub truth_of : Option Held → Bool
 truth_of (Some (held.Truth value)) = value
 truth_of _ = false
 
--- rising_edge, or else falling_edge: there is an event, and the last value and the value are those of such an edge (IEEE 1164)
+-- rising_edge or, for false, falling_edge: there is an event, and the last value and the value make such an edge (IEEE 1164)
 abbrev pub has_edge : Bool → NetView → Bool
 has_edge true net = net.event && rises net.last net.value
 has_edge false net = net.event && falls net.last net.value
@@ -106,14 +106,14 @@ module _ (look : ℕ → NetView) (variables : List Held) where
 
   -- ---- waveforms
 
-  -- each element of a waveform, with the time after which it is driven and its value (10.5.2.1)
+  -- the delay and the value of each element of a waveform (10.5.2.1)
   abbrev pub element_value : Element → Transaction
   element_value x = (x.after, logic_value x.value)
 
   abbrev pub element_values : List Element → List Transaction
   element_values elements = map element_value elements
 
-  -- the waveform that is taken: the first whose condition holds, else the last, if there is one (10.5.3)
+  -- the selected waveform: the first whose condition holds, else the last, if there is one (10.5.3)
   unfoldable pub taken_waveform : List ConditionalWaveform → Option (List Element) → Option (List Element)
   taken_waveform [] otherwise = otherwise
   taken_waveform (c ∷ cs) otherwise = if boolean_value c.condition then Some c.waveform else taken_waveform cs otherwise

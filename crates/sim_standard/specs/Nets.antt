@@ -15,11 +15,11 @@ abbrev pub source_value : List Waveform → Source → Logic
 source_value drivers (source.Driver n) = (driver_at drivers n).value
 source_value drivers (source.Constant value) = value
 
--- the value of a net: the resolution of the values of its sources, from left to right (14.7.3.2)
+-- the value of a net: the values of its sources, resolved from left to right (14.7.3.2, 14.7.3.3)
 abbrev pub net_value : List Waveform → Net → Logic
 net_value drivers net = resolved (map (source_value drivers) net.sources)
 
--- a net with this value, whose last value was this: there is an event where they differ (14.7.3.4)
+-- a net with this value and this last value: there is an event if they differ (14.7.3.4)
 abbrev pub changed_to : Logic → Logic → NetView
 changed_to value last = record { value = value; event = not (is_same last value); last = last }
 
@@ -27,7 +27,7 @@ changed_to value last = record { value = value; event = not (is_same last value)
 abbrev pub net_started : List Waveform → Net → NetView
 net_started drivers net = let value = net_value drivers net in record { value = value; event = false; last = value }
 
--- a net once it is updated: it has the value of its sources, and its old value is its last (14.7.3.4)
+-- a net after an update: it has the value of its sources (14.7.3.4). Its last value, our own, is that before this cycle, event or not; it is not S'LAST_VALUE.
 abbrev pub net_updated : List Waveform → Net → NetView → NetView
 net_updated drivers net old = changed_to (net_value drivers net) old.value
 

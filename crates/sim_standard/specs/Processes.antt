@@ -1,4 +1,4 @@
--- The execution of a process (IEEE 1076-2008, 11.3, 14.7.5): on the whole state, and on its part of it.
+-- The execution of a process (IEEE 1076-2008, 11.3, 14.7.5), on the whole state and on its own part.
 use Rattle.std.specs.Prelude.{ℕ, ◌+◌, ◌==◌, false, List, [], ◌∷◌, if◌then◌else◌, map, slice_index_or}
 use Rattle.sim_flat_design.specs.Processes.{Process}
 use Rattle.sim_standard.specs.declared.net_view.NetView.{NetView}
@@ -6,12 +6,12 @@ use Rattle.sim_standard.specs.State.{State, Owned, net_at, owned_at, with_owned}
 use Rattle.sim_standard.specs.Expressions.{boolean_value}
 use Rattle.sim_standard.specs.Statements.{Steps, carried_out, own_steps}
 
--- Where in a state is what a body names: the nets of its ports and signals, and its process.
+-- Where a state has what a body names: the nets of its ports and signals, and its process.
 pub record Names : Type 0 where
   pub net : ℕ → ℕ
   pub process : ℕ
 
--- the process with a number; beyond the last there is none that does anything
+-- the process with a number; beyond the last, one that does nothing
 abbrev pub no_process : Process
 no_process = record {
   sensitivity = [];
@@ -27,7 +27,7 @@ process_at processes n = slice_index_or processes n no_process
 
 -- ---- on a state
 
--- how ports and signals are seen
+-- what the process sees of its ports and signals
 abbrev pub seen : Names → State → ℕ → NetView
 seen names s object = net_at s.nets (names.net object)
 
@@ -35,7 +35,7 @@ seen names s object = net_at s.nets (names.net object)
 abbrev pub owned_of : Names → State → Owned
 owned_of names s = owned_at s.owned names.process
 
--- a step, carried out on the state at once: the process owns what the step leaves
+-- a step on the state: the process owns at once what the step leaves
 abbrev pub stepped : Names → ((ℕ → NetView) → ℕ → Owned → Owned) → State → State
 stepped names step s = with_owned names.process (step (seen names s) s.time (owned_of names s)) s
 
@@ -57,7 +57,7 @@ object_net process object = slice_index_or process.nets object 0
 abbrev pub names_of : Process → ℕ → Names
 names_of process number = record { net = object_net process; process = number }
 
--- the state once the process with a number is executed until it suspends
+-- the state after the process with a number has been executed until it suspends
 unfoldable pub meaning : Process → ℕ → State → State
 meaning process number s = carried_out (state_steps (names_of process number)) process.body.statements s
 
@@ -76,6 +76,6 @@ place_in (m ∷ ms) n = if m == n then 0 else place_in ms n + 1
 abbrev pub part_names : Process → Names
 part_names process = record { net = λ object. place_in process.reads (object_net process object); process = 0 }
 
--- what a process owns once it is executed on a part
+-- what a process owns after it has been executed on a part
 unfoldable pub outcome : Process → State → Owned
 outcome process s = owned_at (carried_out (state_steps (part_names process)) process.body.statements s).owned 0

@@ -14,15 +14,15 @@ numbered_value n = (n.0, n.1.value)
 abbrev pub values_of : List NetView → List (ℕ × Logic)
 values_of nets = map numbered_value (enumerate_from 0 nets)
 
--- each net with an event, with its new value, in net order; the nets are numbered from this one on
+-- each net with an event, with its new value, in net order, numbering the nets from this one on
 abbrev pub changes_from : ℕ → List NetView → List (ℕ × Logic)
 changes_from number nets = map numbered_value (filter (λ (n : ℕ × NetView). n.1.event) (enumerate_from number nets))
 
--- the initialization has every net
+-- the record of the initialization has every net
 abbrev pub first_record : State → Record
 first_record s = record { time = s.time; delta = s.delta; changes = values_of s.nets }
 
--- a cycle has the nets with an event
+-- that of a cycle has the nets with an event
 abbrev pub record_of : State → Record
 record_of s = record { time = s.time; delta = s.delta; changes = changes_from 0 s.nets }
 

@@ -1,5 +1,5 @@
--- The state of a design between two executions (IEEE 1076-2008, 14.7). After a number of cycles it is the state in the middle of the last of them: its
--- signals have been updated, and the processes that it resumes have not been executed. Cycle says so beside the standard's own sequence.
+-- The state of a design between two executions (IEEE 1076-2008, 14.7). After a number of cycles it is in the middle of the last one: signals have been updated,
+-- and the processes that resume have not been executed. `Cycle` relates this to the standard's own sequence.
 use Rattle.std.specs.Prelude.{ℕ, List, [], false, map, slice_index_or, slice_set}
 use Rattle.std.specs.List.{flat_map}
 use Rattle.sim_logic.specs.declared.logic.Logic.{Logic}
@@ -13,8 +13,8 @@ pub record Owned : Type 0 where
   pub drivers : List Waveform
   pub variables : List Held
 
--- A state: the time and the delta number of the last cycle, each net as that cycle left it, by number, what each process owns, by its number, and the
--- postponed processes that were resumed in an earlier cycle and have not been executed since, rising (14.7.5.3 h).
+-- A state: the time and the delta number of the last cycle, each net as that cycle left it, by number, what each process owns, by number, and the postponed
+-- processes that resumed in an earlier cycle and have not been executed since, rising (14.7.5.3 h). The delta number is our own.
 pub record State : Type 0 where
   pub time : ℕ
   pub delta : ℕ
@@ -22,7 +22,7 @@ pub record State : Type 0 where
   pub owned : List Owned
   pub waiting : List ℕ
 
--- ---- what stands beyond the lists: nothing asks for it in the state of a design
+-- ---- beyond the ends of the lists: never read in the state of a design
 
 abbrev pub no_driver : Waveform
 no_driver = record { value = U; pending = [] }
@@ -44,7 +44,7 @@ net_at nets n = slice_index_or nets n no_net
 abbrev pub owned_at : List Owned → ℕ → Owned
 owned_at owned n = slice_index_or owned n nothing_owned
 
--- all drivers, by number: those of a process stand side by side
+-- all drivers, by number: those of a process are adjacent
 abbrev pub waves : List Owned → List Waveform
 waves owned = flat_map (λ (o : Owned). o.drivers) owned
 
@@ -52,6 +52,6 @@ waves owned = flat_map (λ (o : Owned). o.drivers) owned
 abbrev pub driver_values : List Waveform → List Logic
 driver_values drivers = map (λ (d : Waveform). d.value) drivers
 
--- the state in which one process owns this
+-- the state with one process owning this
 abbrev pub with_owned : ℕ → Owned → State → State
 with_owned process own s = record s { owned = slice_set s.owned process own }

@@ -1,4 +1,4 @@
--- How statements are carried out (IEEE 1076-2008, 10): one after another, on whatever their steps change.
+-- How statements are executed (IEEE 1076-2008, 10): one after another, on whatever their steps change.
 use Rattle.std.specs.Prelude.{ℕ, List, [], ◌∷◌, Bool, true, false, ◌||◌, if◌then◌else◌, Option, Some, None, map, slice_set}
 use Rattle.sim_flat_design.specs.declared.held.Held.TheVariants as held
 use Rattle.sim_flat_design.specs.declared.expression.LogicExpression.{LogicExpression}
@@ -21,7 +21,7 @@ use Rattle.sim_standard.specs.Expressions.{boolean_value, logic_value, element_v
 
 -- ---- statements
 
--- The steps of which statements are made, on what they change: whether a condition holds, and what an assignment leaves.
+-- The steps that statements consist of, on what they change: whether a condition holds, and what an assignment leaves.
 pub record Steps (S : Type 0) : Type 0 where
   pub holds : BooleanExpression → S → Bool
   pub signal : SignalAssignment → S → S
@@ -70,21 +70,21 @@ module _ {S : Type 0} (steps : Steps S) where
   abbrev pub carried_out : List Statement → S → S
   carried_out statements x = in_turn (map statement_done statements) x
 
--- ---- what they leave of what a process owns, where it sees its ports and signals so, at this time
+-- ---- what they leave of what a process owns, given what it sees of its ports and signals and the time
 
--- how an assignment with this delay mechanism treats what is pending, where its first element is driven after this time: without
--- a rejection limit that time is the limit (10.5.2.1)
+-- how an assignment with this delay mechanism treats pending transactions, given the delay of its first element: without `reject`, that delay is the rejection
+-- limit (10.5.2.1)
 abbrev pub delay_of : Delay → ℕ → WaveDelay
 delay_of mechanism.Transport first = Transport
 delay_of mechanism.Inertial first = Inertial first
 delay_of (mechanism.Reject limit) first = Inertial limit
 
--- a driver once these elements are assigned (10.5.2.2)
+-- a driver after these elements have been assigned to it (10.5.2.2)
 abbrev pub assigned : ℕ → Delay → List Transaction → Waveform → Waveform
 assigned now mechanism elements d = record d { pending = edited d.pending now (delay_of mechanism (first_element elements).0) elements }
 
 module _ (look : ℕ → NetView) (now : ℕ) where
-  -- once the waveform that is taken, if there is one, is assigned to the driver at a place
+  -- after the selected waveform, if there is one, has been assigned to the driver at a place
   abbrev pub waveform_assigned : ℕ → Delay → Option (List Element) → Owned → Owned
   waveform_assigned place mechanism None own = own
   waveform_assigned place mechanism (Some elements) own =
@@ -100,7 +100,7 @@ module _ (look : ℕ → NetView) (now : ℕ) where
     boolean_variable = λ place value own. record own { variables = slice_set own.variables place (held.Truth (boolean_value look own.variables value)) };
   }
 
-  -- what a process owns once its statements are carried out
+  -- what a process owns after its statements have been executed
   unfoldable pub executed : List Statement → Owned → Owned
   executed statements own = carried_out own_steps statements own
 

@@ -15,10 +15,10 @@ use Rattle.sim_standard.specs.Statements.{statement_done}
 use Rattle.sim_standard.specs.Expressions.{boolean_value, taken_waveform}
 use Rattle.sim_standard.specs.Processes.{Names, names_of, seen, owned_of, state_steps, process_at}
 
--- ---- what a statement is replaced by, where a process sees its ports and signals so and its variables hold this
+-- ---- what replaces a statement, given what its process sees of its ports and signals and what its variables hold
 
 module _ (look : ℕ → NetView) (variables : List Held) where
-  -- the statements of the first branch whose condition holds, else the last (10.8)
+  -- the statements of the first branch whose condition holds, else the last ones (10.8)
   unfoldable pub taken_statements : List Branch → List Statement → List Statement
   taken_statements [] otherwise = otherwise
   taken_statements (b ∷ bs) otherwise =
@@ -37,7 +37,7 @@ module _ (look : ℕ → NetView) (variables : List Held) where
   selected_rule (s.If branches otherwise) = Some (taken_statements branches otherwise)
   selected_rule _ = None
 
-  -- what a statement selects: an if statement statements, a conditional assignment an assignment; none where it is carried out at once
+  -- what a statement selects: statements if it is an if statement, an assignment if it is a conditional one, else none: it is carried out at once
   abbrev pub selected : Statement → Option (List Statement)
   selected x = selected_rule (views.out-Statement x)
 
@@ -51,9 +51,8 @@ selected_in names s x = selected (seen names s) (owned_of names s).variables x
 abbrev pub to_do : List (List Statement) → ℕ → List Statement
 to_do todo p = slice_index_or todo p []
 
--- Some order of steps leads from one state to another, where each process has these statements to do. A step takes any process and its first
--- statement: an assignment is carried out on the whole state, a null statement is dropped, and an if statement or a conditional assignment
--- is replaced by what it selects.
+-- Some order of steps leads from one state to another, if each process has these statements to do. A step takes any process and its first statement: an
+-- assignment is carried out on the whole state, a null statement is dropped, and an if statement or a conditional assignment is replaced by what it selects.
 pub data Woven (processes : List Process) : State → List (List Statement) → State → Type 0 where
   Over : (s : State) (todo : List (List Statement)) → ((p : ℕ) → to_do todo p ≡ []) → Woven processes s todo s
   Carries_out : (s t : State) (todo : List (List Statement)) (p : ℕ) (x : Statement) (rest : List Statement)
@@ -67,7 +66,7 @@ pub data Woven (processes : List Process) : State → List (List Statement) → 
       → Woven processes s (slice_set todo p (chosen ++ rest)) t
       → Woven processes s todo t
 
--- at first each process of a set has its body to do
+-- at first each process of a set has its whole body to do
 unfoldable pub bodies : (ℕ → Bool) → ℕ → List Process → List (List Statement)
 bodies set p [] = []
 bodies set p (process ∷ processes) = (if set p then process.body.statements else []) ∷ bodies set (suc p) processes

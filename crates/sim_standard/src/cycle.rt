@@ -12,29 +12,28 @@ ghost use Rattle.sim_standard.specs.Histories.{records_to};
 ghost use Rattle.sim_standard.specs.Cycle.{ended, executed_in_turn, is_resumed, standard, those, to_end};
 ghost use Rattle.sim_standard.specs.Weaving.{Woven, bodies};
 
-/// Processes that are executed one after another, in any order, each once, leave the state that
-/// they leave together, each on its own part of the state before.
+/// Processes executed one after another, in any order, each once, leave the state that they leave
+/// together, each on its own part of the state before.
 pub fn any_order_is_together()
     ensures { (processes : List Process) (order : List ℕ) (s : State) → All IsProcess processes → length s.owned ≡ length processes
         → NoRepeats order → AllBelow (length s.owned) order → one_by_one processes order s ≡ together processes (is_among order) s }
 {}
 
 /// Some interleaving of the statements of a set of processes leads from one state to another
-/// exactly where that is the state which the processes leave together, each on its own part: no
-/// interleaving matters.
+/// exactly if that is the state which the processes leave together, each on its own part: no
+/// interleaving makes a difference.
 pub fn any_interleaving_is_together()
     ensures { (processes : List Process) (set : ℕ → Bool) (s t : State) → All IsProcess processes → length s.owned ≡ length processes
         → Woven processes s (bodies set 0 processes) t ↔ (t ≡ together processes set s) }
 {}
 
-/// The states in which all processes that a cycle resumes are executed together, each on its own
-/// part, are those of the standard's cycle, in which they are executed one after another on the
-/// whole state.
+/// The states reached by executing the processes of each cycle together, each on its own part, are
+/// those of the standard's cycle, which executes them one after another on the whole state.
 pub fn the_states_are_the_standards()
     ensures { (design : Design) (cycles : ℕ) → All IsProcess design.processes → parallel design cycles ≡ standard design cycles }
 {}
 
-/// A cycle of a design without postponed processes executes the processes that it resumes, and
+/// In a design without postponed processes, a cycle executes the processes that it resumes, and
 /// nothing else.
 pub fn without_postponed_processes_those_resumed_are_executed()
     ensures { (design : Design) (cycles : ℕ) (s : State) → All IsProcess design.processes → All (λ p. p.postponed ≡ false) design.processes
@@ -42,22 +41,21 @@ pub fn without_postponed_processes_those_resumed_are_executed()
         → executed_in_turn design cycles s ≡ one_by_one design.processes (those (is_resumed design cycles s) 0 (length design.processes)) s }
 {}
 
-/// The standard ends a cycle once what it resumes has been executed, and our states stand in the
-/// middle of one: the state at the end of a cycle is ours carried on to there (IEEE 1076-2008,
-/// 14.7.5.3).
+/// The standard's cycle ends once the resumed processes have been executed; a state of `standard`
+/// is in the middle of a cycle. Carried on, it is the state at the end of that cycle (IEEE
+/// 1076-2008, 14.7.5.3).
 pub fn the_ends_of_cycles_are_those_of_the_standard()
     ensures { (design : Design) (cycles : ℕ) → ended design cycles ≡ to_end design cycles (standard design cycles) }
 {}
 
-/// After each cycle, the value of each net is that of its last change in the records up to that
-/// cycle.
+/// After each cycle, each net has the value of its last change in the records up to that cycle.
 pub fn the_records_give_the_values()
     ensures { (design : Design) (cycles net : ℕ) (s : State) → All IsProcess design.processes → standard design cycles ≡ Some s → net < length design.nets
         → value_by (records_to design cycles) net ≡ Some (net_at s.nets net).value }
 {}
 
-/// How often a net changed in the records after the first is how many events it had: at first there
-/// is none, and each further cycle adds one exactly where the net has an event in it.
+/// The number of changes of a net in the records after the first is its number of events: none at
+/// first, and one more with each cycle in which the net has an event.
 pub fn the_totals_count_the_events()
     ensures first { (design : Design) (net : ℕ) → total_of (records_to design 0) net ≡ 0 }
     ensures more { (design : Design) (cycles net : ℕ) (s : State) → All IsProcess design.processes → standard design (suc cycles) ≡ Some s

@@ -5,7 +5,7 @@ ghost use Rattle.sim_standard.specs.Drivers.{Transaction};
 ghost use Rattle.sim_standard.specs.declared.delay.Delay as delay;
 ghost use Rattle.sim_standard.specs.Editing.{at_places, before, edited, is_marked_at, marked_of, scheduled, Marked};
 
-/// The test of a place decides the least set of marked places.
+/// The test of a place, `is_marked_at`, decides the least set of marked places.
 pub fn the_marked_places_are_the_least_set()
     ensures { (limit : ℕ) (old : List Transaction) (first : Transaction) (others : List Transaction)
         (place : ℕ) → place < length old
@@ -22,8 +22,8 @@ pub fn the_kept_transactions_are_the_marked_ones()
         → marked_of limit first.1 old ≡ at_places test 0 old }
 {}
 
-/// An inertial assignment leaves the marked transactions: of the old ones before the first new one,
-/// followed by the new ones, those at the places of the least set, whichever test decides it
+/// An inertial assignment leaves the marked transactions: among the old ones before the first new
+/// one, followed by the new ones, those at the places of the least set, whichever test decides it
 /// (IEEE 1076-2008, 10.5.2.2).
 pub fn an_inertial_edit_leaves_the_marked_transactions()
     ensures { (old : List Transaction) (now : ℕ) (reject : ℕ) (element : Transaction) (elements : List Transaction)

@@ -8,16 +8,16 @@ ghost use Rattle.sim_standard.specs.State.{State, Owned, driver_values, with_own
 ghost use Rattle.sim_standard.specs.Processes.{meaning, part, outcome};
 ghost use Rattle.sim_standard.specs.Statements.{executed};
 
-/// A process that is executed on the whole state changes nothing of it but its own drivers and
-/// variables, and leaves of these what it leaves of them when it is executed on its part: the time,
-/// the nets that it reads, and what it owns.
+/// A process executed on the whole state changes only its own drivers and variables, and leaves in
+/// these what it leaves in them when it is executed on its part: the time, the nets that it reads,
+/// and what it owns.
 pub fn a_process_keeps_to_its_part()
     ensures { (p : Process) (number : ℕ) (s : State) → IsProcess p → number < length s.owned
         → meaning p number s ≡ with_owned number (outcome p (part p number s)) s }
 {}
 
-/// Statements that are carried out leave the current value of each driver as it was: only a
-/// simulation cycle changes one (IEEE 1076-2008, 14.7.3.2).
+/// Executing statements changes the current value of no driver: only a simulation cycle does (IEEE
+/// 1076-2008, 14.7.2).
 pub fn no_execution_changes_a_current_value()
     ensures { (look : ℕ → NetView) (now : ℕ) (statements : List Statement) (own : Owned)
         → driver_values (executed look now statements own).drivers ≡ driver_values own.drivers }

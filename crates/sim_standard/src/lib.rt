@@ -1,4 +1,4 @@
-//! The simulation of a flat design as IEEE 1076-2008 states it, and its laws. Definitions alone:
+//! The simulation of a flat design as IEEE 1076-2008 states it, and its laws. Definitions only:
 //! nothing here is executed.
 #![tactic(auto)]
 

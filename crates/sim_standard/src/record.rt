@@ -9,7 +9,7 @@ use sqlite_items::Items;
 pub struct Record {
     /// In femtoseconds.
     pub time: u64,
-    /// How many cycles at this time came before.
+    /// The number of cycles before it at this time, the initialization included; our own.
     pub delta: u64,
     pub changes: Items<(usize, Logic)>,
 }

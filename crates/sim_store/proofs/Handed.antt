@@ -30,14 +30,14 @@ merged-in f r i zero n (o ∷ os) q is lt =
     rw e (ap r at)
 merged-in f r i (suc p) n (o ∷ os) q is lt = merged-in f r (suc i) p n os (omega arith) is (omega (arith, lt))
 
--- One that is due owns its result once all have been executed, the others what they did.
+-- A due process owns its result once all have been executed, the others what they owned.
 pub completed-due : (h : Simulation) (p : ℕ) → is_due h p ≡ true → p < length (reached h).owned → owned_at (completed h).owned p ≡ result_in h p
 completed-due h p is lt = merged-in (is_due h) (result_in h) 0 p p (reached h).owned (omega arith) is lt
 
 pub completed-other : (h : Simulation) (p : ℕ) → is_due h p ≡ false → owned_at (completed h).owned p ≡ owned_at (reached h).owned p
 completed-other h p is = merged-out (is_due h) (result_in h) 0 p p (reached h).owned (omega arith) is
 
--- Of the processes of a range those below a number have been executed.
+-- The processes of a range that are below a number have been executed.
 pub record IsPartly (h : Simulation) (from next : ℕ) (owned : List Owned) : Type 0 where
   pub within : from + length owned ≤ length h.design.processes
   pub begun : from ≤ next
@@ -55,7 +55,7 @@ module _ {h : Simulation} {from : ℕ} {owned : List Owned} where
     ready = r.ready;
   }
 
-  -- where none that is left is due
+  -- if none of those left is due
   pub partly-last : (next to : ℕ) → to ≡ from + length owned → IsPartly h from next owned → NoneBetween (is_due h) next to
       → IsRange h (completed h).owned from owned
   partly-last next to et w none = record {
@@ -67,7 +67,7 @@ module _ {h : Simulation} {from : ℕ} {owned : List Owned} where
     ready = w.ready;
   }
 
-  -- the next one that is due has been executed
+  -- the next due process has been executed
   pub partly-more : (next to n : ℕ) (owned' : List Owned)
       → to ≡ from + length owned → IsPartly h from next owned → IsNextBelow (is_due h) next to n
       → length (reached h).owned ≡ length h.design.processes
@@ -134,7 +134,7 @@ module _ {h : Simulation} {from : ℕ} {owned : List Owned} where
         ]
       ]
 
--- what an execution of one that stands as the phase begins leaves is its result
+-- executing a process as it is at the beginning of the phase leaves its result
 pub result-executed : (h : Simulation) (n time : ℕ) (own : Owned) → All IsProcess h.design.processes → n < length h.design.processes
     → time ≡ (reached h).time → own ≡ owned_at (reached h).owned n
     → executed (λ object. net_at (reached h).nets (object_net (process_at h.design.processes n) object)) time
@@ -144,14 +144,14 @@ result-executed h n time own all lt et eo =
     let is : IsProcess q = All-get_or IsProcess h.design.processes n no_process lt all in
     rw (et, eo) (same_outcome q n (reached h) is)
 
--- the same, of the process and the nets that are at hand
+-- the same, for the process and the nets at hand
 pub executed-is : (h : Simulation) (n time : ℕ) (own : Owned) (nets : List NetView) (q : Process) → All IsProcess h.design.processes
     → n < length h.design.processes → time ≡ (reached h).time → own ≡ owned_at (reached h).owned n → nets ≡ (reached h).nets
     → q ≡ process_at h.design.processes n
     → executed (λ object. net_at nets (object_net q object)) time q.body.statements own ≡ result_in h n
 executed-is h n time own nets q all lt et eo en eq = rw (en, eq) (result-executed h n time own all lt et eo)
 
--- ---- who is due
+-- ---- due processes
 
 module _ {design own : Design} {f : Front} (i : IsFront design own f) where
   pub none-between : (from to : ℕ) → to ≤ length design.processes → NoneFrom (those_in f.due) from → NoneBetween (is_due (front_of design f)) from to

@@ -1,4 +1,4 @@
--- A simulation is taken apart, and made whole again.
+-- A simulation is taken apart, and put together again.
 use Rattle.std.proofs.Common.{ℕ, ◌+◌, ◌-◌, ◌<◌, ◌≡◌, Bool, true, false, List}
 use Rattle.std.proofs.Common.{length, refl, ap, sym, ◌∙◌, subst, arith}
 use Rattle.std.specs.List.{All}
@@ -33,7 +33,7 @@ use Rattle.sim_store.proofs.Returning.{back-complete, back-keeps, fresh-front, f
 
 module _ {h : Simulation} {time delta : ℕ} {held : FlatState} {records : List Record} {due waiting : List Bool}
     (i : IsStateOf h time delta held records due waiting) (fresh : (p : ℕ) → those_in h.deposited p ≡ false) where
-  -- what is read is that of the phase of the design that is named
+  -- what is read is that of the phase, of the design that is named
   pub first-front : (d : Design) (n : ℕ) → h.design ≡ d → n ≡ h.cycles → (codes : Coded) (values last_values : List Logic)
       → AreCodesOf h.design.processes codes → views_of values last_values ≡ held.nets
       → IsFront d h.design (record {
@@ -65,7 +65,7 @@ module _ {h : Simulation} {time delta : ℕ} {held : FlatState} {records : List 
         due = due;
       })) ed (fresh-front i fresh codes values last_values are nets))
 
-  -- and all that is owned is a range of it
+  -- and all that is owned is a range of that
   pub first-range : (d : Design) (n : ℕ) → h.design ≡ d → n ≡ h.cycles → (owned : List Owned) → owned ≡ held.owned
       → IsRange (at_phase d n h.phase) (reached (at_phase d n h.phase)).owned 0 owned
   first-range d n ed en owned eo =
@@ -93,7 +93,7 @@ named-kept d own f k n eo en is =
 abbrev pub simulation_by : Design → List Record → Phase → List Bool → Simulation
 simulation_by design records phase marks = record { design = design; cycles = length records - 1; phase = phase; deposited = marks }
 
--- ---- made whole
+-- ---- put together again
 
 -- what fits a body has as many variables
 ready-long : {body : Body} {time : ℕ} {own : Owned} → IsReady body time own → length own.variables ≡ length body.variables
@@ -116,7 +116,7 @@ module _ (d : Design) (f : Front) (k : Kept) (is : IsKept d f k) (owned' : List 
       k.waiting.waiting
   i = is.holds.state
 
-  -- of the values of drivers none is another one
+  -- no driver has another value
   same-values : (p : ℕ) → p < length (reached (kept_of d f k)).owned → (b : Bool) → is_due (kept_of d f k) p ≡ b
       → driver_values (owned_at owned' p).drivers ≡ driver_values (owned_at (reached (kept_of d f k)).owned p).drivers
   same-values p lt b e =
@@ -150,7 +150,7 @@ module _ (d : Design) (f : Front) (k : Kept) (is : IsKept d f k) (owned' : List 
         now ∙ (ap (λ (n : ℕ). length (process_at d.processes n).body.variables) z ∙ sym before);
   }
 
-  -- how many cycles there were, by the records
+  -- the number of cycles, by the records
   pub whole-cycles : length k.log.records - 1 ≡ f.cycles
   whole-cycles = omega (arith, cycle-count i)
 

@@ -37,12 +37,12 @@ range-none owned e = record {
   ready = λ i lt. absurd (omega (arith, lt, ap length e));
 }
 
--- These are left, where so many parts have been taken, of which the processes are those below a number.
+-- These are left after so many parts have been taken, whose processes are those below a number.
 pub record AreLeft (cycles : ℕ) (phase : Phase) (parts : List ℕ) (count from : ℕ) (rs : List Range) : Type 0 where
   pub counts_are : lengths rs ≡ drop count parts
   pub in_order : AreInOrder cycles phase from rs
 
--- The next one is of the part that comes next.
+-- The next one is for the next part.
 pub record IsFirst (cycles : ℕ) (phase : Phase) (parts : List ℕ) (count from : ℕ) (r : Range) (rs : List Range) : Type 0 where
   pub within : count < length parts
   pub cycles_are : r.cycles ≡ cycles
@@ -76,7 +76,7 @@ module _ {cycles : ℕ} {phase : Phase} {parts : List ℕ} {count from : ℕ} wh
         absurd (omega (arith, ap length here))
   ]
 
--- where none is left, all parts have been taken
+-- if none is left, all parts have been taken
 pub none-left : {cycles : ℕ} {phase : Phase} (parts : List ℕ) (count from : ℕ) (rs : List Range) → length rs ≡ 0
     → AreLeft cycles phase parts count from rs → length parts ≤ count
 none-left parts count from [] none w = elim (dec_lt count (length parts)) [
@@ -85,7 +85,7 @@ none-left parts count from [] none w = elim (dec_lt count (length parts)) [
 ]
 none-left parts count from (r ∷ rs) none w = absurd (omega (arith, none))
 
--- the shares of the parts before one, and that one
+-- the shares of the parts before one, and of that one
 pub taken-more : (ss : List (List Owned)) (s : List Owned) (parts : List ℕ) → length ss < length parts → length s ≡ get_or parts (length ss) 0
     → counts ss ≡ take (length ss) parts → counts (ss ++ s ∷ []) ≡ take (length (ss ++ s ∷ [])) parts
 taken-more ss s parts lt l e =
@@ -94,7 +94,7 @@ taken-more ss s parts lt l e =
     ∙ (ap (λ w. w ++ length s ∷ []) e
     ∙ (ap (λ n. take (length ss) parts ++ n ∷ []) l ∙ (sym (take-suc parts (length ss) 0 lt) ∙ ap (λ n. take n parts) (sym more))))
 
--- how many they are together
+-- how many there are in all
 pub sum-counts : {A : Type 0} (xss : List (List A)) → sum (counts xss) ≡ length (joined xss)
 sum-counts [] = refl
 sum-counts (xs ∷ xss) =

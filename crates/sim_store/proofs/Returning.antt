@@ -1,4 +1,4 @@
--- What comes back of a phase that was handed out is what the simulation holds once all that are due have been executed.
+-- What comes back of a phase that was handed out is what the simulation holds once all due processes have been executed.
 use Rattle.std.proofs.Common.{ℕ, suc, ◌+◌, ◌-◌, ◌<◌, ◌≡◌, ◌++◌, ◌||◌, Bool, true, false, if◌then◌else◌, List}
 use Rattle.std.proofs.Common.{length, refl, ap, sym, ◌∙◌, subst, arith}
 use Rattle.std.proofs.Math.Decide.{dec_lt}
@@ -21,7 +21,7 @@ use Rattle.sim_store.specs.Handing.{IsFront, IsRange, at_phase, completed, resul
 use Rattle.sim_store_simulation.proofs.Going.{held-count, reached-all, ready-here}
 use Rattle.sim_store.proofs.Handed.{completed-other}
 
--- ---- ranges side by side
+-- ---- adjacent ranges
 
 module _ {h : Simulation} {all : List Owned} where
   pub range-both : {from : ℕ} (xs ys : List Owned) → IsRange h all from xs → IsRange h all (from + length xs) ys → IsRange h all from (xs ++ ys)
@@ -72,7 +72,7 @@ module _ {h : Simulation} {all : List Owned} where
           let e : (length xs + i) - length xs ≡ i = omega arith in
           get_or-append_right xs ys (length xs) (length xs + i) nothing_owned refl (omega arith) ∙ ap (owned_at ys) e
 
--- a range of the phase and from the number that it is said to be of
+-- a range of the phase, from the number that it is said to begin with
 pub range-of : (d : Design) (cycles k : ℕ) (phase p : Phase) (from n : ℕ) (owned : List Owned) → k ≡ cycles → p ≡ phase → n ≡ from
     → IsRange (at_phase d k p) (completed (at_phase d k p)).owned n owned → IsRange (at_phase d cycles phase) (completed (at_phase d cycles
     phase)).owned from owned
@@ -81,7 +81,7 @@ range-of d cycles k phase p from n owned ek ep en r =
     (subst (λ (q : Phase). IsRange (at_phase d cycles q) (completed (at_phase d cycles q)).owned n owned) ep
     (subst (λ (m : ℕ). IsRange (at_phase d m p) (completed (at_phase d m p)).owned n owned) ek r))
 
--- ---- as a phase begins
+-- ---- at the beginning of a phase
 
 module _ {h : Simulation} {time delta : ℕ} {held : FlatState} {records : List Record} {due waiting : List Bool}
     (i : IsStateOf h time delta held records due waiting) (fresh : (p : ℕ) → those_in h.deposited p ≡ false) where
@@ -123,7 +123,7 @@ module _ {h : Simulation} {time delta : ℕ} {held : FlatState} {records : List 
     due_are = i.due_are;
   }
 
-  -- ---- once all that are due have been executed
+  -- ---- once all due processes have been executed
 
   module _ (owned' : List Owned) (marks : List Bool) (w : IsRange (at_phase h.design h.cycles h.phase) (completed (at_phase h.design h.cycles h.phase)).owned 0
       owned') (all : length owned' ≡ length h.design.processes) (sized : length marks ≡ length h.deposited)

@@ -46,7 +46,7 @@ store-goes-on w g time is running e next before apart at = record {
         let other : m ≢ w.simulation.cycles = grind (arith, nat_tests) in
         is.going m (omega (arith, lt, other))
 
--- a run whose postponed processes are executed next
+-- a run that goes on with postponed processes
 pub store-postponed : (w : WaveStore) (g : Simulation) → IsStore w → w.ended ≡ None → g ≡ in_postponed_phase w.simulation
     → IsStore (record { simulation = g; stop = w.stop; limit = w.limit; ended = w.ended })
 store-postponed w g is running e = record {

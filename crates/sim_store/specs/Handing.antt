@@ -1,5 +1,5 @@
 -- The processes of a phase, handed out in ranges to be executed, and what comes back.
--- Of the implementation: what `simulate` promises does not rest on this file.
+-- Implementation only: what `simulate` promises does not rest on this file.
 use Rattle.std.specs.Prelude.{ℕ, ◌≡◌, ◌+◌, ◌<◌, ◌≤◌, List, [], ◌∷◌, Bool, true, false, map, length}
 use Rattle.std.specs.List.{All}
 use Rattle.sim_logic.specs.declared.logic.Logic.{Logic}
@@ -16,19 +16,19 @@ use Rattle.sim_store_simulation.specs.declared.phase.Phase.{Phase}
 use Rattle.sim_store_simulation.specs.Simulation.{Simulation, is_due, reached, those_in}
 use Rattle.sim_store.specs.WaveStore.{WaveStore, IsOpen}
 
--- a simulation as a phase of the execution after a number of cycles begins
+-- a simulation at the beginning of a phase, after a number of cycles
 abbrev pub at_phase : Design → ℕ → Phase → Simulation
 at_phase design cycles phase = record { design = design; cycles = cycles; phase = phase; deposited = [] }
 
--- the state once all of a phase have been executed
+-- the state once all processes of the phase have been executed
 abbrev pub completed : Simulation → State
 completed h = together h.design.processes (is_due h) (reached h)
 
--- what a process owns once it is executed in a phase
+-- what a process owns after it has been executed in a phase
 abbrev pub result_in : Simulation → ℕ → Owned
 result_in h p = outcome (process_at h.design.processes p) (part (process_at h.design.processes p) p (reached h))
 
--- What is read while the processes of a phase are executed: the codes, the values and last values of nets, who is due, and the time.
+-- What is read during a phase: the codes, the values and last values of nets, the due processes, and the time.
 pub record Front : Type 0 where
   pub cycles : ℕ
   pub phase : Phase
@@ -38,11 +38,11 @@ pub record Front : Type 0 where
   pub last_values : List Logic
   pub due : List Bool
 
--- of which simulation it is
+-- the simulation that it belongs to
 abbrev pub front_of : Design → Front → Simulation
 front_of design f = at_phase design f.cycles f.phase
 
--- It is that of this design.
+-- It belongs to this design.
 pub record IsFront (design own : Design) (f : Front) : Type 0 where
   pub design_is : own ≡ design
   pub processes : All IsProcess design.processes
@@ -54,7 +54,7 @@ pub record IsFront (design own : Design) (f : Front) : Type 0 where
   pub due_sized : length f.due ≡ length design.processes
   pub due_are : (p : ℕ) → p < length design.processes → those_in f.due p ≡ is_due (front_of design f) p
 
--- The processes from a number on own this, of what all own, and it fits their bodies.
+-- The processes from a number on own this, as part of what all own, and it fits their bodies.
 pub record IsRange (h : Simulation) (all : List Owned) (from : ℕ) (owned : List Owned) : Type 0 where
   pub within : from + length owned ≤ length h.design.processes
   pub owned_are : (i : ℕ) → i < length owned → owned_at owned i ≡ owned_at all (from + i)
@@ -64,38 +64,38 @@ pub record IsRange (h : Simulation) (all : List Owned) (from : ℕ) (owned : Lis
 abbrev pub NoneBetween : (ℕ → Bool) → ℕ → ℕ → Type 0
 NoneBetween test from to = (p : ℕ) → from ≤ p → p < to → test p ≡ false
 
--- It is the first number from one on that passes the test, and below another.
+-- It is the first number from one on and below another that passes the test.
 pub record IsNextBelow (test : ℕ → Bool) (from to n : ℕ) : Type 0 where
   pub further : from ≤ n
   pub below : n < to
   pub passes : test n ≡ true
   pub first : (p : ℕ) → from ≤ p → p < n → test p ≡ false
 
--- An order, or the answer to it: of which cycle and phase it is, and what the processes from a number on own then.
+-- An order or the answer to it: its cycle and phase, and what the processes from a number on own then.
 pub record Range : Type 0 where
   pub cycles : ℕ
   pub phase : Phase
   pub from : ℕ
   pub owned : List Owned
 
--- An answer is of the phase and of the processes of an order.
+-- An answer is of the phase and for the processes of an order.
 pub record IsAnswer (order answer : Range) : Type 0 where
   pub cycles_are : answer.cycles ≡ order.cycles
   pub phase_is : answer.phase ≡ order.phase
   pub from_is : answer.from ≡ order.from
   pub count_is : length answer.owned ≡ length order.owned
 
--- of how many processes each is
+-- the number of processes of each
 abbrev pub lengths : List Range → List ℕ
 lengths ranges = map (λ (r : Range). length r.owned) ranges
 
--- Each is of this phase after this number of cycles. The first begins with the process that has this number, each other one where the one before it ends.
+-- Each is of this phase after this number of cycles. The first begins with the process that has this number, and each other one where the one before it ends.
 abbrev pub AreInOrder : ℕ → Phase → ℕ → List Range → Type 0
 AreInOrder cycles phase from [] = Unit
 AreInOrder cycles phase from (r ∷ rs) =
     (r.cycles ≡ cycles) × (r.phase ≡ phase) × (r.from ≡ from) × AreInOrder cycles phase (from + length r.owned) rs
 
--- They are all parts of a phase, in their order, of so many processes each.
+-- They are all parts of a phase, in order, with so many processes each.
 pub record AreParts (cycles : ℕ) (phase : Phase) (parts : List ℕ) (ranges : List Range) : Type 0 where
   pub counts_are : lengths ranges ≡ parts
   pub in_order : AreInOrder cycles phase 0 ranges
@@ -105,11 +105,11 @@ pub record Rest : Type 0 where
   pub store : WaveStore
   pub parts : List ℕ
 
--- They are all orders of the phase that was handed out, or the answers to all of them, in their order.
+-- They are all orders of the phase that was handed out, or the answers to all of them, in order.
 abbrev pub AreAll : Rest → List Range → Type 0
 AreAll rest ranges = AreParts rest.store.simulation.cycles rest.store.simulation.phase rest.parts ranges
 
--- The run has not ended, and none has been executed in this phase.
+-- The run has not ended, and no process has been executed in this phase.
 pub record IsUntouched (w : WaveStore) : Type 0 where
   pub going : IsOpen w
   pub none : (p : ℕ) → those_in w.simulation.deposited p ≡ false

@@ -1,5 +1,5 @@
 -- What stays of a simulation while a phase is handed out.
--- Of the implementation: what `simulate` promises does not rest on this file.
+-- Implementation only: what `simulate` promises does not rest on this file.
 use Rattle.std.specs.Prelude.{ℕ, ◌≡◌, false}
 use Rattle.sim_flat_design.specs.Designs.{Design}
 use Rattle.sim_store_state.specs.Apart.{AreApart}
@@ -12,7 +12,7 @@ use Rattle.sim_store_simulation.specs.Simulation.{Simulation, IsSimulation, reac
 abbrev pub kept_of : Design → Front → Kept → Simulation
 kept_of design f k = record { design = design; cycles = f.cycles; phase = f.phase; deposited = k.deposited }
 
--- It is what stays of it, beside what is read, and without what processes own. None has been executed in this phase.
+-- It stays of that simulation, apart from what is read and from what processes own. No process has been executed in this phase.
 pub record IsKept (design : Design) (f : Front) (k : Kept) : Type 0 where
   pub fresh : (p : ℕ) → those_in k.deposited p ≡ false
   pub apart : AreApart f.values f.last_values (reached (kept_of design f k)).owned k.remains

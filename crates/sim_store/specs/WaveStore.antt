@@ -1,5 +1,5 @@
 -- The store of a run: a simulation, how far it may go, and how it ended (IEEE 1076-2008, 14.7.5.1).
--- Of the implementation: what `simulate` promises does not rest on this file.
+-- Implementation only: what `simulate` promises does not rest on this file.
 use Rattle.std.specs.Prelude.{ℕ, suc, [], ◌≡◌, ◌≢◌, ◌<◌, ◌≤◌, List, Bool, true, false, Option, None, Some, MatchOption, length, replicate, slice_set}
 use Rattle.sim_flat_design.specs.Designs.{Design}
 use Rattle.sim_logic.specs.Time.{largest_time}
@@ -24,7 +24,7 @@ pub record WaveStore : Type 0 where
   pub limit : ℕ
   pub ended : Option Step
 
--- The run ended so.
+-- The run ended in this way.
 abbrev pub HasEnd : WaveStore → Step → Type 0
 HasEnd w step.Next = ⊥
 HasEnd w step.Postponed = ⊥
@@ -32,7 +32,7 @@ HasEnd w step.PostponedDelta = HasOutcome (next_in w.simulation.design) w.stop w
 HasEnd w step.Finished = HasOutcome (next_in w.simulation.design) w.stop w.limit (FinishedAfter w.simulation.cycles)
 HasEnd w step.LimitReached = HasOutcome (next_in w.simulation.design) w.stop w.limit LimitReached
 
--- The run is within its bounds, was not over before, and where it ended all of the cycle have been executed and this is its outcome.
+-- The run is within its bounds and was not over earlier; if it has ended, all processes of the cycle have been executed and this is its outcome.
 pub record IsStore (w : WaveStore) : Type 0 where
   pub early : w.stop ≤ largest_time
   pub within : w.simulation.cycles ≤ w.limit
@@ -44,19 +44,19 @@ pub record IsStore (w : WaveStore) : Type 0 where
 abbrev pub IsOpen : WaveStore → Type 0
 IsOpen w = w.ended ≡ None
 
--- Why a process can't be executed.
+-- Why a process cannot be executed.
 abbrev pub IsNotMissing : Simulation → ℕ → StoreError → Type 0
 IsNotMissing h p error.NotDue = IsDue h p → ⊥
 IsNotMissing h p error.Twice = IsDue h p × (those_in h.deposited p ≡ true)
 IsNotMissing h p _ = ⊥
 
--- Why there is no job for a process, in the order in which the reasons are looked for.
+-- Why there is no job for a process, in the order in which the reasons are checked.
 abbrev pub IsJobRefusal : WaveStore → ℕ → StoreError → Type 0
 IsJobRefusal w p error.Ended = IsOpen w → ⊥
 IsJobRefusal w p error.Memory = IsOpen w × IsMissing w.simulation p
 IsJobRefusal w p e = IsOpen w × IsNotMissing w.simulation p e
 
--- Why a result is not taken, in the order in which the reasons are looked for.
+-- Why a result is not taken, in the order in which the reasons are checked.
 abbrev pub IsDepositRefusal : WaveStore → Job → StoreError → Type 0
 IsDepositRefusal w job error.Ended = IsOpen w → ⊥
 IsDepositRefusal w job error.Stale = IsOpen w × (job.cycle ≢ w.simulation.cycles)
@@ -70,7 +70,7 @@ pub record IsTaken (w : WaveStore) (job : Job) : Type 0 where
   pub missing : IsMissing w.simulation job.number
   pub own : IsOwn w.simulation job
 
--- Why a store does not go on, in the order in which the reasons are looked for.
+-- Why a store does not go on, in the order in which the reasons are checked.
 abbrev pub IsAdvanceRefusal : WaveStore → StoreError → Type 0
 IsAdvanceRefusal w error.Ended = IsOpen w → ⊥
 IsAdvanceRefusal w (error.Missing process) = IsOpen w × IsLeastMissing w.simulation process
@@ -83,7 +83,7 @@ IsNewRefusal stop error.StopTooLate = largest_time < stop
 IsNewRefusal stop error.Memory = stop ≤ largest_time
 IsNewRefusal stop _ = ⊥
 
--- the store of a design that was initialized
+-- the store of a design after its initialization
 abbrev pub begun : Design → ℕ → ℕ → WaveStore
 begun design stop limit = record {
   simulation = record { design = design; cycles = 0; phase = phase.AtOnce; deposited = replicate (length design.processes) false };
@@ -92,21 +92,21 @@ begun design stop limit = record {
   ended = None;
 }
 
--- a store in which these processes have been executed since the last cycle
+-- a store with these processes executed in this phase
 abbrev pub with_deposited : WaveStore → List Bool → WaveStore
 with_deposited w marks = record w { simulation = with_marks w.simulation marks }
 
--- a store in which one process more has been
+-- a store with one more process executed
 abbrev pub deposited : WaveStore → ℕ → WaveStore
 deposited w p = with_deposited w (slice_set w.simulation.deposited p true)
 
--- a store whose run ended so
+-- a store whose run ended in this way
 abbrev pub ended_as : WaveStore → Step → WaveStore
 ended_as w s = record w { ended = Some s }
 
--- What one step of an open store leaves, all of whose due processes have been executed: the phase of postponed processes; or, once they need no phase or
--- have had it, one cycle more, at a time up to the stop time; or a postponed process makes a delta cycle follow; or nothing is pending up to the stop time;
--- or the limit is reached, and a further cycle would be needed. With the last three the run has ended, and all else is as it was.
+-- What one step leaves of an open store whose due processes have all been executed: the phase of postponed processes; or, if none needs to come or it has been,
+-- one more cycle, at a time up to the stop time; or the end of the run, since a postponed process causes a delta cycle, or nothing is pending up to the stop
+-- time, or the limit is reached and a further cycle would be needed. At the end of the run all else is as it was.
 abbrev pub WentOn : WaveStore → WaveStore → Step → Type 0
 WentOn old new step.Postponed =
     (old.simulation.phase ≡ phase.AtOnce) × ArePostponedNext old.simulation.design old.simulation.cycles (updated_last old.simulation)
@@ -123,7 +123,7 @@ WentOn old new step.LimitReached =
 abbrev pub IsAdvanced : WaveStore → WaveStore → Step → Type 0
 IsAdvanced old new s = IsOpen old × IsComplete old.simulation × WentOn old new s
 
--- the processes that this phase executes; none where the run has ended
+-- the processes that this phase executes; none if the run has ended
 abbrev pub due_of : WaveStore → List ℕ
 due_of w = go w.ended
   where
@@ -131,8 +131,8 @@ due_of w = go w.ended
     go None = due_numbers w.simulation
     go (Some s) = []
 
--- Whoever has a store knows: it has had no more cycles than the limit, none later than the stop time, the run was over after none before the last of them,
--- and the standard's cycle gives a state after as many.
+-- What holds of any store: the run has had no more cycles than the limit, none later than the stop time, it was not over before the last of them, and the
+-- standard's cycle gives a state after that many.
 pub record IsWithin (w : WaveStore) : Type 0 where
   pub cycles : w.simulation.cycles ≤ w.limit
   pub time : (reached w.simulation).time ≤ w.stop

@@ -13,28 +13,28 @@ pub enum StoreError {
     /// The run has ended.
     #[error("Ended")]
     Ended,
-    /// The job is not of this cycle.
+    /// The job is of another cycle.
     #[error("Stale")]
     Stale,
-    /// This phase of the cycle does not execute the process.
+    /// The process is not executed in this phase of the cycle.
     #[error("NotDue")]
     NotDue,
-    /// The process has been executed in this phase.
+    /// The process has already been executed in this phase.
     #[error("Twice")]
     Twice,
-    /// The process or its part of the state is not the store's own.
+    /// The process, or its part of the state, differs from that of the store.
     #[error("Foreign")]
     Foreign,
-    /// A process that is due has not been executed; it is the least.
+    /// A due process has not been executed; this is the least.
     #[error("Missing {process}")]
     Missing { process: usize },
-    /// There are fewer records.
+    /// There are fewer records than that; this is their number.
     #[error("Behind {records}")]
     Behind { records: usize },
     /// The stop time is later than 2^62 - 1 fs.
     #[error("StopTooLate")]
     StopTooLate,
-    /// No memory.
+    /// Out of memory.
     #[error("Memory")]
     Memory,
 }
@@ -47,16 +47,16 @@ impl From<AllocError> for StoreError {
     }
 }
 
-/// Why a phase that was handed out does not come back. The store is then gone.
+/// Why a phase that was handed out cannot be taken back. The store is then lost.
 #[derive(Clone, Copy, Debug, PartialEq, Eq, Error)]
 pub enum HandOutError {
-    /// No memory.
+    /// Out of memory.
     #[error("Memory")]
     Memory,
     /// The answers are not those to all orders, in their order.
     #[error("Stranger")]
     Stranger,
-    /// An order has not been executed: it is there still.
+    /// An order still exists: it has not been executed.
     #[error("OrderLeft")]
     OrderLeft,
 }

@@ -17,7 +17,7 @@ use sim_store_state::Share;
 use std::alloc::{AllocError, Global};
 use std::marker::{Model, PhantomData};
 
-/// What is read in a phase of the execution after a number of cycles.
+/// What is read during a phase, after a number of cycles. The time is in femtoseconds.
 #[derive(Drop)]
 pub struct Scene {
     pub(crate) cycles: usize,
@@ -30,7 +30,7 @@ pub struct Scene {
     pub(crate) due: Due,
 }
 
-/// The same: by its type it is that of the design that J names.
+/// The same; by its type it belongs to the design named by J.
 #[derive(Drop)]
 pub struct Front<J: Naming> {
     pub(crate) scene: Scene,
@@ -64,21 +64,21 @@ impl<J: Naming> Model for Front<J> {
 }
 
 impl<J: Naming> Front<J> {
-    /// After how many cycles it is.
+    /// The number of cycles completed.
     pub fn cycles(&self) -> usize
         ensures { result ≡ self.now.cycles }
     {
         self.scene.cycles
     }
 
-    /// In which phase.
+    /// The phase.
     pub fn phase(&self) -> Phase
         ensures { result ≡ self.now.phase }
     {
         self.scene.phase
     }
 
-    /// How many processes there are.
+    /// The number of processes.
     pub fn count(&self) -> usize
         ensures count { result ≡ length J.design.processes }
         ensures all { length (reached (spec.front_of J.design self.now)).owned ≡ length J.design.processes }
@@ -93,7 +93,7 @@ impl<J: Naming> Front<J> {
         self.scene.codes.frame(alloc)
     }
 
-    /// The first process from a number on that is due, below another number.
+    /// The first due process from one number on and below another.
     pub fn next(&self, from: usize, to: usize) -> Option<usize>
         requires { to ≤ length J.design.processes }
         ensures { MatchOption result (spec.NoneBetween (is_due (spec.front_of J.design self.now)) from to)
@@ -105,8 +105,8 @@ impl<J: Naming> Front<J> {
         }
     }
 
-    /// Resumes the process with a number, of which what it owns stands at a place of a share. If
-    /// allocation fails, it must not be executed again.
+    /// Executes the process with a number; what it owns is at a place of a share. If allocation
+    /// fails, it must not be executed again.
     pub fn execute(
         &self,
         alloc: Global,

@@ -1,4 +1,4 @@
-//! A phase of a cycle that is handed out: orders, what stays here, and how both come together again.
+//! Handing out a phase of a cycle: the orders, what stays here, and putting both together again.
 
 ghost use Rattle.std.specs.Prelude.{ℕ, ◌≡◌, ◌≤◌, ◌+◌, true, Decides, IfErr, IfOk, length};
 ghost use Rattle.std.specs.Arc.{arc_value};
@@ -16,7 +16,7 @@ use sim_store_state::{Share, Shares};
 use std::alloc::{AllocError, Global};
 use std::sync::Arc;
 
-/// The order for the processes of a share, of which the first has this number.
+/// The order for the processes of a share, the first of which has this number.
 fn order_of<J: Naming>(
     front: &Arc<Front<J>, Global>,
     from: usize,
@@ -35,7 +35,7 @@ fn order_of<J: Naming>(
     Ok(Order::new(from, share, theirs))
 }
 
-/// The orders for all processes, by their numbers.
+/// The orders for all processes, in the order of their numbers.
 pub fn orders_of<J: Naming>(
     alloc: Global,
     shares: Shares,
@@ -63,14 +63,14 @@ pub fn orders_of<J: Naming>(
     Ok(orders)
 }
 
-/// Of how many processes each order is.
+/// The number of processes of each order.
 pub fn lengths_of<J: Naming>(alloc: Global, orders: &[Order<J>]) -> Result<Vec<usize>, AllocError>
     ensures { IfOk result (λ v. v.items ≡ spec.lengths orders.now) }
 {
     orders.iter().map(|order| order.len()).collect(alloc)
 }
 
-/// Whether an answer is of the phase that is read here, begins with this process, and is of so many.
+/// Whether an answer is of the phase read here, and for so many processes from this one on.
 fn is_next<J: Naming>(answer: &Answer<J>, front: &Front<J>, from: usize, count: usize) -> bool
     ensures { Decides result ((answer.now.cycles ≡ front.now.cycles) × (answer.now.phase ≡ front.now.phase)
         × (answer.now.from ≡ from) × (length answer.now.owned ≡ count)) }
@@ -81,7 +81,7 @@ fn is_next<J: Naming>(answer: &Answer<J>, front: &Front<J>, from: usize, count: 
         && answer.len() == count
 }
 
-/// What all processes own, by the answers to all orders of the phase that is read here, which were of
+/// What all processes own, according to the answers to all orders of the phase read here, which had
 /// so many processes each.
 pub fn shares_of<J: Naming>(
     alloc: Global,

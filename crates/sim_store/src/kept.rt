@@ -1,4 +1,4 @@
-//! What stays of a simulation while a phase is handed out, and how it is made whole again.
+//! What stays of a simulation while a phase is handed out, and how it is put together again.
 
 ghost use Rattle.std.specs.Prelude.{ℕ, ◌≡◌, false, length, IfOk};
 ghost use Rattle.sim_store.specs.Handing as spec;
@@ -18,8 +18,7 @@ use sim_store_state::{Apart, Log, Remains, Shares, put_together, take_apart};
 use std::alloc::{AllocError, Global};
 use std::marker::PhantomData;
 
-/// What a simulation holds, but for what is read while a phase is executed and for what its
-/// processes own.
+/// What a simulation holds, except what is read during a phase and what its processes own.
 #[derive(Drop)]
 pub struct Kept {
     pub delta: u64,
@@ -32,8 +31,8 @@ pub struct Kept {
     pub totals: Vec<u64>,
 }
 
-/// Takes apart what a simulation holds, none of whose processes has been executed in this phase. If
-/// allocation fails it is gone.
+/// Takes apart what a simulation holds, with no process executed in this phase. If allocation
+/// fails, it is lost.
 pub fn taken_apart<J: Naming>(
     alloc: Global,
     design: Design,
@@ -87,7 +86,7 @@ pub fn taken_apart<J: Naming>(
     Ok((front, shares, kept))
 }
 
-/// Makes it whole again, once all that are due have been executed, by the shares that it was in.
+/// Puts it together again from its shares, once all due processes have been executed.
 pub fn made_whole<J: Naming>(front: Front<J>, shares: Shares, kept: Kept) -> (Design, Contents)
     requires kept { IsKept J.design front kept }
     requires range { spec.IsRange (spec.front_of J.design front) (spec.completed (spec.front_of J.design front)).owned 0 (joined shares) }

@@ -1,8 +1,8 @@
-//! Which design a run is of, said by a type.
+//! The design of a run, named by a type.
 
 use std::marker::Brand;
 
-/// A name of a design. Each run picks its own: what its type says then needs no test.
+/// A name of a design. Each run has its own, so that no test is needed for what its type says.
 pub trait Naming {
     ghost use Rattle.sim_flat_design.specs.Designs.{Design};
 

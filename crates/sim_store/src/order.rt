@@ -1,4 +1,4 @@
-//! A share of the processes that is handed out to be executed, and what comes back.
+//! A share of the processes, handed out to be executed, and what comes back.
 
 ghost use Rattle.std.specs.Prelude.{ℕ, ◌≡◌, ◌≤◌, ◌+◌, IfOk, OnOk, length};
 ghost use Rattle.std.specs.Arc.{arc_value};
@@ -15,7 +15,7 @@ use std::alloc::{AllocError, Global};
 use std::marker::{Model, PhantomData};
 use std::sync::Arc;
 
-/// What the processes of a range own as a phase begins, with the number of the first of them, and
+/// What a range of processes owns at the beginning of a phase, the number of the first one, and
 /// what they read. Contracts see the number.
 pub struct Order<J: Naming> {
     from: usize,
@@ -23,7 +23,7 @@ pub struct Order<J: Naming> {
     front: Arc<Front<J>, Global>,
 }
 
-/// By hand, so that crates which drop one need no proof of what is in it.
+/// Written by hand so that code which drops it needs no proof about its contents.
 impl<J: Naming> Drop for Order<J> {
     fn drop(self) {
         let Order {
@@ -48,8 +48,8 @@ impl<J: Naming> Model for Order<J> {
     ghost invariant = { λ o. IsRange (front_of J.design (arc_value o.front)) (reached (front_of J.design (arc_value o.front))).owned o.from o.share };
 }
 
-/// What the processes of a range own once all of them that are due in a phase have been executed.
-/// By its type it is that of the design that J names.
+/// What a range of processes owns once those of them that are due in a phase have been executed. By
+/// its type it belongs to the design named by J.
 #[derive(Drop)]
 pub struct Answer<J: Naming> {
     cycles: usize,
@@ -69,7 +69,7 @@ impl<J: Naming> Model for Answer<J> {
     ghost invariant = { λ a. IsRange (at_phase J.design a.cycles a.phase) (completed (at_phase J.design a.cycles a.phase)).owned a.from a.share };
 }
 
-/// Executes those of a share that are due.
+/// Executes the due processes of a share.
 fn execute_range<J: Naming>(
     alloc: Global,
     front: &Front<J>,
@@ -92,7 +92,7 @@ fn execute_range<J: Naming>(
     Ok(())
 }
 
-/// The same, on a frame of its own.
+/// The same, on its own frame.
 fn executed<J: Naming>(
     alloc: Global,
     front: &Front<J>,
@@ -109,7 +109,7 @@ fn executed<J: Naming>(
     Ok(share)
 }
 
-/// The answer to an order of these processes.
+/// The answer to an order for these processes.
 fn answered<J: Naming>(
     alloc: Global,
     front: &Front<J>,
@@ -124,7 +124,7 @@ fn answered<J: Naming>(
 }
 
 impl<J: Naming> Order<J> {
-    /// What these processes own, of what all own as the phase begins.
+    /// An order for these processes, with what they own at the beginning of the phase.
     pub fn new(from: usize, share: Share, front: Arc<Front<J>, Global>) -> Order<J>
         requires { spec.IsRange (spec.front_of J.design (arc_value front)) (reached (spec.front_of J.design (arc_value front))).owned from share }
         ensures { result ≡ record { cycles = (arc_value front).cycles; phase = (arc_value front).phase; from = from; owned = share } }
@@ -132,14 +132,14 @@ impl<J: Naming> Order<J> {
         Order { from, share, front }
     }
 
-    /// Of how many processes it is.
+    /// The number of processes.
     pub fn len(&self) -> usize
         ensures { result ≡ length self.now.owned }
     {
         self.share.len()
     }
 
-    /// Whether so many of these processes are due that it is worth handing out.
+    /// Whether at least so many of these processes are due, so that it is worth handing out.
     pub fn is_worthwhile(&self, least: usize) -> bool {
         let front = &*self.front;
         let _count = front.count();
@@ -154,7 +154,7 @@ impl<J: Naming> Order<J> {
         true
     }
 
-    /// Executes those that are due. If allocation fails the share is gone.
+    /// Executes the due processes. If allocation fails, the share is lost.
     pub fn execute(self, alloc: Global) -> Result<Answer<J>, AllocError>
         ensures { IfOk result (spec.IsAnswer self) }
     {
@@ -164,7 +164,7 @@ impl<J: Naming> Order<J> {
 }
 
 impl<J: Naming> Answer<J> {
-    /// What these processes own once all that are due have been executed.
+    /// What these processes own once the due ones have been executed.
     fn new(cycles: usize, phase: Phase, from: usize, share: Share) -> Answer<J>
         requires { spec.IsRange (spec.at_phase J.design cycles phase) (spec.completed (spec.at_phase J.design cycles phase)).owned from share }
         ensures { result ≡ record { cycles = cycles; phase = phase; from = from; owned = share } }
@@ -178,14 +178,14 @@ impl<J: Naming> Answer<J> {
         }
     }
 
-    /// After how many cycles it is.
+    /// The number of cycles completed.
     pub fn cycles(&self) -> usize
         ensures { result ≡ self.now.cycles }
     {
         self.cycles
     }
 
-    /// In which phase.
+    /// The phase.
     pub fn phase(&self) -> Phase
         ensures { result ≡ self.now.phase }
     {
@@ -199,7 +199,7 @@ impl<J: Naming> Answer<J> {
         self.from
     }
 
-    /// Of how many processes it is.
+    /// The number of processes.
     pub fn len(&self) -> usize
         ensures { result ≡ length self.now.owned }
     {

@@ -1,4 +1,4 @@
-//! A run of which a phase is handed out.
+//! A run with a phase handed out.
 
 ghost use Rattle.std.specs.Prelude.{ℕ, ◌≡◌, None, false, length, IfErr, IfOk};
 ghost use Rattle.std.specs.Arc.{arc_value};
@@ -23,8 +23,8 @@ use std::alloc::{AllocError, Global};
 use std::marker::Model;
 use std::sync::Arc;
 
-/// What stays here of a run while a phase is handed out. Contracts see the store that was handed
-/// out, and of how many processes each order is.
+/// What stays of a run while a phase is handed out. Contracts see the store that was handed out,
+/// and the number of processes of each order.
 pub struct Rest<J: Naming> {
     front: Arc<Front<J>, Global>,
     kept: Kept,
@@ -33,7 +33,7 @@ pub struct Rest<J: Naming> {
     limit: u32,
 }
 
-/// By hand, so that crates which drop one need no proof of what is in it.
+/// Written by hand so that code which drops it needs no proof about its contents.
 impl<J: Naming> Drop for Rest<J> {
     fn drop(self) {
         let Rest {
@@ -75,7 +75,7 @@ impl<J: Naming> Model for Rest<J> {
         × AreShares r.kept.remains.each r.parts.items × (sum r.parts.items ≡ length J.design.processes) };
 }
 
-/// The orders for all processes, and of how many each is.
+/// The orders for all processes, and the number of processes of each.
 fn orders_and_lengths<J: Naming>(
     alloc: Global,
     shares: Shares,
@@ -92,8 +92,8 @@ fn orders_and_lengths<J: Naming>(
     Ok((orders, lengths))
 }
 
-/// What is read, where all threads find it, with the orders for all processes, and of how many each
-/// is.
+/// What is read, shared by all threads, with the orders for all processes and the number of
+/// processes of each.
 fn fronted<J: Naming>(
     alloc: Global,
     front: Front<J>,
@@ -110,7 +110,7 @@ fn fronted<J: Naming>(
     Ok((front, orders, parts))
 }
 
-/// Hands out a phase of a simulation that may go on to these bounds.
+/// Hands out a phase of a simulation with this stop time, in femtoseconds, and this limit.
 pub fn handed_out<J: Naming>(
     alloc: Global,
     simulation: Simulation,
@@ -136,8 +136,8 @@ pub fn handed_out<J: Naming>(
     Ok((rest, orders))
 }
 
-/// What was read, and what all processes own, by the answers to all orders, which were of so many
-/// processes each.
+/// What was read, and what all processes own according to the answers to all orders, which had so
+/// many processes each.
 fn brought_back<J: Naming>(
     alloc: Global,
     front: Arc<Front<J>, Global>,
@@ -158,7 +158,7 @@ fn brought_back<J: Naming>(
     }
 }
 
-/// The simulation again, once all that are due have been executed.
+/// The simulation again, once all due processes have been executed.
 fn simulation_of<J: Naming>(
     alloc: Global,
     front: Front<J>,
@@ -178,9 +178,9 @@ fn simulation_of<J: Naming>(
 }
 
 impl<J: Naming> Rest<J> {
-    /// The store again, by the answers to all orders, in their order. All that are due have been
-    /// executed. Refusals: `Stranger` where the answers are not these; `OrderLeft` where an order is
-    /// there still, which contracts can't see; `Memory`. The store is then gone.
+    /// The store again, from the answers to all orders, in their order. All due processes have been
+    /// executed. Refusals: `Stranger` if the answers are not these, `OrderLeft` if an order still
+    /// exists, which contracts cannot see, `Memory`. The store is then lost.
     pub fn take_back(
         self,
         alloc: Global,

@@ -27,16 +27,16 @@ use sim_store_state::{Log, Record};
 use std::alloc::{AllocError, Global};
 use std::marker::Model;
 
-/// How a store went on.
+/// What a store did to go on.
 #[derive(Clone, Copy, Debug, PartialEq, Eq)]
 pub enum Step {
-    /// There is one more cycle, and one more record.
+    /// It began one more cycle, with one more record.
     Next,
-    /// All that are not postponed have been executed, and no delta cycle follows: the due are now
-    /// the postponed processes that wait. There is no further record.
+    /// It began the phase of postponed processes: the due ones that are not postponed have been
+    /// executed, and no delta cycle follows, so those that wait are now due (14.7.5.3 h). There is no
+    /// new record.
     Postponed,
-    /// A postponed process makes a delta cycle follow, which is an error (14.7.5.3 h): the run has
-    /// ended.
+    /// A postponed process causes a delta cycle, which is an error (14.7.5.3 h): the run has ended.
     PostponedDelta,
     /// Nothing is pending up to the stop time: the run has ended.
     Finished,
@@ -47,17 +47,17 @@ pub enum Step {
 /// How far a run has come.
 #[derive(Clone, Copy, Debug, PartialEq, Eq)]
 pub struct Look {
-    /// How many records there are.
+    /// The number of records.
     pub records: usize,
-    /// When the last cycle was, in femtoseconds.
+    /// The time of the last cycle, in femtoseconds.
     pub time: u64,
-    /// How many cycles at this time came before it.
+    /// Its delta number: the number of cycles before it at this time.
     pub delta: u64,
-    /// How many events the cycles after the initialization had.
+    /// The number of events in the cycles after the initialization.
     pub events: u64,
 }
 
-/// Refuses a process that is not due, or has been executed since the last cycle.
+/// Refuses a process that is not due, or has been executed in this phase.
 fn check(simulation: &Simulation, number: usize) -> Result<(), StoreError>
     ensures { MatchResult result (λ _. simulations.IsMissing simulation.now number) (spec.IsNotMissing simulation.now number) }
 {
@@ -70,8 +70,8 @@ fn check(simulation: &Simulation, number: usize) -> Result<(), StoreError>
     Ok(())
 }
 
-/// The state of a run, and its history: by its type, what is recorded is what the simulation cycle
-/// of its design gives, one process at a time, and how the run ended is its outcome.
+/// The state of a run, and its history. By its type, what is recorded is what the simulation cycle
+/// of its design gives, one process at a time, and the way the run ended is its outcome.
 pub struct WaveStore {
     simulation: Simulation,
     stop: u64,
@@ -79,7 +79,7 @@ pub struct WaveStore {
     ended: Option<Step>,
 }
 
-/// By hand, so that crates which drop one need no proof of what is in it.
+/// Written by hand so that code which drops it needs no proof about its contents.
 impl Drop for WaveStore {
     fn drop(self) {
         let WaveStore {
@@ -109,10 +109,10 @@ impl Model for WaveStore {
 }
 
 impl WaveStore {
-    /// The store of a design that was initialized (14.7.5.2): record 0 has every net, and all
-    /// processes are due, the postponed ones after the others. The stop time is in femtoseconds; the
-    /// run may go on for as many cycles as the limit says. The design comes back with `StopTooLate`,
-    /// where the stop time is above 2^62 - 1, and with `Memory`.
+    /// The store of a design after its initialization (14.7.5.2): record 0 has every net, and all
+    /// processes are due, the postponed ones after the others. The stop time is in femtoseconds;
+    /// the limit is the number of cycles that the run may have. The design is returned with
+    /// `StopTooLate`, if the stop time is above 2^62 - 1, and with `Memory`.
     pub fn new(
         alloc: Global,
         design: Design,
@@ -136,8 +136,8 @@ impl WaveStore {
         }
     }
 
-    /// The job of a process that is due and has not been executed. Refusals:
-    /// `Ended`, `NotDue`, `Twice`, `Memory`, in this order.
+    /// The job of a due process that has not been executed. Refusals: `Ended`, `NotDue`, `Twice`,
+    /// `Memory`, in this order.
     pub fn job(&self, alloc: Global, process: usize) -> Result<Job, StoreError>
         ensures ok { IfOk result (λ job. spec.IsOpen self.now × simulations.IsMissing self.now.simulation process
             × simulations.IsJobOf self.now.simulation process job) }
@@ -153,7 +153,7 @@ impl WaveStore {
 
     /// Takes the result of a process: it owns what its execution gave, and nothing else changes. It
     /// takes no memory. Refusals: `Ended`, `Stale`, `NotDue`, `Twice`, `Foreign`, in this order;
-    /// the result then comes back.
+    /// the result is then returned.
     pub fn deposit(&mut self, done: Done) -> Result<(), (StoreError, Done)>
         ensures ok { OnOk result (spec.IsTaken self.old done × (self.new ≡ spec.deposited self.old done.number)) }
         ensures err { IfErr result (λ e. spec.IsDepositRefusal self.old done e.0 × (e.1 ≡ done)) }
@@ -168,7 +168,7 @@ impl WaveStore {
         }
     }
 
-    /// Whether the result of a job would be taken.
+    /// Returns whether the result of a job would be taken, or why not.
     fn accept(&self, job: &Job) -> Result<(), StoreError>
         ensures { MatchResult result (λ _. spec.IsTaken self.now job.now) (λ e. spec.IsDepositRefusal self.now job.now e) }
     {
@@ -185,9 +185,9 @@ impl WaveStore {
         Ok(())
     }
 
-    /// Executes all that are due and have not been executed, in place and in rising order of their
-    /// numbers, on this thread. If allocation fails the store is gone: of
-    /// the process that wanted it neither the state before its execution is left nor that after it.
+    /// Executes all due processes that have not been executed, in place and in rising order of
+    /// their numbers, on this thread. If allocation fails, the store is lost: the process that
+    /// needed memory may have been executed in part.
     pub fn execute_due(self, alloc: Global) -> Result<WaveStore, AllocError>
         ensures same { IfOk result (λ s. s ≡ spec.with_deposited self s.simulation.deposited) }
         ensures complete { IfOk result (λ s. simulations.IsComplete s.simulation) }
@@ -223,8 +223,8 @@ impl WaveStore {
         }
     }
 
-    /// The same store, with what its processes own in about so many shares, each of which is handed
-    /// out by itself. If allocation fails it is gone.
+    /// The same store, with what its processes own divided into about so many shares, each of which
+    /// is handed out by itself. If allocation fails, it is lost.
     pub fn divide(self, alloc: Global, shares: usize) -> Result<WaveStore, AllocError>
         ensures { IfOk result (λ s. s ≡ self) }
     {
@@ -253,14 +253,14 @@ impl WaveStore {
         self.simulation.is_untouched()
     }
 
-    /// About how many steps the execution of a process takes. It is a hint by which work is divided
-    /// among threads, so nothing is promised of it.
+    /// About how many steps it takes to execute a process. It is a hint for dividing work among
+    /// threads, and nothing is promised of it.
     pub fn mean_length(&self) -> usize {
         self.simulation.mean_length()
     }
 
-    /// Hands out what the processes own, so that those that are due may be executed elsewhere: all
-    /// processes, in order, each share of them in an order. If allocation fails the store is gone.
+    /// Hands out what the processes own, so that due ones can be executed elsewhere: all processes,
+    /// in their order, each share in one order. If allocation fails, the store is lost.
     pub fn hand_out<J: Naming>(self, alloc: Global) -> Result<(Rest<J>, Vec<Order<J>>), AllocError>
         requires design { self.simulation.design ≡ J.design }
         requires untouched { hands.IsUntouched self }
@@ -276,12 +276,12 @@ impl WaveStore {
         handed_out::<J>(alloc, simulation, stop, limit)
     }
 
-    /// Goes on once all that are due have been executed (14.7.5.3): to the postponed processes of the
-    /// cycle, `Postponed`, or to the next cycle. It answers `PostponedDelta` where one of them makes a
-    /// delta cycle follow, `Finished` where nothing is pending up to the stop time, and `LimitReached`
-    /// where the limit would be passed: then the run has ended and its records stay. Refusals:
-    /// `Ended`, `Missing` with the least process that has not been executed, `Memory`, in this order.
-    /// What grows are the store's own lists, which keep their allocator.
+    /// Goes on once all due processes have been executed (14.7.5.3): to the postponed processes of
+    /// the cycle, `Postponed`, or to the next cycle, `Next`. It answers `PostponedDelta` if a
+    /// postponed process causes a delta cycle, `Finished` if nothing is pending up to the stop
+    /// time, and `LimitReached` if the limit would be passed; the run has then ended, and its
+    /// records stay. Refusals: `Ended`, `Missing` with the least process not executed, `Memory`, in
+    /// this order. Only lists of the store grow, and they keep their allocator.
     pub fn advance(&mut self, _alloc: Global) -> Result<Step, StoreError>
         ensures ok { IfOk result (λ s. spec.IsAdvanced self.old self.new s) }
         ensures err { IfErr result (spec.IsAdvanceRefusal self.old) }
@@ -296,7 +296,7 @@ impl WaveStore {
         self.go_on()
     }
 
-    /// Goes on where all that are due have been executed.
+    /// Goes on once all due processes have been executed.
     fn go_on(&mut self) -> Result<Step, StoreError>
         requires open { spec.IsOpen self.old }
         requires complete { simulations.IsComplete self.old.simulation }
@@ -305,17 +305,20 @@ impl WaveStore {
         ensures kept { OnErr result (self.new ≡ self.old) }
     {
         match self.simulation.upcoming()? {
+            // h) No delta cycle follows: postponed processes that wait are executed.
             Upcoming::Postponed => {
                 self.simulation.begin_postponed();
                 Ok(Step::Postponed)
             }
+            // h.5) One of them has caused a delta cycle, which is an error.
             Upcoming::PostponedDelta => Ok(self.end(Step::PostponedDelta)),
+            // a) The next cycle is carried out, or simulation is complete.
             Upcoming::Cycle(time) if time <= self.stop => self.go_to(time),
             _ => Ok(self.end(Step::Finished)),
         }
     }
 
-    /// Carries out the cycle at this time, if the limit allows it.
+    /// Begins the cycle at this time, in femtoseconds, if the limit allows it.
     fn go_to(&mut self, time: u64) -> Result<Step, StoreError>
         requires open { spec.IsOpen self.old }
         requires executed { simulations.IsExecuted self.old.simulation }
@@ -332,7 +335,7 @@ impl WaveStore {
         Ok(Step::Next)
     }
 
-    /// The run has ended so.
+    /// Ends the run.
     fn end(&mut self, step: Step) -> Step
         requires executed { simulations.IsExecuted self.old.simulation }
         requires end { spec.HasEnd self.old step }
@@ -343,7 +346,7 @@ impl WaveStore {
         step
     }
 
-    /// How the run ended; none where it has not.
+    /// How the run ended; `None` if it has not.
     pub fn ended(&self) -> Option<Step>
         ensures value { result ≡ self.now.ended }
         ensures end { MatchOption result Unit (λ s. simulations.IsExecuted self.now.simulation × spec.HasEnd self.now s) }
@@ -365,7 +368,7 @@ impl WaveStore {
         self.stop
     }
 
-    /// How many cycles there may be.
+    /// The number of cycles that the run may have.
     pub fn limit(&self) -> u32
         ensures { result ≡ self.now.limit }
     {
@@ -373,7 +376,7 @@ impl WaveStore {
     }
 
     /// The numbers of the processes that this phase executes, rising, whether or not they have been
-    /// executed; none where the run has ended.
+    /// executed; none if the run has ended.
     pub fn due(&self) -> &[usize]
         ensures value { result.now ≡ spec.due_of self.now }
         ensures few { length result.now ≤ most }
@@ -384,8 +387,8 @@ impl WaveStore {
         self.simulation.due()
     }
 
-    /// How far the run has come. Whoever has a store knows so too that it is within its bounds, and
-    /// that its drivers' waveforms rise.
+    /// How far the run has come. It also shows that the run is within its bounds, and that the
+    /// waveforms of its drivers rise.
     pub fn look(&self) -> Look
         ensures value { result ≡ spec.look_of self.now }
         ensures within { spec.IsWithin self.now }
@@ -400,8 +403,8 @@ impl WaveStore {
         }
     }
 
-    /// The value of the net with a number; `None` if out of range. It is also that of its last
-    /// change in the records.
+    /// The value of the net with a number, which is that of its last change in the records; `None`
+    /// if out of range.
     pub fn value(&self, net: usize) -> Option<Logic>
         ensures value { MatchOption result (length self.now.simulation.design.nets ≤ net)
             (λ v. (net < length self.now.simulation.design.nets) × (v ≡ (net_at (simulations.reached self.now.simulation).nets net).value)) }
@@ -410,8 +413,8 @@ impl WaveStore {
         self.simulation.value(net)
     }
 
-    /// How many events the net with a number had after the initialization; `None` if out of range.
-    /// They are its changes in the records after the first.
+    /// The number of events of the net with a number after the initialization, which is its number
+    /// of changes in the records after the first; `None` if out of range.
     pub fn total(&self, net: usize) -> Option<u64>
         ensures { MatchOption result (length self.now.simulation.design.nets ≤ net)
             (λ t. (net < length self.now.simulation.design.nets)
@@ -420,8 +423,8 @@ impl WaveStore {
         self.simulation.total(net)
     }
 
-    /// The log of all records, in which nothing is copied: for each when it is, and its changes in
-    /// net order. Record 0 has every net.
+    /// The log of all records, not copied: the time and the delta number of each, and its changes
+    /// in net order. Record 0 has every net.
     pub fn history(&self) -> &Log
         ensures records { result.now.records ≡ records_to self.now.simulation.design self.now.simulation.cycles }
         ensures named { All (IsNamed (length self.now.simulation.design.nets)) result.now.records }
@@ -429,8 +432,8 @@ impl WaveStore {
         self.simulation.history()
     }
 
-    /// The records from a number on, none where that is how many there are. Refusals: `Behind`
-    /// where there are fewer, `Memory`, in this order.
+    /// The records from a number on; none if the number is that of all records. Refusals: `Behind`
+    /// if there are fewer records, `Memory`, in this order.
     pub fn records_since(&self, alloc: Global, number: usize) -> Result<Vec<Record>, StoreError>
         ensures ok { IfOk result (λ v. (number ≤ suc self.now.simulation.cycles)
             × (v.items ≡ drop number (records_to self.now.simulation.design self.now.simulation.cycles))) }

@@ -8,14 +8,14 @@ use sim_logic::Logic;
 use sim_wave::Driver;
 use std::alloc::Global;
 
-/// A design as it stands in a cycle.
+/// What a cycle leaves of a design.
 #[derive(Drop)]
 pub struct Snapshot {
     /// The time in femtoseconds.
     pub time: u64,
     /// The number of cycles before this one at the same time.
     pub delta: u64,
-    /// The nets with an event and their values; at the start all nets.
+    /// The nets with an event, with their values; at the start all nets.
     pub changes: Vec<(usize, Logic)>,
 }
 
@@ -27,11 +27,11 @@ struct State {
     views: Vec<NetView>,
     drivers: Vec<Driver>,
     variables: Vec<Vec<Held>>,
-    /// Of each process, whether it is postponed, was resumed and has not been executed since.
+    /// For each process, whether it is postponed and was resumed but not executed since.
     waiting: Vec<bool>,
 }
 
-/// The drivers at first.
+/// The drivers at the start.
 fn first_drivers(alloc: Global, design: &Design) -> Option<Vec<Driver>> {
     let mut drivers = Vec::new(alloc);
     for driver in design.drivers() {
@@ -40,7 +40,7 @@ fn first_drivers(alloc: Global, design: &Design) -> Option<Vec<Driver>> {
     Some(drivers)
 }
 
-/// The variables of each process at first.
+/// The variables of each process at the start.
 fn first_variables(alloc: Global, design: &Design) -> Option<Vec<Vec<Held>>> {
     let mut variables = Vec::new(alloc);
     for process in design.processes() {
@@ -50,13 +50,13 @@ fn first_variables(alloc: Global, design: &Design) -> Option<Vec<Vec<Held>>> {
     Some(variables)
 }
 
-/// How the nets are seen at the start, by the drivers.
+/// The views of the nets at the start, by the drivers.
 fn first_views(alloc: Global, design: &Design, drivers: &[Driver]) -> Option<Vec<NetView>> {
     let values = values_of(alloc, drivers, design.nets())?;
     views_of(alloc, values.as_slice(), values.as_slice())
 }
 
-/// The variables of each process at first, and that none waits.
+/// The variables of each process at the start, and marks that none waits.
 fn first_owned(alloc: Global, design: &Design) -> Option<(Vec<Vec<Held>>, Vec<bool>)> {
     let variables = first_variables(alloc, design)?;
     let mut waiting = Vec::new(alloc);
@@ -96,7 +96,7 @@ fn done_in(alloc: Global, state: &State, process: &Process, number: usize) -> Op
     )
 }
 
-/// Puts what an execution of a process leaves in place of what the process owned.
+/// Puts what an execution leaves in place of what the process owned.
 fn put_done(
     alloc: Global,
     state: &mut State,
@@ -126,7 +126,7 @@ fn is_resumed_now(state: &State, process: &Process, all: bool) -> bool {
     all || is_resumed(state.views.as_slice(), process.sensitivity())
 }
 
-/// Those that are resumed and postponed wait (14.7.5.3 h).
+/// The postponed processes that are resumed wait from now on (14.7.5.3 h).
 fn wait(design: &Design, state: &mut State, all: bool) -> Option<()> {
     for (number, process) in design.processes().iter().enumerate() {
         if process.postponed() && is_resumed_now(state, process, all) {
@@ -136,7 +136,7 @@ fn wait(design: &Design, state: &mut State, all: bool) -> Option<()> {
     Some(())
 }
 
-/// Executes those that are resumed and not postponed, one after another (14.7.5.3 f).
+/// Executes the resumed processes that are not postponed, one after another (14.7.5.3 f).
 fn execute_resumed(alloc: Global, design: &Design, state: &mut State, all: bool) -> Option<()> {
     for (number, process) in design.processes().iter().enumerate() {
         if !process.postponed() && is_resumed_now(state, process, all) {
@@ -146,7 +146,7 @@ fn execute_resumed(alloc: Global, design: &Design, state: &mut State, all: bool)
     Some(())
 }
 
-/// Executes those that wait, one after another (14.7.5.3 h).
+/// Executes the waiting processes, one after another (14.7.5.3 h).
 fn execute_waiting(alloc: Global, design: &Design, state: &mut State) -> Option<()> {
     for number in 0..design.processes().len() {
         if *state.waiting.get(number)? {
@@ -157,8 +157,8 @@ fn execute_waiting(alloc: Global, design: &Design, state: &mut State) -> Option<
     Some(())
 }
 
-/// Executes the processes of a cycle: first those that are not postponed, then, unless a delta cycle
-/// follows, those that wait. The initialization is followed by none in this sense.
+/// Executes the processes of a cycle: first those that are not postponed, then, unless a delta
+/// cycle follows, those that wait. In the initialization these are executed in any case (14.7.5.2).
 fn execute_all(alloc: Global, design: &Design, state: &mut State, is_first: bool) -> Option<()> {
     wait(design, state, is_first)?;
     execute_resumed(alloc, design, state, is_first)?;
@@ -186,14 +186,14 @@ fn next_time(drivers: &[Driver]) -> Option<u64> {
     next
 }
 
-/// All drivers take what is due.
+/// All drivers take the transactions that are due.
 fn take(drivers: &mut [Driver], time: u64) {
     for driver in drivers.iter_mut() {
         driver.take(time);
     }
 }
 
-/// The nets that are listed: all of them, or those with an event.
+/// The nets to be reported: all of them, or those with an event.
 fn changes(alloc: Global, views: &[NetView], all: bool) -> Option<Vec<(usize, Logic)>> {
     let mut changes = Vec::new(alloc);
     for (number, view) in views.iter().enumerate() {
@@ -204,7 +204,7 @@ fn changes(alloc: Global, views: &[NetView], all: bool) -> Option<Vec<(usize, Lo
     Some(changes)
 }
 
-/// The state as it is reported.
+/// A snapshot of the state.
 fn taken(alloc: Global, state: &State, all: bool) -> Option<Snapshot> {
     let changes = changes(alloc, state.views.as_slice(), all)?;
     Some(Snapshot {
@@ -214,7 +214,7 @@ fn taken(alloc: Global, state: &State, all: bool) -> Option<Snapshot> {
     })
 }
 
-/// The number of the cycle among those of its time.
+/// The number of the cycle among those at its time.
 fn next_delta(state: &State, time: u64) -> Option<u64> {
     if time == state.time {
         state.delta.checked_add(1)
@@ -223,7 +223,7 @@ fn next_delta(state: &State, time: u64) -> Option<u64> {
     }
 }
 
-/// How the nets are seen once the drivers have taken what is due.
+/// The views of the nets once the drivers have taken their transactions.
 fn next_views(alloc: Global, design: &Design, state: &State) -> Option<Vec<NetView>> {
     let values = values_of(alloc, state.drivers.as_slice(), design.nets())?;
     let last_values = values_in(alloc, state.views.as_slice())?;
@@ -239,8 +239,8 @@ fn update(alloc: Global, design: &Design, state: &mut State, time: u64) -> Optio
     Some(())
 }
 
-/// Executes what is due and carries out the cycle after it, if anything is pending; says whether
-/// there was one. In the first cycle all are due.
+/// Executes the processes that are due, all of them in the first cycle, and updates the state for
+/// the next cycle, if anything is pending; returns whether there was one.
 fn go_on(alloc: Global, design: &Design, state: &mut State, is_first: bool) -> Option<bool> {
     execute_all(alloc, design, state, is_first)?;
     let Some(time) = next_time(state.drivers.as_slice()) else {
@@ -250,7 +250,7 @@ fn go_on(alloc: Global, design: &Design, state: &mut State, is_first: bool) -> O
     Some(true)
 }
 
-/// Adds the state as it is reported.
+/// Adds a snapshot of the state.
 fn add(alloc: Global, snapshots: &mut Vec<Snapshot>, state: &State, all: bool) -> Option<()> {
     snapshots.push(taken(alloc, state, all)?).ok()
 }
@@ -272,8 +272,8 @@ fn run(
     Some(())
 }
 
-/// What a design leaves at the start and in each of the cycles after it, up to this number of them
-/// or until nothing is pending. `None` comes where memory lacks.
+/// What a design leaves at the start and in each cycle after it, up to this number of cycles or
+/// until nothing is pending. `None` if memory runs out.
 pub fn snapshots(alloc: Global, design: &Design, cycles: usize) -> Option<Vec<Snapshot>> {
     let mut state = first_state(alloc, design)?;
     let mut snapshots = Vec::new(alloc);

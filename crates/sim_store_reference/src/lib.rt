@@ -1,5 +1,5 @@
 //! The standard's cycle as a plain program that looks at every driver, net and process in each
-//! cycle, for tests to compare with.
+//! cycle. Tests compare the store with it.
 #![tactic(auto)]
 
 mod cycle;

@@ -17,7 +17,7 @@ fn source_value(drivers: &[Driver], source: Source) -> Option<Logic> {
     }
 }
 
-/// The values of the sources, resolved.
+/// The resolved value of sources.
 fn resolved(alloc: Global, drivers: &[Driver], sources: &[Source]) -> Option<Logic> {
     let mut values = Vec::new(alloc);
     for source in sources {
@@ -37,7 +37,7 @@ pub fn values_of(alloc: Global, drivers: &[Driver], nets: &[Net]) -> Option<Vec<
     Some(values)
 }
 
-/// A net with a new value.
+/// The view of a net, from its value and the value before.
 fn changed(value: Logic, last: Logic) -> NetView {
     NetView {
         value,
@@ -46,7 +46,7 @@ fn changed(value: Logic, last: Logic) -> NetView {
     }
 }
 
-/// Nets with these values, and the values before.
+/// The views of nets, from their values and the values before.
 pub fn views_of(alloc: Global, values: &[Logic], last_values: &[Logic]) -> Option<Vec<NetView>> {
     let mut views = Vec::new(alloc);
     for (value, last) in values.iter().zip(last_values) {

@@ -1,11 +1,11 @@
-//! One execution of a process, by copies of all that it sees and owns.
+//! One execution of a process, on copies of all that it sees and owns.
 
 use sim_exec::{Done, Job, NetView};
 use sim_flat_design::{Held, Process};
 use sim_wave::Driver;
 use std::alloc::Global;
 
-/// How nets are seen.
+/// The view of a net.
 fn at(views: &[NetView], net: usize) -> Option<NetView> {
     match views.get(net) {
         Some(view) => Some(*view),
@@ -13,7 +13,7 @@ fn at(views: &[NetView], net: usize) -> Option<NetView> {
     }
 }
 
-/// How some of the nets are seen.
+/// The views of some nets.
 fn seen(alloc: Global, views: &[NetView], nets: &[usize]) -> Option<Vec<NetView>> {
     let mut seen = Vec::new(alloc);
     for net in nets {
@@ -23,7 +23,7 @@ fn seen(alloc: Global, views: &[NetView], nets: &[usize]) -> Option<Vec<NetView>
     Some(seen)
 }
 
-/// Whether one of some nets has an event.
+/// Whether one of these nets has an event.
 pub fn is_resumed(views: &[NetView], nets: &[usize]) -> bool {
     for net in nets {
         if let Some(view) = at(views, *net) {
@@ -95,7 +95,7 @@ pub fn executed(
     Done::run(alloc, job).ok()
 }
 
-/// Drivers after an execution in place of those before, from a place on.
+/// Puts the drivers after an execution in place of those before, from an index on.
 pub fn put(alloc: Global, drivers: &mut [Driver], first: usize, after: &[Driver]) -> Option<()> {
     for (place, driver) in after.iter().enumerate() {
         let number = first.checked_add(place)?;

@@ -13,7 +13,7 @@ one_bit b e = grind (arith, nat_tests)
 pub zero_bit : (b : ℕ) → b ≡ 0 → eqb b 1 ≡ false
 zero_bit b e = grind (arith, nat_tests)
 
--- a test that gives both answers
+-- a test does not give both answers
 pub not_both : (b : Bool) → b ≡ false → b ≡ true → ⊥
 not_both true p q = cc
 not_both false p q = cc
@@ -21,7 +21,7 @@ not_both false p q = cc
 pub none_of_zero : (i : ℕ) → has_bit 0 i ≡ false
 none_of_zero i = zero_bit (bit_at 0 i) (bit_at-zero i)
 
--- a word moved down
+-- a word shifted down
 pub moved : (word k i : ℕ) → has_bit (word / 2 ^ k) i ≡ has_bit word (k + i)
 moved word k i =
     ap (λ (n : ℕ). eqb (n % 2) 1) (div-div-eq-div-mul word (2 ^ k) (2 ^ i) ∙ ap (λ (p : ℕ). word / p) (sym (pow-add 2 k i)))
@@ -29,7 +29,7 @@ moved word k i =
 pub at_distance : (word k i : ℕ) → k ≤ i → has_bit word i ≡ has_bit (word / 2 ^ k) (i - k)
 at_distance word k i le = let e : i ≡ k + (i - k) = omega arith in ap (has_bit word) e ∙ sym (moved word k (i - k))
 
--- nothing is left of it
+-- no bit is left of it
 pub none_left : (word from : ℕ) → word / 2 ^ from ≡ 0 → NoneFrom (has_bit word) from
 none_left word from empty m le =
     at_distance word from m le ∙ (ap (λ (w : ℕ). has_bit w (m - from)) empty ∙ none_of_zero (m - from))

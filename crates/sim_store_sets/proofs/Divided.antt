@@ -21,7 +21,7 @@ pub joined-joined : {A : Type 0} (parts : List (List (List A))) → joined (join
 joined-joined [] = refl
 joined-joined (xss ∷ parts) = joined-append xss (joined parts) ∙ ap (λ w. joined xss ++ w) (joined-joined parts)
 
--- what stands before a list, and it, stand before the next
+-- the items before a list, and those of the list, are the items before the next one
 pub before-more : {A : Type 0} (xss : List (List A)) (p : ℕ) → p < length xss
     → length (joined (take (suc p) xss)) ≡ length (joined (take p xss)) + length (get_or xss p [])
 before-more [] p h = absurd (omega arith)
@@ -34,7 +34,7 @@ before-whole xss zero = omega arith
 before-whole [] (suc p) = omega arith
 before-whole (xs ∷ xss) (suc p) = omega (arith, before-whole xss p, length-append xs (joined (take p xss)), length-append xs (joined xss))
 
--- ---- what stands at a place of one of them
+-- ---- an element of one of them
 
 pub at-within : {A : Type 0} {xss : List (List A)} {n p i : ℕ} → IsAt xss n p i → n < length (joined xss)
 at-within {xss = xss} {p = p} at = omega (arith, at.counted, at.inside, within xss p at.among)
@@ -60,7 +60,7 @@ at-set {xss = xss} {n = n} {p = p} {i = i} at x =
     ∙ (ap (λ m. front ++ set (row ++ back) m x) i' ∙ ap (λ w. front ++ w) (set-append_left row back i x at.inside))) in
     cut-set xss p (set row i x) at.among ∙ sym here
 
--- ---- the part and the place of a list
+-- ---- the part and the position of a list
 
 starts-at : {A : Type 0} {each : ℕ} {parts : List (List (List A))} → AreParts each parts → (p : ℕ) → p < length parts
     → length (joined (take p parts)) ≡ p * each
@@ -71,7 +71,7 @@ starts-at {each = each} {parts = parts} i (suc p) h =
     let more = before-more parts p (omega arith) in
     grind arith
 
--- so many lists of at most so many items
+-- a number of lists, each with a bounded number of items
 bounded : {A : Type 0} (each : ℕ) (xss : List (List A)) → ((p : ℕ) → p < length xss → length (get_or xss p []) ≤ each)
     → length (joined xss) ≤ length xss * each
 bounded each [] most = omega arith
@@ -99,7 +99,7 @@ placed {each = each} {parts = parts} i n h =
       counted = omega (arith, whole, start);
     }
 
--- in one part each list is at its own place
+-- in a single part each list is at its own number
 pub placed-alone : {A : Type 0} (xss : List (List A)) (n : ℕ) → length xss ≡ 1 → n < length (joined xss) → IsAt xss n 0 n
 placed-alone [] n e h = absurd (omega arith)
 placed-alone (xs ∷ []) n e h = record {
@@ -111,7 +111,7 @@ placed-alone (xs ∷ ys ∷ xss) n e h = absurd (omega arith)
 
 -- ---- the items of a list
 
--- where they start among all items
+-- their start among all items
 pub started : {A : Type 0} {parts : List (List (List A))} {n p i : ℕ} → IsAt parts n p i
     → length (joined (take n (joined parts))) ≡ length (joined (take p (map joined parts))) + length (joined (take i (get_or parts p [])))
 started {parts = parts} {n = n} {p = p} {i = i} at =
@@ -166,7 +166,7 @@ pub read-at : {A : Type 0} {parts parts₁ parts₂ : List (List A)} {all : List
 read-at {parts = parts} {n = n} {p = p} {i = i} at e ea f d =
     ap (λ w. get_or (get_or w p []) i d) f ∙ (sym (at-get (subst (λ w. IsAt w n p i) e at) d) ∙ ap (λ w. get_or w n d) ea)
 
--- ---- parts of which one has other lists
+-- ---- parts of which one is changed
 
 pub length-at : {A : Type 0} (xss : List (List A)) (p q : ℕ) (row : List A) → length row ≡ length (get_or xss p [])
     → length (get_or (set xss p row) q []) ≡ length (get_or xss q [])
@@ -176,7 +176,7 @@ length-at (xs ∷ xss) zero (suc q) row e = refl
 length-at (xs ∷ xss) (suc p) zero row e = refl
 length-at (xs ∷ xss) (suc p) (suc q) row e = length-at xss p q row e
 
--- they are parts where each has as many lists as before, and all have as many items
+-- they are parts if each has as many lists as before, and all have as many items
 pub same-parts : {A : Type 0} {each : ℕ} {parts : List (List (List A))} → AreParts each parts → (now : List (List (List A))) → length now ≡ length parts
     → ((p : ℕ) → length (get_or now p []) ≡ length (get_or parts p [])) → length (joined (joined now)) ≡ length (joined (joined parts)) → AreParts each now
 same-parts i now l each e = record {
@@ -194,7 +194,7 @@ joined-length (xs ∷ xss) zero row e = omega (arith, e, length-append row (join
 joined-length (xs ∷ xss) (suc n) row e =
     omega (arith, joined-length xss n row e, length-append xs (joined (set xss n row)), length-append xs (joined xss))
 
--- so a list as long may be put in the place of one
+-- so a list can be replaced by one of the same length
 pub put-parts : {A : Type 0} {each : ℕ} {parts : List (List (List A))} → AreParts each parts → {n p i : ℕ} → IsAt parts n p i → (row : List A)
     → length row ≡ length (get_or (get_or parts p []) i []) → AreParts each (set parts p (set (get_or parts p []) i row))
 put-parts {parts = parts} i {n = n} {p = p} {i = k} at row e =
@@ -203,7 +203,7 @@ put-parts {parts = parts} i {n = n} {p = p} {i = k} at row e =
     (λ q. length-at parts p q (set (get_or parts p []) k row) (length-set (get_or parts p []) k row))
     (ap (λ w. length (joined w)) (at-set at row) ∙ joined-length (joined parts) n row (e ∙ ap length (sym (at-get at []))))
 
--- what there is to know of it then
+-- what is known then
 pub record IsPutIn {A : Type 0} (each : ℕ) (old now : List (List (List A))) (n : ℕ) (row : List A) : Type 0 where
   pub parts : AreParts each now
   pub whole : joined now ≡ set (joined old) n row
@@ -220,7 +220,7 @@ put-in {each = each} {parts = parts} j {n = n} {p = p} {i = i} at rows row e l =
       there = ap (λ w. get_or w n []) whole ∙ get_or-set_same (joined parts) n row [] (at-within at);
     }
 
--- the same, of what the code leaves when it wrote to a vector's slice
+-- the same, for what the code leaves after it wrote to a vector's slice
 pub put-back : {A : Type 0} {each : ℕ} {parts parts₁ parts₂ : List (List (List A))} {all : List (List A)} {n p i : ℕ} → AreParts each parts
     → joined parts ≡ all → IsAt parts₁ n p i → parts₁ ≡ parts → parts₂ ≡ parts → (k : ℕ) (rows : List (List A)) (row : List A) (now : List (List (List A)))
     → now ≡ set parts₂ p rows → rows ≡ set (get_or parts₂ p []) i row → length row ≡ length (get_or all n []) → k ≡ length parts
@@ -243,7 +243,7 @@ starts-take n [] (suc p) h = absurd (omega arith)
 starts-take n (xs ∷ xss) zero h = refl
 starts-take n (xs ∷ xss) (suc p) h = ap (λ w. n ∷ w) (starts-take (n + length xs) xss p (omega arith))
 
--- the places from one on, counted from there
+-- the starts from an index on, counted from there
 starts-drop : {A : Type 0} (n m : ℕ) (xss : List (List A)) (p : ℕ) → p ≤ length xss → m ≡ n + length (joined (take p xss))
     → drop p (starts_from n xss) ≡ starts_from m (drop p xss)
 starts-drop n m xss zero h e = let k : n ≡ m = omega (arith, e) in ap (λ w. starts_from w xss) k

@@ -9,7 +9,7 @@ pub length-starts_from : {A : Type 0} (n : ℕ) (xss : List (List A)) → length
 length-starts_from n [] = omega arith
 length-starts_from n (xs ∷ xss) = omega (arith, length-starts_from (n + length xs) xss)
 
--- where the list p starting
+-- the start of the list p
 pub start-at : {A : Type 0} (n : ℕ) (xss : List (List A)) (p d : ℕ) → p ≤ length xss → get_or (starts_from n xss) p d ≡ n + length (joined (take p xss))
 start-at n [] zero d h = omega arith
 start-at n [] (suc p) d h = absurd (omega arith)
@@ -17,7 +17,7 @@ start-at n (xs ∷ xss) zero d h = omega arith
 start-at n (xs ∷ xss) (suc p) d h =
     omega (arith, start-at (n + length xs) xss p d (omega arith), length-append xs (joined (take p xss)))
 
--- and where it ends
+-- and its end
 pub end-at : {A : Type 0} (n : ℕ) (xss : List (List A)) (p d : ℕ) → p < length xss → get_or (starts_from n xss) (suc p) d ≡ n + length
     (joined (take p xss)) + length (get_or xss p [])
 end-at n [] p d h = absurd (omega arith)
@@ -47,7 +47,7 @@ within xss p h =
           (get_or xss p []) (joined (drop (suc p) xss)),
     )
 
--- the piece at the place of the list p is that list
+-- the piece at the position of the list p is that list
 pub piece : {A : Type 0} (xss : List (List A)) (p a b : ℕ) → p < length xss → a ≡ length (joined (take p xss)) → b ≡ a + length (get_or xss p [])
     → slice_range (joined xss) a b ≡ get_or xss p []
 piece xss p a b h e f =
@@ -60,7 +60,7 @@ rows-more : {A : Type 0} (a n : ℕ) (xss : List (List A)) (flat : List A) → r
 rows-more a n [] flat = refl
 rows-more a n (xs ∷ xss) flat = refl
 
--- what is viewed_again out is read back
+-- lists that are laid out flat are read back
 rows-read : {A : Type 0} (before : List A) (n : ℕ) (xss : List (List A)) → n ≡ length before → rows (starts_from n xss) (before ++ joined xss) ≡ xss
 rows-read before n [] e = refl
 rows-read before n (xs ∷ xss) e =
@@ -82,7 +82,7 @@ rows-flat {xss = xss} i = rw (i.starting, i.holding) (rows-joined xss)
 pub viewed_again : {A : Type 0} {xss : List (List A)} {starts : List ℕ} {flat : List A} → IsFlat xss starts flat → IsFlat (rows starts flat) starts flat
 viewed_again {starts = starts} {flat = flat} i = subst (λ w. IsFlat w starts flat) (sym (rows-flat i)) i
 
--- another list as long, at the place of one
+-- another list of the same length, in place of the list p
 pub starts-set : {A : Type 0} (n : ℕ) (xss : List (List A)) (p : ℕ) (row : List A) → length row ≡ length (get_or xss p []) → starts_from n (set xss p row)
     ≡ starts_from n xss
 starts-set n [] p row e = refl
@@ -110,7 +110,7 @@ replaced {xss = xss} i p a b row h e f g =
       holding = rw i.holding (joined-set xss p a b row h at f g);
     }
 
--- what a reader of the list p has to know
+-- what reading the list p needs
 pub record Places {A : Type 0} (xss : List (List A)) (starts : List ℕ) (flat : List A) (p a b : ℕ) : Type 0 where
   pub order : a ≤ b
   pub within : b ≤ length flat
@@ -134,7 +134,7 @@ places {xss = xss} {starts = starts} {flat = flat} i p a b h ea eb =
       holds = ap (λ w. slice_range w a b) i.holding ∙ piece xss p a b h at to;
     }
 
--- the same, of what is read in the code
+-- the same, for what is read in the code
 pub places_read : {A : Type 0} {xss yss : List (List A)} {starts : List ℕ} {flat : List A} → IsFlat xss starts flat → xss ≡ yss → (p a b : ℕ)
     (starts₂ : List ℕ) (flat' : List A) → p < length yss
     → starts₂ ≡ starts → flat' ≡ flat → a ≡ get_or starts₂ p 0 → b ≡ get_or starts₂ (p + 1) 0 → Places yss starts flat' p a b
@@ -142,7 +142,7 @@ places_read {starts = starts} {flat = flat} i e p a b starts₂ flat' h ef el ea
     let j = subst (λ w. IsFlat w starts flat) e i in
     rw el (places j p a b h (ea ∙ ap (λ w. get_or w p 0) ef) (eb ∙ ap (λ w. get_or w (p + 1) 0) ef))
 
--- where the list p starts, or the last one ends
+-- the start of the list p, or the end of the last one
 pub start-read : {A : Type 0} {xss yss : List (List A)} {starts : List ℕ} {flat : List A} → IsFlat xss starts flat → xss ≡ yss → (p a : ℕ)
     (starts₂ : List ℕ) → p ≤ length yss → starts₂ ≡ starts → a ≡ get_or starts₂ p 0 → a ≡ length (joined (take p yss))
 start-read {yss = yss} {starts = starts} {flat = flat} i e p a starts₂ h ef ea =
@@ -166,7 +166,7 @@ pushed_row {xss = xss} i row m e = record {
   holding = ap (λ w. w ++ row) i.holding ∙ sym (joined-push xss row);
 }
 
--- what the code leaves when it wrote to a part of a vector's slice
+-- what the code leaves after it wrote to a part of a vector's slice
 pub written_back : {A : Type 0} (now old : List A) (n : ℕ) → length now ≡ n → take n (now ++ drop (length now) old) ≡ now
 written_back now old n e = take_at now (drop (length now) old) n e
 
@@ -210,7 +210,7 @@ mapped_back {yss = yss} {starts = starts} {flat = flat} f i e n flat' now el en 
     let l : length now ≡ n = omega (arith, ap length m, length-map flat f) in
     rw (written_back now flat n l, m) done
 
--- a part of the flat list holds another list as long, whatever it came from
+-- a part of the flat list holds another list of the same length, wherever that came from
 pub part_back : {A : Type 0} {xss yss : List (List A)} {starts : List ℕ} {flat : List A} → IsFlat xss starts flat → xss ≡ yss
     → (p a b n : ℕ) (row now : List A) (starts₂ : List ℕ) (flat' : List A) → p < length yss → starts₂ ≡ starts → flat' ≡ flat → a ≡ get_or starts₂ p 0 → b
     ≡ get_or starts₂ (p + 1) 0
@@ -221,7 +221,7 @@ part_back i e p a b n row now starts₂ flat' h ef el ea eb l en k =
     let d : b ≡ a + length row = omega (arith, q.long, l) in
     put_back i e p a n row now starts₂ flat' h ef el ea l (en ∙ ap (λ w. take a flat' ++ row ++ drop w flat') d) k
 
--- what stands between two places of a list as long as the flat one is the list there, where nothing else changed
+-- the range of a list in a flat list of the same length holds that list, if nothing else changed
 pub lent_back : {A : Type 0} {xss yss : List (List A)} {starts : List ℕ} {flat : List A} → IsFlat xss starts flat → xss ≡ yss
     → (p a b n : ℕ) (now : List A) (starts₂ : List ℕ) (flat' : List A) → p < length yss → starts₂ ≡ starts → flat' ≡ flat → a ≡ get_or starts₂ p 0 → b
     ≡ get_or starts₂ (p + 1) 0
@@ -232,13 +232,13 @@ lent_back i e p a b n now starts₂ flat' h ef el ea eb en same k =
     let long : length (slice_range now a b) ≡ b - a = omega (arith, q.order, q.within, same, length-take (b - a) (drop a now), length-drop a now) in
     part_back i e p a b n (slice_range now a b) now starts₂ flat' h ef el ea eb (omega (arith, q.long, long)) en (omega (arith, same, ap length el, k))
 
--- the list that is put at a place stands there
+-- the list that is put at an index is there
 pub put_there : {A : Type 0} {starts : List ℕ} {flat : List A} (yss : List (List A)) (p : ℕ) (row : List A) → IsFlat (set yss p row) starts flat
     → p < length yss
     → get_or (rows starts flat) p [] ≡ row
 put_there yss p row i h = ap (λ w. get_or w p []) (rows-flat i) ∙ get_or-set_same yss p row [] h
 
--- so the lists are as they were, but for what stands there
+-- so the lists are unchanged but for that one
 pub put_alone : {A : Type 0} {starts : List ℕ} {flat : List A} (yss : List (List A)) (p : ℕ) (row : List A) → IsFlat (set yss p row) starts flat
     → p < length yss
     → rows starts flat ≡ set yss p (get_or (rows starts flat) p [])

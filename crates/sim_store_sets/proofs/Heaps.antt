@@ -1,4 +1,4 @@
--- What the entries of the heap say of the times.
+-- What the entries of the heap say about the times.
 use Rattle.std.proofs.Common.{ℕ, zero, suc, ◌<◌, ◌≤◌, ◌+◌, ◌≡◌, ◌≢◌, true, false, List, [], ◌∷◌, length, set, refl, ap, sym, subst, arith, inl, inr}
 use Rattle.std.proofs.Common.{◌⊎◌, Option, None, Some}
 use Rattle.std.proofs.lemmas.Bool.Decides.{nat_tests}
@@ -36,13 +36,13 @@ pub time_from_at : (time : ℕ) (t : Option ℕ) → is_at time t ≡ true → t
 time_from_at time None e = absurd cc
 time_from_at time (Some s) e = let h : s ≡ time = grind (arith, nat_tests) in ap Some h
 
--- one with a time is in range
+-- a driver with a time is in range
 pub within_from_time : (times : List (Option ℕ)) (d t : ℕ) → time_of times d ≡ Some t → d < length times
 within_from_time [] d t e = absurd cc
 within_from_time (x ∷ xs) zero t e = omega arith
 within_from_time (x ∷ xs) (suc d) t e = let h = within_from_time xs d t e in omega arith
 
--- a stale entry may go
+-- a stale entry may be removed
 pub stands_without : (now : ℕ) (times : List (Option ℕ)) (old new : List Entry) (x : Entry) → IsPermutation old (x ∷ new) → is_live times x ≡ false
     → StandsBut now times old → StandsBut now times new
 stands_without now times old new x p stale s d t e other =
@@ -57,7 +57,7 @@ stands_without now times old new x p stale s d t e other =
         let dead : is_live times (entry t d) ≡ false = subst (λ (y : Entry). is_live times y ≡ false) same stale in
         cc
 
--- what a time says once one was set
+-- the times after one was set
 set_time : (times : List (Option ℕ)) (driver : ℕ) (v : Option ℕ) (d t : ℕ) → time_of (set times driver v) d ≡ Some t
     → ((d ≡ driver) × (v ≡ Some t)) ⊎ (time_of times d ≡ Some t)
 set_time [] driver v d t e = absurd cc
@@ -69,7 +69,7 @@ set_time (x ∷ xs) (suc k) v (suc d) t e = elim (set_time xs k v d t e) [
   | inr q ↦ inr q
 ]
 
--- a new time stands once its entry does
+-- a new time is represented once its entry is added
 pub stands_with : (now : ℕ) (times : List (Option ℕ)) (old new : List Entry) (driver : ℕ) (v : Option ℕ) → ((e : Entry) → Contains old e → Contains new e)
     → ((t : ℕ) → v ≡ Some t → t ≢ now → Contains new (entry t driver)) → StandsBut now times old → StandsBut now (set times driver v) new
 stands_with now times old new driver v kept added s d t e other =
@@ -78,7 +78,7 @@ stands_with now times old new driver v kept added s d t e other =
       | inr before ↦ kept (entry t d) (s d t before other)
     ]
 
--- a step of putting all back
+-- a step of adding all entries again
 pub stands_upto : (now : ℕ) (times : List (Option ℕ)) (i : ℕ) (old new : List Entry) → ((d t : ℕ) → d < i → time_of times d ≡ Some t → t ≢ now
     → Contains old (entry t d))
     → ((e : Entry) → Contains old e → Contains new e) → ((t : ℕ) → time_of times i ≡ Some t → t ≢ now → Contains new (entry t i))
@@ -96,7 +96,7 @@ pub stands_from_all : (now : ℕ) (times : List (Option ℕ)) (items : List Entr
     → ((d t : ℕ) → d < n → time_of times d ≡ Some t → t ≢ now → Contains items (entry t d)) → StandsBut now times items
 stands_from_all now times items n le all d t e other = let l : d < length times = within_from_time times d t e in all d t (omega arith) e other
 
--- one entry more
+-- one more entry
 pub kept_by_push : (old new : List Entry) (x : Entry) → IsPermutation (x ∷ old) new → (e : Entry) → Contains old e → Contains new e
 kept_by_push old new x p e c = Contains-permutation (x ∷ old) new e p (behind x e old c)
 

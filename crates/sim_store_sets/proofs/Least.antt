@@ -21,7 +21,7 @@ no_later x y h = go (ltb y.0.0 x.0.0) refl
     go true q = let h' = rw q at h in absurd cc
     go false q = grind (arith, nat_tests)
 
--- where no driver has a time
+-- if no driver has a time
 pub earliest_of_none : (times : List (Option ℕ)) → ((d t : ℕ) → time_of times d ≡ Some t → ⊥) → earliest times ≡ None
 earliest_of_none [] h = refl
 earliest_of_none (None ∷ xs) h = earliest_of_none xs (λ d t. h (suc d) t)
@@ -51,7 +51,7 @@ earliest_above (Some r ∷ xs) low h s e = go (earliest_above xs low (λ d t. h 
         let m : low ≤ p = ih p q in
         omega arith
 
--- the least time is one that a driver has and that none is below
+-- the least time is one that a driver has and no time is below
 pub earliest_from_least : (times : List (Option ℕ)) (d t : ℕ) → time_of times d ≡ Some t → ((e s : ℕ) → time_of times e ≡ Some s → t ≤ s)
     → earliest times ≡ Some t
 earliest_from_least [] d t h low = absurd cc
@@ -85,7 +85,7 @@ least_from_earliest (Some r ∷ xs) t e (suc d) s h = go (λ m p. least_from_ear
         let l : m ≤ s = ih m p in
         omega arith
 
--- where each time of a driver is
+-- the place of each driver's time: the front or the heap
 place_of : (times : List (Option ℕ)) (now : ℕ) (front : List Bool) (items : List Entry) → IsQueue times now front items → (d s : ℕ) → time_of times d ≡ Some s
     → ((s ≡ now) × (is_in front d ≡ true)) ⊎ Contains items (entry s d)
 place_of times now front items q d s e = go (eqb s now) refl
@@ -102,7 +102,7 @@ top_driver : (times : List (Option ℕ)) (items : List Entry) (t : ℕ) → HasL
 top_driver times [] t live some first = absurd (omega arith)
 top_driver times (y ∷ ys) t live some first = (y.0.1, time_from_at y.0.0 (time_of times y.0.1) live ∙ ap Some (first y))
 
--- what the first entry of the heap tells
+-- what the first entry of the heap says
 abbrev pub IsTop : List Entry → ℕ → Type 0
 IsTop items t = (0 < length items) × ((x : Entry) → (get_or items 0 x).0.0 ≡ t)
 

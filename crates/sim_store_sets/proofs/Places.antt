@@ -95,7 +95,7 @@ none_there words from rest empty m ge = none_before words from (m / 64 + 1) rest
 pub none_past : (words : List ℕ) (from : ℕ) → length words ≤ from / 64 → NoneFrom (has words) from
 none_past words from past m ge = unused words m (get_or_past words (m / 64) 0 (omega (arith, past, ge)))
 
--- the tops say the same as the words
+-- the tops find the same word as the words
 pub next_by_tops : (words tops : List ℕ) (from place : ℕ) → AreTops words tops → IsNext (has tops) from place → IsNext (uses words) from place
 next_by_tops words tops from place same is = record {
   further = is.further;
@@ -106,7 +106,7 @@ next_by_tops words tops from place same is = record {
 pub none_by_tops : (words tops : List ℕ) (from : ℕ) → AreTops words tops → NoneFrom (has tops) from → NoneFrom (uses words) from
 none_by_tops words tops from same none m ge = sym (same m) ∙ none m ge
 
--- a number that is marked
+-- a number is added or removed
 pub marked : (words : List ℕ) (n word : ℕ) (b : Bool) → n / 64 < length words → has_bit word (n % 64) ≡ b
     → ((i : ℕ) → i < 64 → i ≢ n % 64 → has_bit word i ≡ has_bit (get_or words (n / 64) 0) i)
     → (has (set words (n / 64) word) n ≡ b) × ((m : ℕ) → m ≢ n → has (set words (n / 64) word) m ≡ has words m)

@@ -38,7 +38,7 @@ empty_queue n now times front items e f none order = record {
   live = subst (λ (l : List Entry). HasLiveTop times l) (sym none) tt;
 }
 
--- a time is put
+-- a time is set
 pub put_at : (now : ℕ) (times : List (Option ℕ)) (front new : List Bool) (driver : ℕ) (time : Option ℕ) (b : Bool) → front ≡ those_at now times
     → b ≡ is_at now time
     → new ≡ set front driver b → new ≡ those_at now (set times driver time)
@@ -69,7 +69,7 @@ joined_front times now front new items driver free is queue = record {
   live = still_live times driver (Some now) items free queue.live;
 }
 
--- those of one time are cleared
+-- the drivers of one time are cleared
 pub none_left : (time n : ℕ) (times : List (Option ℕ)) → n ≡ length times → replicate n false ≡ those_at time (cleared time times)
 none_left time n times e = ap (λ (k : ℕ). replicate k false) e ∙ go times
   where

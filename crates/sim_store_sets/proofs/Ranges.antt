@@ -1,4 +1,4 @@
--- The numbers below a bound at which a test holds.
+-- The numbers below a bound that pass a test.
 use Rattle.std.proofs.Common.{replicate, MatchOption, Option, Some, None, IfSome, IfNone, ℕ, zero, suc, ◌+◌, ◌-◌, ◌<◌, ◌≤◌, ◌≡◌, ◌≢◌, ◌⊎◌, inl, inr, Bool}
 use Rattle.std.proofs.Common.{true, false, cond, List, [], ◌∷◌, ◌++◌, length, map, take, drop, get_or, set, refl, ap, ◌∙◌, sym}
 use Rattle.std.proofs.Common.{subst, arith, eqb}
@@ -61,14 +61,14 @@ few_below p (suc n) = go (few_below p n) (p n) refl
     go le true h = let e : length (below p (suc n)) ≡ length (below p n) + 1 = ap length (below_passed p n h) ∙ length_push (below p n) n in omega arith
     go le false h = let e : length (below p (suc n)) ≡ length (below p n) = ap length (below_failed p n h) in omega arith
 
--- how many pass below a number
+-- the number of those that pass below a bound
 abbrev pub count : (ℕ → Bool) → ℕ → ℕ
 count p n = length (below p n)
 
 below_at : (p : ℕ → Bool) (k n : ℕ) → below p (n + suc k) ≡ below p (n + k) ++ cond (p (n + k)) ((n + k) ∷ []) []
 below_at p k n = let e : n + suc k ≡ suc (n + k) = omega arith in ap (below p) e ∙ below_suc p (n + k)
 
--- it rises
+-- it increases with the bound
 rises : (p : ℕ → Bool) (k n : ℕ) → count p n ≤ count p (n + k)
 rises p zero n = let e : n + 0 ≡ n = omega arith in subst (λ (m : ℕ). count p n ≤ count p m) (sym e) (omega arith)
 rises p (suc k) n =
@@ -89,7 +89,7 @@ count_passed p n h =
 side : (i n : ℕ) → (i < n) ⊎ (n ≤ i)
 side i n = grind arith
 
--- a list of those below a number begins with those below a smaller one
+-- the list of those below a number begins with the list of those below a smaller number
 begins : (p : ℕ → Bool) (k n i : ℕ) → i < count p n → get_or (below p (n + k)) i 0 ≡ get_or (below p n) i 0
 begins p zero n i l = let e : n + 0 ≡ n = omega arith in ap (λ (m : ℕ). get_or (below p m) i 0) e
 begins p (suc k) n i l =
@@ -97,7 +97,7 @@ begins p (suc k) n i l =
     ap (λ (xs : List ℕ). get_or xs i 0) (below_at p k n)
     ∙ (get_or-append (below p (n + k)) (cond (p (n + k)) ((n + k) ∷ []) []) 0 i (omega arith) ∙ begins p k n i l)
 
--- those below a number are below it
+-- those listed below a number are below it
 under_own : (p : ℕ → Bool) (n i : ℕ) → i < count p n → get_or (below p n) i 0 < n
 under_own p zero i l = absurd (omega arith)
 under_own p (suc n) i l = go (p n) refl (side i (count p n)) (under_own p n i)
@@ -179,7 +179,7 @@ each_passes p (suc n) i l = go (p n) refl (side i (count p n)) (each_passes p n 
         ap p (ap (λ (j : ℕ). get_or (below p (suc n)) j 0) at ∙ last) ∙ h
     go false h (inr ge) own = let len : count p (suc n) ≡ count p n = ap length (below_failed p n h) in absurd (omega arith)
 
--- one that passes stands where as many pass below it
+-- the index of one that passes is the number of those that pass below it
 pub stands : (p : ℕ → Bool) (n m : ℕ) → n < m → p n ≡ true → (count p n < count p m) × (get_or (below p m) (count p n) 0 ≡ n)
 stands p n m l h =
     let len : count p (suc n) ≡ count p n + 1 = ap length (below_passed p n h) ∙ length_push (below p n) n in
@@ -237,7 +237,7 @@ one_more p q n m l out here others =
 pub nothing_below : (p : ℕ → Bool) (n : ℕ) → ((i : ℕ) → i < n → p i ≡ false) → below p n ≡ []
 nothing_below p n none = sym (below_skipped p 0 n (omega arith) (λ i le l. none i l))
 
--- where there is no member there is nothing to list
+-- if there is no member, there is nothing to list
 pub none_below : (set' : List Bool) (n : ℕ) → set' ≡ replicate n false → below (λ (i : ℕ). get_or set' i false) (length set') ≡ []
 none_below set' n e = nothing_below (λ (i : ℕ). get_or set' i false) (length set') (λ i l. ap (λ (s : List Bool). get_or s i false) e ∙ in_none n i)
 
@@ -246,7 +246,7 @@ member_small set' numbers i e l =
     let len : length numbers ≡ count (is_in set') (length set') = ap length e in
     subst (λ (xs : List ℕ). get_or xs i 0 < length set') (sym e) (under_own (is_in set') (length set') i (omega arith))
 
--- there is room for a number that is no member
+-- there is room for a number that is not a member
 room_more : (p : ℕ → Bool) (k n : ℕ) → p n ≡ false → count p (suc n + k) < suc n + k
 room_more p zero n h =
     let z : suc n + 0 ≡ suc n = omega arith in
@@ -272,7 +272,7 @@ fresh_room p n m l h =
     let e : suc n + (m - suc n) ≡ m = omega arith in
     subst (λ (j : ℕ). count p j < j) e (room_more p (m - suc n) n h)
 
--- the place before which a number is to stand is that of the members below it
+-- the index at which a number is inserted is the number of members below it
 pub place_is : (p : ℕ → Bool) (m n k : ℕ) (list : List ℕ) → list ≡ below p m → n < m → p n ≡ false → k ≤ length list
     → ((i : ℕ) → i < length list → k ≤ i → n ≤ get_or list i 0) → (0 < k → get_or list (k - 1) 0 ≤ n) → k ≡ count p n
 place_is p m n k list e l out within after before = go (side k (count p n)) (side (count p n) k)
@@ -309,7 +309,7 @@ listed_more set' n k list new e l out within after before made =
     made ∙ (ap (λ (j : ℕ). insert list j n) at ∙ (ap (λ (xs : List ℕ). insert xs (count (is_in set') n) n) e
     ∙ (sym more ∙ ap (below (is_in (set set' n true))) (sym (length-set set' n true)))))
 
--- the members from a number on begin at a place
+-- the index at which the members from a number on begin
 pub place_of : (p : ℕ → Bool) (m from k : ℕ) (list : List ℕ) → list ≡ below p m → from ≤ m → k ≤ length list
     → (k < length list → from ≤ get_or list k 0) → (0 < k → get_or list (k - 1) 0 < from) → k ≡ count p from
 place_of p m from k list e l within after before = go (side k (count p from)) (side (count p from) k)
@@ -332,7 +332,7 @@ place_of p m from k list e l within after before = go (side k (count p from)) (s
         absurd (omega arith)
     go (inr ge) (inr le') = omega arith
 
--- none passes between two numbers below which as many pass
+-- none passes between two numbers below which equally many pass
 pub none_between : (p : ℕ → Bool) (from n : ℕ) → count p n ≤ count p from → (m : ℕ) → from ≤ m → m < n → p m ≡ false
 none_between p from n few m le l = go (p m) refl
   where
@@ -344,7 +344,7 @@ none_between p from n few m le l = go (p m) refl
         let b : count p (m + 1) ≤ count p n = count_rises p (m + 1) n (omega (arith, l)) in
         absurd (omega arith)
 
--- as many are below a member as stand before it
+-- no more members are below a member than its index says
 few_before : (set' : List Bool) (n k : ℕ) (list : List ℕ) → list ≡ members set' → k < length list → get_or list k 0 ≡ n → count (is_in set') n ≤ k
 few_before set' n k list e l named = go (side k (count (is_in set') n))
   where
@@ -356,7 +356,7 @@ few_before set' n k list e l named = go (side k (count (is_in set') n))
         let less' : get_or list k 0 < n = subst (λ (xs : List ℕ). get_or xs k 0 < n) (sym e) less in
         absurd (omega (arith, less', named))
 
--- none is behind the last that stands
+-- no number from `from` on is a member, if the last one listed is below it
 outside : (set' : List Bool) (from k : ℕ) (list : List ℕ) → list ≡ members set' → k ≤ length list → (0 < k → get_or list (k - 1) 0 < from)
     → length list ≤ k → (j : ℕ) → from ≤ j → is_in set' j ≡ false
 outside set' from k list e within before ge j le = go (is_in set' j) refl
@@ -373,7 +373,7 @@ outside set' from k list e within before ge j le = go (is_in set' j) refl
         let big' : j ≤ get_or list (k - 1) 0 = subst (λ (xs : List ℕ). j ≤ get_or xs (k - 1) 0) (sym e) big in
         absurd (omega (arith, last, big', le))
 
--- what stands at a place is the next member
+-- the number at an index is the next member
 pub next_listed : (set' : List Bool) (from k : ℕ) (list : List ℕ) (o : Option ℕ) → list ≡ members set' → k ≤ length list
     → (k < length list → from ≤ get_or list k 0) → (0 < k → get_or list (k - 1) 0 < from)
     → IfSome o (λ (n : ℕ). (k < length list) × (n ≡ get_or list k 0)) → IfNone o (length list ≤ k)
@@ -397,7 +397,7 @@ next_listed set' from k list o e within after before some none = go (side (lengt
         let few : count (is_in set') n ≤ count (is_in set') from = omega (arith, few_before set' n k list e s.0 named, at) in
         record { further = omega (arith, after s.0, named); passes = here; first = none_between (is_in set') from n few }
 
--- one more member is listed last, where none is from it on
+-- a member is appended, if there is none from it on
 pub listed_last : (set' : List Bool) (n : ℕ) → n < length set' → NoneFrom (is_in set') n → members (set set' n true) ≡ members set' ++ n ∷ []
 listed_last set' n l none =
     let e : n + 1 ≡ suc n = omega arith in
@@ -411,7 +411,7 @@ listed_last set' n l none =
     ap (below (is_in (set set' n true))) (length-set set' n true)
     ∙ (sym beyond ∙ (below_passed (is_in (set set' n true)) n here ∙ ap (λ (xs : List ℕ). xs ++ n ∷ []) (front ∙ whole)))
 
--- where each member that is listed was put in, and nothing else, all are there
+-- if each listed member was added, and nothing else, all are there
 pub all_there : (set' new : List Bool) (numbers : List ℕ) → numbers ≡ members set' → length new ≡ length set'
     → ((m : ℕ) → is_in new m ≡ true → is_in set' m ≡ true) → ((i : ℕ) → i < length numbers → is_in new (get_or numbers i 0) ≡ true) → new ≡ set'
 all_there set' new numbers e len sound there = ext_get_or false new set' len (λ m lt. go m (is_in set' m) (is_in new m) refl refl)
@@ -425,7 +425,7 @@ all_there set' new numbers e len sound there = ext_get_or false new set' len (λ
     go m false true h k = absurd (not_both (is_in set' m) h (sound m k))
     go m false false h k = k ∙ sym h
 
--- one more that is listed is put in
+-- adding a listed member keeps the set within the other
 pub sound_more : (set' new : List Bool) (numbers : List ℕ) (i : ℕ) → numbers ≡ members set' → i < length numbers
     → ((m : ℕ) → is_in new m ≡ true → is_in set' m ≡ true) → (m : ℕ) → is_in (set new (get_or numbers i 0) true) m ≡ true → is_in set' m ≡ true
 sound_more set' new numbers i e l sound m = go (eqb m (get_or numbers i 0)) refl
@@ -441,7 +441,7 @@ sound_more set' new numbers i e l sound m = go (eqb m (get_or numbers i 0)) refl
         let differ : m ≢ get_or numbers i 0 = grind (arith, nat_tests) in
         sound m (sym (get_or-set_other new (get_or numbers i 0) m true false differ) ∙ here)
 
--- and so are those before it
+-- and those listed so far are in it
 pub put_more : (new : List Bool) (numbers : List ℕ) (place : ℕ) → get_or numbers place 0 < length new
     → ((i : ℕ) → i < place → is_in new (get_or numbers i 0) ≡ true) → (i : ℕ) → i < place + 1
     → is_in (set new (get_or numbers place 0) true) (get_or numbers i 0) ≡ true
@@ -461,7 +461,7 @@ put_more new numbers place l there i lt = go (eqb (get_or numbers i 0) (get_or n
         let other : i ≢ place = grind (arith, nat_tests) in
         get_or-set_other new (get_or numbers place 0) (get_or numbers i 0) true false differ ∙ there i (omega (arith, lt, other))
 
--- one more member is put into a copy, where none is between
+-- one more member is copied, if there is none between
 pub copied_more : (set' others : List Bool) (from n : ℕ) → n < length set' → ((m : ℕ) → m < from → is_in set' m ≡ is_in others m)
     → ((m : ℕ) → from ≤ m → is_in set' m ≡ false) → IsNext (is_in others) from n → (m : ℕ) → m < n + 1 → is_in (set set' n true) m ≡ is_in others m
 copied_more set' others from n l done rest next m lt = go (eqb m n) refl (side m from)
@@ -477,7 +477,7 @@ copied_more set' others from n l done rest next m lt = go (eqb m n) refl (side m
         let differ : m ≢ n = grind (arith, nat_tests) in
         get_or-set_other set' n m true false differ ∙ (rest m ge ∙ sym (next.first m ge (omega (arith, lt, differ))))
 
--- a copy is whole once none is left
+-- a copy is complete once no member is left
 pub copied : (set' others : List Bool) (from : ℕ) → length set' ≡ length others → ((m : ℕ) → m < from → is_in set' m ≡ is_in others m)
     → ((m : ℕ) → from ≤ m → is_in set' m ≡ false) → NoneFrom (is_in others) from → set' ≡ others
 copied set' others from len done rest none = ext_get_or false set' others len (λ m _. go m (side m from))
@@ -486,13 +486,13 @@ copied set' others from len done rest none = ext_get_or false set' others len (�
     go m (inl before) = done m before
     go m (inr ge) = rest m ge ∙ sym (none m ge)
 
--- what stands at a place at which the members from a number on begin
+-- the number at an index at which the members from a number on begin
 pub next_here : (set' : List Bool) (from k n : ℕ) (list : List ℕ) → list ≡ members set' → k < length list → from ≤ get_or list k 0
     → (0 < k → get_or list (k - 1) 0 < from) → n ≡ get_or list k 0 → IsNext (is_in set') from n
 next_here set' from k n list e l after before named =
     next_listed set' from k list (Some n) e (omega (arith, l)) (λ _. after) before (l, named) tt
 
--- the bits have as many places as the set
+-- the bits and the set have the same bound
 pub bits_sized : (set' bits : List Bool) (list : List ℕ) (capacity : ℕ) (is_listed : Bool) (end : ℕ) → IsListed set' bits list capacity is_listed end
     → length bits ≡ length set'
 bits_sized set' bits list capacity is_listed end i = go is_listed refl
@@ -501,7 +501,7 @@ bits_sized set' bits list capacity is_listed end i = go is_listed refl
     go true h = ap length (i.clear h) ∙ length-replicate (length set') false
     go false h = ap length (i.marked h)
 
--- where a list has a member there is a list
+-- if the list has a member, the set is listed
 pub with_list : (set' bits : List Bool) (list : List ℕ) (capacity : ℕ) (is_listed : Bool) (end : ℕ) → IsListed set' bits list capacity is_listed end
     → 0 < length list → is_listed ≡ true
 with_list set' bits list capacity is_listed end i some = go is_listed refl
@@ -510,7 +510,7 @@ with_list set' bits list capacity is_listed end i some = go is_listed refl
     go true h = h
     go false h = let none : length list ≡ 0 = ap length (i.unlisted h) in absurd (omega arith)
 
--- no member is there from the end on
+-- there is no member from the end on
 pub beyond_end : (set' bits : List Bool) (list : List ℕ) (capacity : ℕ) (is_listed : Bool) (end : ℕ) (now : List Bool)
     → IsListed set' bits list capacity is_listed end → set' ≡ now → NoneFrom (is_in now) end
 beyond_end set' bits list capacity is_listed end now i e m le = ap (λ (s : List Bool). is_in s m) (sym e) ∙ i.none m le

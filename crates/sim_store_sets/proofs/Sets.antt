@@ -26,7 +26,7 @@ side i n = grind arith
 beyond : (words tops : List ℕ) (count end : ℕ) → IsBitSet words tops count end → (n : ℕ) → count ≤ n → has words n ≡ false
 beyond words tops count end i n le = let w : end ≤ count = i.within in i.none n (omega arith)
 
--- a member by the words
+-- membership by the words
 pub read : (words tops : List ℕ) (count end : ℕ) (set' : List Bool) → IsBitSet words tops count end → set_of words count ≡ set' → (n : ℕ)
     → has words n ≡ is_in set' n
 read words tops count end set' i e n = go (side n count)
@@ -41,7 +41,7 @@ pub next_read : (words tops : List ℕ) (count end : ℕ) (set' : List Bool) →
 next_read words tops count end set' i e from o =
     subst (λ (p : ℕ → Bool). MatchOption o (NoneFrom p from) (IsNext p from)) (λ k n. read words tops count end set' i e n k)
 
--- what is in the words is below the bound
+-- the numbers of the words are below the bound
 pub below_bound : (words tops : List ℕ) (count end : ℕ) → IsBitSet words tops count end → (n : ℕ) → has words n ≡ true → n < 2 ^ 64
 below_bound words tops count end i n here = go (side n count)
   where
@@ -58,7 +58,7 @@ in_room words tops count end n set' i e l =
     let t : length tops ≡ count / 4096 + 1 = i.tops_room in
     (omega arith, omega arith, omega arith)
 
--- a number that is marked
+-- a number is added or removed
 pub set_marked : (old new : List ℕ) (count n : ℕ) (b : Bool) → n < count → has new n ≡ b → ((m : ℕ) → m ≢ n → has new m ≡ has old m)
     → set_of new count ≡ set (set_of old count) n b
 set_marked old new count n b l here others =
@@ -78,7 +78,7 @@ set_marked old new count n b l here others =
         let differ : m ≢ n = grind (arith, nat_tests) in
         others m differ ∙ (sym (at_set_of old count m k) ∙ sym (get_or-set_other (set_of old count) n m b false differ))
 
--- the tops of the words in which a number is marked
+-- the tops of the words in which a number is added or removed
 tops_marked : (old new tops tops' : List ℕ) (n : ℕ) → ((k : ℕ) → k ≢ n / 64 → get_or new k 0 ≡ get_or old k 0) → has tops' (n / 64) ≡ uses new (n / 64)
     → ((m : ℕ) → m ≢ n / 64 → has tops' m ≡ has tops m) → AreTops old tops → AreTops new tops'
 tops_marked old new tops tops' n words here others same k = go (eqb k (n / 64)) refl
@@ -132,7 +132,7 @@ clear_up_to words place within before k l = go (eqb k place) refl
         let differ : k ≢ place = grind (arith, nat_tests) in
         get_or-set_other words place k 0 0 differ ∙ before k (omega (arith, l, differ))
 
--- none is there up to a place, where the one at the place is taken out
+-- no number is there up to a position, if the one at the position is removed
 pub none_up_to : (old new : List ℕ) (place : ℕ) → has new place ≡ false → ((m : ℕ) → m ≢ place → has new m ≡ has old m)
     → ((k : ℕ) → k < place → has old k ≡ false) → (k : ℕ) → k < place + 1 → has new k ≡ false
 none_up_to old new place here others before k l = go (eqb k place) refl
@@ -149,7 +149,7 @@ no_members words count none =
     ext_get_or false (set_of words count) (replicate count false) (omega arith)
     (λ n l. at_set_of words count n (omega arith) ∙ (unused words n (none (n / 64)) ∙ sym (get_or-replicate count n false false (omega arith))))
 
--- equal at each place
+-- equal at each index
 pub all_same : (set' : List Bool) (n : ℕ) (b : Bool) → length set' ≡ n → ((k : ℕ) → k < n → is_in set' k ≡ b) → set' ≡ replicate n b
 all_same set' n b len same =
     let l : length (replicate n b) ≡ n = length-replicate n b in

@@ -1,4 +1,4 @@
--- Stamps, and the set of those that have the stamp of now.
+-- Stamps, and the set of the numbers with the current stamp.
 use Rattle.std.proofs.Common.{ℕ, ◌<◌, ◌≤◌, ◌≡◌, ◌∙◌, All, Bool, true, false, List, [], ◌∷◌, eqb, length, replicate, set, ap, arith, refl, zero, suc}
 use Rattle.std.proofs.lemmas.Bool.Decides.{nat_tests}
 use Rattle.std.proofs.lemmas.List.{map-set, length-map}

@@ -21,7 +21,7 @@ in_those_at time [] d = refl
 in_those_at time (x ∷ xs) zero = refl
 in_those_at time (x ∷ xs) (suc d) = in_those_at time xs d
 
--- at first
+-- at the start
 pub none_taken : (now time : ℕ) (times : List (Option ℕ)) (taken : List Bool) (items : List Entry) → taken ≡ replicate (length times) false
     → StandsBut now times items
     → IsTaking now time times taken items
@@ -36,7 +36,7 @@ live_time : (times : List (Option ℕ)) (time : ℕ) (x : Entry) → NoneBefore 
 live_time times time x none le live =
     let h : time ≤ x.0.0 = none x.0.1 x.0.0 (time_from_at x.0.0 (time_of times x.0.1) live) in omega arith
 
--- a stale entry goes
+-- a stale entry is removed
 pub stale_goes : (now time : ℕ) (times : List (Option ℕ)) (taken : List Bool) (old new : List Entry) (x : Entry) → IsPermutation old (x ∷ new)
     → is_live times x ≡ false
     → IsTaking now time times taken old → IsTaking now time times taken new
@@ -78,7 +78,7 @@ still_in_set set' n d here l m = go (eqb d n) refl
     go true q = let same : d ≡ n = grind (arith, nat_tests) in ap (λ (k : ℕ). is_in (set set' n true) k) same ∙ in_set set' n m
     go false q = let differ : d ≢ n = grind (arith, nat_tests) in get_or-set_other set' n d true false differ ∙ here
 
--- a live entry goes, and its driver is taken
+-- a live entry is removed, and its driver is taken
 pub live_goes : (now time : ℕ) (times : List (Option ℕ)) (taken : List Bool) (old new : List Entry) (x : Entry) → IsPermutation old (x ∷ new)
     → NoneBefore time times
     → x.0.0 ≤ time → is_live times x ≡ true → IsTaking now time times taken old → IsTaking now time times (set taken x.0.1 true) new
@@ -117,7 +117,7 @@ live_goes now time times taken old new x p none le live i =
       | inr c ↦ inr c
     ]
 
--- the end, where all that stand in the heap are later
+-- the end, when all entries that are left are later
 pub all_taken : (now time : ℕ) (times : List (Option ℕ)) (taken : List Bool) (items : List Entry) → time ≢ now → ((t d : ℕ)
     → Contains items (entry t d) → time < t)
     → IsTaking now time times taken items → taken ≡ those_at time times
@@ -138,7 +138,7 @@ all_taken now time times taken items other later i =
     go d true q = q ∙ sym (at_from_time time (time_of times d) (i.due d q))
     go d false q = q ∙ absent d q (is_at time (time_of times d)) refl
 
--- what a time says once those of one time were cleared
+-- the times once one of them was cleared
 pub cleared_time : (time : ℕ) (times : List (Option ℕ)) (d t : ℕ) → time_of (cleared time times) d ≡ Some t → (time_of times d ≡ Some t) × (t ≢ time)
 cleared_time time [] d t e = absurd cc
 cleared_time time (x ∷ xs) zero t e = go x e

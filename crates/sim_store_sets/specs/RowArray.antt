@@ -1,5 +1,5 @@
--- Lists of lists, held as one flat list with the places where each starts.
--- Of the implementation: what `simulate` promises does not rest on this file.
+-- Lists of lists, held as one flat list with the index at which each starts.
+-- Implementation only: what `simulate` promises does not rest on this file.
 use Rattle.std.specs.Prelude.{ℕ, ◌+◌, ◌≡◌, List, [], ◌∷◌, ◌++◌, length, slice_range}
 
 -- the lists, one after another
@@ -7,18 +7,18 @@ abbrev pub joined : {A : Type 0} → List (List A) → List A
 joined [] = []
 joined (xs ∷ xss) = xs ++ joined xss
 
--- where each starts, from n on, and where the last one ends
+-- the start of each list, counted from `n`, and the end of the last one
 abbrev pub starts_from : {A : Type 0} → ℕ → List (List A) → List ℕ
 starts_from n [] = n ∷ []
 starts_from n (xs ∷ xss) = n ∷ starts_from (n + length xs) xss
 
--- the lists that stand in a flat one, with the places where each starts
+-- the lists in a flat list, given their starts
 abbrev pub rows : {A : Type 0} → List ℕ → List A → List (List A)
 rows [] flat = []
 rows (a ∷ []) flat = []
 rows (a ∷ b ∷ bs) flat = slice_range flat a b ∷ rows (b ∷ bs) flat
 
--- These lists are held so.
+-- These lists are held in this form.
 pub record IsFlat {A : Type 0} (xss : List (List A)) (starts : List ℕ) (flat : List A) : Type 0 where
   pub starting : starts ≡ starts_from 0 xss
   pub holding : flat ≡ joined xss

@@ -1,5 +1,5 @@
 -- The times of the drivers: for each a time or none.
--- Of the implementation: what `simulate` promises does not rest on this file.
+-- Implementation only: what `simulate` promises does not rest on this file.
 use Rattle.std.specs.Prelude.{ℕ, ◌==◌, min, Bool, false, if◌then◌else◌, List, [], ◌∷◌, map, Option, None, Some, slice_index_or}
 use Rattle.sim_store_sets.specs.Numbers.{members}
 
@@ -7,12 +7,12 @@ use Rattle.sim_store_sets.specs.Numbers.{members}
 abbrev pub time_of : List (Option ℕ) → ℕ → Option ℕ
 time_of times driver = slice_index_or times driver None
 
--- whether it is this time
+-- whether a time is there and is this one
 abbrev pub is_at : ℕ → Option ℕ → Bool
 is_at time None = false
 is_at time (Some t) = t == time
 
--- the earlier one
+-- the earlier of two times
 abbrev pub earlier : Option ℕ → Option ℕ → Option ℕ
 earlier None t = t
 earlier (Some s) None = Some s
@@ -27,11 +27,11 @@ earliest (t ∷ ts) = earlier t (earliest ts)
 abbrev pub those_at : ℕ → List (Option ℕ) → List Bool
 those_at time times = map (is_at time) times
 
--- the drivers that have this time, rising
+-- the drivers that have this time, in ascending order
 abbrev pub due_at : ℕ → List (Option ℕ) → List ℕ
 due_at time times = members (those_at time times)
 
--- none in the place of this time
+-- a time, removed if it is this one
 abbrev pub clear : ℕ → Option ℕ → Option ℕ
 clear time t = if is_at time t then None else t
 

@@ -8,18 +8,18 @@ use crate::words::{clear_used, mark, mark_other, next_number, zeros};
 use std::alloc::{AllocError, Global};
 use std::marker::Model;
 
-/// A set of numbers below a bound, as bits in words; its contracts see for each number whether it is
-/// a member. Beside the words `tops` has a bit for each word, set where the word is not 0, so that a
-/// walk over the members passes over all others at once.
+/// A set of numbers below a bound, as bits in words. In contracts it is a list that says for each
+/// number whether it is a member. `tops` has a bit for each word, set if the word is not 0, so that
+/// a walk over the members skips the other words.
 pub struct BitSet {
     words: Vec<u64>,
     tops: Vec<u64>,
     count: usize,
-    /// No number from this one on is a member, so that a walk ends after the last one at once.
+    /// Above every member, so that a walk ends right after the last one.
     end: usize,
 }
 
-/// By hand, so that crates which drop one need no proof of what is in it.
+/// Written by hand so that code which drops it needs no proof about its contents.
 impl Drop for BitSet {
     fn drop(self) {
         let BitSet {
@@ -45,7 +45,7 @@ impl Model for BitSet {
 }
 
 impl BitSet {
-    /// No number is a member.
+    /// The empty set of numbers below `count`.
     pub fn new(alloc: Global, count: usize) -> Result<BitSet, AllocError>
         ensures { IfOk result (λ set. set ≡ replicate count false) }
     {
@@ -59,8 +59,7 @@ impl BitSet {
         })
     }
 
-    /// Makes a number a member or none. Where it is beyond all members and is to be none, it is so
-    /// already.
+    /// Adds or removes a number. A number above all members needs no removal.
     pub fn put(&mut self, number: usize, is_member: bool)
         requires { number < length self.old }
         ensures { self.new ≡ slice_set self.old number is_member }
@@ -75,8 +74,8 @@ impl BitSet {
         self.end = self.end.max(number + 1);
     }
 
-    /// The least member that is not below `from`. A walk over the members is `while let
-    /// Some(number) = set.next(from) { ..; from = number + 1; }`.
+    /// The least member that is at least `from`. A walk over the members is
+    /// `while let Some(number) = set.next(from) { ..; from = number + 1; }`.
     pub fn next(&self, from: usize) -> Option<usize>
         ensures { MatchOption result (NoneFrom (is_in self.now) from) (IsNext (is_in self.now) from) }
     {
@@ -86,7 +85,7 @@ impl BitSet {
         next_number(self.words.as_slice(), self.tops.as_slice(), from)
     }
 
-    /// Makes no number a member. It touches only words in use.
+    /// Removes all members. It touches only words in use.
     #[inline(never)]
     pub fn clear(&mut self)
         ensures { self.new ≡ replicate (length self.old) false }

@@ -9,14 +9,14 @@ use std::alloc::{AllocError, Global};
 use std::marker::Model;
 use std::mem;
 
-/// Lists, in row arrays one after another, each but the last with as many lists. To its user they
-/// are the lists of a row array. In one part no access has to look for its part.
+/// Lists in consecutive row arrays, each but the last with the same number of lists. To its user it
+/// is one list of lists. With one part, no access has to look for its part.
 pub struct DividedRows<T> {
     pub parts: Vec<RowArray<T>>,
     pub each: usize,
 }
 
-/// By hand, so that crates which drop one need no proof of what is in it.
+/// Written by hand so that code which drops it needs no proof about its contents.
 impl<T: Drop> Drop for DividedRows<T> {
     fn drop(self) {
         let DividedRows { parts, each: _ } = self;
@@ -36,7 +36,7 @@ impl<T> Model for DividedRows<T> {
     ghost invariant = { λ r. AreParts r.each r.parts.items };
 }
 
-/// The part in which the list with a number stands, and its place there.
+/// The part of the list with a number, and its position there.
 #[inline(always)]
 pub fn place_of<T>(parts: &[RowArray<T>], each: usize, number: usize) -> (usize, usize)
     requires parts { AreParts each parts.now }
@@ -49,7 +49,7 @@ pub fn place_of<T>(parts: &[RowArray<T>], each: usize, number: usize) -> (usize,
     (number / each, number % each)
 }
 
-/// The part in which the item with a number stands, and its place there.
+/// The part of the item with a number, and its position there.
 #[inline(always)]
 pub fn item_place<T>(parts: &[RowArray<T>], number: usize) -> (usize, usize)
     requires { number < length (joined (joined parts.now)) }
@@ -61,7 +61,7 @@ pub fn item_place<T>(parts: &[RowArray<T>], number: usize) -> (usize, usize)
     find_item(parts, number)
 }
 
-/// The same, by the counts of the parts.
+/// The same, by the numbers of items of the parts.
 #[inline(never)]
 fn find_item<T>(parts: &[RowArray<T>], number: usize) -> (usize, usize)
     requires { number < length (joined (joined parts.now)) }
@@ -78,7 +78,7 @@ fn find_item<T>(parts: &[RowArray<T>], number: usize) -> (usize, usize)
     unreachable!()
 }
 
-/// How many items the parts before one have.
+/// The number of items in the parts before one.
 #[inline(always)]
 fn items_before<T>(parts: &[RowArray<T>], part: usize) -> usize
     requires part { part ≤ length parts.now }
@@ -92,7 +92,7 @@ fn items_before<T>(parts: &[RowArray<T>], part: usize) -> usize
     count
 }
 
-/// The list at a place of a part.
+/// The list at a position of a part.
 #[inline(always)]
 fn row_at<T>(parts: &[RowArray<T>], part: usize, place: usize) -> &[T]
     requires part { part < length parts.now }
@@ -102,7 +102,7 @@ fn row_at<T>(parts: &[RowArray<T>], part: usize, place: usize) -> &[T]
     parts[part].row(place)
 }
 
-/// Puts a list in the place of one as long, and hands that one back.
+/// Exchanges a list with the one at a position of a part, which has the same length.
 fn put_at<T>(parts: &mut [RowArray<T>], part: usize, place: usize, row: &mut [T])
     requires part { part < length parts.old }
     requires place { place < length (slice_index_or parts.old part []) }
@@ -113,7 +113,7 @@ fn put_at<T>(parts: &mut [RowArray<T>], part: usize, place: usize, row: &mut [T]
     parts[part].put(place, row);
 }
 
-/// The item at a place of a part.
+/// The item at a position of a part.
 #[inline(always)]
 fn item_at<T>(parts: &[RowArray<T>], part: usize, place: usize) -> &T
     requires part { part < length parts.now }
@@ -123,7 +123,7 @@ fn item_at<T>(parts: &[RowArray<T>], part: usize, place: usize) -> &T
     &parts[part].flat()[place]
 }
 
-/// Where the list at a place of a part starts among all items, and where it ends.
+/// The start and the end of a list of a part, among all items.
 #[inline(always)]
 fn bounds_at<T>(parts: &[RowArray<T>], part: usize, place: usize) -> (usize, usize)
     requires part { part < length parts.now }
@@ -137,7 +137,7 @@ fn bounds_at<T>(parts: &[RowArray<T>], part: usize, place: usize) -> (usize, usi
     (before + start, before + end)
 }
 
-/// How many lists a part gets where so many are divided into so many parts at the most.
+/// The number of lists in each part, if they are divided into at most `parts` parts.
 fn in_each(lists: usize, parts: usize) -> usize
     ensures { 0 < result }
 {
@@ -147,7 +147,7 @@ fn in_each(lists: usize, parts: usize) -> usize
     (lists - 1) / parts.max(1) + 1
 }
 
-/// Moves lists into parts with so many each.
+/// Moves lists into parts of `each` lists.
 fn cut<T>(alloc: Global, rows: RowArray<T>, each: usize) -> Result<DividedRows<T>, AllocError>
 where
     T: Drop,
@@ -165,7 +165,7 @@ where
     Ok(DividedRows { parts, each })
 }
 
-/// Moves lists into so many parts at the most.
+/// Moves lists into at most `parts` parts.
 fn cut_in<T>(alloc: Global, rows: RowArray<T>, parts: usize) -> Result<DividedRows<T>, AllocError>
 where
     T: Drop,
@@ -186,8 +186,8 @@ impl<T> DividedRows<T> {
         cut(alloc, rows, each)
     }
 
-    /// The same lists in so many parts at the most, if they are in one. It moves items, and copies
-    /// none.
+    /// The same lists in at most `parts` parts, if they are in one part now. It moves items, and
+    /// copies none.
     pub fn divide(self, alloc: Global, parts: usize) -> Result<DividedRows<T>, AllocError>
     where
         T: Drop,
@@ -206,7 +206,7 @@ impl<T> DividedRows<T> {
         }
     }
 
-    /// The parts, and how many lists each of them but the last has.
+    /// The parts, and the number of lists in each but the last.
     pub fn into_parts(self) -> (Vec<RowArray<T>>, usize)
         ensures lists { joined result.0.items ≡ self }
         ensures parts { AreParts result.1 result.0.items }
@@ -215,7 +215,7 @@ impl<T> DividedRows<T> {
         (parts, each)
     }
 
-    /// The lists in these parts, each of which but the last has so many.
+    /// The lists of these parts, each of which but the last has `each` lists.
     pub fn of_parts(parts: Vec<RowArray<T>>, each: usize) -> DividedRows<T>
         requires { AreParts each parts.items }
         ensures { result ≡ joined parts.items }
@@ -232,7 +232,7 @@ impl<T> DividedRows<T> {
         row_at(self.parts.as_slice(), part, place)
     }
 
-    /// Puts a list in the place of one as long, and hands that one back. It takes no memory.
+    /// Exchanges the list with a number for another of the same length. It takes no memory.
     pub fn put(&mut self, number: usize, row: &mut [T])
         requires at { number < length self.old }
         requires long { length row.old ≡ length (slice_index_or self.old number []) }
@@ -243,7 +243,7 @@ impl<T> DividedRows<T> {
         put_at(self.parts.as_mut_slice(), part, place, row);
     }
 
-    /// Where the list with a number starts among the items of all lists, and where it ends.
+    /// The start and the end of the list with a number, among the items of all lists.
     pub fn row_bounds(&self, number: usize) -> (usize, usize)
         requires { number < length self.now }
         ensures start { result.0 ≡ length (joined (take number self.now)) }
@@ -253,7 +253,7 @@ impl<T> DividedRows<T> {
         bounds_at(self.parts.as_slice(), part, place)
     }
 
-    /// The item with a number, of one list after another.
+    /// The item with a number, counted through all lists.
     pub fn item(&self, number: usize) -> &T
         requires { number < length (joined self.now) }
         ensures { result.now ≡ slice_index_or (joined self.now) number result.now }

@@ -1,4 +1,4 @@
-//! The heap of times: an entry for each time that a driver was given, of which some are stale.
+//! The heap of times. It has an entry for each time that a driver was given; some are stale.
 
 ghost use Rattle.std.specs.Prelude.{◌≡◌, ◌≢◌, ◌<◌, ◌≤◌, ◌+◌, ◌∷◌, ℕ, [], length, true, false, Option, None, Some, OnOk, OnErr, IsOk, IfSome};
 ghost use Rattle.std.specs.Prelude.{IfNone, replicate, slice_index_or};
@@ -13,10 +13,10 @@ use std::alloc::AllocError;
 use std::cmp::Reverse;
 use std::collections::BinaryHeap;
 
-/// The entries: a time and a driver each, least first.
+/// The entries: a time in femtoseconds and a driver each, least first.
 pub type Heap = BinaryHeap<Reverse<(u64, usize)>>;
 
-/// Whether it is this time.
+/// Whether a time is there and is `time`.
 pub fn is_time(found: Option<u64>, time: u64) -> bool
     ensures { result ≡ is_at time found }
 {
@@ -26,7 +26,7 @@ pub fn is_time(found: Option<u64>, time: u64) -> bool
     }
 }
 
-/// Whether this driver has this time.
+/// Whether a driver has this time.
 fn has_time(times: &[Option<u64>], time: u64, driver: usize) -> bool
     ensures { result ≡ is_at time (time_of times.now driver) }
 {
@@ -48,7 +48,7 @@ fn has_stale_top(heap: &Heap, times: &[Option<u64>]) -> bool
     }
 }
 
-/// Takes the first entry out.
+/// Removes the first entry.
 fn pop_top(heap: &mut Heap) -> Reverse<(u64, usize)>
     requires some { 0 < heap_len heap.old }
     requires order { IsHeap entry_cmp (heap_items heap.old) }
@@ -63,7 +63,7 @@ fn pop_top(heap: &mut Heap) -> Reverse<(u64, usize)>
     }
 }
 
-/// Drops stale entries from the top.
+/// Removes stale entries from the top.
 pub fn settle(heap: &mut Heap, times: &[Option<u64>], now: u64)
     requires order { IsHeap entry_cmp (heap_items heap.old) }
     requires stands { StandsBut now times.now (heap_items heap.old) }
@@ -76,7 +76,7 @@ pub fn settle(heap: &mut Heap, times: &[Option<u64>], now: u64)
     }
 }
 
-/// Adds the entry for the time of a driver, if it has one other than `now`.
+/// Adds an entry for the time of a driver, if it has a time other than `now`.
 pub fn add_entry(
     heap: &mut Heap,
     now: u64,
@@ -101,7 +101,7 @@ pub fn add_entry(
     }
 }
 
-/// Adds such an entry where there is room.
+/// Adds such an entry to a heap that has room for it.
 fn add_in_room(heap: &mut Heap, now: u64, driver: usize, time: Option<u64>)
     requires room { heap_len heap.old < heap_capacity heap.old }
     requires order { IsHeap entry_cmp (heap_items heap.old) }
@@ -117,7 +117,7 @@ fn add_in_room(heap: &mut Heap, now: u64, driver: usize, time: Option<u64>)
     }
 }
 
-/// Makes the heap again from the times, without stale entries.
+/// Makes the heap anew from the times, without stale entries.
 fn rebuild(heap: &mut Heap, times: &[Option<u64>], now: u64)
     requires { length times.now ≤ heap_capacity heap.old }
     ensures order { IsHeap entry_cmp (heap_items heap.new) }
@@ -130,7 +130,7 @@ fn rebuild(heap: &mut Heap, times: &[Option<u64>], now: u64)
     }
 }
 
-/// Drops stale entries: all of them where they are more than half, else those at the top.
+/// Removes stale entries: all of them if they are more than half, else those at the top.
 pub fn trim(heap: &mut Heap, times: &[Option<u64>], now: u64)
     requires order { IsHeap entry_cmp (heap_items heap.old) }
     requires stands { StandsBut now times.now (heap_items heap.old) }
@@ -146,7 +146,7 @@ pub fn trim(heap: &mut Heap, times: &[Option<u64>], now: u64)
     settle(heap, times, now);
 }
 
-/// The first entry, if its time is `time` or before.
+/// The first entry, if its time is at most `time`.
 fn first_due(heap: &Heap, time: u64) -> Option<(u64, usize)>
     ensures some { IfSome result (λ due. (0 < heap_len heap.now) × (due.0 ≤ time)
         × ((x : Entry) → slice_index_or (heap_items heap.now) 0 x ≡ entry due.0 due.1)) }
@@ -165,8 +165,8 @@ fn first_due(heap: &Heap, time: u64) -> Option<(u64, usize)>
     }
 }
 
-/// Takes out the first entry, which is not after `time`, and with it its driver, if that has this
-/// time.
+/// Removes the first entry, whose time is at most `time`, and takes its driver if the entry is not
+/// stale.
 fn take_first(
     heap: &mut Heap,
     times: &[Option<u64>],
@@ -193,7 +193,7 @@ fn take_first(
     taken.insert(driver);
 }
 
-/// Takes the drivers with the least time, which is not `now`, out of the heap.
+/// Takes the drivers with the least time, which is not `now`, from the heap.
 pub fn take_least(
     heap: &mut Heap,
     times: &[Option<u64>],

@@ -1,4 +1,4 @@
-//! Lists of lists held flat, sets of numbers, and the times at which drivers are due.
+//! Row arrays, sets of numbers, and a queue of the times at which drivers are due.
 #![tactic(auto)]
 
 mod bit_set;

@@ -11,23 +11,23 @@ use crate::stamps::Stamps;
 use std::alloc::{AllocError, Global};
 use std::marker::Model;
 
-/// Before how many members a number is put, at the most, so that the list stays whole.
+/// A number keeps the list in order if it belongs before at most this many members.
 const NEAR: usize = 8;
 
-/// A set of numbers below a bound; its contracts see for each of these whether it is a member.
-/// Beside the marks stands a list, which has the members, rising, while `is_listed`; else they are
-/// in `bits`, which has none while there is a list. So a walk and a clear cost what the members
-/// cost, in whichever order they came.
+/// A set of numbers below a bound. In contracts it is a list that says for each number whether it
+/// is a member. The members are also in `list`, in order, while `is_listed`, and otherwise in
+/// `bits`; the other of the two is empty. So a walk and a clear cost as much as there are members,
+/// whatever their order of insertion.
 pub struct NumberSet {
     marks: Stamps,
     list: Vec<usize>,
     is_listed: bool,
-    /// No number from this one on is a member.
+    /// Above every member.
     end: usize,
     bits: BitSet,
 }
 
-/// By hand, so that crates which drop one need no proof of what is in it.
+/// Written by hand so that code which drops it needs no proof about its contents.
 impl Drop for NumberSet {
     fn drop(self) {
         let NumberSet {
@@ -55,7 +55,7 @@ impl Model for NumberSet {
 }
 
 impl NumberSet {
-    /// No number is a member.
+    /// The empty set of numbers below `count`.
     pub fn new(alloc: Global, count: usize) -> Result<NumberSet, AllocError>
         ensures { IfOk result (λ set. set ≡ replicate count false) }
     {
@@ -71,7 +71,7 @@ impl NumberSet {
         })
     }
 
-    /// Each number below the bound is a member.
+    /// The set of all numbers below `count`.
     pub fn full(alloc: Global, count: usize) -> Result<NumberSet, AllocError>
         ensures { IfOk result (λ set. set ≡ replicate count true) }
     {
@@ -97,14 +97,14 @@ impl NumberSet {
         }
     }
 
-    /// Whether a number is a member; one that is not below the bound is none.
+    /// Whether a number is a member. Numbers beyond the bound are not.
     pub fn contains(&self, number: usize) -> bool
         ensures { result ≡ is_in self.now number }
     {
         self.marks.contains(number)
     }
 
-    /// Makes a number a member. It takes no memory.
+    /// Adds a number. It takes no memory.
     #[inline(always)]
     pub fn insert(&mut self, number: usize)
         requires { number < length self.old }
@@ -121,7 +121,7 @@ impl NumberSet {
         self.insert_within(number);
     }
 
-    /// The same, for a number that others may follow.
+    /// The same, for a number that may belong before others.
     #[inline(never)]
     fn insert_within(&mut self, number: usize)
         requires { number < length self.old }
@@ -140,7 +140,7 @@ impl NumberSet {
         self.insert_unlisted(number);
     }
 
-    /// Makes a number a member of a set that is listed no more.
+    /// Adds a number to a set that is no longer listed.
     #[inline(always)]
     fn insert_unlisted(&mut self, number: usize)
         requires { number < length self.old }
@@ -153,7 +153,7 @@ impl NumberSet {
         self.end = self.end.max(number + 1);
     }
 
-    /// Makes a number no member.
+    /// Removes a number.
     #[inline(always)]
     pub fn remove(&mut self, number: usize)
         requires { number < length self.old }
@@ -180,7 +180,7 @@ impl NumberSet {
         self.marks.remove(number);
     }
 
-    /// Makes a number a member or none.
+    /// Adds or removes a number.
     pub fn put(&mut self, number: usize, is_member: bool)
         requires { number < length self.old }
         ensures { self.new ≡ slice_set self.old number is_member }
@@ -192,8 +192,8 @@ impl NumberSet {
         }
     }
 
-    /// The least member that is not below `from`. A walk over the members is `while let
-    /// Some(number) = set.next(from) { ..; from = number + 1; }`.
+    /// The least member that is at least `from`. A walk over the members is
+    /// `while let Some(number) = set.next(from) { ..; from = number + 1; }`.
     #[inline(never)]
     pub fn next(&self, from: usize) -> Option<usize>
         ensures { MatchOption result (NoneFrom (is_in self.now) from) (IsNext (is_in self.now) from) }
@@ -206,7 +206,7 @@ impl NumberSet {
         self.bits.next(from)
     }
 
-    /// The same, which costs little where it is the member at a place of the list. A walk is
+    /// The same. It is fast if the result is at `place` in the list. A walk is
     /// `while let Some(number) = set.next_at(place, from) { ..; place = place.wrapping_add(1);
     /// from = number + 1; }`, with 0 for both at first.
     #[inline(always)]
@@ -222,7 +222,7 @@ impl NumberSet {
         self.next(from)
     }
 
-    /// The least member that is not below `from` and is no member of another set.
+    /// The least member that is at least `from` and not a member of another set.
     pub fn next_beside(&self, others: &NumberSet, from: usize) -> Option<usize>
         ensures { MatchOption result (NoneFrom (is_beside self.now others.now) from) (IsNext (is_beside self.now others.now) from) }
     {
@@ -233,7 +233,7 @@ impl NumberSet {
         find_beside(self, others, place, from)
     }
 
-    /// Makes no number a member. It looks at none, but where their order was lost.
+    /// Removes all members. It visits them only if their order was lost.
     #[inline(always)]
     pub fn clear(&mut self)
         ensures { self.new ≡ replicate (length self.old) false }
@@ -248,8 +248,7 @@ impl NumberSet {
         self.end = 0;
     }
 
-    /// Lists the members again, if their order was lost, so that walks cost little. It takes no
-    /// memory.
+    /// Lists the members again if their order was lost, so that walks are fast. It takes no memory.
     #[inline(always)]
     pub fn arrange(&mut self)
         ensures { self.new ≡ self.old }
@@ -261,7 +260,7 @@ impl NumberSet {
         self.is_listed = true;
     }
 
-    /// Makes the members of another set its own, and no others. It looks at members alone.
+    /// Makes the set equal to another one. It visits members alone.
     pub fn copy_from(&mut self, others: &NumberSet)
         requires { length others.now ≡ length self.old }
         ensures { self.new ≡ others.now }
@@ -270,7 +269,7 @@ impl NumberSet {
         insert_each(self, others);
     }
 
-    /// Lists the members in place of what `numbers` holds. It takes no memory.
+    /// Replaces the contents of `numbers` by the members, in order. It takes no memory.
     pub fn list(&self, numbers: &mut Vec<usize>)
         requires { length self.now ≤ vec_capacity numbers.old }
         ensures numbers { numbers.new.items ≡ members self.now }
@@ -285,7 +284,7 @@ impl NumberSet {
     }
 }
 
-/// The place in a rising list before which a number is to stand, if it is near the end.
+/// The index in an ascending list at which a number belongs, if it is near the end.
 fn place_for(list: &[usize], number: usize) -> Option<usize>
     ensures { IfSome result (λ k. (k ≤ length list.now)
         × ((i : ℕ) → i < length list.now → k ≤ i → number ≤ slice_index_or list.now i 0)
@@ -304,7 +303,7 @@ fn place_for(list: &[usize], number: usize) -> Option<usize>
     None
 }
 
-/// Puts a number before the place of a list that has room for it.
+/// Inserts a number into a list that has room for it.
 fn put_before(list: &mut Vec<usize>, place: usize, number: usize)
     requires place { place ≤ vec_len list.old }
     requires room { vec_len list.old < vec_capacity list.old }
@@ -321,7 +320,7 @@ fn put_before(list: &mut Vec<usize>, place: usize, number: usize)
     }
 }
 
-/// Lists one more member of a set in which none is from it on.
+/// Appends a new member to the list of a set that has no member from it on.
 #[inline(always)]
 fn list_last(list: &mut Vec<usize>, set: &Stamps, number: usize)
     requires at { number < length set.now }
@@ -335,8 +334,7 @@ fn list_last(list: &mut Vec<usize>, set: &Stamps, number: usize)
     list.push_reserved(number);
 }
 
-/// Lists one more member of a set in which it is no member yet, if that is near the end; says
-/// whether it is.
+/// Inserts a new member into the list if it belongs near the end; returns whether it does.
 #[inline(never)]
 fn list_one(list: &mut Vec<usize>, set: &Stamps, number: usize) -> bool
     requires at { number < length set.now }
@@ -356,7 +354,7 @@ fn list_one(list: &mut Vec<usize>, set: &Stamps, number: usize) -> bool
     }
 }
 
-/// Whether the members from a number on begin with the one at a place of a rising list.
+/// Whether the members from a number on begin at an index of an ascending list.
 #[inline(always)]
 fn is_place(list: &[usize], place: usize, from: usize) -> bool
     ensures within { result ≡ true → place < length list.now }
@@ -372,7 +370,7 @@ fn is_place(list: &[usize], place: usize, from: usize) -> bool
     place == 0 || list[place - 1] < from
 }
 
-/// The place at which the members from a number on begin in a rising list.
+/// The index at which the members from a number on begin in an ascending list.
 fn place_from(list: &[usize], from: usize) -> usize
     ensures within { result ≤ length list.now }
     ensures from { result < length list.now → from ≤ slice_index_or list.now result 0 }
@@ -391,7 +389,7 @@ fn place_from(list: &[usize], from: usize) -> usize
     low
 }
 
-/// What stands at a place of a list.
+/// The number at an index of a list.
 #[inline(always)]
 fn at_place(list: &[usize], place: usize) -> Option<usize>
     ensures some { IfSome result (λ n. (place < length list.now) × (n ≡ slice_index_or list.now place 0)) }
@@ -404,7 +402,7 @@ fn at_place(list: &[usize], place: usize) -> Option<usize>
     }
 }
 
-/// Makes the members of a set those of the bits, in place of a list, if there is one.
+/// Moves the members from the list, if there is one, to the bits.
 #[inline(always)]
 fn spill(bits: &mut BitSet, list: &mut Vec<usize>, set: &Stamps, is_listed: bool)
     requires listed { is_listed ≡ true → list.old.items ≡ members set.now }
@@ -422,7 +420,7 @@ fn spill(bits: &mut BitSet, list: &mut Vec<usize>, set: &Stamps, is_listed: bool
     list.clear();
 }
 
-/// Makes each of the members of a set, which are listed, a member of bits that have none.
+/// Adds the members of a set, which are listed, to bits that are clear.
 #[inline(never)]
 fn put_each(bits: &mut BitSet, numbers: &[usize], set: &Stamps)
     requires listed { numbers.now ≡ members set.now }
@@ -435,7 +433,7 @@ fn put_each(bits: &mut BitSet, numbers: &[usize], set: &Stamps)
     }
 }
 
-/// Lists the numbers that bits have, and clears these.
+/// Moves the members from the bits to the list.
 #[inline(never)]
 fn relist(list: &mut Vec<usize>, bits: &mut BitSet)
     requires empty { length list.old.items ≡ 0 }
@@ -448,7 +446,7 @@ fn relist(list: &mut Vec<usize>, bits: &mut BitSet)
     bits.clear();
 }
 
-/// Appends the numbers that bits have to an empty list.
+/// Appends the members of the bits to an empty list.
 fn push_marked(list: &mut Vec<usize>, bits: &BitSet)
     requires empty { length list.old.items ≡ 0 }
     requires room { length bits.now ≤ vec_capacity list.old }
@@ -462,7 +460,7 @@ fn push_marked(list: &mut Vec<usize>, bits: &BitSet)
     }
 }
 
-/// Clears bits, of which it is known whether they are clear.
+/// Clears bits, unless they are known to be clear.
 #[inline(always)]
 fn clear_marked(bits: &mut BitSet, is_clear: bool)
     requires { is_clear ≡ true → bits.old ≡ replicate (length bits.old) false }
@@ -474,8 +472,8 @@ fn clear_marked(bits: &mut BitSet, is_clear: bool)
     bits.clear();
 }
 
-/// The least member of a set that is not below `from` and is no member of another, where a place of
-/// the list is that of the first from there on.
+/// The least member that is at least `from` and not a member of another set. The members from
+/// `from` on begin at `first` in the list.
 fn find_beside(set: &NumberSet, others: &NumberSet, first: usize, from: usize) -> Option<usize>
     ensures { MatchOption result (NoneFrom (is_beside set.now others.now) from) (IsNext (is_beside set.now others.now) from) }
 {
@@ -492,7 +490,7 @@ fn find_beside(set: &NumberSet, others: &NumberSet, first: usize, from: usize) -
     None
 }
 
-/// Makes each number below the bound a member.
+/// Adds each number below the bound.
 fn insert_all(set: &mut NumberSet)
     ensures { set.new ≡ replicate (length set.old) true }
 {
@@ -501,7 +499,7 @@ fn insert_all(set: &mut NumberSet)
     }
 }
 
-/// Makes each member of another set a member.
+/// Adds each member of another set.
 fn insert_each(set: &mut NumberSet, others: &NumberSet)
     requires none { set.old ≡ replicate (length others.now) false }
     ensures { set.new ≡ others.now }

@@ -1,4 +1,4 @@
-//! Lists of lists, held flat: one list of all items, and where each of the lists starts in it.
+//! Lists of lists, held flat: one list of all items, and the index at which each list starts.
 #![tactic(auto)]
 
 ghost use Rattle.std.specs.Prelude.{◌≡◌, ◌<◌, ◌≤◌, ◌+◌, ◌-◌, ◌++◌, ◌∷◌, [], List, length, map, slice_index_or, slice_set, slice_index, slice_range, take};
@@ -8,14 +8,14 @@ ghost use Rattle.sim_store_sets.specs.RowArray.{joined};
 use std::alloc::{AllocError, Global};
 use std::marker::Model;
 
-/// Lists, one after another in one flat list. Who works in place on one of them uses its bounds,
-/// and owes that the others stay.
+/// Lists, one after another in one flat list. Code that works on one of them in place uses its
+/// bounds, and must leave the others unchanged.
 pub struct RowArray<T> {
     pub starts: Vec<usize>,
     pub flat: Vec<T>,
 }
 
-/// By hand, so that crates which drop one need no proof of what is in it.
+/// Written by hand so that code which drops it needs no proof about its contents.
 impl<T: Drop> Drop for RowArray<T> {
     fn drop(self) {
         let RowArray { starts, flat } = self;
@@ -75,14 +75,14 @@ impl<T> RowArray<T> {
         Ok(())
     }
 
-    /// How many lists there are.
+    /// The number of lists.
     pub fn len(&self) -> usize
         ensures { result ≡ length self.now }
     {
         self.starts.len() - 1
     }
 
-    /// The list at a place.
+    /// The list at an index.
     pub fn row(&self, place: usize) -> &[T]
         requires { place < length self.now }
         ensures { result.now ≡ slice_index_or self.now place [] }
@@ -91,7 +91,7 @@ impl<T> RowArray<T> {
         part(self.flat.as_slice(), start, end)
     }
 
-    /// Puts a list in the place of one as long, and hands that one back. It takes no memory.
+    /// Exchanges the list at an index for another of the same length. It takes no memory.
     pub fn put(&mut self, place: usize, row: &mut [T])
         requires at { place < length self.old }
         requires long { length row.old ≡ length (slice_index_or self.old place []) }
@@ -102,7 +102,7 @@ impl<T> RowArray<T> {
         replace(self.flat.as_mut_slice(), start, row);
     }
 
-    /// Where the list at a place starts among all items, and where it ends.
+    /// The start and the end of the list at an index, among all items.
     pub fn row_bounds(&self, place: usize) -> (usize, usize)
         requires { place < length self.now }
         ensures start { result.0 ≡ length (joined (take place self.now)) }
@@ -111,8 +111,8 @@ impl<T> RowArray<T> {
         bounds(self.starts.as_slice(), place)
     }
 
-    /// Moves the lists from a place on out of it, to a row array of their own. If allocation fails,
-    /// nothing changes.
+    /// Moves the lists from an index on to a row array of their own. If allocation fails, nothing
+    /// changes.
     pub fn split_off(&mut self, alloc: Global, place: usize) -> Result<RowArray<T>, AllocError>
         requires { place ≤ length self.old }
         ensures front { OnOk result (self.new ≡ take place self.old) }
@@ -126,7 +126,7 @@ impl<T> RowArray<T> {
         Ok(RowArray { starts, flat })
     }
 
-    /// All items, of one list after another.
+    /// The items of all lists, in order.
     pub fn flat(&self) -> &[T]
         ensures { result.now ≡ joined self.now }
     {
@@ -134,7 +134,7 @@ impl<T> RowArray<T> {
     }
 }
 
-/// Where the list at a place starts, and where it ends.
+/// The start and the end of the list at an index.
 pub fn bounds(starts: &[usize], place: usize) -> (usize, usize)
     requires { place + 1 < length starts.now }
     ensures start { result.0 ≡ slice_index starts.now place }
@@ -143,7 +143,7 @@ pub fn bounds(starts: &[usize], place: usize) -> (usize, usize)
     (starts[place], starts[place + 1])
 }
 
-/// Where the list at a place starts, or where the last one ends.
+/// The start of the list at an index, or the end of the last one.
 fn start_at(starts: &[usize], place: usize) -> usize
     requires { place < length starts.now }
     ensures { result ≡ slice_index starts.now place }
@@ -151,7 +151,7 @@ fn start_at(starts: &[usize], place: usize) -> usize
     starts[place]
 }
 
-/// The places from one on, counted from there.
+/// The starts from an index on, counted from the first of them.
 fn starts_after(alloc: Global, starts: &[usize], place: usize) -> Result<Vec<usize>, AllocError>
     requires { place < length starts.now }
     ensures { IfOk result (λ v. v.items ≡ map (λ s. s - slice_index starts.now place) (drop place starts.now)) }
@@ -159,7 +159,7 @@ fn starts_after(alloc: Global, starts: &[usize], place: usize) -> Result<Vec<usi
     starts_less(alloc, &starts[place..], starts[place])
 }
 
-/// The same places, counted from one of them.
+/// The starts, counted from one of them.
 fn starts_less(alloc: Global, starts: &[usize], from: usize) -> Result<Vec<usize>, AllocError>
     ensures { IfOk result (λ v. v.items ≡ map (λ s. s - from) starts.now) }
 {
@@ -178,7 +178,7 @@ fn part<T>(flat: &[T], start: usize, end: usize) -> &[T]
     &flat[start..end]
 }
 
-/// Puts items in the place of as many, and hands those back.
+/// Exchanges items of a list for others.
 fn replace<T>(flat: &mut [T], start: usize, row: &mut [T])
     requires { start + length row.old ≤ length flat.old }
     ensures new { flat.new ≡ take start flat.old ++ row.old ++ drop (start + length row.old) flat.old }

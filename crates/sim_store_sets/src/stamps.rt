@@ -6,14 +6,14 @@ ghost use Rattle.sim_store_sets.specs.Numbers.{is_in};
 use std::alloc::{AllocError, Global};
 use std::marker::Model;
 
-/// A set of numbers below a bound: those are members that have the stamp of now. So to clear the
-/// set is to take another stamp.
+/// A set of numbers below a bound: the members are those with the current stamp. To clear the set
+/// is to take a new stamp.
 pub struct Stamps {
     stamps: Vec<u32>,
     stamp: u32,
 }
 
-/// By hand, so that crates which drop one need no proof of what is in it.
+/// Written by hand so that code which drops it needs no proof about its contents.
 impl Drop for Stamps {
     fn drop(self) {
         let Stamps { stamps, stamp: _ } = self;
@@ -32,7 +32,7 @@ impl Model for Stamps {
     ghost invariant = { λ set. AreStamps set.stamp set.stamps.items };
 }
 
-/// This number of stamps that were never given.
+/// This number of stamps, none of which was ever current.
 fn no_stamps(alloc: Global, count: usize) -> Result<Vec<u32>, AllocError>
     ensures { IfOk result (λ v. v.items ≡ replicate count 0) }
 {
@@ -40,7 +40,7 @@ fn no_stamps(alloc: Global, count: usize) -> Result<Vec<u32>, AllocError>
     Ok(stamps)
 }
 
-/// Takes each stamp back.
+/// Resets all stamps.
 #[inline(never)]
 fn take_back(stamps: &mut Vec<u32>)
     ensures { stamps.new.items ≡ replicate (length stamps.old.items) 0 }
@@ -49,7 +49,7 @@ fn take_back(stamps: &mut Vec<u32>)
 }
 
 impl Stamps {
-    /// No number is a member.
+    /// The empty set of numbers below `count`.
     pub fn new(alloc: Global, count: usize) -> Result<Stamps, AllocError>
         ensures { IfOk result (λ set. set ≡ replicate count false) }
     {
@@ -64,14 +64,14 @@ impl Stamps {
         self.stamps.len()
     }
 
-    /// Whether a number is a member; one that is not below the bound is none.
+    /// Whether a number is a member. Numbers beyond the bound are not.
     pub fn contains(&self, number: usize) -> bool
         ensures { result ≡ is_in self.now number }
     {
         number < self.stamps.len() && self.stamps[number] == self.stamp
     }
 
-    /// Makes a number a member.
+    /// Adds a number.
     pub fn insert(&mut self, number: usize)
         requires { number < length self.old }
         ensures { self.new ≡ slice_set self.old number true }
@@ -79,7 +79,7 @@ impl Stamps {
         self.stamps[number] = self.stamp;
     }
 
-    /// Makes a number no member.
+    /// Removes a number.
     pub fn remove(&mut self, number: usize)
         requires { number < length self.old }
         ensures { self.new ≡ slice_set self.old number false }
@@ -87,7 +87,7 @@ impl Stamps {
         self.stamps[number] = 0;
     }
 
-    /// Makes no number a member.
+    /// Removes all members.
     pub fn clear(&mut self)
         ensures { self.new ≡ replicate (length self.old) false }
     {

@@ -1,4 +1,4 @@
-//! For each driver the time of its next transaction, with the least time at hand.
+//! For each driver the time of its next transaction, with fast access to the least time.
 
 ghost use Rattle.std.specs.Prelude.{◌≡◌, ◌<◌, ◌⊎◌, ℕ, length, false, Option, None, Some, OnOk, OnErr, IfOk, replicate, slice_set};
 ghost use Rattle.std.specs.BinaryHeap.{heap_items, IsHeap};
@@ -12,8 +12,8 @@ use std::collections::BinaryHeap;
 use std::marker::Model;
 use std::mem;
 
-/// For each driver a time or none. The drivers whose time is `front_time` are the set `front`, so
-/// that the next delta cycle costs little; for all other times the heap has entries.
+/// For each driver a time in femtoseconds, or none. The drivers whose time is `front_time` are in
+/// the set `front`, so that the next delta cycle is fast; the heap has entries for all other times.
 pub struct TimeQueue {
     times: Vec<Option<u64>>,
     front_time: u64,
@@ -21,7 +21,7 @@ pub struct TimeQueue {
     heap: Heap,
 }
 
-/// By hand, so that crates which drop one need no proof of what is in it.
+/// Written by hand so that code which drops it needs no proof about its contents.
 impl Drop for TimeQueue {
     fn drop(self) {
         let TimeQueue {
@@ -49,7 +49,7 @@ impl Model for TimeQueue {
 }
 
 impl TimeQueue {
-    /// No driver has a time.
+    /// A queue in which no driver has a time.
     pub fn new(alloc: Global, drivers: usize) -> Result<TimeQueue, AllocError>
         ensures { IfOk result (λ queue. queue ≡ replicate drivers None) }
     {
@@ -63,8 +63,8 @@ impl TimeQueue {
         })
     }
 
-    /// Sets or clears the time of a driver. It takes no memory for the time of the front, which is
-    /// the one taken last where these never fall.
+    /// Sets or clears the time of a driver. It takes no memory if `time` is that of the front,
+    /// which is the time taken last, if times never fall. If allocation fails, nothing changes.
     pub fn put(&mut self, driver: usize, time: Option<u64>) -> Result<(), AllocError>
         requires { driver < length self.old }
         ensures ok { OnOk result (self.new ≡ slice_set self.old driver time) }
@@ -82,7 +82,7 @@ impl TimeQueue {
         self.change(driver, time)
     }
 
-    /// The same, for any time. It stands alone so that the frequent cases are short.
+    /// The same, for any time. It is out of line to keep the frequent cases short.
     #[inline(never)]
     fn change(&mut self, driver: usize, time: Option<u64>) -> Result<(), AllocError>
         requires { driver < length self.old }
@@ -110,7 +110,8 @@ impl TimeQueue {
         }
     }
 
-    /// Takes out the drivers with the least time, in place of what `taken` has. It takes no memory.
+    /// Moves the drivers with the least time to `taken`, whose members they replace. It takes no
+    /// memory.
     pub fn take(&mut self, time: u64, taken: &mut NumberSet)
         requires least { earliest self.old ≡ Some time }
         requires sized { length taken.old ≡ length self.old }
@@ -130,8 +131,8 @@ impl TimeQueue {
         self.front_time = next_time(&self.front, self.front_time, time);
     }
 
-    /// Takes out the drivers with the least time, and lists them rising. It takes memory for as
-    /// many numbers as there are drivers, where `take` takes none.
+    /// Removes the drivers with the least time and lists them in order. It takes memory for as many
+    /// numbers as there are drivers. If allocation fails, nothing changes.
     pub fn take_due(&mut self, alloc: Global, time: u64) -> Result<Vec<usize>, AllocError>
         requires { earliest self.old ≡ Some time }
         ensures drivers { IfOk result (λ drivers. drivers.items ≡ due_at time self.old) }
@@ -146,7 +147,7 @@ impl TimeQueue {
     }
 }
 
-/// Takes the drivers with the least time out of the front or out of the heap.
+/// Takes the drivers with the least time from the front or from the heap.
 fn take_out(
     heap: &mut Heap,
     times: &[Option<u64>],
@@ -187,7 +188,7 @@ fn clear_each(times: &mut Vec<Option<u64>>, taken: &NumberSet)
     }
 }
 
-/// The time of the front from now on: another one only where the front is empty.
+/// The new time of the front. It changes only if the front is empty.
 fn next_time(front: &NumberSet, now: u64, time: u64) -> u64
     ensures { (result ≡ now) ⊎ ((result ≡ time) × (front.now ≡ replicate (length front.now) false)) }
 {

@@ -5,7 +5,7 @@ ghost use Rattle.sim_store_sets.specs.Words.{has, has_bit, uses, AreTops, IsNext
 
 use std::alloc::{AllocError, Global};
 
-/// The place of the least bit of a word.
+/// The position of the least bit of a word.
 fn lowest(word: u64) -> usize
     requires { 0 < word }
     ensures within { result < 64 }
@@ -28,7 +28,7 @@ fn with(word: u64, place: usize, is_set: bool) -> u64
     }
 }
 
-/// The first bit from a place on.
+/// The first bit of a word from a position on.
 fn next_bit(word: u64, from: usize) -> Option<usize>
     requires { from < 64 }
     ensures { MatchOption result (NoneFrom (has_bit word) from) (λ i. (i < 64) × IsNext (has_bit word) from i) }
@@ -40,7 +40,7 @@ fn next_bit(word: u64, from: usize) -> Option<usize>
     Some(from + lowest(rest))
 }
 
-/// Adds a number or takes it out.
+/// Adds or removes a number.
 pub fn mark(words: &mut Vec<u64>, number: usize, is_member: bool)
     requires { number / 64 < length words.old.items }
     ensures len { length words.new.items ≡ length words.old.items }
@@ -53,8 +53,8 @@ pub fn mark(words: &mut Vec<u64>, number: usize, is_member: bool)
     words[place] = word;
 }
 
-/// Adds a number or takes it out, of which it is known whether it was there. It writes nothing where
-/// that stays so.
+/// Adds or removes a number, given whether it is a member now. It writes nothing if that does not
+/// change.
 pub fn mark_other(words: &mut Vec<u64>, number: usize, was_member: bool, is_member: bool)
     requires at { number / 64 < length words.old.items }
     requires was { has words.old.items number ≡ was_member }
@@ -67,7 +67,7 @@ pub fn mark_other(words: &mut Vec<u64>, number: usize, was_member: bool, is_memb
     }
 }
 
-/// The first word in use from a place on.
+/// The first word in use from an index on.
 fn next_used(words: &[u64], from: usize) -> Option<usize>
     ensures { MatchOption result (NoneFrom (uses words.now) from) (IsNext (uses words.now) from) }
 {
@@ -81,7 +81,7 @@ fn next_used(words: &[u64], from: usize) -> Option<usize>
     None
 }
 
-/// The first number from one on, looking at one word after another.
+/// The first number from one on, by a search word by word.
 fn next_top(tops: &[u64], from: usize) -> Option<usize>
     requires { (n : ℕ) → has tops.now n ≡ true → n < 2 ^ 64 }
     ensures { MatchOption result (NoneFrom (has tops.now) from) (IsNext (has tops.now) from) }
@@ -102,8 +102,8 @@ fn next_top(tops: &[u64], from: usize) -> Option<usize>
     }
 }
 
-/// The first number from one on, where its own word has none from there on. It stands alone so that
-/// the frequent case is short.
+/// The first number from one on, if the rest of its own word has none. It is out of line to keep
+/// the frequent case short.
 #[inline(never)]
 fn next_further(words: &[u64], tops: &[u64], from: usize) -> Option<usize>
     requires fits { (n : ℕ) → has words.now n ≡ true → n < 2 ^ 64 }
@@ -120,7 +120,7 @@ fn next_further(words: &[u64], tops: &[u64], from: usize) -> Option<usize>
     }
 }
 
-/// The first number from one on, where the tops say which words are in use.
+/// The first number from one on. The tops say which words are in use.
 pub fn next_number(words: &[u64], tops: &[u64], from: usize) -> Option<usize>
     requires within { from / 64 < length words.now }
     requires fits { (n : ℕ) → has words.now n ≡ true → n < 2 ^ 64 }
@@ -143,7 +143,7 @@ pub fn zeros(alloc: Global, count: usize) -> Result<Vec<u64>, AllocError>
     Ok(words)
 }
 
-/// Clears each word that is in use, and its top; none after the last is.
+/// Clears each word in use, and its top. No word after `last` is in use.
 pub fn clear_used(words: &mut Vec<u64>, tops: &mut Vec<u64>, last: usize)
     requires room { length words.old.items ≤ 64 * length tops.old.items }
     requires tops { AreTops words.old.items tops.old.items }

@@ -1,4 +1,4 @@
--- A walk along the list of the processes that are due.
+-- A walk along the list of due processes.
 use Rattle.std.proofs.Common.{ℕ, zero, suc, ◌+◌, ◌-◌, ◌<◌, ◌≤◌, ◌≡◌, ◌≢◌, ◌&&◌, not, Bool, true, false, if◌then◌else◌, List, [], ◌∷◌, length, get_or}
 use Rattle.std.proofs.Common.{set, drop, add-one, refl, ap, sym, ◌∙◌, arith}
 use Rattle.std.proofs.Math.Decide.{dec_lt}
@@ -85,7 +85,7 @@ none-left (x ∷ xs) (suc k) le = none-left xs k (omega (arith, le))
 
 -- ---- the walk
 
--- Those at the places before one have been executed, and no others.
+-- The processes at earlier places have been executed, and no others.
 pub record IsAlong (due : List Bool) (h : Simulation) (place : ℕ) : Type 0 where
   pub from : ℕ
   pub within : from ≤ length due

@@ -19,7 +19,7 @@ use Rattle.sim_standard.specs.Histories.{records_to}
 use Rattle.sim_standard.proofs.Agreement.{records-give-values, total-few, total-more}
 use Rattle.sim_store_simulation.proofs.Going.{net-count}
 
--- a number in the list that a test covers, or else what stands beyond it
+-- a number in the list, to which a test applies, or else the value beyond its end
 get_or-all : (P : ℕ → Type 0) (xs : List ℕ) (n : ℕ) → P 0 → (n < length xs → P (get_or xs n 0)) → P (get_or xs n 0)
 get_or-all P xs n out within = go (nat_lt n (length xs)) refl
   where
@@ -49,7 +49,7 @@ totals-begin nets first records totals er et = rw (er, et) (record {
   counted = λ n lt. get_or-replicate nets n 0 0 lt;
 })
 
--- ---- one cycle more
+-- ---- one more cycle
 
 -- a later record has at most one change of each net
 pub changes-few : (nets : List NetView) → length (changes_from 0 nets) ≤ length nets

@@ -1,4 +1,4 @@
--- A simulation may go to another thread, and be shared with one.
+-- A simulation may be sent to another thread, and shared with it.
 use denote.Param.Send.{IsSend, IsSync, view_send, view_sync, sendable}
 use Rattle.std.proofs.Crossing.{crosses}
 use Rattle.sim_flat_design.proofs.Crossing.{design_send, design_sync}

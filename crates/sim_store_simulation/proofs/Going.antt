@@ -1,4 +1,4 @@
--- A simulation goes on: each step leaves what it holds that of the simulation after it.
+-- A simulation goes on: after each step it holds what belongs to the simulation then.
 use Rattle.std.proofs.Common.{ℕ, zero, suc, ◌+◌, ◌<◌, ◌≤◌, ◌≡◌, ◌≢◌, ◌==◌, ◌&&◌, ◌||◌, ◌↔◌, IsTrue, not, eqb, Bool, true, false}
 use Rattle.std.proofs.Common.{if◌then◌else◌, List, [], ◌∷◌, ◌++◌}
 use Rattle.std.proofs.Common.{length, get_or, set, map, take, drop, replicate, refl, ap, sym, ◌∙◌, subst, arith, Option, None, Some, MatchOption}
@@ -97,12 +97,12 @@ module _ {h : Simulation} {time delta : ℕ} {held : FlatState} {records : List 
   pub held-count : length held.owned ≡ length h.design.processes
   held-count = ap length i.owned_are ∙ (length-merged (those_in h.deposited) (results h) 0 (reached h).owned ∙ reached-all)
 
-  -- a process that has not been executed owns what it did after the cycle
+  -- a process that has not been executed owns what it owned after the update
   pub still-owned : (p : ℕ) → those_in h.deposited p ≡ false → owned_at held.owned p ≡ owned_at (reached h).owned p
   still-owned p out =
       ap (λ (os : List Owned). owned_at os p) i.owned_are ∙ merged-out (those_in h.deposited) (results h) 0 p p (reached h).owned (omega arith) out
 
-  -- one process more has been executed
+  -- one more process has been executed
   pub deposited-keeps : (p : ℕ) (own : Owned) (held' : FlatState) → IsResult h p own → IsReady (process_at h.design.processes p).body time own
       → held' ≡ record { sources = held.sources; nets = held.nets; owned = set held.owned p own }
       → IsStateOf (record h { deposited = set h.deposited p true }) time delta held' records due waiting
@@ -173,7 +173,7 @@ none-in [] p = refl
 none-in (b ∷ bs) zero = refl
 none-in (b ∷ bs) (suc p) = none-in bs p
 
--- so none is in a set that was emptied
+-- so no process is in a set that was emptied
 pub none-marked-now : (marks : List Bool) → replicate (length marks) false ≡ cleared marks
 none-marked-now [] = refl
 none-marked-now (b ∷ bs) = ap (λ w. false ∷ w) (none-marked-now bs)
@@ -184,7 +184,7 @@ later-resumed d k p s = let t : eqb (suc k) 0 ≡ false = grind (arith, nat_test
 module _ {h : Simulation} {time delta : ℕ} {held : FlatState} {records : List Record} {due waiting : List Bool}
     (i : IsStateOf h time delta held records due waiting)
     (all : IsComplete h) where
-  -- once all that are due have been executed, what is owned is what the phase leaves
+  -- once all due processes have been executed, processes own what the phase leaves
   pub phase-complete : held.owned ≡ (phase_end h.phase h.design h.cycles (updated_last h)).owned
   phase-complete =
       i.owned_are ∙ merged-below (those_in h.deposited) (is_due h) (results h) 0 (reached h).owned
@@ -193,11 +193,11 @@ module _ {h : Simulation} {time delta : ℕ} {held : FlatState} {records : List 
   pub next-is : next_time (waves held.owned) ≡ next_cycle_time (phase_end h.phase h.design h.cycles (updated_last h))
   next-is = ap (λ (os : List Owned). next_time (waves os)) phase-complete
 
--- so where postponed processes come next, their phase begins
+-- so if postponed processes come next, their phase begins
 module _ {h : Simulation} {time delta : ℕ} {held : FlatState} {records : List Record} {due waiting : List Bool}
     (i : IsStateOf h time delta held records due waiting) (all : IsComplete h) (first : h.phase ≡ phase.AtOnce)
     (next : ArePostponedNext h.design h.cycles (updated_last h)) where
-  -- who has been executed was due at once
+  -- a process that has been executed was due at once
   first-marks : (p : ℕ) → p < length h.design.processes → those_in h.deposited p ≡ is_at_once h.design h.cycles (updated_last h) p
   first-marks p lt =
       both (those_in h.deposited p) (is_due h p) (i.ran p) (all p lt)
@@ -251,7 +251,7 @@ module _ {h : Simulation} {time delta : ℕ} {held : FlatState} {records : List 
 
 module _ {h : Simulation} {time delta : ℕ} {held : FlatState} {records : List Record} {due waiting : List Bool}
     (i : IsStateOf h time delta held records due waiting) (done : IsExecuted h) where
-  -- once all of the cycle have been executed, the state is that of the cycle's end
+  -- once all processes of the cycle have been executed, the state is that at the end of the cycle
   present-complete : held.owned ≡ (executed_together h.design h.cycles (updated_last h)).owned
   present-complete =
       phase-complete i done.complete
@@ -296,7 +296,7 @@ module _ {h : Simulation} {time delta : ℕ} {held : FlatState} {records : List 
         owned = (executed_together h.design h.cycles (updated_last h)).owned;
       }) (sym (executed_nets h.design h.cycles (updated_last h)))))
 
-  -- the nets after the cycle are as many
+  -- there are as many nets after the cycle
   pub advanced-count : (t : ℕ) (held' : FlatState)
       → ((design : Design) (s : State) → held ≡ flat_state_of design s → held' ≡ flat_state_of design (updated design s t))
       → length held'.nets ≡ length h.design.nets
@@ -362,7 +362,7 @@ module _ {h : Simulation} {time delta : ℕ} {held : FlatState} {records : List 
         ready = λ m lt. rw (none-in h.deposited m) (ready m lt o);
       })
     where
-      -- those that are sensitive to a net with an event are resumed
+      -- the processes sensitive to a net with an event resume
       resumed_now : (m : ℕ) → held'.nets ≡ (state_of h.design (suc h.cycles)).nets
           → has_event_in held'.nets (process_at h.design.processes m).sensitivity ≡ is_resumed h.design (suc h.cycles) (state_of h.design (suc h.cycles)) m
       resumed_now m n =
@@ -373,7 +373,7 @@ module _ {h : Simulation} {time delta : ℕ} {held : FlatState} {records : List 
       left_of true c e = refl
       left_of false c e = absurd (cc e)
 
-      -- who still waits is postponed
+      -- a process that still waits is postponed
       left_postponed : (f : Phase) (m : ℕ) → is_left f (is_waiting h.design h.cycles (updated_last h) m) ≡ true → is_postponed h.design m ≡ true
       left_postponed phase.AtOnce m e = left_of (is_postponed h.design m) _ e
       left_postponed phase.Postponed m e = absurd (cc e)
@@ -409,7 +409,7 @@ module _ {h : Simulation} {time delta : ℕ} {held : FlatState} {records : List 
       let o : own ≡ owned_at (reached h).owned p = eo ∙ still-owned i p out in
       rw (v, o, i.time_is) refl
 
-  -- what its execution in place leaves is its result
+  -- an execution in place leaves the result of the process
   pub executed-result : (p : ℕ) → p < length h.design.processes → is_due h p ≡ true → those_in h.deposited p ≡ false
       → IsResult h p (executed (λ object. net_at held.nets (object_net (process_at h.design.processes p) object)) time
       (process_at h.design.processes p).body.statements (owned_at held.owned p))
@@ -451,7 +451,7 @@ module _ {h : Simulation} {time delta : ℕ} {held : FlatState} {records : List 
       go true is = is
       go false is = ready-sooner (process_at h.design.processes p).body time (owned_at held.owned p) is
 
-  -- an execution in place keeps what is held that of the simulation
+  -- after an execution in place, what is held is still that of the simulation
   pub executed-keeps : (process : Process) (held' : FlatState) → process ≡ process_at h.design.processes p → is_due h p ≡ true
       → held' ≡ record {
         sources = held.sources;
@@ -518,7 +518,7 @@ module _ {h : Simulation} {time delta : ℕ} {held : FlatState} {records : List 
   own-ready f = subst (λ (n : ℕ). IsReady (process_at h.design.processes job.number).body n (result_of job)) own-time
       (subst (λ (q : Process). IsReady q.body job.time (result_of job)) o.process f)
 
-  -- what stands in the place of what the process owned is its result
+  -- what replaces what the process owned is its result
   pub kept-result : those_in h.deposited job.number ≡ false → (kept : Option Owned)
       → MatchOption kept (result_of job ≡ job.owned) (λ r. r ≡ result_of job) → kept_or (owned_at held.owned job.number) kept ≡ result_of job
   kept-result out None e = sym (own-owned out) ∙ sym e
@@ -636,9 +636,9 @@ begins d k held records due waiting deposited few are all e₀ e er eu ep =
           pending = All-map (λ (w : Waveform). RisesFrom 1 w.pending) (λ (x : DriverOf). idle x.first) _ (λ j x l. tt);
         })
 
--- ---- who is missing
+-- ---- missing processes
 
--- Where none is missing, all that are due have been executed.
+-- If none is missing, all due processes have been executed.
 pub complete-where-none : (h : Simulation) → ((p : ℕ) → p < length h.design.processes → IsMissing h p → ⊥) → IsComplete h
 complete-where-none h none p lt resumed = go (those_in h.deposited p) refl
   where
@@ -646,25 +646,25 @@ complete-where-none h none p lt resumed = go (those_in h.deposited p) refl
     go true e = e
     go false e = absurd (none p lt (record { due = record { number = lt; resumed = resumed }; fresh = e }))
 
--- ---- who waits
+-- ---- waiting processes
 
 module _ {h : Simulation} {time delta : ℕ} {held : FlatState} {records : List Record} {due waiting : List Bool}
     (i : IsStateOf h time delta held records due waiting) where
-  -- where none is marked, none waits
+  -- if none is marked, none waits
   pub none-waiting : ((p : ℕ) → those_in waiting p ≡ false) → waiting_now h.design h.cycles (updated_last h) ≡ []
   none-waiting none =
       those-same (is_waiting h.design h.cycles (updated_last h)) (λ p. false) 0 (length h.design.processes)
       (λ p ge lt. sym (i.waiting_are p (omega (arith, lt))) ∙ none p)
       ∙ those-none (λ p. false) 0 (length h.design.processes) (λ p. refl)
 
-  -- where none waits, none is marked
+  -- if none waits, none is marked
   pub waiting-none : waiting_now h.design h.cycles (updated_last h) ≡ [] → (p : ℕ) → those_in waiting p ≡ false
   waiting-none e p = elim (dec_lt p (length h.design.processes)) [
     | yes l ↦ i.waiting_are p l ∙ none-waits h.design i.processes h.cycles (updated_last h) (updated-all i) e p l
     | no l ↦ get_or_past waiting p false (omega (arith, l, i.waiting_sized))
   ]
 
-  -- what comes after a phase, by what is asked of the lists
+  -- what comes after a phase, by what the lists say
   pub coming : IsComplete h → (next : Option ℕ) (is_delta is_empty : Bool) → next ≡ next_time (waves held.owned)
       → is_delta ≡ (not (h.cycles == 0) && is_time_of (updated_last h) next) → IsTrue is_empty ↔ ((p : ℕ) → those_in waiting p ≡ false)
       → IsUpcoming h (upcoming_of h.phase is_delta (not is_empty) next)

@@ -1,4 +1,4 @@
--- The numbers of those that are marked, one after another.
+-- The numbers of the marked processes, one after another.
 use Rattle.std.proofs.Common.{ℕ, zero, suc, ◌+◌, ◌<◌, ◌≤◌, ◌≡◌, Bool, true, false, if◌then◌else◌, cond, List, ◌∷◌, length, refl, ap, subst, arith}
 use Rattle.std.specs.List.{filter, range_with_len}
 use Rattle.sim_store_sets.specs.Numbers.{is_in, members}
@@ -30,7 +30,7 @@ ranged f i (suc n) =
 pub members-listed : (set : List Bool) → members set ≡ listed set
 members-listed set = ranged (is_in set) 0 (length set)
 
--- There are no more of them than numbers that are asked.
+-- There are no more of them than numbers tested.
 pub those-few : (f : ℕ → Bool) (i n : ℕ) → length (those f i n) ≤ n
 unfolding those
 those-few f i zero = omega arith

@@ -1,4 +1,4 @@
--- The two phases of a cycle: what the one that is the last leaves is what the cycle leaves, and what comes after a phase.
+-- The two phases of a cycle: the last one leaves what the cycle leaves, and what comes after a phase.
 use Rattle.std.proofs.Common.{ℕ, ◌<◌, ◌≡◌, ◌≢◌, ◌==◌, ◌&&◌, ◌||◌, not, Bool, true, false, if◌then◌else◌, List, [], ◌∷◌, length}
 use Rattle.std.proofs.Common.{Option, None, Some, refl, ap, sym, ◌∙◌, subst, arith}
 use Rattle.std.specs.List.{All}
@@ -21,7 +21,7 @@ use Rattle.sim_store_simulation.specs.Simulation.{next_after, owned_before, upco
 abbrev pub phase_end : Phase → Design → ℕ → State → State
 phase_end f d k s = together d.processes (is_of_phase f d k s) (record s { owned = owned_before f d k s })
 
--- whoever is due has not been executed in this cycle
+-- a due process has not been executed in this cycle
 pub not-before : (f : Phase) (d : Design) (k : ℕ) (s : State) (p : ℕ) → is_of_phase f d k s p ≡ true → is_before f d k s p ≡ false
 not-before phase.AtOnce d k s p e = refl
 not-before phase.Postponed d k s p e = go (is_postponed d p) (is_resumed d k s p) (is_resumed d k s p || is_among s.waiting p) e
@@ -38,7 +38,7 @@ before-all phase.Postponed d k s len =
     length-merged (is_at_once d k s) (λ p. outcome (process_at d.processes p) (part (process_at d.processes p) p s)) 0 s.owned ∙ len
 
 module _ (d : Design) (is : All IsProcess d.processes) (k : ℕ) (s : State) (len : length s.owned ≡ length d.processes) where
-  -- who waits, by the list of those that wait
+  -- which processes wait, by the list of those that do
   waits : (p : ℕ) → p < length d.processes → is_among (waiting_now d k s) p ≡ is_waiting d k s p
   waits p lt = those-in (is_waiting d k s) 0 (length d.processes) p (omega arith) (omega (arith, lt))
 
@@ -48,7 +48,7 @@ module _ (d : Design) (is : All IsProcess d.processes) (k : ℕ) (s : State) (le
   settled-together : precedes_delta k (first_in_turn d k s) ≡ precedes_delta k (first_together d k s)
   settled-together = ap (precedes_delta k) (first_is_together d is k s len)
 
-  -- where none waits, executing those that wait changes nothing
+  -- if none waits, executing those that wait changes nothing
   none-executed : waiting_now d k s ≡ [] → (together d.processes (is_waiting d k s) (first_together d k s)).owned ≡ (first_together d k s).owned
   none-executed e =
       let x = first_together d k s in
@@ -78,7 +78,7 @@ module _ (d : Design) (is : All IsProcess d.processes) (k : ℕ) (s : State) (le
       go false e [] q = sym (ap (λ (y : State). y.owned) (left-is false e) ∙ none-executed q)
       go false e (p ∷ ps) q = absurd (l (record { settled = settled-together ∙ e; some = λ n. absurd (cc (sym q ∙ n)) }))
 
-  -- and who waits at its end waited and has not been executed
+  -- and a process that waits at its end waited before and has not been executed
   pub last-waiting : (f : Phase) → IsPhase f d k s → IsLastPhase f d k s → (p : ℕ) → p < length d.processes
       → is_among (executed_together d k s).waiting p ≡ is_left f (is_waiting d k s p)
   last-waiting phase.Postponed a l p lt =
@@ -114,7 +114,7 @@ module _ (d : Design) (is : All IsProcess d.processes) (k : ℕ) (s : State) (le
   delta-first : (next : Option ℕ) → next_cycle_time (first_together d k s) ≡ next → precedes_delta k (first_in_turn d k s) ≡ (not (k == 0) && is_time_of s next)
   delta-first next e = settled-together ∙ ap (λ (o : Option ℕ). not (k == 0) && is_time_of s o) e
 
-  -- a cycle follows, or none, where no postponed process makes a delta cycle follow
+  -- a cycle follows, or none, if no postponed process causes a delta cycle
   follows : (f : Phase) → IsPhase f d k s → IsLastPhase f d k s → (next : Option ℕ) → next_cycle_time (phase_end f d k s) ≡ next
       → has_postponed_delta d k s ≡ false → following d k s ≡ following_of next
   follows f a l next e none = rw none (ap following_of (last-next f a l ∙ e))

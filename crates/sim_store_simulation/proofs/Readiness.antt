@@ -1,4 +1,4 @@
--- After a cycle at the least pending time all that is pending is later.
+-- After a cycle at the least pending time, all pending transactions are later.
 use Rattle.std.proofs.Common.{ℕ, suc, ◌<◌, ◌≤◌, ◌≡◌, Bool, true, false, if◌then◌else◌, List, [], ◌∷◌, ◌++◌, map, eqb, ◌==◌, Some, append_assoc, length}
 use Rattle.std.proofs.Common.{refl, ap, sym, ◌∙◌, subst, arith, eqb-true, zero}
 use Rattle.std.specs.List.{All}
@@ -12,7 +12,7 @@ use Rattle.sim_exec.specs.Jobs.{IsReady}
 use Rattle.sim_standard.specs.Cycle.{own_taken}
 use Rattle.sim_store_state.proofs.Times.{next_is_least}
 
--- each of these times is this or later
+-- none of these times is earlier than this one
 abbrev pub AllFrom : ℕ → List ℕ → Type 0
 AllFrom t [] = Unit {0}
 AllFrom t (x ∷ xs) = (t ≤ x) × AllFrom t xs
@@ -33,7 +33,7 @@ rest t (x ∷ xs) ys h = rest t xs ys h.1
 least_from : (t : ℕ) (ds : List Waveform) → next_time ds ≡ Some t → AllFrom t (pending_times ds)
 least_from t ds e = let least = subst (IsNext ds) e (next_is_least ds) in each_from t (pending_times ds) least.1
 
--- what rises, and has no time before one, is later than it once it was taken
+-- if pending times rise and none is below this one, all are later after a transaction of this time is taken
 taken_later : (low t : ℕ) (d : Waveform) (xs : List Transaction) → d.pending ≡ xs → RisesFrom low xs → AllFrom t (map (λ (x : Transaction). x.0) xs)
     → RisesFrom (suc t) (taken t d).pending
 taken_later low t d [] e r f = let none : (taken t d).pending ≡ [] = rw e refl in rw none tt
@@ -61,7 +61,7 @@ drivers_later low t (d ∷ ds) r f =
     (taken_later low t d d.pending refl (All-head (λ (w : Waveform). RisesFrom low w.pending) d ds r) (front t own (pending_times ds) f))
     (drivers_later low t ds (All-tail (λ (w : Waveform). RisesFrom low w.pending) d ds r) (rest t own (pending_times ds) f))
 
--- what a process owns fits it after the cycle, and all that is pending is later
+-- what a process owns fits it after the cycle, and all pending transactions are later
 pub taken_ready : (body : Body) (low t : ℕ) (own : Owned) → IsReady body low own → AllFrom t (pending_times own.drivers)
     → IsReady body (suc t) (own_taken t own)
 taken_ready body low t own is f = record {

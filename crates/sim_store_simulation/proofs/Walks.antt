@@ -1,4 +1,4 @@
--- A walk over the processes that are due: those that it has passed are missing no more.
+-- A walk over the due processes: those that it has passed are no longer missing.
 use Rattle.std.proofs.Common.{ℕ, ◌+◌, ◌<◌, ◌≡◌, ◌≢◌, ◌&&◌, eqb, not, Bool, true, false, List, length, refl, sym, ◌∙◌, subst, arith}
 use Rattle.std.proofs.Common.{Option, None, Some, MatchOption}
 use Rattle.std.proofs.Math.Decide.{dec_lt}
@@ -29,18 +29,18 @@ none-passed h = record { none = λ p lt m. omega (arith, lt) }
 
 module _ {h : Simulation} {time delta : ℕ} {held : FlatState} {records : List Record} {due waiting : List Bool}
     (i : IsStateOf h time delta held records due waiting) where
-  -- one that is due is one of the design
+  -- a due process is one of the design
   pub due-within : (p : ℕ) → those_in due p ≡ true → p < length h.design.processes
   due-within p e = omega (arith, member_within due p e, i.due_sized)
 
   marked : (p : ℕ) → IsMissing h p → those_in due p ≡ true
   marked p m = i.due_are p m.due.number ∙ m.due.resumed
 
-  -- one that is missing is due and not among those that have been executed
+  -- a missing process is due and has not been executed
   beside : (p : ℕ) → IsMissing h p → is_beside due h.deposited p ≡ true
   beside p m = rw (marked p m, m.fresh) refl
 
-  -- none before the next one that is so is missing
+  -- no process before the next such one is missing
   pub none-between : (from n : ℕ) → Passed h from → IsNext (is_beside due h.deposited) from n → Passed h n
   none-between from n w next = record {
     none = λ p lt m. elim (dec_lt p from) [
@@ -49,14 +49,14 @@ module _ {h : Simulation} {time delta : ℕ} {held : FlatState} {records : List 
     ];
   }
 
-  -- where no further one is so, none is missing
+  -- if there is no further such one, none is missing
   pub none-missing : (from : ℕ) → Passed h from → NoneFrom (is_beside due h.deposited) from → IsComplete h
   none-missing from w none = complete-where-none h (λ p lt m. elim (dec_lt p from) [
     | yes l ↦ w.none p l m
     | no l ↦ not_both (is_beside due h.deposited p) (none p (omega arith)) (beside p m)
   ])
 
-  -- the first one that is so is the least that is missing
+  -- the first such one is the least missing
   pub least-missing : (o : Option ℕ) → MatchOption o (NoneFrom (is_beside due h.deposited) 0) (IsNext (is_beside due h.deposited) 0)
       → MatchOption o (IsComplete h) (IsLeastMissing h)
   least-missing None none = none-missing 0 (none-passed h) none
@@ -71,7 +71,7 @@ module _ {h : Simulation} {time delta : ℕ} {held : FlatState} {records : List 
         least = λ q before m. (none-between 0 n (none-passed h) next).none q before m;
       }
 
--- one more is passed that is not missing
+-- the walk passes one more that is not missing
 pub one-passed : {h h' : Simulation} (n : ℕ) → Passed h n → ((p : ℕ) → IsMissing h' p → IsMissing h p) → (IsMissing h' n → ⊥) → Passed h' (n + 1)
 one-passed {h} {h'} n w others gone = record { none = λ p lt m. go p lt m (eqb p n) refl }
   where

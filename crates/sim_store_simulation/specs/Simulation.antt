@@ -1,5 +1,5 @@
 -- How far a simulation has come (IEEE 1076-2008, 14.7.5).
--- Of the implementation: what `simulate` promises does not rest on this file.
+-- Implementation only: what `simulate` promises does not rest on this file.
 use Rattle.std.specs.Prelude.{ℕ, suc, ◌≡◌, ◌≢◌, ◌<◌, ◌≤◌, ◌&&◌, ◌||◌, not, List, [], ◌∷◌, Bool, true, false, if◌then◌else◌, Option, None, Some, map, length}
 use Rattle.std.specs.Prelude.{replicate, slice_index_or, slice_set}
 use Rattle.std.specs.List.{All}
@@ -25,7 +25,7 @@ use Rattle.sim_store_simulation.specs.declared.phase.Phase.TheVariants as phase
 use Rattle.sim_store_simulation.specs.declared.phase.Upcoming.{Upcoming}
 use Rattle.sim_store_simulation.specs.declared.phase.Upcoming.TheVariants as upcoming
 
--- A simulation of a design, after a number of cycles, in a phase of the execution that follows, in which these processes have been executed. All else
+-- A simulation of a design, after a number of cycles, in a phase of the last one (or of the initialization), with these processes executed in it. All else
 -- follows.
 pub record Simulation : Type 0 where
   pub design : Design
@@ -37,7 +37,7 @@ pub record Simulation : Type 0 where
 abbrev pub those_in : List Bool → ℕ → Bool
 those_in marks p = slice_index_or marks p false
 
--- the state that the update of the last cycle left
+-- the state after the update of the last cycle
 abbrev pub updated_last : Simulation → State
 updated_last h = state_of h.design h.cycles
 
@@ -46,15 +46,15 @@ abbrev pub owned_before : Phase → Design → ℕ → State → List Owned
 owned_before phase.AtOnce design cycles s = s.owned
 owned_before phase.Postponed design cycles s = (first_together design cycles s).owned
 
--- the state in which this phase began
+-- the state at the beginning of this phase
 abbrev pub reached : Simulation → State
 reached h = record (updated_last h) { owned = owned_before h.phase h.design h.cycles (updated_last h) }
 
--- the numbers of those that are marked, rising
+-- the numbers of the marked processes, rising
 abbrev pub listed : List Bool → List ℕ
 listed marks = those (those_in marks) 0 (length marks)
 
--- whether a phase executes a process: the first those that are resumed and not postponed, the other the postponed ones that wait (14.7.5.3 f, h)
+-- whether a phase executes a process: the first those that resumed and are not postponed, the second the postponed ones that wait (14.7.5.3 f.3, h.4)
 abbrev pub is_of_phase : Phase → Design → ℕ → State → ℕ → Bool
 is_of_phase phase.AtOnce design cycles s p = is_at_once design cycles s p
 is_of_phase phase.Postponed design cycles s p = is_waiting design cycles s p
@@ -72,7 +72,7 @@ pub record ArePostponedNext (design : Design) (cycles : ℕ) (s : State) : Type 
   pub settled : precedes_delta cycles (first_in_turn design cycles s) ≡ false
   pub some : waiting_now design cycles s ≢ []
 
--- A phase of postponed processes is there because some wait and no delta cycle follows.
+-- A phase of postponed processes comes only if some wait and no delta cycle follows.
 abbrev pub IsPhase : Phase → Design → ℕ → State → Type 0
 IsPhase phase.AtOnce design cycles s = Unit {0}
 IsPhase phase.Postponed design cycles s = ArePostponedNext design cycles s
@@ -82,26 +82,26 @@ abbrev pub IsLastPhase : Phase → Design → ℕ → State → Type 0
 IsLastPhase phase.AtOnce design cycles s = ArePostponedNext design cycles s → ⊥
 IsLastPhase phase.Postponed design cycles s = Unit {0}
 
--- the state now: the processes that have been executed own their results
+-- the state now: the executed processes own their results
 abbrev pub present : Simulation → State
 present h = together h.design.processes (those_in h.deposited) (reached h)
 
--- whether a process was executed in this cycle before a phase began
+-- whether a process has been executed in this cycle before a phase begins
 abbrev pub is_before : Phase → Design → ℕ → State → ℕ → Bool
 is_before phase.AtOnce design cycles s p = false
 is_before phase.Postponed design cycles s p = is_at_once design cycles s p
 
--- from when on transactions of a process are pending: one that has been executed may have some at the time itself
+-- from when on a process may have pending transactions: one that has been executed may have some at the present time
 abbrev pub pending_from : Simulation → ℕ → ℕ → ℕ
 pending_from h time p = if those_in h.deposited p || is_before h.phase h.design h.cycles (updated_last h) p then time else suc time
 
--- The waveform of each driver rises strictly, also where its process has been executed since the last cycle: what is pending is later than that cycle, or not
--- earlier where the process has been executed. What each process owns fits its body (IEEE 1076-2008, 10.5.2.2).
+-- The waveform of each driver rises strictly, in the middle of a cycle too: pending times are later than the last cycle or, if the process has been executed
+-- since, not earlier. What each process owns fits its body (IEEE 1076-2008, 10.5.2.2).
 abbrev pub AreRising : Simulation → Type 0
 AreRising h = (p : ℕ) → p < length h.design.processes
     → IsReady (process_at h.design.processes p).body (pending_from h (reached h).time p) (owned_at (present h).owned p)
 
--- What is held is that of the simulation.
+-- This is what the simulation holds.
 pub record IsStateOf (h : Simulation) (time delta : ℕ) (held : FlatState) (records : List Record) (due waiting : List Bool) : Type 0 where
   pub there : standard h.design h.cycles ≡ Some (updated_last h)
   pub phased : IsPhase h.phase h.design h.cycles (updated_last h)
@@ -131,31 +131,31 @@ cleared marks = map (λ (b : Bool). false) marks
 abbrev pub IsComplete : Simulation → Type 0
 IsComplete h = (p : ℕ) → p < length h.design.processes → is_due h p ≡ true → those_in h.deposited p ≡ true
 
--- All that are executed in this cycle have been.
+-- All processes of this cycle have been executed.
 pub record IsExecuted (h : Simulation) : Type 0 where
   pub complete : IsComplete h
   pub last : IsLastPhase h.phase h.design h.cycles (updated_last h)
 
--- whether a process that waited in a phase still does at its end
+-- whether a process that waited in a phase still waits at its end
 abbrev pub is_left : Phase → Bool → Bool
 is_left phase.AtOnce waits = waits
 is_left phase.Postponed waits = false
 
--- after one cycle more
+-- the simulation after one more cycle
 abbrev pub after : Simulation → Simulation
 after h = record { design = h.design; cycles = suc h.cycles; phase = phase.AtOnce; deposited = cleared h.deposited }
 
--- in the phase of postponed processes
+-- the simulation in the phase of postponed processes
 abbrev pub in_postponed_phase : Simulation → Simulation
 in_postponed_phase h = record { design = h.design; cycles = h.cycles; phase = phase.Postponed; deposited = cleared h.deposited }
 
--- This is the result of a process that is due and has not been executed, from its part of the state.
+-- This is the result of a due process that has not been executed, from its part of the state.
 pub record IsResult (h : Simulation) (p : ℕ) (own : Owned) : Type 0 where
   pub number : p < length h.design.processes
   pub resumed : is_due h p ≡ true
   pub result : own ≡ outcome (process_at h.design.processes p) (part (process_at h.design.processes p) p (reached h))
 
--- What is compiled is of the design: for each net the processes that are sensitive to it, and for each process its code.
+-- What is compiled belongs to the design: for each net the processes sensitive to it, and for each process its code.
 pub record AreCompiled (design : Design) (sensitive : List (List ℕ)) (codes : Coded) (frame : ℕ) : Type 0 where
   pub sensitive_sized : length sensitive ≡ length design.nets
   pub sensitive_are : AreSensitive design.processes sensitive
@@ -167,20 +167,19 @@ pub record ArePostponed (design : Design) (postponed : List Bool) : Type 0 where
   pub sized : length postponed ≡ length design.processes
   pub are : (p : ℕ) → p < length design.processes → those_in postponed p ≡ is_postponed design p
 
--- The totals are one for each net: how many changes it has in the records after the first.
+-- There is one total for each net: its number of changes in the records after the first.
 pub record AreTotals (nets : ℕ) (records : List Record) (totals : List ℕ) : Type 0 where
   pub sized : length totals ≡ nets
   pub counted : (n : ℕ) → n < nets → slice_index_or totals n 0 ≡ total_of records n
 
--- Of those that are resumed at first, these are due and these wait.
+-- At first all processes resume: these are due, and these wait.
 pub record AreParted (design : Design) (due waiting : List Bool) : Type 0 where
   pub due_sized : length due ≡ length design.processes
   pub waiting_sized : length waiting ≡ length design.processes
   pub due_are : (p : ℕ) → p < length design.processes → those_in due p ≡ not (is_postponed design p)
   pub waiting_are : (p : ℕ) → p < length design.processes → those_in waiting p ≡ is_postponed design p
 
--- What a simulation holds at first: what is compiled, its first state with its record, that each process is due or waits and none has been executed, and that
--- no net had an event.
+-- What a simulation holds at first: what is compiled, the first state with its record, each process due or waiting and none executed, and no events of any net.
 pub record IsPrepared (design : Design) (sensitive : List (List ℕ)) (codes : Coded) (frame : ℕ) (held : FlatState) (records : List Record)
     (due deposited : List Bool) (postponed waiting : List Bool) (totals : List ℕ) : Type 0 where
   pub compiled : AreCompiled design sensitive codes frame
@@ -191,7 +190,7 @@ pub record IsPrepared (design : Design) (sensitive : List (List ℕ)) (codes : C
   pub deposited_is : deposited ≡ replicate (length design.processes) false
   pub totals_is : totals ≡ replicate (length design.nets) 0
 
--- What a simulation holds: what was compiled, the state, records and marks, and the totals of its nets.
+-- What a simulation holds: what was compiled, the state, records and marks, and the totals of nets.
 pub record IsSimulation (h : Simulation) (sensitive : List (List ℕ)) (codes : Coded) (frame : ℕ) (time delta : ℕ) (held : FlatState)
     (records : List Record) (due postponed waiting : List Bool) (totals : List ℕ) : Type 0 where
   pub compiled : AreCompiled h.design sensitive codes frame
@@ -204,29 +203,29 @@ pub record IsOwn (h : Simulation) (job : Job) : Type 0 where
   pub process : job.process ≡ process_at h.design.processes job.number
   pub shows : scene job ≡ part (process_at h.design.processes job.number) job.number (reached h)
 
--- The job is the one of this process since the last cycle.
+-- This is the job of this process in this phase.
 pub record IsJobOf (h : Simulation) (p : ℕ) (job : Job) : Type 0 where
   pub cycle : job.cycle ≡ h.cycles
   pub number : job.number ≡ p
   pub own : IsOwn h job
 
--- what follows, once all that are executed in this cycle have been
+-- what follows the cycle, once all its processes have been executed
 abbrev pub next_after : Simulation → Following
 next_after h = following h.design h.cycles (updated_last h)
 
--- What comes once all processes of a phase have been executed: the phase of postponed processes, or what follows the cycle.
+-- What comes after all processes of a phase have been executed: the phase of postponed processes, or what follows the cycle.
 abbrev pub IsUpcoming : Simulation → Upcoming → Type 0
 IsUpcoming h upcoming.Postponed = (h.phase ≡ phase.AtOnce) × ArePostponedNext h.design h.cycles (updated_last h)
 IsUpcoming h upcoming.PostponedDelta = IsLastPhase h.phase h.design h.cycles (updated_last h) × (next_after h ≡ PostponedDelta)
 IsUpcoming h upcoming.Nothing = IsLastPhase h.phase h.design h.cycles (updated_last h) × (next_after h ≡ NothingPending)
 IsUpcoming h (upcoming.Cycle time) = IsLastPhase h.phase h.design h.cycles (updated_last h) × (next_after h ≡ CycleAt time)
 
--- the cycle at this time, or none
+-- a cycle at this time, if there is one
 abbrev pub cycle_of : Option ℕ → Upcoming
 cycle_of None = upcoming.Nothing
 cycle_of (Some time) = upcoming.Cycle time
 
--- what comes, by the phase, whether a delta cycle would follow now, whether a process waits, and the first pending time
+-- what comes after a phase, given whether a delta cycle would follow, whether a process waits, and the first pending time
 abbrev pub upcoming_of : Phase → Bool → Bool → Option ℕ → Upcoming
 upcoming_of phase.AtOnce is_delta is_waited next = if not is_delta && is_waited then upcoming.Postponed else cycle_of next
 upcoming_of phase.Postponed is_delta is_waited next = if is_delta then upcoming.PostponedDelta else cycle_of next
@@ -236,25 +235,25 @@ pub record IsDue (h : Simulation) (p : ℕ) : Type 0 where
   pub number : p < length h.design.processes
   pub resumed : is_due h p ≡ true
 
--- This phase executes this process, and it has not been executed.
+-- This phase executes this process, and has not done so yet.
 pub record IsMissing (h : Simulation) (p : ℕ) : Type 0 where
   pub due : IsDue h p
   pub fresh : those_in h.deposited p ≡ false
 
--- It is the least of those.
+-- It is the least such process.
 pub record IsLeastMissing (h : Simulation) (p : ℕ) : Type 0 where
   pub missing : IsMissing h p
   pub least : (q : ℕ) → q < p → IsMissing h q → ⊥
 
--- what a process owns now: what was kept, or else what it owned
+-- what a process owns: its results if there are any, else what it owned
 abbrev pub kept_or : Owned → Option Owned → Owned
 kept_or own None = own
 kept_or own (Some results) = results
 
--- a simulation in which these processes have been executed since the last cycle
+-- a simulation with these processes executed in this phase
 abbrev pub with_marks : Simulation → List Bool → Simulation
 with_marks h marks = record { design = h.design; cycles = h.cycles; phase = h.phase; deposited = marks }
 
--- a simulation in which one process more has been
+-- a simulation with one more process executed
 abbrev pub with_one : Simulation → ℕ → Simulation
 with_one h p = with_marks h (slice_set h.deposited p true)

@@ -18,14 +18,14 @@ use sim_store_state::{Log, find_resumed};
 use std::alloc::{AllocError, Global};
 use std::marker::Model;
 
-/// Which processes the last cycle resumed, as a set and by their numbers. The contracts see for
-/// each process whether it is one.
+/// Which processes are due, as a set and by number. Contracts see for each process whether it is
+/// due.
 pub struct Due {
     set: NumberSet,
     numbers: Vec<usize>,
 }
 
-/// By hand, so that crates which drop one need no proof of what is in it.
+/// Written by hand so that code which drops it needs no proof about its contents.
 impl Drop for Due {
     fn drop(self) {
         let Due { set, numbers } = self;
@@ -46,7 +46,7 @@ impl Model for Due {
 }
 
 impl Due {
-    /// All of this number of processes, but for the postponed ones, which wait.
+    /// All of this number of processes except the postponed ones, which wait (14.7.5.2).
     pub fn first(alloc: Global, count: usize, waiting: &mut Waiting) -> Result<Due, AllocError>
         requires { length waiting.old.postponed ≡ count }
         ensures postponed { waiting.new.postponed ≡ waiting.old.postponed }
@@ -70,14 +70,14 @@ impl Due {
         self.set.contains(number)
     }
 
-    /// The first from a number on that is due.
+    /// The first due process from a number on.
     pub fn next(&self, from: usize) -> Option<usize>
         ensures { MatchOption result (NoneFrom (those_in self.now) from) (IsNext (those_in self.now) from) }
     {
         self.set.next(from)
     }
 
-    /// The first from a number on that is due and is not among others.
+    /// The first due process from a number on that is not in another set.
     pub fn next_beside(&self, others: &NumberSet, from: usize) -> Option<usize>
         ensures value { MatchOption result (NoneFrom (is_beside self.now others.now) from) (IsNext (is_beside self.now others.now) from) }
         ensures bound { IfSome result (λ n. n + 1 < 2 ^ 64) }
@@ -85,7 +85,7 @@ impl Due {
         self.set.next_beside(others, from)
     }
 
-    /// Gives a set those that are due as its members. It takes no memory.
+    /// Makes the due processes the members of a set. It takes no memory.
     pub fn copy_to(&self, set: &mut NumberSet)
         requires { length self.now ≡ length set.old }
         ensures sized { length set.new ≡ length set.old }
@@ -94,15 +94,15 @@ impl Due {
         set.copy_from(&self.set);
     }
 
-    /// The numbers of those that are due, rising.
+    /// The numbers of the due processes, rising.
     pub fn numbers(&self) -> &[usize]
         ensures { result.now ≡ listed self.now }
     {
         self.numbers.as_slice()
     }
 
-    /// Finds those that are due after the cycle of the last record: those that are sensitive to a net
-    /// with an event, but for the postponed ones, which wait. It takes no memory.
+    /// Finds the processes due in the cycle of the last record: those sensitive to a net with
+    /// an event, except the postponed ones, which wait (14.7.5.3 f.2). It takes no memory.
     pub fn find(&mut self, log: &Log, sensitive: &RowArray<usize>, waiting: &mut Waiting)
         requires begun { 0 < length log.now.records }
         requires processes { length waiting.old.postponed ≡ length self.old }
@@ -119,13 +119,14 @@ impl Due {
             → those_in waiting.new.waiting p ≡ (those_in waiting.old.waiting p
             || (has_event_in nets (process_at processes p).sensitivity && those_in waiting.old.postponed p)) }
     {
+        // f.2) Processes resume; the postponed ones wait for h.4.
         find_resumed(&mut self.set, log.changes(log.len() - 1), sensitive);
         waiting.set_aside(&mut self.set);
         self.set.arrange();
         self.set.list(&mut self.numbers);
     }
 
-    /// Those that wait are due, and no others. It takes no memory.
+    /// Makes the waiting processes due, and no others. It takes no memory.
     pub fn take(&mut self, waiting: &Waiting)
         requires { length waiting.now.waiting ≡ length self.old }
         ensures sized { length self.new ≡ length self.old }

@@ -8,7 +8,7 @@ use sim_store_state::{Log, Record};
 use sqlite_items::Items;
 use std::alloc::{AllocError, Global};
 
-/// Changes, with nets by their number.
+/// Changes, with each net by its number.
 fn changes(alloc: Global, changes: &[(u32, Logic)]) -> Result<Vec<(usize, Logic)>, AllocError>
     ensures { IfOk result (λ v. v.items ≡ changes.now) }
 {

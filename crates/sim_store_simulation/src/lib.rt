@@ -1,5 +1,5 @@
-//! A simulation of a design, as far as it has come: its state, its records, and the steps of the
-//! simulation cycle, which carry it on (IEEE 1076-2008, 14.7.5).
+//! A simulation of a design: its state and its records so far, and the steps of the simulation
+//! cycle that carry it on (IEEE 1076-2008, 14.7.5).
 #![tactic(auto)]
 
 mod due;

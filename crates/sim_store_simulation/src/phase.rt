@@ -1,20 +1,20 @@
-//! The two phases in which a cycle executes processes (IEEE 1076-2008, 14.7.5.3 f, h).
+//! The two phases in which a cycle executes processes (IEEE 1076-2008, 14.7.5.3 f.3, h.4).
 
-/// Which processes are executed.
+/// Which processes a phase executes.
 #[derive(Clone, Copy, PartialEq, Eq)]
 pub enum Phase {
-    /// Those that are resumed and not postponed.
+    /// Those that resumed and are not postponed.
     AtOnce,
-    /// The postponed ones that wait, where no delta cycle follows.
+    /// The postponed ones that wait, if no delta cycle follows.
     Postponed,
 }
 
-/// What comes once all processes of a phase have been executed.
+/// What comes after all processes of a phase have been executed.
 #[derive(Clone, Copy)]
 pub enum Upcoming {
     /// The phase of postponed processes.
     Postponed,
-    /// A delta cycle that a postponed process makes, which is an error.
+    /// A delta cycle caused by a postponed process, which is an error.
     PostponedDelta,
     /// Nothing is pending.
     Nothing,

@@ -1,4 +1,4 @@
-//! A simulation of a design, as far as it has come (IEEE 1076-2008, 14.7.5).
+//! A simulation of a design, so far (IEEE 1076-2008, 14.7.5).
 
 ghost use Rattle.std.specs.Prelude.{ℕ, suc, ◌≡◌, ◌<◌, ◌≤◌, ◌^◌, ◌+◌, Some, None, Option, true, false, [], ◌∷◌, length, replicate, drop};
 ghost use Rattle.std.specs.Prelude.{not, ◌==◌, ◌&&◌, slice_set, MatchOption, MatchResult, IfSome, IfOk, IfErr, OnOk, OnErr, ◌↔◌, IsTrue};
@@ -32,7 +32,8 @@ use sim_store_state::{FlatState, Log, Record, sensitive};
 use std::alloc::{AllocError, Global};
 use std::marker::Model;
 
-/// The delta number of a cycle at `time`, after one at `last`.
+/// The delta number, which is our own, of a cycle at `time` after one at `last`, both in
+/// femtoseconds.
 fn next_delta(time: u64, last: u64, delta: u64) -> u64
     requires { delta + 1 < 2 ^ 64 }
     ensures { result ≡ cycles.next_delta time last delta }
@@ -40,7 +41,7 @@ fn next_delta(time: u64, last: u64, delta: u64) -> u64
     if time == last { delta + 1 } else { 0 }
 }
 
-/// What a process is by its type.
+/// Shows what the type of a process guarantees.
 fn is_process(process: &Process)
     ensures { IsProcess process.now }
 {
@@ -49,7 +50,7 @@ fn is_process(process: &Process)
     let _nets = process.nets();
 }
 
-/// What processes are by their types.
+/// Shows what the types of processes guarantee.
 fn are_processes(processes: &[Process])
     ensures { All IsProcess processes.now }
 {
@@ -58,8 +59,7 @@ fn are_processes(processes: &[Process])
     }
 }
 
-/// Puts what an executed process owns in the place of what it owned, where that is other than
-/// before. It takes no memory.
+/// Replaces what an executed process owned by its results, if it has any. It takes no memory.
 fn put_results(state: &mut FlatState, number: usize, results: Option<Results>)
     requires at { number < length state.old.owned }
     requires drivers { MatchOption results Unit (λ r. length r.drivers ≡ length (owned_at state.old.owned number).drivers) }
@@ -74,20 +74,22 @@ fn put_results(state: &mut FlatState, number: usize, results: Option<Results>)
     }
 }
 
-/// What comes, by the phase, whether a delta cycle would follow, whether a process waits, and the
-/// first pending time.
+/// What comes after a phase, given whether a delta cycle would follow, whether a process waits, and
+/// the first pending time.
 fn upcoming(phase: Phase, is_delta: bool, is_waited: bool, next: Option<u64>) -> Upcoming
     ensures { result ≡ spec.upcoming_of phase is_delta is_waited next }
 {
     match (phase, next) {
+        // h) No delta cycle follows: postponed processes that wait are executed.
         (Phase::AtOnce, _) if !is_delta && is_waited => Upcoming::Postponed,
+        // h.5) The time is calculated again: one of them has caused a delta cycle.
         (Phase::Postponed, _) if is_delta => Upcoming::PostponedDelta,
         (_, Some(time)) => Upcoming::Cycle(time),
         (_, None) => Upcoming::Nothing,
     }
 }
 
-/// At the end of a cycle: where those that waited have been executed, none waits any more.
+/// At the end of a cycle, no process waits any more if those that waited have been executed.
 fn leave(waiting: &mut Waiting, phase: Phase)
     ensures postponed { waiting.new.postponed ≡ waiting.old.postponed }
     ensures sized { length waiting.new.waiting ≡ length waiting.old.waiting }
@@ -99,8 +101,8 @@ fn leave(waiting: &mut Waiting, phase: Phase)
     }
 }
 
-/// What is compiled of a design once: for each net the processes that are sensitive to it, for each
-/// process its code, and a frame on which codes are executed.
+/// What is compiled once for a design: for each net the processes sensitive to it, for each process
+/// its code, and a frame to execute code on.
 #[derive(Drop)]
 pub struct Compiled {
     pub sensitive: RowArray<usize>,
@@ -108,9 +110,9 @@ pub struct Compiled {
     pub frame: Frame,
 }
 
-/// What a simulation holds beside its design, without the simulation's invariant, which need not hold
-/// while processes are being executed: the time and the delta number of the last cycle, what was
-/// compiled, the state, the log, and marks of processes and nets.
+/// What a simulation holds besides its design, without its invariant, which need not hold while
+/// processes are being executed: the time (in femtoseconds) and delta number of the last cycle,
+/// what was compiled, the state, the log, and marks of processes and nets.
 #[derive(Drop)]
 pub struct Contents {
     pub time: u64,
@@ -118,7 +120,7 @@ pub struct Contents {
     pub compiled: Compiled,
     pub state: FlatState,
     pub log: Log,
-    /// Which processes are executed now.
+    /// Which processes are now executed.
     pub phase: Phase,
     pub due: Due,
     pub waiting: Waiting,
@@ -126,7 +128,7 @@ pub struct Contents {
     pub totals: Vec<u64>,
 }
 
-/// The record of a first state, whose design has this number of nets.
+/// A log with the record of the first state of a design with this number of nets.
 fn first_log(alloc: Global, state: &FlatState, nets: usize) -> Result<Log, AllocError>
     requires few { nets < 2 ^ 32 }
     requires nets { length state.now.nets ≡ nets }
@@ -138,14 +140,14 @@ fn first_log(alloc: Global, state: &FlatState, nets: usize) -> Result<Log, Alloc
     Ok(log)
 }
 
-/// The state and the log with which a run starts.
+/// The state and the log at the start of a run.
 #[derive(Drop)]
 struct Start {
     state: FlatState,
     log: Log,
 }
 
-/// The first state of a design with its record.
+/// The first state of a design, with its record.
 fn started(alloc: Global, design: &Design) -> Result<Start, AllocError>
     ensures state { IfOk result (λ s. s.state ≡ flat_state_of design.now (first_state design.now)) }
     ensures log { IfOk result (λ s. s.log.records ≡ record { time = 0; delta = 0; changes = values_of s.state.nets } ∷ []) }
@@ -155,7 +157,7 @@ fn started(alloc: Global, design: &Design) -> Result<Start, AllocError>
     Ok(Start { state, log })
 }
 
-/// Which processes of a design are to be executed first, and which postponed ones wait.
+/// The processes of a design that are executed first, and the postponed ones, which wait.
 fn parted(alloc: Global, design: &Design) -> Result<(Due, Waiting), AllocError>
     ensures parted { IfOk result (λ m. spec.AreParted design.now m.0 m.1.waiting) }
     ensures postponed { IfOk result (λ m. spec.ArePostponed design.now m.1.postponed) }
@@ -166,8 +168,8 @@ fn parted(alloc: Global, design: &Design) -> Result<(Due, Waiting), AllocError>
     Ok((due, waiting))
 }
 
-/// Which processes are executed and which wait, which have been executed, and how many events each
-/// net had.
+/// Which processes are due, which wait, which have been executed, and the number of events of each
+/// net.
 #[derive(Drop)]
 struct FirstMarks {
     due: Due,
@@ -176,8 +178,8 @@ struct FirstMarks {
     totals: Vec<u64>,
 }
 
-/// Of a design: which processes are to be executed first and which wait, that none has been
-/// executed, and that no net had an event.
+/// The marks of a design at first: the due processes and the waiting ones; none has been executed,
+/// and no net has had an event.
 fn marks(alloc: Global, design: &Design) -> Result<FirstMarks, AllocError>
     ensures parted { IfOk result (λ m. spec.AreParted design.now m.due m.waiting.waiting) }
     ensures postponed { IfOk result (λ m. spec.ArePostponed design.now m.waiting.postponed) }
@@ -209,7 +211,7 @@ fn compile(alloc: Global, design: &Design) -> Result<Compiled, AllocError>
     })
 }
 
-/// All of these, at time 0.
+/// All of these together, at time 0.
 fn joined(marks: FirstMarks, compiled: Compiled, start: Start) -> Contents
     ensures start { (result.time ≡ 0) × (result.delta ≡ 0) × (result.phase ≡ phase.AtOnce) }
     ensures compiled { result.compiled ≡ compiled }
@@ -231,8 +233,8 @@ fn joined(marks: FirstMarks, compiled: Compiled, start: Start) -> Contents
     }
 }
 
-/// What the simulation of a design holds at first: what is compiled, the first state with its record,
-/// which processes are to be executed, and that no net had an event.
+/// What the simulation of a design holds at first: what is compiled, the first state with its
+/// record, which processes are due, and no events of any net.
 fn prepared(alloc: Global, design: &Design) -> Result<Contents, AllocError>
     ensures start { IfOk result (λ m. (m.time ≡ 0) × (m.delta ≡ 0) × (m.phase ≡ phase.AtOnce)) }
     ensures contents { IfOk result (λ m. AreFirst design.now m) }
@@ -243,7 +245,7 @@ fn prepared(alloc: Global, design: &Design) -> Result<Contents, AllocError>
     Ok(joined(marks, compiled, start))
 }
 
-/// The same in a box, so that it stays where it is when the simulation is handed on.
+/// The same in a box, so that it stays in place when the simulation is moved.
 fn boxed(alloc: Global, design: &Design) -> Result<Box<Contents>, AllocError>
     ensures start { IfOk result (λ m. (m.value.time ≡ 0) × (m.value.delta ≡ 0) × (m.value.phase ≡ phase.AtOnce)) }
     ensures contents { IfOk result (λ m. AreFirst design.now m.value) }
@@ -253,7 +255,7 @@ fn boxed(alloc: Global, design: &Design) -> Result<Box<Contents>, AllocError>
     Ok(contents)
 }
 
-/// The same, with what the processes own in about so many shares.
+/// The same, with what the processes own divided into about so many shares.
 fn divided(alloc: Global, contents: Contents, shares: usize) -> Result<Contents, AllocError>
     ensures { IfOk result (λ m. m ≡ contents) }
 {
@@ -272,7 +274,7 @@ fn divided(alloc: Global, contents: Contents, shares: usize) -> Result<Contents,
     })
 }
 
-/// Executes a process in place that is due and has not been executed since the last cycle.
+/// Executes in place a due process that has not been executed in this phase.
 fn execute(
     alloc: Global,
     design: &Design,
@@ -306,7 +308,7 @@ fn execute(
     Ok(())
 }
 
-/// Executes all that are due, none of which has been executed since the last cycle, in place and in
+/// Executes all due processes, none of which has been executed in this phase, in place and in
 /// rising order.
 fn execute_listed(alloc: Global, design: &Design, contents: &mut Contents) -> Result<(), AllocError>
     requires of { IsOf design.now contents.old }
@@ -323,8 +325,8 @@ fn execute_listed(alloc: Global, design: &Design, contents: &mut Contents) -> Re
     Ok(())
 }
 
-/// Executes all that are due and have not been executed since the last cycle, in place and in
-/// rising order, where some may have been.
+/// Executes all due processes that have not been executed in this phase, in place and in rising
+/// order. Some may have been executed.
 fn execute_missing(
     alloc: Global,
     design: &Design,
@@ -343,8 +345,8 @@ fn execute_missing(
     Ok(())
 }
 
-/// Executes all that are due and have not been executed since the last cycle, in place and in
-/// rising order.
+/// Executes all due processes that have not been executed in this phase, in place and in rising
+/// order (14.7.5.3 f.3, h.4).
 fn execute_all(alloc: Global, design: &Design, contents: &mut Contents) -> Result<(), AllocError>
     requires { IsOf design.now contents.old }
     ensures of { OnOk result (IsOf design.now contents.new) }
@@ -358,15 +360,14 @@ fn execute_all(alloc: Global, design: &Design, contents: &mut Contents) -> Resul
     }
 }
 
-/// A simulation of a design, as far as it has come. By its type, what it holds is what the cycle
-/// gives.
+/// A simulation of a design, so far. By its type, it holds what the simulation cycle gives.
 pub struct Simulation {
     design: Design,
-    /// In a box, so that little is moved where a simulation is handed on.
+    /// In a box, so that moving a simulation moves little.
     contents: Box<Contents>,
 }
 
-/// By hand, so that crates which drop one need no proof of what is in it.
+/// Written by hand so that code which drops it needs no proof about its contents.
 impl Drop for Simulation {
     fn drop(self) {
         let Simulation { design, contents } = self;
@@ -396,8 +397,8 @@ impl Simulation {
     ghost use Rattle.std.specs.Prelude.{◌≡◌, ◌↔◌, IsTrue, Some, false, length, replicate};
     ghost use Rattle.std.specs.Prelude.{IfErr, IfOk, IfSome, OnOk, OnErr, MatchOption, MatchResult};
 
-    /// The simulation of a design at its start: the initialization is recorded, and each process is
-    /// due, or waits where it is postponed. If allocation fails, the design comes back.
+    /// The simulation of a design at its start: the initialization is recorded (14.7.5.2), and each
+    /// process is due or, if it is postponed, waits. If allocation fails, the design is returned.
     pub fn begin(alloc: Global, design: Design) -> Result<Simulation, (AllocError, Design)>
         ensures ok { IfOk result (λ s. s ≡ record {
           design = design;
@@ -416,7 +417,7 @@ impl Simulation {
         }
     }
 
-    /// The job of a process that is due and has not been executed: a copy of its part of the state.
+    /// The job of a due process that has not been executed: a copy of its part of the state.
     pub fn job(&self, alloc: Global, number: usize) -> Result<Job, AllocError>
         requires { spec.IsMissing self.now number }
         ensures { IfOk result (λ job. spec.IsJobOf self.now number job) }
@@ -436,29 +437,30 @@ impl Simulation {
         ))
     }
 
-    /// Whether a pending time is that of the last cycle, so that a delta cycle would follow; none
-    /// counts as one after the initialization.
+    /// Whether the next cycle, at this pending time, is a delta cycle for which postponed processes
+    /// wait. They never wait in the initialization, nor is their zero delay an error there (own).
     fn is_delta(&self, next: Option<u64>) -> bool
         ensures { result ≡ (not (self.now.cycles == 0) && cycles.is_time_of (spec.updated_last self.now) next) }
     {
         self.cycles() != 0 && next == Some(self.contents.time)
     }
 
-    /// What comes once all that are due have been executed (14.7.5.3 g, h): the phase of postponed
-    /// processes, or what follows the cycle.
+    /// What comes after all due processes have been executed (14.7.5.3 g, h): the phase of
+    /// postponed processes, or what follows the cycle.
     pub fn upcoming(&mut self) -> Result<Upcoming, AllocError>
         requires { spec.IsComplete self.old }
         ensures same { self.new ≡ self.old }
         ensures value { IfOk result (spec.IsUpcoming self.old) }
     {
         let contents = &mut *self.contents;
+        // g), h.5) The time of the next cycle.
         let next = contents.state.next()?;
         let is_waited = !contents.waiting.is_empty();
         let phase = contents.phase;
         Ok(upcoming(phase, self.is_delta(next), is_waited, next))
     }
 
-    /// Begins the phase of postponed processes: those that wait are due (14.7.5.3 h).
+    /// Begins the phase of postponed processes: those that wait are due (14.7.5.3 h.4).
     pub fn begin_postponed(&mut self)
         requires complete { spec.IsComplete self.old }
         requires phase { self.old.phase ≡ phase.AtOnce }
@@ -471,14 +473,14 @@ impl Simulation {
         contents.deposited.clear();
     }
 
-    /// How many cycles there were.
+    /// The number of cycles completed, without the initialization.
     pub fn cycles(&self) -> usize
         ensures { result ≡ self.now.cycles }
     {
         self.contents.log.len() - 1
     }
 
-    /// How many records there are: that of the initialization, and one for each cycle.
+    /// The number of records: one of the initialization, and one of each cycle.
     pub fn records(&self) -> usize
         ensures { result ≡ suc self.now.cycles }
     {
@@ -499,8 +501,8 @@ impl Simulation {
         self.contents.deposited.contains(number)
     }
 
-    /// Whether a job is what its process would be handed out now, but for its cycle. It takes no
-    /// memory.
+    /// Whether a job matches the one now due for its process, apart from its cycle number. It takes
+    /// no memory.
     pub fn is_own(&self, job: &Job) -> bool
         requires at { job.now.number < length self.now.design.processes }
         requires fresh { spec.those_in self.now.deposited job.now.number ≡ false }
@@ -523,8 +525,8 @@ impl Simulation {
         )
     }
 
-    /// Takes the result of a process that is due and has not been executed: what it owns is what
-    /// its execution gave. Nothing else changes.
+    /// Takes the result of a due process that has not been executed: the process owns what its
+    /// execution gave. Nothing else changes.
     pub fn deposit(&mut self, done: Done)
         requires own { spec.IsOwn self.old done }
         requires missing { spec.IsMissing self.old done.number }
@@ -538,8 +540,9 @@ impl Simulation {
         contents.deposited.insert(number);
     }
 
-    /// Carries out the cycle at the time of the next, once all of the last one have been executed
-    /// (14.7.5.3). If allocation fails nothing changes.
+    /// Begins the next cycle, at this time in femtoseconds, once all processes of the last one have
+    /// been executed: updates drivers and nets, and resumes processes (14.7.5.3 a, c, d, f.2). If
+    /// allocation fails, nothing changes.
     pub fn go_on(&mut self, time: u64) -> Result<(), AllocError>
         requires executed { spec.IsExecuted self.old }
         requires next { spec.next_after self.old ≡ CycleAt time }
@@ -552,7 +555,9 @@ impl Simulation {
         let nets = self.design.nets().len();
         let contents = &mut *self.contents;
         contents.log.reserve(nets)?;
+        // c), d) Active drivers take their transactions, and their nets are updated.
         contents.state.update(time)?;
+        // a) The time becomes that of the next cycle.
         contents.delta = next_delta(time, contents.time, contents.delta);
         contents.time = time;
         contents
@@ -561,6 +566,7 @@ impl Simulation {
         count_last(contents.totals.as_mut_slice(), &contents.log);
         leave(&mut contents.waiting, contents.phase);
         contents.phase = Phase::AtOnce;
+        // f.2) Processes sensitive to a net with an event resume.
         contents.due.find(
             &contents.log,
             &contents.compiled.sensitive,
@@ -577,7 +583,7 @@ impl Simulation {
         &self.design
     }
 
-    /// The least of those that are due and have not been executed since the last cycle.
+    /// The least due process that has not been executed in this phase.
     pub fn missing(&self) -> Option<usize>
         ensures { MatchOption result (spec.IsComplete self.now) (spec.IsLeastMissing self.now) }
     {
@@ -585,9 +591,9 @@ impl Simulation {
         contents.due.next_beside(&contents.deposited, 0)
     }
 
-    /// Executes all that are due and have not been executed since the last cycle, in place and in
-    /// rising order. If allocation fails the simulation is gone: of the process that wanted it
-    /// neither the state before its execution is left nor that after it.
+    /// Executes all due processes that have not been executed in this phase, in place and in rising
+    /// order. If allocation fails, the simulation is lost: the process that needed memory may have
+    /// been executed in part.
     pub fn execute_due(self, alloc: Global) -> Result<Simulation, AllocError>
         ensures same { IfOk result (λ s. s ≡ spec.with_marks self s.deposited) }
         ensures complete { IfOk result spec.IsComplete }
@@ -598,7 +604,7 @@ impl Simulation {
         Ok(Simulation { design, contents })
     }
 
-    /// Its design, and what it holds beside that.
+    /// Its design, and what it holds besides.
     pub fn into_contents(self) -> (Design, Contents)
         ensures of { IsOf result.0 result.1 }
         ensures same { simulation_of result.0 result.1 ≡ self }
@@ -608,7 +614,7 @@ impl Simulation {
         (design, contents)
     }
 
-    /// The simulation that holds this.
+    /// The simulation of this design that holds this.
     pub fn of_contents(
         alloc: Global,
         design: Design,
@@ -621,8 +627,8 @@ impl Simulation {
         Ok(Simulation { design, contents })
     }
 
-    /// The same simulation, with what its processes own in about so many shares, which can be handed
-    /// out. If allocation fails it is gone.
+    /// The same simulation, with what its processes own divided into about so many shares, which
+    /// can be handed out. If allocation fails, it is lost.
     pub fn divide(self, alloc: Global, shares: usize) -> Result<Simulation, AllocError>
         ensures { IfOk result (λ s. s ≡ self) }
     {
@@ -631,15 +637,15 @@ impl Simulation {
         Simulation::of_contents(alloc, design, contents)
     }
 
-    /// Whether none has been executed in this phase.
+    /// Whether no process has been executed in this phase.
     pub fn is_untouched(&self) -> bool
         ensures { result ≡ true → (p : ℕ) → spec.those_in self.now.deposited p ≡ false }
     {
         self.contents.deposited.is_empty()
     }
 
-    /// About how many steps the execution of a process takes. It is a hint by which work is divided
-    /// among threads, so nothing is promised of it.
+    /// About how many steps it takes to execute a process. It is a hint for dividing work among
+    /// threads, and nothing is promised of it.
     pub fn mean_length(&self) -> usize {
         self.contents.compiled.codes.mean_length()
     }
@@ -653,7 +659,7 @@ impl Simulation {
         self.contents.due.numbers()
     }
 
-    /// The time and the delta number of the last cycle.
+    /// The time, in femtoseconds, and the delta number of the last cycle.
     pub fn time(&self) -> (u64, u64)
         ensures value { result ≡ ((spec.reached self.now).time, (spec.reached self.now).delta) }
         ensures there { standard self.now.design self.now.cycles ≡ Some (spec.updated_last self.now) }
@@ -663,8 +669,8 @@ impl Simulation {
         (contents.time, contents.delta)
     }
 
-    /// The value of the net with a number; `None` if out of range. It is also that of its last
-    /// change in the records.
+    /// The value of the net with a number, which is that of its last change in the records; `None`
+    /// if out of range.
     pub fn value(&self, net: usize) -> Option<Logic>
         ensures value { MatchOption result (length self.now.design.nets ≤ net)
             (λ v. (net < length self.now.design.nets) × (v ≡ (net_at (spec.reached self.now).nets net).value)) }
@@ -673,7 +679,8 @@ impl Simulation {
         self.contents.state.value(net)
     }
 
-    /// How many events the net with a number had after the initialization; `None` if out of range.
+    /// The number of events of the net with a number after the initialization; `None` if out of
+    /// range.
     pub fn total(&self, net: usize) -> Option<u64>
         ensures { MatchOption result (length self.now.design.nets ≤ net)
             (λ t. (net < length self.now.design.nets) × (t ≡ total_of (records_to self.now.design self.now.cycles) net)) }
@@ -681,7 +688,7 @@ impl Simulation {
         self.contents.totals.get(net).copied()
     }
 
-    /// How many events the cycles after the initialization had.
+    /// The number of events in the cycles after the initialization.
     pub fn events(&self) -> u64
         ensures { result ≡ event_count (records_to self.now.design self.now.cycles) }
     {

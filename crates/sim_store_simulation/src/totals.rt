@@ -1,4 +1,4 @@
-//! How many events each net had.
+//! The number of events of each net.
 
 ghost use Rattle.std.specs.Prelude.{ℕ, ◌≡◌, ◌==◌, ◌<◌, ◌+◌, ◌-◌, ◌^◌, length, replicate, slice_index_or, if◌then◌else◌, IfOk};
 ghost use Rattle.std.specs.List.{filter};
@@ -9,7 +9,7 @@ use sim_logic::Logic;
 use sim_store_state::Log;
 use std::alloc::{AllocError, Global};
 
-/// This number of nets, none of which had an event.
+/// No events, for this number of nets.
 pub fn none(alloc: Global, nets: usize) -> Result<Vec<u64>, AllocError>
     ensures { IfOk result (λ v. v.items ≡ replicate nets 0) }
 {
@@ -18,7 +18,7 @@ pub fn none(alloc: Global, nets: usize) -> Result<Vec<u64>, AllocError>
     Ok(totals)
 }
 
-/// The net with a number had one more event.
+/// Counts one more event of the net with a number.
 fn count_one(totals: &mut [u64], net: usize)
     requires { slice_index_or totals.old net 0 + 1 < 2 ^ 64 }
     ensures sized { length totals.new ≡ length totals.old }
@@ -30,7 +30,7 @@ fn count_one(totals: &mut [u64], net: usize)
     }
 }
 
-/// Each change is one more event of its net.
+/// Counts each change as one more event of its net.
 fn count(totals: &mut [u64], changes: &[(u32, Logic)])
     requires { (n : ℕ) → slice_index_or totals.old n 0 + length changes.now < 2 ^ 64 }
     ensures sized { length totals.new ≡ length totals.old }
@@ -42,7 +42,7 @@ fn count(totals: &mut [u64], changes: &[(u32, Logic)])
     }
 }
 
-/// Each change in the last record is one more event of its net. It takes no memory.
+/// Counts each change in the last record as one more event of its net. It takes no memory.
 pub fn count_last(totals: &mut [u64], log: &Log)
     requires begun { 0 < length log.now.records }
     requires room { (n : ℕ) → slice_index_or totals.old n 0 + length (record_at log.now.records (length log.now.records - 1)).changes < 2 ^ 64 }

@@ -10,14 +10,14 @@ use sim_store_sets::NumberSet;
 use std::alloc::{AllocError, Global};
 use std::marker::Model;
 
-/// Which processes of a design are postponed, and which of these have been resumed and have not been
+/// Which processes of a design are postponed, and which of these have resumed and have not been
 /// executed since.
 pub struct Waiting {
     postponed: NumberSet,
     waiting: NumberSet,
 }
 
-/// By hand, so that crates which drop one need no proof of what is in it.
+/// Written by hand so that code which drops it needs no proof about its contents.
 impl Drop for Waiting {
     fn drop(self) {
         let Waiting { postponed, waiting } = self;
@@ -37,7 +37,7 @@ impl Model for Waiting {
     ghost invariant = { λ w. length w.postponed ≡ length w.waiting };
 }
 
-/// Makes each of these processes that is postponed a member of a set, and the others none.
+/// Makes the postponed ones of these processes the members of a set.
 fn mark_postponed(set: &mut NumberSet, processes: &[Process])
     requires { length set.old ≡ length processes.now }
     ensures sized { length set.new ≡ length processes.now }
@@ -48,7 +48,7 @@ fn mark_postponed(set: &mut NumberSet, processes: &[Process])
     }
 }
 
-/// Moves the members of a set that are postponed to those that wait.
+/// Moves the postponed members of a set to the waiting ones.
 fn set_aside(set: &mut NumberSet, postponed: &NumberSet, waiting: &mut NumberSet)
     requires postponed { length postponed.now ≡ length set.old }
     requires waiting { length waiting.old ≡ length set.old }
@@ -68,7 +68,7 @@ fn set_aside(set: &mut NumberSet, postponed: &NumberSet, waiting: &mut NumberSet
 }
 
 impl Waiting {
-    /// Of these processes, none of which waits.
+    /// The postponed ones of these processes, none of which waits.
     pub fn of(alloc: Global, processes: &[Process]) -> Result<Waiting, AllocError>
         ensures postponed_sized { IfOk result (λ w. length w.postponed ≡ length processes.now) }
         ensures postponed { IfOk result (λ w. (p : ℕ) → p < length processes.now → is_in w.postponed p ≡ (process_at processes.now p).postponed) }
@@ -81,7 +81,7 @@ impl Waiting {
         Ok(Waiting { postponed, waiting })
     }
 
-    /// Of the members of a set, those that are postponed are members no more and wait.
+    /// Takes the postponed members out of a set; they wait.
     pub fn set_aside(&mut self, set: &mut NumberSet)
         requires { length self.old.postponed ≡ length set.old }
         ensures postponed { self.new.postponed ≡ self.old.postponed }
@@ -97,14 +97,14 @@ impl Waiting {
         set_aside(set, &self.postponed, &mut self.waiting);
     }
 
-    /// Whether none waits.
+    /// Whether no process waits.
     pub fn is_empty(&self) -> bool
         ensures { IsTrue result ↔ ((p : ℕ) → is_in self.now.waiting p ≡ false) }
     {
         self.waiting.is_empty()
     }
 
-    /// Gives a set those that wait as its members.
+    /// Makes the waiting processes the members of a set.
     pub fn copy_to(&self, set: &mut NumberSet)
         requires { length self.now.waiting ≡ length set.old }
         ensures sized { length set.new ≡ length set.old }
@@ -113,7 +113,7 @@ impl Waiting {
         set.copy_from(&self.waiting);
     }
 
-    /// None waits any more.
+    /// No process waits any more.
     pub fn clear(&mut self)
         ensures postponed { self.new.postponed ≡ self.old.postponed }
         ensures sized { length self.new.waiting ≡ length self.old.waiting }

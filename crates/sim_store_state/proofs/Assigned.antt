@@ -1,4 +1,4 @@
--- The assignment of a body that is one assignment, and what is known of its driver after it.
+-- A body that is a single assignment, and what is known of its driver after it.
 use Rattle.std.proofs.Common.{ℕ, zero, suc, ◌+◌, ◌<◌, ◌≤◌, ◌≡◌, ◌≢◌, eqb, Bool, true, false, List, [], ◌∷◌, length, get_or, set, take, map}
 use Rattle.std.proofs.Common.{if◌then◌else◌, Option, refl, ap, sym, ◌∙◌, subst, arith}
 use Rattle.std.specs.Prelude.{Result, OnOk}
@@ -23,14 +23,14 @@ use Rattle.sim_store_state.specs.Assignments.{AreAssigned}
 use Rattle.sim_store_state.specs.Changes.{AreTimes, time_at}
 use Rattle.sim_store_state.proofs.Telling.{IsAlone, put-back}
 
--- the same of the same drivers
+-- it leaves the same of the same drivers
 pub assigned_as : {E : Type 0} (net net' : ℕ → NetView) (now : ℕ) (q : Quick) (done : Result Unit E) (old new old' new' : List Waveform) → net ≡ net'
     → old ≡ old' → new ≡ new' → AreAssigned net now q done old new → AreAssigned net' now q done old' new'
 assigned_as net net' now q done old new old' new' en eo ew a =
     subst (λ (f : ℕ → NetView). AreAssigned f now q done old' new') en
     (subst (λ (ds : List Waveform). AreAssigned net now q done ds new') eo (subst (λ (ds : List Waveform). AreAssigned net now q done old ds) ew a))
 
--- ---- the queue is told of one driver
+-- ---- the time of one driver is put into the queue
 
 pub one_told : (times times' : List (Option ℕ)) (stale stale' : List Bool) (ds : List Waveform) (k : ℕ) (d : Waveform) → length times' ≡ length ds
     → length stale' ≡ length ds → (is_in stale' k ≡ false → time_of times' k ≡ time_at ds k) → IsAlone times times' stale stale' k
@@ -56,7 +56,7 @@ pub joined_put : (dss : List (List Waveform)) (n k start number : ℕ) (d : Wave
     → joined (set dss n (set (get_or dss n []) k d)) ≡ set (joined dss) number d
 joined_put dss n k start number d lt within at is = at-set (record { among = lt; inside = within; counted = omega (arith, at, is) }) d
 
--- where there is no such driver
+-- if there is no such driver
 pub none_put : (dss : List (List Waveform)) (n k : ℕ) (d : Waveform) → length (get_or dss n []) ≤ k → set dss n (set (get_or dss n []) k d) ≡ dss
 none_put dss n k d le = ap (set dss n) (set_out (get_or dss n []) k d le) ∙ set-get_or dss n []
 

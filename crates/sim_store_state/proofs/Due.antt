@@ -77,7 +77,7 @@ least-of-times (o ∷ ts) zero s t e f = earlier-left o (earliest ts) s t e f
 least-of-times (o ∷ ts) (suc d) s t e f =
     earlier-right o (earliest ts) s t e (λ u g. least-of-times ts d u t g f) (some-not-none ts d t f)
 
--- ---- who is not due takes nothing
+-- ---- drivers that are not due take nothing
 
 abbrev waveform : Logic → List Transaction → Waveform
 waveform value pending = record { value = value; pending = pending }
@@ -111,7 +111,7 @@ not-due ds time d e no_time = keeps time (driver_at ds d).value (driver_at ds d)
         let at : m ≡ time = omega (arith, same, low, high) in
         not_both (is_at time (time_at ds d)) no_time (at-least time m (time_at ds d) is at)
 
--- ---- once those that are due took their transactions
+-- ---- after the due drivers took their transactions
 
 pub in-those-at : (time : ℕ) (ts : List (Option ℕ)) (d : ℕ) → is_in (those_at time ts) d ≡ is_at time (time_of ts d)
 in-those-at time [] d = refl

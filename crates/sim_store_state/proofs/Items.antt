@@ -8,10 +8,10 @@ use Rattle.sim_store_sets.specs.DividedRows.{IsAt, AreParts}
 use Rattle.sim_store_sets.proofs.Flat.{joined-map, starts-set, written_back}
 use Rattle.sim_store_sets.proofs.Divided.{at-set, item-is, joined-joined, joined-at, length-at, same-parts}
 
--- lists with the same items, of which each is as long, are the same
 cons-is : {A : Type 0} (x y : A) (xs ys : List A) → x ∷ xs ≡ y ∷ ys → (x ≡ y) × (xs ≡ ys)
 cons-is x y xs ys e = (cc, cc)
 
+-- lists of lists with the same lengths and the same items in all are the same
 pub same-items : {A : Type 0} (xss yss : List (List A)) → map length xss ≡ map length yss → joined xss ≡ joined yss → xss ≡ yss
 same-items [] [] e f = refl
 same-items [] (ys ∷ yss) e f = absurd cc
@@ -86,7 +86,7 @@ put-item {xss = xss} {starts = starts} {flat = flat} i n x h =
       items = items;
     }
 
--- the same, of what the code leaves when it wrote to a vector's slice
+-- the same, of what the code leaves after it wrote to a vector's slice
 pub item-back : {A : Type 0} {xss yss : List (List A)} {starts : List ℕ} {flat : List A} → IsFlat xss starts flat → xss ≡ yss
     → (n k : ℕ) (x : A) (flat' now : List A) → flat' ≡ flat → now ≡ set flat' n x → n < length (joined yss) → k ≡ length flat
     → IsPutAt yss starts (take k (now ++ drop (length now) flat)) n x
@@ -119,7 +119,7 @@ part-items parts {n = n} {p = p} {i = i} at rows x e =
     joined-joined (set parts p rows) ∙ (ap joined (map-set joined parts p rows ∙ ap (set (map joined parts) p) (e
     ∙ ap (λ w. set w i x) (sym (joined-at parts p)))) ∙ (at-set at x ∙ ap (λ w. set w n x) (sym (joined-joined parts))))
 
--- what there is to know where one item of one part is another one
+-- what is known if one item of one part is another one
 pub record IsItemIn {A : Type 0} (each : ℕ) (all : List (List A)) (now : List (List (List A))) (n : ℕ) (x : A) : Type 0 where
   pub parts : AreParts each now
   pub rows : map length (joined now) ≡ map length all

@@ -1,4 +1,4 @@
--- A state of which what processes own is taken away, and given back.
+-- A state from which what its processes own is taken away, and to which it is given back.
 use Rattle.std.proofs.Common.{ℕ, zero, suc, ◌-◌, ◌<◌, ◌≤◌, ◌≡◌, ◌++◌, Bool, true, false, List, []}
 use Rattle.std.proofs.Common.{◌∷◌, length, get_or, take, refl, ap, sym, ◌∙◌, arith, Option}
 use Rattle.std.proofs.Math.Decide.{dec_lt}
@@ -29,7 +29,7 @@ variables-of [] (vs ∷ vss) l = absurd (omega (arith, l))
 variables-of (ds ∷ dss) [] l = absurd (omega (arith, l))
 variables-of (ds ∷ dss) (vs ∷ vss) l = ap (λ w. vs ∷ w) (variables-of dss vss (omega (arith, l)))
 
--- what is held of the state of lists, in the words of what processes own
+-- what the lists of a state hold, in terms of what processes own
 pub held-apart : {values last_values driving : List Logic} {dss : List (List Waveform)} {vss : List (List Held)} {sources : List (List Source)}
     {fan_out : List (List ℕ)}
     {times : List (Option ℕ)} {stale touched : List Bool} → IsHeld values last_values driving dss vss sources fan_out times stale touched
@@ -69,7 +69,7 @@ located (ds ∷ dss) d lt = elim (dec_lt d (length ds)) [
       }
 ]
 
--- where a process has the drivers that it had, and the others have as many, they stand where they did
+-- if a process has its old drivers, and each other one as many as before, its drivers are where they were
 pub same-driver : (dss ess : List (List Waveform)) (p d : ℕ) → length dss ≡ length ess
     → ((q : ℕ) → q < length ess → length (get_or dss q []) ≡ length (get_or ess q []))
     → p < length dss → get_or dss p [] ≡ get_or ess p [] → IsOfRow dss p d → driver_at (joined dss) d ≡ driver_at (joined ess) d

@@ -42,7 +42,7 @@ marks-push n m (q ∷ rs) r e =
     ap (λ w. record { time = q.time; delta = q.delta; start = n } ∷ w) (marks-push (n + length q.changes) m rs r
     (omega (arith, length-append q.changes (all_changes rs))))
 
--- a mark and its changes more are a record more
+-- one more mark, with its changes, is one more record
 pub log-push : {rs qs : List Record} {marks : List Mark} {changes : List (ℕ × Logic)} → IsLog rs marks changes → rs ≡ qs → (time delta m : ℕ)
     (cs : List (ℕ × Logic)) (marks₁ marks' : List Mark) (changes₁ changes' : List (ℕ × Logic))
     → m ≡ length changes → marks₁ ≡ marks → changes₁ ≡ changes → marks' ≡ marks₁ ++ record { time = time; delta = delta; start = m } ∷ [] → changes'

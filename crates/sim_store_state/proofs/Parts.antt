@@ -1,4 +1,4 @@
--- A part is that of a process where its views, its drivers and its variables are.
+-- A part is that of a process if its views, drivers and variables are.
 use Rattle.std.proofs.Common.{◌≡◌, List, Bool, false, IsTrue, sym, ap, ◌∙◌}
 use Rattle.std.specs.Bool.{Decides}
 use Rattle.sim_flat_design.specs.declared.held.Held.{Held}

@@ -7,7 +7,7 @@ use Rattle.sim_store_sets.specs.RowArray.{joined}
 use Rattle.sim_store_sets.specs.DividedRows.{IsAt, AreParts}
 use Rattle.sim_store_sets.proofs.Divided.{put-back, read-at}
 
--- as many variables, where they are of the same types
+-- as many variables, since they are of the same types
 pub held-count : (vs ws : List Held) (types : List Bool) → map holds_bit vs ≡ types → map holds_bit ws ≡ types → length vs ≡ length ws
 held-count vs ws types e f = omega (arith, ap length e, ap length f, length-map vs holds_bit, length-map ws holds_bit)
 
@@ -18,7 +18,7 @@ row-old {parts₂ = parts₂} {p = p} {i = i} at e₁ ea e₂ d =
     let lt : p < length parts₂ = omega (arith, at.among, ap length e₁, ap length e₂) in
     ap (λ w. get_or w i []) (get_or_default parts₂ p d [] lt) ∙ read-at at e₁ ea e₂ []
 
--- what there is to know where another row stands there
+-- what is known if another row is there
 pub record IsRowPut {A : Type 0} (each : ℕ) (all : List (List A)) (now : List (List (List A))) (n : ℕ) (row : List A) : Type 0 where
   pub parts : AreParts each now
   pub there : get_or (joined now) n [] ≡ row

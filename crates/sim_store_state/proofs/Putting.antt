@@ -62,7 +62,7 @@ row-values (xs ∷ dss) zero ds e =
 row-values (xs ∷ dss) (suc p) ds e =
     map-append value_of xs (joined (set dss p ds)) ∙ (ap (λ w. driver_values xs ++ w) (row-values dss p ds e) ∙ sym (map-append value_of xs (joined dss)))
 
--- ---- what is kept stays right, where the drivers of the process are stale
+-- ---- what is kept stays right, as the drivers of the process are stale
 
 abbrev pub AreMarked : List Bool → List Bool → List (List Waveform) → ℕ → Type 0
 AreMarked stale stale' dss p = (row : List Waveform) (d : ℕ) → length row ≡ length (get_or dss p []) → is_in stale' d ≡ false

@@ -6,7 +6,7 @@ use Rattle.std.proofs.lemmas.List.{get_or-set_same, get_or-set_other}
 use Rattle.sim_store_sets.specs.Numbers.{is_in}
 use Rattle.sim_store_state.proofs.Walks.{not_both}
 
--- who is no member of a set with one member more was none before, and is another
+-- a number outside a set with one more member was outside before, and is not that member
 pub not-set : (set' : List Bool) (k n : ℕ) → k < length set' → is_in (set set' k true) n ≡ false → (is_in set' n ≡ false) × (n ≢ k)
 not-set set' k n lt e = go (eqb n k) refl
   where

@@ -22,7 +22,7 @@ fan_out-more xs i d x y lt is =
     ap (λ w. is_source w d) (take_more xs i y lt) ∙ (fan_out-append (take i xs) (get_or xs i y ∷ []) d
     ∙ ap (λ b. is_source (take i xs) d || b) (or_false (is_driver (get_or xs i y) d) ∙ ap (λ s. is_driver s d) (sym is)))
 
--- one source more of a net
+-- one more source of a net
 pub sources-more : (sources : List Source) (i d : ℕ) (x y : Source) (is_it was now new : Bool) → i < length sources → x ≡ get_or sources i y
     → now ≡ (was || (is_source (take i sources) d && is_it)) → new ≡ (now || (is_driver x d && is_it))
     → new ≡ (was || (is_source (take (i + 1) sources) d && is_it))
@@ -31,7 +31,7 @@ sources-more sources i d x y is_it was now new lt is e f =
     f ∙ (ap (λ b. b || (is_driver x d && is_it)) e ∙ (or-assoc was (front && is_it) (is_driver x d && is_it)
     ∙ ap (λ b. was || b) (and-or front (is_driver x d) is_it ∙ ap (λ b. b && is_it) (sym (fan_out-more sources i d x y lt is)))))
 
--- one net more
+-- one more net
 row-step : (rows : List (List Source)) (i n d : ℕ) → i < length rows
     → is_source (get_or (take (suc i) rows) n []) d ≡ (is_source (get_or (take i rows) n []) d || (is_source (get_or rows i []) d && (i == n)))
 row-step [] i n d lt = absurd (omega arith)

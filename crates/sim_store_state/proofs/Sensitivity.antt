@@ -1,4 +1,4 @@
--- Those that are resumed are those that are sensitive to a net with an event.
+-- The processes that resume are those sensitive to a net with an event.
 use Rattle.std.proofs.Common.{ℕ, zero, suc, ◌+◌, ◌<◌, ◌≤◌, ◌≡◌, ◌≢◌, ◌==◌, ◌++◌, ◌||◌, ◌&&◌, eqb, Bool, true, false, List, [], ◌∷◌, length, get_or, set}
 use Rattle.std.proofs.Common.{take, add-one, refl, ap, sym, ◌∙◌, arith, ◌⊎◌, inl, inr}
 use Rattle.std.proofs.lemmas.Bool.Decides.{nat_tests}
@@ -75,7 +75,7 @@ among-more xs i n lt =
     ap (λ w. is_among w n) (take_more xs i 0 lt) ∙ (among-append (take i xs) (get_or xs i 0 ∷ []) n ∙ ap (λ b. is_among (take i xs) n || b)
     (or_false (get_or xs i 0 == n)))
 
--- ---- who is sensitive to a net with an event
+-- ---- processes sensitive to a net with an event
 
 abbrev has_event : List NetView → ℕ → Bool
 has_event nets n = (net_at nets n).event
@@ -166,7 +166,7 @@ told-append sensitive (x ∷ xs) ys p =
     let here = is_among (get_or sensitive x.0 []) p in
     ap (λ b. here || b) (told-append sensitive xs ys p) ∙ sym (or-assoc here (is_told sensitive xs p) (is_told sensitive ys p))
 
--- those that are sensitive to one net more are resumed, after those that are to the nets before it
+-- the processes sensitive to one more net resume, after those sensitive to the nets before it
 pub told-more : (sensitive : List (List ℕ)) (changes : List (ℕ × Logic)) (i p : ℕ) (d : ℕ × Logic) (row : List ℕ) (was now new : Bool) → i < length changes
     → row ≡ get_or sensitive (get_or changes i d).0 [] → now ≡ (is_told sensitive (take i changes) p || was) → new ≡ (is_among row p || now)
     → new ≡ (is_told sensitive (take (i + 1) changes) p || was)
@@ -177,9 +177,9 @@ told-more sensitive changes i p d row was now new lt er e f =
     ∙ (told-append sensitive (take i changes) (get_or changes i d ∷ []) p ∙ ap (λ b. before || b) (or_false here)) in
     f ∙ (ap (λ r. is_among r p || now) er ∙ (ap (λ b. here || b) e ∙ (or-turn here before was ∙ ap (λ b. b || was) (sym more))))
 
--- ---- who is sensitive to nets
+-- ---- processes sensitive to nets
 
--- one process more at one net
+-- one more process at one net
 pub added : (sensitive : List (List ℕ)) (net number n p : ℕ) → n < length sensitive
     → is_among (get_or (set sensitive net (get_or sensitive net [] ++ number ∷ [])) n []) p
     ≡ (is_among (get_or sensitive n []) p || ((net == n) && (number == p)))
@@ -203,7 +203,7 @@ past-added sensitive net number n p lt le = let apart : eqb net n ≡ false = gr
   nat_tests,
 ) in rw apart (sym (or_false (is_among (get_or sensitive n []) p)))
 
--- one net more of a sensitivity
+-- one more net of a sensitivity
 pub sensitivity-more : (sensitivity : List ℕ) (i n net : ℕ) (is_it was now new : Bool) → i < length sensitivity → net ≡ get_or sensitivity i 0
     → now ≡ (was || (is_among (take i sensitivity) n && is_it)) → new ≡ (now || ((net == n) && is_it)) → new ≡
     (was || (is_among (take (i + 1) sensitivity) n && is_it))
@@ -220,7 +220,7 @@ and_false : (b : Bool) → (b && false) ≡ false
 and_false true = refl
 and_false false = refl
 
--- an equality of places, where it is known
+-- an equality of places that is known
 pub at_same : (a : Bool) (i p : ℕ) → i ≡ p → (a && (i == p)) ≡ a
 at_same a i p e = let t : eqb i p ≡ true = grind (arith, nat_tests) in rw t (and_true a)
 
@@ -234,7 +234,7 @@ eqb-suc i p = go (eqb i p) refl
     go true e = let t : i ≡ p = grind (arith, nat_tests) in let u : eqb (suc i) (suc p) ≡ true = grind (arith, nat_tests) in u
     go false e = let t : i ≢ p = grind (arith, nat_tests) in let u : eqb (suc i) (suc p) ≡ false = grind (arith, nat_tests) in u
 
--- one process more
+-- one more process
 process-step : (processes : List Process) (i p n : ℕ) (q : Process) → i < length processes → q ≡ get_or processes i q
     → is_among (process_at (take (suc i) processes) p).sensitivity n ≡ (is_among (process_at (take i processes) p).sensitivity n ||
     (is_among q.sensitivity n && (i == p)))

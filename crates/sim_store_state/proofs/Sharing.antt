@@ -44,12 +44,12 @@ owned-append [] ess (vs ∷ vss) wss l = absurd (omega (arith, l))
 owned-append (ds ∷ dss) ess [] wss l = absurd (omega (arith, l))
 owned-append (ds ∷ dss) ess (vs ∷ vss) wss l = ap (λ w. record { drivers = ds; variables = vs } ∷ w) (owned-append dss ess vss wss (omega (arith, l)))
 
--- one list more
+-- one more list
 pub counts-more : {A : Type 0} (xss : List (List A)) (xs : List A) → counts (xss ++ xs ∷ []) ≡ counts xss ++ length xs ∷ []
 counts-more [] xs = refl
 counts-more (ys ∷ xss) xs = ap (λ w. length ys ∷ w) (counts-more xss xs)
 
--- where lists in parts have the same counts, so have all but the last, and that one
+-- if lists in parts have the same counts, so have all parts but the last, and the last
 pub counts-less : {A B : Type 0} (xss : List (List A)) (yss : List (List B)) (xs : List A) (ys : List B)
     → counts (xss ++ xs ∷ []) ≡ counts (yss ++ ys ∷ []) → (counts xss ≡ counts yss) × (length xs ≡ length ys)
 counts-less [] [] xs ys e = (refl, ap (λ w. get_or w 0 0) e)
@@ -66,7 +66,7 @@ counts-long [] (ys ∷ yss) e = absurd (omega (arith, ap length e))
 counts-long (xs ∷ xss) [] e = absurd (omega (arith, ap length e))
 counts-long (xs ∷ xss) (ys ∷ yss) e = ap suc (counts-long xss yss (ap (λ w. drop 1 w) e))
 
--- what the processes of one share more own
+-- what the processes of one more share own
 pub parts-more : (dsss : List (List (List Waveform))) (vsss : List (List (List Held))) → length dsss ≡ length vsss
     → (dss : List (List Waveform)) (vss : List (List Held))
     → owned_parts (dsss ++ dss ∷ []) (vsss ++ vss ∷ []) ≡ owned_parts dsss vsss ++ owned_lists dss vss ∷ []
@@ -151,7 +151,7 @@ rows-joined (xs ∷ xss) (ys ∷ yss) l same =
 
 -- ---- lists copied into parts
 
--- one list more has been compared
+-- one more list has been compared
 pub counts-taken : {A B : Type 0} (xss : List (List A)) (yss : List (List B)) (p : ℕ) → p < length xss → length xss ≡ length yss
     → counts (take p xss) ≡ counts (take p yss) → length (get_or xss p []) ≡ length (get_or yss p [])
     → counts (take (p + 1) xss) ≡ counts (take (p + 1) yss)
@@ -164,7 +164,7 @@ counts-taken {A} {B} xss yss p lt l e one =
     ∙ (ap (λ (w : List (List B)). counts w) (take-suc yss p [] (omega (arith, lt, l))) ∙ counts-more (take p yss) (get_or yss p [])) in
     left ∙ (ap (λ w. w ++ length (get_or xss p []) ∷ []) e ∙ (ap (λ k. counts (take p yss) ++ k ∷ []) one ∙ sym right))
 
--- one item more of those from a number on
+-- one more item of those from a number on
 pub copied-more : {A : Type 0} (xs : List A) (from place : ℕ) (d : A) → from + place < length xs
     → take (place + 1) (drop from xs) ≡ take place (drop from xs) ++ get_or xs (from + place) d ∷ []
 copied-more xs from place d lt =
@@ -172,7 +172,7 @@ copied-more xs from place d lt =
     ap (λ k. take k (drop from xs)) n
     ∙ (take-suc (drop from xs) place d (omega (arith, lt, length-drop from xs)) ∙ ap (λ x. take place (drop from xs) ++ x ∷ []) (get_or-drop from xs place d))
 
--- Of these lists those below a number have been copied, in parts with as many as the first of those.
+-- The items below a number have been copied, divided into parts as the first of these lists are.
 pub record AreCopied {A B : Type 0} (xss : List (List A)) (ys : List B) (count from : ℕ) (yss : List (List B)) : Type 0 where
   pub from_is : from ≡ length (joined (take count xss))
   pub lists : joined yss ≡ take from ys

@@ -125,7 +125,7 @@ pub changes-end : {values last_values : List Logic} {touched : List Bool} {from 
 changes-end {values} {last_values} {touched} {from} now total i l none e =
     sym (ap (λ w. now ++ w) (changes-rest (views_of values last_values) from from (λ m le. quiet i l m (none m le))) ∙ append-nil now) ∙ e
 
--- ---- who is sensitive to the nets that are recorded
+-- ---- processes sensitive to the recorded nets
 
 list-at : (xs : List (List ℕ)) (k : ℕ) → k < length xs → drop k xs ≡ get_or xs k [] ∷ drop (suc k) xs
 list-at [] k lt = absurd (omega arith)

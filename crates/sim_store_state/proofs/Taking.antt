@@ -31,7 +31,7 @@ none-taken time drivers fan_out touched due others = walk_start due (λ d e. rec
   nets = λ n lt no_net among. ap (λ (w : Waveform). w.value) (others d e);
 })
 
--- who is touched stays so
+-- touched nets stay touched
 pub still-reached : (touched touched' : List Bool) (nets : List ℕ) (before now : Logic) → length touched' ≡ length touched
     → ((n : ℕ) → is_in touched' n ≡ false → is_in touched n ≡ false) → AreReached touched nets before now → AreReached touched' nets before now
 still-reached touched touched' nets before now l kept r n lt e among = r n (omega arith) (kept n e) among
@@ -59,7 +59,7 @@ rest-more time old now now' from k le rest en d lt =
     let apart : d ≢ k = omega arith in
     ap (λ w. driver_at w d) en ∙ (get_or-set_other now k d (taken time (driver_at now k)) no_driver apart ∙ rest d (omega arith))
 
--- Of the drivers that are due and that were passed the queue has the times, if it was so told; the times of the others are as they were.
+-- If so told, the queue has the times of the due drivers that were passed; the times of the others are as they were.
 pub record IsTold (told : Bool) (due : List Bool) (from : ℕ) (before times : List (Option ℕ)) (now : List Waveform) : Type 0 where
   pub sized : length times ≡ length before
   pub current : told ≡ true → (d : ℕ) → d < from → is_in due d ≡ true → time_of times d ≡ time_at now d
@@ -95,7 +95,7 @@ told-more {told} {due} {from} {before} {times} {now} k is_told told' times' now'
         untold d apart ∙ (i.current both.1 d (passed d (omega (arith, lt, apart)) e) e
         ∙ ap (λ (w : Waveform). next_time (w ∷ [])) (sym (ap (λ w. driver_at w d) en ∙ get_or-set_other now k d new no_driver apart)))
 
--- once none that is due is left
+-- once no due driver is left
 pub all-told : {told : Bool} {due : List Bool} {from : ℕ} {before times : List (Option ℕ)} {now : List Waveform} → IsTold told due from before times now
     → NoneFrom (is_in due) from → AreTold told due before times now
 all-told {due = due} {from} i none = record {
@@ -104,7 +104,7 @@ all-told {due = due} {from} i none = record {
   others = i.others;
 }
 
--- where the queue was told all times no driver need be stale
+-- if the queue has all times, no driver need be stale
 pub told-times : {before times : List (Option ℕ)} {due stale : List Bool} {drivers : List Waveform} (told : Bool) → AreTimes before due drivers
     → AreTold told due before times drivers → length stale ≡ length due → (told ≡ false → stale ≡ due) → AreTimes times stale drivers
 told-times {before} {times} {due} {stale} {drivers} told a t l same = record {
@@ -118,7 +118,7 @@ told-times {before} {times} {due} {stale} {drivers} told a t l same = record {
     go true q d e true f = t.current q d f
     go false q d e true f = absurd (not_both (is_in due d) (sym (ap (λ (s : List Bool). is_in s d) (same q)) ∙ e) f)
 
--- lists of drivers are equal where each driver is
+-- lists of drivers are equal if each driver is
 pub all-same : (now old : List Waveform) (time : ℕ) → length now ≡ length old → ((d : ℕ) → driver_at now d ≡ taken time (driver_at old d))
     → now ≡ map (taken time) old
 all-same now old time l same =

@@ -1,4 +1,4 @@
--- The queue is told the first pending times of drivers, one by one.
+-- The first pending times of drivers are put into the queue, one by one.
 use Rattle.std.proofs.Common.{ℕ, zero, suc, ◌+◌, ◌<◌, ◌≤◌, ◌≡◌, ◌≢◌, ◌⊎◌, inl, inr, eqb, Bool, true, false, List, [], ◌∷◌, length, get_or, set, take}
 use Rattle.std.proofs.Common.{Option, refl, ap, sym, ◌∙◌, subst, arith}
 use Rattle.std.proofs.Math.Decide.{dec_lt}
@@ -11,7 +11,7 @@ use Rattle.sim_store_sets.specs.Times.{time_of}
 use Rattle.sim_store_state.specs.Changes.{AreTimes, time_at}
 use Rattle.sim_store_state.proofs.Putting.{set-outside}
 
--- what is kept of the others, where one was told
+-- what stays of the others when one is put
 abbrev pub IsAlone : List (Option ℕ) → List (Option ℕ) → List Bool → List Bool → ℕ → Type 0
 IsAlone times times' stale stale' k = (d : ℕ) → d ≢ k → (time_of times' d ≡ time_of times d) × (is_in stale' d ≡ is_in stale d)
 
@@ -39,7 +39,7 @@ others-kept times₀ times times' stale₀ stale stale' start k le before alone 
     go (inl h) = let o = alone d (omega arith) in let b = before d (inl h) in (o.0 ∙ b.0, o.1 ∙ b.1)
     go (inr h) = let o = alone d (omega arith) in let b = before d (inr (omega arith)) in (o.0 ∙ b.0, o.1 ∙ b.1)
 
--- times that were right with another row of drivers are right, once those of the row that is there are told
+-- times that were right with another row of drivers are right once those of the present row have been put
 pub row-told : (dss : List (List Waveform)) (p a b : ℕ) (row flat : List Waveform) (times times' : List (Option ℕ)) (stale stale' : List Bool) → p < length dss
     → length row ≡ length (get_or dss p []) → a ≡ length (joined (take p dss)) → b ≡ a + length (get_or dss p []) → flat ≡ joined dss
     → length times' ≡ length (joined dss) → length stale' ≡ length (joined dss)

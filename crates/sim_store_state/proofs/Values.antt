@@ -18,7 +18,7 @@ pub same-everywhere : (xs ys : List Logic) → length xs ≡ length ys → ((n :
 same-everywhere xs ys l same =
     same_lists xs ys l (λ n d lt. get_or_default xs n d U lt ∙ (same n lt ∙ get_or_default ys n U d (omega (arith, l, lt))))
 
--- one value more is what it has to be, where it has to be anything
+-- one more value is as required, if anything is required of it
 pub walk-value : (now new : List Logic) (v : Logic) (Q : ℕ → Type 0) (target : ℕ → Logic) {set' : List Bool} {from n : ℕ}
     → Walked set' from (λ (k : ℕ). Q k → value_at now k ≡ target k)
     → IsNext (is_in set') from n → n < length now → new ≡ set now n v → v ≡ target n
@@ -64,7 +64,7 @@ rows-from ds (row ∷ rows) =
 pub values-set : (ds : List Waveform) (n : ℕ) (d : Waveform) → driver_values (set ds n d) ≡ set (driver_values ds) n d.value
 values-set ds n d = map-set (λ (w : Waveform). w.value) ds n d
 
--- the value of a net that a list of all gives
+-- the value of a net, from a list of all values
 pub value-here : (values : List Logic) (sources : List (List Source)) (f : List Source → Logic) (n : ℕ) → values ≡ map f sources → n < length values
     → value_at values n ≡ f (get_or sources n [])
 value-here values sources f n e lt =

@@ -1,5 +1,5 @@
--- What is left of a state once it is taken apart.
--- Of the implementation: what `simulate` promises does not rest on this file.
+-- What remains of a state once it is taken apart.
+-- Implementation only: what `simulate` promises does not rest on this file.
 use Rattle.std.specs.Prelude.{◌<◌, ◌^◌, List, length}
 use Rattle.sim_logic.specs.declared.logic.Logic.{Logic}
 use Rattle.sim_standard.specs.State.{Owned}
@@ -8,7 +8,7 @@ use Rattle.sim_store_state.specs.declared.lending.Remains.{Remains}
 use Rattle.sim_store_state.specs.Changes.{IsHeld}
 use Rattle.sim_store_state.specs.Lending.{drivers_of, variables_of}
 
--- It holds a state where these are the values and last values of nets, and this is what processes own, whose drivers and variables can be numbered.
+-- It remains of a state with these values and last values of nets, whose processes own this: drivers and variables few enough to be numbered.
 pub record AreApart (values last_values : List Logic) (owned : List Owned) (r : Remains) : Type 0 where
   pub held : IsHeld values last_values r.driving.items (drivers_of owned) (variables_of owned) r.sources r.fan_out r.queue r.stale r.touched
   pub few_drivers : length (joined (drivers_of owned)) < 2 ^ 64

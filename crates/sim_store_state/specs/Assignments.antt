@@ -1,4 +1,4 @@
--- What the assignment of a body that is one assignment leaves of the drivers of its process.
+-- What a body that is a single assignment leaves of the drivers of its process.
 use Rattle.std.specs.Prelude.{ℕ, ◌≡◌, List, Result, OnOk, slice_set}
 use Rattle.std.specs.List.{All}
 use Rattle.sim_standard.specs.Drivers.{Waveform, RisesFrom}
@@ -7,7 +7,7 @@ use Rattle.sim_standard.specs.declared.net_view.NetView.{NetView}
 use Rattle.sim_exec_code.specs.declared.quick.Quick.{Quick}
 use Rattle.sim_exec_code.specs.Quick.{driven}
 
--- It was carried out where that is said; its driver alone may be another one, with the value that it had.
+-- Where it succeeded, it was carried out. Only its own driver may have changed, and that has the value that it had.
 pub record AreAssigned {E : Type 0} (net : ℕ → NetView) (now : ℕ) (q : Quick) (done : Result Unit E) (old new : List Waveform) : Type 0 where
   pub ok : OnOk done (new ≡ driven net now q old)
   pub pending : All (λ (d : Waveform). RisesFrom now d.pending) new

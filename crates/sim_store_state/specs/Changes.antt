@@ -1,5 +1,5 @@
--- What is kept beside a state, so that a cycle touches only what changed (IEEE 1076-2008, 14.7.3, 14.7.5).
--- Of the implementation: what `simulate` promises does not rest on this file.
+-- What is kept beside a state, so that a cycle looks only at what changed (IEEE 1076-2008, 14.7.3, 14.7.5).
+-- Implementation only: what `simulate` promises does not rest on this file.
 use Rattle.std.specs.Prelude.{ℕ, ◌≡◌, ◌<◌, ◌==◌, ◌||◌, List, [], ◌∷◌, Bool, true, false, Option, map, length, slice_index_or}
 use Rattle.sim_logic.specs.declared.logic.Logic.{Logic}
 use Rattle.sim_logic.specs.declared.logic.Logic.TheVariants.{U}
@@ -22,17 +22,17 @@ use Rattle.sim_store_state.specs.FlatState.{AreLists}
 abbrev pub time_at : List Waveform → ℕ → Option ℕ
 time_at drivers d = next_time (driver_at drivers d ∷ [])
 
--- and of each driver
+-- and those of all drivers
 abbrev pub first_times : List Waveform → List (Option ℕ)
 first_times drivers = map (λ (d : Waveform). next_time (d ∷ [])) drivers
 
--- There is a time for each driver; it is its first pending time, but for those that are stale.
+-- There is a time for each driver; it is its first pending time, unless the driver is stale.
 pub record AreTimes (times : List (Option ℕ)) (stale : List Bool) (drivers : List Waveform) : Type 0 where
   pub sized : length times ≡ length drivers
   pub marked : length stale ≡ length drivers
   pub current : (d : ℕ) → is_in stale d ≡ false → time_of times d ≡ time_at drivers d
 
--- The times of the drivers that are due are their first pending times, if it was so told; those of the others are as they were.
+-- If so told, the times of the due drivers are their first pending times; those of the others are as they were.
 pub record AreTold (told : Bool) (due : List Bool) (before times : List (Option ℕ)) (drivers : List Waveform) : Type 0 where
   pub sized : length times ≡ length before
   pub current : told ≡ true → (d : ℕ) → is_in due d ≡ true → time_of times d ≡ time_at drivers d
@@ -50,14 +50,14 @@ abbrev pub is_source : List Source → ℕ → Bool
 is_source [] d = false
 is_source (s ∷ sources) d = is_driver s d || is_source sources d
 
--- The nets of each driver, by its number, are those that have it as a source.
+-- The nets of each driver, by its number, are those of which it is a source.
 abbrev pub AreFanOut : List (List Source) → List (List ℕ) → Type 0
 AreFanOut sources fan_out =
     (net driver : ℕ) → driver < length fan_out → is_among (slice_index_or fan_out driver []) net ≡ is_source (slice_index_or sources net []) driver
 
 -- ---- the values of the nets
 
--- the value of a net with these sources (14.7.3.2)
+-- the value of a net with these sources (14.7.3.2, 14.7.3.3)
 abbrev pub row_value : List Waveform → List Source → Logic
 row_value drivers row = resolved (map (source_value drivers) row)
 
@@ -65,27 +65,27 @@ row_value drivers row = resolved (map (source_value drivers) row)
 abbrev pub value_at : List Logic → ℕ → Logic
 value_at values n = slice_index_or values n U
 
--- the value of a source, from the values of the drivers
+-- the value of a source, given the values of the drivers
 abbrev pub value_from : List Logic → Source → Logic
 value_from driving (source.Driver number) = value_at driving number
 value_from driving (source.Constant value) = value
 
--- the value of a net with these sources, from the values of the drivers
+-- the value of a net with these sources, given the values of the drivers
 abbrev pub row_from : List Logic → List Source → Logic
 row_from driving row = resolved (map (value_from driving) row)
 
--- A net that is not touched has the value that it had last: it has no event.
+-- A net that is not touched has its last value: it has no event.
 pub record AreTouched (values last_values : List Logic) (touched : List Bool) : Type 0 where
   pub sized : length touched ≡ length values
   pub still : (n : ℕ) → is_in touched n ≡ false → value_at values n ≡ value_at last_values n
 
--- Where a driver had one value and has another one now, these nets are touched.
+-- If the value of a driver is now another one than before, these nets are touched.
 abbrev pub AreReached : List Bool → List ℕ → Logic → Logic → Type 0
 AreReached touched nets before now = (n : ℕ) → n < length touched → is_in touched n ≡ false → is_among nets n ≡ true → now ≡ before
 
 -- ---- all of it
 
--- These lists hold a state: each net has the value of its sources, and what is kept beside it is right.
+-- These lists hold a state: each net has the value of its sources, and what is kept beside the state is right.
 pub record IsHeld (values last_values driving : List Logic) (drivers : List (List Waveform)) (variables : List (List Held)) (sources : List (List Source))
     (fan_out : List (List ℕ)) (times : List (Option ℕ)) (stale touched : List Bool) : Type 0 where
   pub lists : AreLists values last_values drivers variables

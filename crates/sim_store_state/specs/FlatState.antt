@@ -1,5 +1,5 @@
--- What is held of a state, in flat lists.
--- Of the implementation: what `simulate` promises does not rest on this file.
+-- A state in flat lists.
+-- Implementation only: what `simulate` promises does not rest on this file.
 use Rattle.std.specs.Prelude.{◌≡◌, List, [], ◌∷◌, map, length}
 use Rattle.sim_logic.specs.declared.logic.Logic.{Logic}
 use Rattle.sim_flat_design.specs.declared.held.Held.{Held}
@@ -14,7 +14,7 @@ use Rattle.sim_standard.specs.Nets.{changed_to}
 abbrev pub sources_of : List Net → List (List Source)
 sources_of nets = map (λ (n : Net). n.sources) nets
 
--- what is held of a state of a design: the sources of its nets, and of the state all but its time and its delta number
+-- what is held of a state of a design: the sources of its nets, and the state without its time, delta number and waiting processes
 pub record FlatState : Type 0 where
   pub sources : List (List Source)
   pub nets : List NetView
@@ -23,13 +23,13 @@ pub record FlatState : Type 0 where
 abbrev pub flat_state_of : Design → State → FlatState
 flat_state_of design s = record { sources = sources_of design.nets; nets = s.nets; owned = s.owned }
 
--- each net, from its value and its last value
+-- each net, by its value and its last value
 abbrev pub views_of : List Logic → List Logic → List NetView
 views_of [] last_values = []
 views_of (value ∷ values) [] = []
 views_of (value ∷ values) (last ∷ last_values) = changed_to value last ∷ views_of values last_values
 
--- what each process owns, from the drivers and the variables of each
+-- what each process owns, by its drivers and its variables
 abbrev pub owned_lists : List (List Waveform) → List (List Held) → List Owned
 owned_lists [] variables = []
 owned_lists (ds ∷ drivers) [] = []
@@ -40,7 +40,7 @@ abbrev pub held : List (List Source) → List Logic → List Logic → List (Lis
 held sources values last_values drivers variables =
     record { sources = sources; nets = views_of values last_values; owned = owned_lists drivers variables }
 
--- The lists of nets are as long as each other, and so are those of processes.
+-- The lists of nets have one length, and so have those of processes.
 pub record AreLists (values last_values : List Logic) (drivers : List (List Waveform)) (variables : List (List Held)) : Type 0 where
   pub nets : length values ≡ length last_values
   pub owned : length drivers ≡ length variables

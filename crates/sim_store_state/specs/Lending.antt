@@ -1,5 +1,5 @@
--- A state of which what processes own has been taken away.
--- Of the implementation: what `simulate` promises does not rest on this file.
+-- A state from which what its processes own is taken away.
+-- Implementation only: what `simulate` promises does not rest on this file.
 use Rattle.std.specs.Prelude.{ℕ, ◌≡◌, ◌+◌, ◌<◌, ◌≤◌, List, [], ◌∷◌, Bool, false, map, length, take, slice_index_or}
 use Rattle.sim_store_sets.specs.Numbers.{is_in}
 use Rattle.sim_store_sets.specs.RowArray.{joined}
@@ -15,12 +15,12 @@ drivers_of owned = map (λ (o : Owned). o.drivers) owned
 abbrev pub variables_of : List Owned → List (List Held)
 variables_of owned = map (λ (o : Owned). o.variables) owned
 
--- The driver with a number is one of those of this process.
+-- The driver with a number is among those of this process.
 pub record IsOfRow (drivers : List (List Waveform)) (process driver : ℕ) : Type 0 where
   pub from : length (joined (take process drivers)) ≤ driver
   pub below : driver < length (joined (take process drivers)) + length (slice_index_or drivers process [])
 
--- The same processes own something, those of a set something else than before, but as many variables, and drivers that have the values that they had.
+-- The same processes own something. Those of a set may own something else than before, but as many variables, and drivers with the values that they had.
 pub record HaveValues (changed : List Bool) (owned before : List Owned) : Type 0 where
   pub count : length owned ≡ length before
   pub sized : length changed ≡ length before
@@ -28,7 +28,7 @@ pub record HaveValues (changed : List Bool) (owned before : List Owned) : Type 0
   pub values : (p : ℕ) → p < length before → driver_values (owned_at owned p).drivers ≡ driver_values (owned_at before p).drivers
   pub variables : (p : ℕ) → p < length before → length (owned_at owned p).variables ≡ length (owned_at before p).variables
 
--- how many items each list has
+-- the length of each list
 abbrev pub counts : {A : Type 0} → List (List A) → List ℕ
 counts xss = map length xss
 
@@ -38,7 +38,7 @@ owned_parts [] variables = []
 owned_parts (dss ∷ drivers) [] = []
 owned_parts (dss ∷ drivers) (vss ∷ variables) = owned_lists dss vss ∷ owned_parts drivers variables
 
--- There are shares of so many processes each, but for the last, which may have fewer.
+-- There are shares of so many processes each, except that the last may have fewer.
 pub record AreShares (each : ℕ) (shares : List ℕ) : Type 0 where
   pub some : 0 < length shares
   pub wide : 0 < each

@@ -1,5 +1,5 @@
 -- Which processes are sensitive to each net (IEEE 1076-2008, 11.3, 14.7.5.3).
--- Of the implementation: what `simulate` promises does not rest on this file.
+-- Implementation only: what `simulate` promises does not rest on this file.
 use Rattle.std.specs.Prelude.{ℕ, ◌≡◌, ◌<◌, ◌&&◌, ◌||◌, List, [], ◌∷◌, Bool, false, length, slice_index_or}
 use Rattle.sim_logic.specs.declared.logic.Logic.{Logic}
 use Rattle.sim_flat_design.specs.Processes.{Process}
@@ -7,7 +7,7 @@ use Rattle.sim_standard.specs.declared.net_view.NetView.{NetView}
 use Rattle.sim_standard.specs.Processes.{process_at}
 use Rattle.sim_standard.specs.Orders.{is_among}
 
--- The processes that are listed for each net, by its number, are those that are sensitive to it.
+-- The processes listed for each net, by its number, are those sensitive to it.
 abbrev pub AreSensitive : List Process → List (List ℕ) → Type 0
 AreSensitive processes sensitive =
     (net process : ℕ) → net < length sensitive → is_among (slice_index_or sensitive net []) process ≡ is_among (process_at processes process).sensitivity net

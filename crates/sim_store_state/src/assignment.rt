@@ -1,4 +1,4 @@
-//! The assignment of a body that is one assignment, in place, on its driver among flat lists.
+//! Executes a body that is a single assignment, in place, on its driver in flat lists.
 
 ghost use Rattle.std.specs.Prelude.{◌≡◌, ◌<◌, ◌≤◌, ◌++◌, [], length, take, drop, slice_range, slice_index_or, slice_set};
 ghost use Rattle.std.specs.List.{All};
@@ -15,7 +15,7 @@ use sim_store_sets::{DividedRows, NumberSet, RowArray, TimeQueue, bounds, place_
 use sim_wave::Driver;
 use std::alloc::AllocError;
 
-/// Carries out an assignment, where the drivers of its process stand between these bounds.
+/// Carries out an assignment of a process whose drivers are between these bounds.
 #[inline(always)]
 fn assign_between<N: Nets>(
     nets: &N,
@@ -34,7 +34,7 @@ fn assign_between<N: Nets>(
     quick.execute(nets, now, &mut drivers[owned.0..owned.1])
 }
 
-/// The same, where they stand at a place of lists.
+/// The same, of a process whose drivers are at a place of lists.
 #[inline(always)]
 fn assign_in_rows<N: Nets>(
     nets: &N,
@@ -54,8 +54,8 @@ fn assign_in_rows<N: Nets>(
     assign_between(nets, now, quick, drivers.flat.as_mut_slice(), owned)
 }
 
-/// Carries out the assignment of the process with a number, where the drivers of each process stand
-/// by its number.
+/// Carries out the assignment of the process with a number. The drivers of each process are at its
+/// number.
 #[inline(always)]
 pub fn assign_in_parts<N: Nets>(
     nets: &N,
@@ -81,7 +81,7 @@ pub fn assign_in_parts<N: Nets>(
     )
 }
 
-/// Gives the queue the first pending time of the driver with a number.
+/// Puts the first pending time of the driver with a number into the queue.
 #[inline(always)]
 fn tell_driver(
     queue: &mut TimeQueue,
@@ -98,8 +98,8 @@ fn tell_driver(
     tell(queue, stale, number, first_time(drivers.item(number)));
 }
 
-/// Gives the queue the first pending time of a driver of the process with a number, which may be
-/// another one than it has; those of the other drivers stay as right as they were.
+/// Puts the first pending time of a driver of the process with a number into the queue, in case it
+/// has changed. The times of other drivers stay as they were.
 #[inline(always)]
 pub fn tell_assigned(
     queue: &mut TimeQueue,

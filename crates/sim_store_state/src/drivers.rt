@@ -26,9 +26,8 @@ pub fn first_time(driver: &Driver) -> Option<u64>
     }
 }
 
-/// Gives the queue the first pending time of each driver that is stale; then it has that of each
-/// driver. If allocation fails, those that are stale may have any time. It looks at no other
-/// drivers.
+/// Puts the first pending time of each stale driver into the queue, which then has that of every
+/// driver. If allocation fails, stale drivers may have any time. It looks at no other drivers.
 pub fn bring_up_to_date(
     queue: &mut TimeQueue,
     stale: &NumberSet,
@@ -49,7 +48,7 @@ pub fn bring_up_to_date(
     Ok(())
 }
 
-/// Gives the queue the time of a driver. Where memory is refused the driver is stale.
+/// Puts the time of a driver into the queue. If allocation fails, the driver is stale.
 pub fn tell(queue: &mut TimeQueue, stale: &mut NumberSet, number: usize, time: Option<u64>)
     requires queue { number < length queue.old }
     requires stale { number < length stale.old }
@@ -64,8 +63,8 @@ pub fn tell(queue: &mut TimeQueue, stale: &mut NumberSet, number: usize, time: O
     }
 }
 
-/// Gives the queue the first pending times of the drivers of a range. Those for which memory is
-/// refused are stale.
+/// Puts the first pending times of a range of drivers into the queue. Those for which allocation
+/// fails are stale.
 fn tell_range(
     queue: &mut TimeQueue,
     stale: &mut NumberSet,
@@ -88,9 +87,9 @@ fn tell_range(
     }
 }
 
-/// Gives the queue the first pending times of the drivers of the process with a number, which may be
-/// other ones than it has; those of the other drivers stay as right as they were. A driver that has
-/// the time that the queue has for it costs a comparison.
+/// Puts the first pending times of the drivers of the process with a number into the queue, in case
+/// they have changed. The times of other drivers stay as they were. A driver whose time is already
+/// equal costs one comparison.
 fn tell_row(
     queue: &mut TimeQueue,
     stale: &mut NumberSet,
@@ -107,7 +106,7 @@ fn tell_row(
     tell_range(queue, stale, drivers, start, end);
 }
 
-/// The same, unless nothing was done.
+/// The same, unless nothing changed.
 pub fn tell_changed(
     queue: &mut TimeQueue,
     stale: &mut NumberSet,
@@ -128,8 +127,8 @@ pub fn tell_changed(
     tell_row(queue, stale, drivers, number);
 }
 
-/// A driver takes its first transaction, if its time has come; gives the value that it has then, and
-/// its first pending time.
+/// A driver takes its first transaction, if its time has come (14.7.2). Returns its value after
+/// that, and its first pending time.
 fn take_value(driver: &mut Driver, time: u64) -> (Logic, Option<u64>)
     ensures after { driver.new ≡ taken time driver.old }
     ensures value { result.0 ≡ driver.new.value }
@@ -149,7 +148,7 @@ fn take_among(drivers: &mut [Driver], place: usize, time: u64) -> (Logic, Option
     take_value(&mut drivers[place], time)
 }
 
-/// The same, where drivers stand by process.
+/// The same, in lists of drivers by process.
 fn take_in(drivers: &mut RowArray<Driver>, place: usize, time: u64) -> (Logic, Option<u64>)
     requires { place < length (joined drivers.old) }
     ensures rows { map length drivers.new ≡ map length drivers.old }
@@ -160,7 +159,7 @@ fn take_in(drivers: &mut RowArray<Driver>, place: usize, time: u64) -> (Logic, O
     take_among(drivers.flat.as_mut_slice(), place, time)
 }
 
-/// The same, where these are a part of all.
+/// The same, in one of the parts of these lists.
 fn take_at(
     parts: &mut [RowArray<Driver>],
     part: usize,
@@ -179,8 +178,8 @@ fn take_at(
     take_in(&mut parts[part], place, time)
 }
 
-/// The driver with a number takes its first transaction, if its time has come; gives the value that
-/// it has then, and its first pending time.
+/// The driver with a number takes its first transaction, if its time has come. Returns its value
+/// after that, and its first pending time.
 fn take_driver(drivers: &mut DividedRows<Driver>, number: usize, time: u64) -> (Logic, Option<u64>)
     requires { number < length (joined drivers.old) }
     ensures rows { map length drivers.new ≡ map length drivers.old }
@@ -192,8 +191,7 @@ fn take_driver(drivers: &mut DividedRows<Driver>, number: usize, time: u64) -> (
     take_at(drivers.parts.as_mut_slice(), part, place, time)
 }
 
-/// A driver has this value from now on; where it had another one, these nets are touched
-/// (14.7.3.2).
+/// Notes the value of a driver. If it is a new one, the nets of the driver are touched (14.7.3.2).
 fn note_value(
     driving: &mut [Logic],
     number: usize,
@@ -213,7 +211,7 @@ fn note_value(
     }
 }
 
-/// Gives the queue the time of a driver; says whether there was memory for it.
+/// Puts the time of a driver into the queue. Returns whether there was memory for it.
 fn is_told(queue: &mut TimeQueue, number: usize, time: Option<u64>) -> bool
     requires { number < length queue.old }
     ensures sized { length queue.new ≡ length queue.old }
@@ -226,7 +224,7 @@ fn is_told(queue: &mut TimeQueue, number: usize, time: Option<u64>) -> bool
     }
 }
 
-/// None of the drivers is stale any more, where the queue has been told the time of each.
+/// No driver is stale any more, if the queue has the time of each.
 pub fn forget(stale: &mut NumberSet, told: bool)
     ensures sized { length stale.new ≡ length stale.old }
     ensures same { told ≡ false → stale.new ≡ stale.old }
@@ -236,8 +234,8 @@ pub fn forget(stale: &mut NumberSet, told: bool)
     }
 }
 
-/// The driver with a number takes its first transaction, if its time has come; where it has another
-/// value then, these nets are touched. Says whether the queue has been told its first pending time.
+/// The driver with a number takes its first transaction, if its time has come. If that is a new
+/// value, these nets are touched. Returns whether the queue has its first pending time.
 fn take_one(
     drivers: &mut DividedRows<Driver>,
     driving: &mut [Logic],
@@ -266,9 +264,9 @@ fn take_one(
     is_told(queue, number, next)
 }
 
-/// The drivers that are due take their transactions of a time, and nets of each that has another
-/// value then are touched. The others have none to take, and it does not look at them. Says whether
-/// the queue has been told the first pending time of each that is due.
+/// The due drivers take their transactions of a time (14.7.5.3 c), and the nets of each whose value
+/// is a new one are touched. The other drivers have none to take, and are not looked at. Returns
+/// whether the queue has the first pending time of each due driver.
 pub fn take_due(
     drivers: &mut DividedRows<Driver>,
     driving: &mut [Logic],
@@ -305,8 +303,7 @@ pub fn take_due(
     told
 }
 
-/// The drivers of the process with a number are stale from now on, as another list of drivers may
-/// stand there.
+/// Makes the drivers of the process with a number stale, as others may take their place.
 pub fn mark_stale(stale: &mut NumberSet, drivers: &DividedRows<Driver>, number: usize)
     requires at { number < length drivers.now }
     requires stale { length stale.old ≡ length (joined drivers.now) }
@@ -318,7 +315,7 @@ pub fn mark_stale(stale: &mut NumberSet, drivers: &DividedRows<Driver>, number: 
     insert_range(stale, start, end);
 }
 
-/// The same drivers.
+/// Copies of drivers.
 pub fn copied(alloc: Global, drivers: &[Driver]) -> Result<Vec<Driver>, AllocError>
     ensures { IfOk result (λ v. v.items ≡ drivers.now) }
 {
@@ -329,7 +326,7 @@ pub fn copied(alloc: Global, drivers: &[Driver]) -> Result<Vec<Driver>, AllocErr
     Ok(copy)
 }
 
-/// Whether two drivers have the same value, and the same transactions pending.
+/// Whether two drivers have the same value and the same pending transactions.
 fn is_same(driver: &Driver, other: &Driver) -> bool
     ensures { Decides result (driver.now ≡ other.now) }
 {

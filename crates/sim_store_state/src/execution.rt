@@ -1,4 +1,4 @@
-//! The execution of a process in place, on its part of flat lists.
+//! Executes a process in place, on its part of flat lists.
 
 ghost use Rattle.std.specs.Prelude.{◌≡◌, ◌<◌, ◌≤◌, ◌++◌, [], length, take, drop, slice_range, slice_index_or, slice_set, false, Ok, IfOk, OnOk};
 ghost use Rattle.sim_store_state.specs.Executions as spec;
@@ -15,8 +15,8 @@ use sim_store_sets::{DividedRows, RowArray, bounds, place_of};
 use sim_wave::Driver;
 use std::alloc::{AllocError, Global};
 
-/// Executes a body, where what its process owns stands between these bounds. Says whether anything
-/// may have been done.
+/// Executes a body of a process that owns what is between these bounds. Returns whether anything
+/// may have changed.
 fn execute_between<N: Nets, P: Nets>(
     alloc: Global,
     nets: &N,
@@ -61,8 +61,8 @@ fn execute_between<N: Nets, P: Nets>(
     )
 }
 
-/// Executes the body of the process with a number, whose drivers stand at one place of lists and its
-/// variables at one of others. Says whether anything may have been done.
+/// Executes the body of the process with a number. Its drivers are at a place of some lists, its
+/// variables at a place of others. Returns whether anything may have changed.
 fn execute_in_rows<N: Nets, P: Nets>(
     alloc: Global,
     nets: &N,
@@ -118,8 +118,8 @@ fn execute_in_rows<N: Nets, P: Nets>(
     )
 }
 
-/// Executes the body of the process with a number, where what it owns stands at a place of each of
-/// these lists. Says whether anything may have been done.
+/// Executes the body of the process with a number. What it owns is at the same place of both lists.
+/// Returns whether anything may have changed.
 pub fn execute_at<N: Nets, P: Nets>(
     alloc: Global,
     nets: &N,
@@ -155,8 +155,8 @@ pub fn execute_at<N: Nets, P: Nets>(
     )
 }
 
-/// Executes the body of the process with a number, where what each process owns stands by its
-/// number. Says whether anything may have been done.
+/// Executes the body of the process with a number. What each process owns is at its number. Returns
+/// whether anything may have changed.
 pub fn execute_in_parts<N: Nets, P: Nets>(
     alloc: Global,
     nets: &N,
@@ -204,7 +204,7 @@ pub fn execute_in_parts<N: Nets, P: Nets>(
     )
 }
 
-/// Whether anything may have been done: an execution that failed may have done a part of it.
+/// Whether anything may have changed: an execution that failed may have been carried out in part.
 pub fn may_have_changed(done: &Result<bool, AllocError>) -> bool
     ensures { result ≡ false → done.now ≡ Ok false }
 {
@@ -214,7 +214,7 @@ pub fn may_have_changed(done: &Result<bool, AllocError>) -> bool
     }
 }
 
-/// Whether an execution failed.
+/// Only whether an execution failed.
 pub fn as_done(done: Result<bool, AllocError>) -> Result<(), AllocError>
     ensures { result ≡ spec.outcome_of done }
 {

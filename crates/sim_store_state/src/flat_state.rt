@@ -1,4 +1,4 @@
-//! What is held of the state of a design.
+//! The state of a design, in flat lists.
 
 ghost use Rattle.std.specs.Prelude.{ℕ, ◌≡◌, ◌↔◌, IsTrue, ◌<◌, ◌≤◌, ◌^◌, ◌++◌, ◌∷◌, [], List, Some, length, map, slice_index_or, slice_set, MatchOption};
 ghost use Rattle.std.specs.Prelude.{IfOk, OnOk, OnErr};
@@ -42,18 +42,18 @@ use sim_wave::Driver;
 use std::alloc::{AllocError, Global};
 use std::marker::Model;
 
-/// The nets of a design, and what its processes own, in flat lists: values and last values by net,
-/// drivers and variables by process and place, in parts of a range of processes each. Beside these
-/// it holds what a cycle has to look at, so that it costs no more for what is as it was: a net that
-/// is not touched has no event, and the time in the queue of a driver that is not stale is its own.
+/// The nets of a design and what its processes own, in flat lists: values and last values by net,
+/// drivers and variables by process and place, in parts of a range of processes each. It also keeps
+/// what a cycle has to look at, so that a cycle costs nothing for what stays the same: a net that
+/// is not touched has no event, and the queue has the time of each driver that is not stale.
 pub struct FlatState {
     values: Vec<Logic>,
     last_values: Vec<Logic>,
-    /// The value of each driver, so that nets are resolved without a look at the drivers.
+    /// The value of each driver, so that resolving nets needs no look at the drivers.
     driving: Vec<Logic>,
     drivers: DividedRows<Driver>,
     variables: DividedRows<Held>,
-    /// Of each net.
+    /// By net.
     sources: RowArray<Source>,
     /// The nets of each driver.
     fan_out: RowArray<usize>,
@@ -64,7 +64,7 @@ pub struct FlatState {
     touched: NumberSet,
 }
 
-/// By hand, so that crates which drop one need no proof of what is in it.
+/// Written by hand so that code which drops it needs no proof about its contents.
 impl Drop for FlatState {
     fn drop(self) {
         let FlatState {
@@ -103,7 +103,7 @@ impl Model for FlatState {
     ghost invariant = { λ s. IsHeld s.values.items s.last_values.items s.driving.items s.drivers s.variables s.sources s.fan_out s.queue s.stale s.touched };
 }
 
-/// The lists that hold a state, apart, so that a part of one of them can be given away and put back.
+/// The lists of a state, by themselves, so that a part of one can be given away and put back.
 #[derive(Drop)]
 pub struct Lists {
     pub values: Vec<Logic>,
@@ -126,14 +126,14 @@ pub struct Part {
     pub variables: Vec<Held>,
 }
 
-/// Whether these variables hold the same.
+/// Whether these variables have the same values.
 fn are_equal(variables: &[Held], others: &[Held]) -> bool
     ensures { Decides result (variables.now ≡ others.now) }
 {
     variables == others
 }
 
-/// The same lists, each in so many parts at the most, if it is in one.
+/// The same lists, divided into at most so many parts each, if they are in one.
 fn divided(
     alloc: Global,
     drivers: DividedRows<Driver>,
@@ -149,8 +149,8 @@ fn divided(
 }
 
 impl FlatState {
-    /// The state of a design before any process is executed: each driver has its first value, each
-    /// net the value of its sources (14.7.5.2).
+    /// The state of a design before any process is executed: each driver has its initial value,
+    /// each net the value of its sources (14.7.5.2).
     pub fn first(alloc: Global, design: &Design) -> Result<FlatState, AllocError>
         ensures { IfOk result (λ s. s ≡ flat_state_of design.now (first_state design.now)) }
     {
@@ -236,8 +236,8 @@ impl FlatState {
         }
     }
 
-    /// The same state, with what the processes own in so many parts at the most, if it is in one. It
-    /// moves drivers and variables, and copies none.
+    /// The same state, with what the processes own divided into at most so many parts, if it is in
+    /// one. Drivers and variables are moved, not copied.
     pub fn divide(self, alloc: Global, parts: usize) -> Result<FlatState, AllocError>
         ensures { IfOk result (λ s. s ≡ self) }
     {
@@ -279,8 +279,8 @@ impl FlatState {
         }
     }
 
-    /// Copies the part of the process with a number, which reads these nets. For an empty list it
-    /// takes no memory.
+    /// Copies the part of the process with a number, which reads these nets. Empty lists take no
+    /// memory.
     pub fn part(&self, alloc: Global, number: usize, reads: &[usize]) -> Result<Part, AllocError>
         requires { number < length self.now.owned }
         ensures views { IfOk result (λ r. r.views.items ≡ map (net_at self.now.nets) reads.now) }
@@ -329,8 +329,8 @@ impl FlatState {
         are_equal(variables, self.variables.row(number))
     }
 
-    /// Puts what the process with a number owns in the place of what it owned: its drivers have the
-    /// values that they had. It takes no memory.
+    /// Replaces what the process with a number owns. Its drivers have the values that they had. It
+    /// takes no memory.
     pub fn put(&mut self, number: usize, drivers: Vec<Driver>, variables: Vec<Held>)
         requires at { number < length self.old.owned }
         requires drivers { length drivers.items ≡ length (owned_at self.old.owned number).drivers }
@@ -345,8 +345,9 @@ impl FlatState {
         self.variables.put(number, variables.as_mut_slice());
     }
 
-    /// The time of the next cycle (14.7.5.1). It looks only at drivers that may have another first
-    /// transaction than at the call before.
+    /// The time of the next cycle, in femtoseconds (14.7.5.1; 14.7.5.3 g, h.5); `None` if nothing is
+    /// pending. It looks only at drivers whose first transaction may have changed since the last
+    /// call.
     pub fn next(&mut self) -> Result<Option<u64>, AllocError>
         ensures same { self.new ≡ self.old }
         ensures value { IfOk result (λ next. next ≡ spec.next_time (states.waves self.old.owned)) }
@@ -357,9 +358,10 @@ impl FlatState {
         Ok(self.queue.least())
     }
 
-    /// The cycle at the time of the next: drivers take what is pending then, and nets the values of
-    /// their sources (14.7.5.3). It looks only at drivers that take a transaction, and at nets that
-    /// have one with another value as a source. If allocation fails nothing changes.
+    /// The update at the time of the next cycle (14.7.5.3 c, d): drivers take the transactions of
+    /// that time, and nets the values of their sources. It looks only at drivers that take a
+    /// transaction, and at the nets of those whose value changes. If allocation fails, nothing
+    /// changes.
     pub fn update(&mut self, time: u64) -> Result<(), AllocError>
         requires next { spec.next_time (states.waves self.old.owned) ≡ Some time }
         ensures ok { OnOk result ((design : design_value) (s : State) → self.old ≡ flat_state_of design s
@@ -367,12 +369,14 @@ impl FlatState {
         ensures err { OnErr result (self.new ≡ self.old) }
     {
         bring_up_to_date(&mut self.queue, &self.stale, &self.drivers)?;
+        // The values before this cycle become the last values.
         settle(
             self.last_values.as_mut_slice(),
             self.values.as_slice(),
             &self.touched,
         );
         self.touched.clear();
+        // c) Each active driver takes its transaction.
         self.queue.take(time, &mut self.stale);
         let told = take_due(
             &mut self.drivers,
@@ -384,6 +388,7 @@ impl FlatState {
             &mut self.touched,
         );
         forget(&mut self.stale, told);
+        // d) Nets of changed drivers take the values of their sources.
         resolve_touched(
             self.values.as_mut_slice(),
             &self.touched,
@@ -393,8 +398,8 @@ impl FlatState {
         Ok(())
     }
 
-    /// Executes a process, which has this number, in place, by its code. If allocation fails, what
-    /// it owns must not be executed again.
+    /// Executes the process with this number in place, by its code. If allocation fails, it may
+    /// have been executed in part, and must not be executed again.
     pub fn execute(
         &mut self,
         alloc: Global,
@@ -453,8 +458,8 @@ impl FlatState {
         as_done(done)
     }
 
-    /// Carries out the assignment of the process with a number, whose body is that alone, also where
-    /// its edge is missing. If allocation fails nothing changes.
+    /// Carries out the assignment of the process with a number, whose body is that alone, even if
+    /// its edge is missing. If allocation fails, nothing changes.
     #[inline(always)]
     fn assign(&mut self, number: usize, quick: &Quick, time: u64) -> Result<(), AllocError>
         requires at { number < length self.old.owned }
@@ -480,8 +485,8 @@ impl FlatState {
         done
     }
 
-    /// Executes the process with a number, whose body is this assignment, in place, unless its edge is
-    /// missing. If allocation fails nothing changes.
+    /// Executes the process with a number, whose body is this assignment, in place, unless its edge
+    /// is missing. If allocation fails, nothing changes.
     #[inline(always)]
     fn resume_quick(&mut self, number: usize, quick: &Quick, time: u64) -> Result<(), AllocError>
         requires at { number < length self.old.owned }
@@ -502,8 +507,9 @@ impl FlatState {
         self.assign(number, quick, time)
     }
 
-    /// Executes a process, which has this number, in place, unless the edge is missing without which
-    /// it does nothing. If allocation fails, what it owns must not be executed again.
+    /// Executes the process with this number in place, unless the edge is missing without which it
+    /// does nothing. If allocation fails, it may have been executed in part, and must not be
+    /// executed again.
     #[inline(always)]
     pub fn resume(
         &mut self,
@@ -541,7 +547,7 @@ impl FlatState {
         self.execute(alloc, number, process, time, codes, frame)
     }
 
-    /// Appends what the last cycle changed to a log that has room for it.
+    /// Appends the changes of the last cycle to a log that has room for them.
     pub fn record(&self, log: &mut Log, time: u64, delta: u64)
         requires few { length self.now.nets < 2 ^ 32 }
         requires mark { 0 < log.old.marks_room }
@@ -557,8 +563,8 @@ impl FlatState {
         );
     }
 
-    /// Appends the value of each net to a log that has room for it, as the record of the
-    /// initialization.
+    /// Appends the value of each net, as the record of the initialization, to a log that has room
+    /// for it.
     pub fn record_all(&self, log: &mut Log, time: u64, delta: u64)
         requires few { length self.now.nets < 2 ^ 32 }
         requires mark { 0 < log.old.marks_room }

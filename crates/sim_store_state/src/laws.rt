@@ -7,7 +7,7 @@ ghost use Rattle.sim_standard.specs.Initialization.{all_first_owned, idle};
 ghost use Rattle.sim_standard.specs.State.{waves};
 
 /// The drivers that the processes own, one process after another, are those of the design by
-/// number, at first each idle at its first value.
+/// number, each initially idle at its first value.
 pub fn the_first_drivers_are_those_of_the_design()
     ensures { (design : Design) → AreOwned (length design.nets) 0 0 design.processes design.drivers
         → waves (all_first_owned design) ≡ map (λ (d : driver_of). idle d.first) design.drivers }

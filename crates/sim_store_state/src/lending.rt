@@ -1,4 +1,4 @@
-//! A state of which what processes own is taken away, and given back.
+//! A state from which what its processes own is taken away, and to which it is given back.
 
 ghost use Rattle.std.specs.Prelude.{ℕ, ◌≡◌, ◌<◌, ◌^◌, List, true, false, length, IfOk};
 ghost use Rattle.sim_standard.specs.State.{Owned};
@@ -17,7 +17,7 @@ use sim_store_sets::{DividedRows, NumberSet, RowArray, TimeQueue};
 use sim_wave::Driver;
 use std::alloc::{AllocError, Global};
 
-/// What stays of a state where what its processes own is elsewhere, and nets are read elsewhere.
+/// What remains of a state while what its processes own and the values of its nets are elsewhere.
 #[derive(Drop)]
 pub struct Remains {
     pub driving: Vec<Logic>,
@@ -26,11 +26,11 @@ pub struct Remains {
     pub queue: TimeQueue,
     pub stale: NumberSet,
     pub touched: NumberSet,
-    /// How many processes each share has but the last.
+    /// The number of processes of each share but the last.
     pub each: usize,
 }
 
-/// A state that is taken apart.
+/// A state taken apart.
 #[derive(Drop)]
 pub struct Apart {
     pub values: Vec<Logic>,
@@ -39,7 +39,7 @@ pub struct Apart {
     pub remains: Remains,
 }
 
-/// The drivers of the process with a number are stale from now on.
+/// Makes the drivers of the process with a number stale.
 fn mark_row(stale: &mut NumberSet, drivers: &DividedRows<Driver>, number: usize)
     requires at { number < length drivers.now }
     requires stale { length stale.old ≡ length (joined drivers.now) }
@@ -51,7 +51,7 @@ fn mark_row(stale: &mut NumberSet, drivers: &DividedRows<Driver>, number: usize)
     insert_range(stale, start, end);
 }
 
-/// The drivers of each of these processes are stale from now on.
+/// Makes the drivers of each of these processes stale.
 fn mark_rows(stale: &mut NumberSet, drivers: &DividedRows<Driver>, processes: &NumberSet)
     requires processes { length processes.now ≡ length drivers.now }
     requires stale { length stale.old ≡ length (joined drivers.now) }
@@ -67,7 +67,7 @@ fn mark_rows(stale: &mut NumberSet, drivers: &DividedRows<Driver>, processes: &N
     }
 }
 
-/// Takes a state apart. If allocation fails it is gone.
+/// Takes a state apart. If allocation fails, it is lost.
 pub fn take_apart(alloc: Global, state: FlatState) -> Result<Apart, AllocError>
     requires { length state.owned < 2 ^ 64 }
     ensures owned { IfOk result (λ r. joined r.shares ≡ state.owned) }
@@ -107,9 +107,9 @@ pub fn take_apart(alloc: Global, state: FlatState) -> Result<Apart, AllocError>
     })
 }
 
-/// The state of these processes again, in the shares that they were in, of which those of a set own
-/// something else now, whose drivers have the values that they had. The drivers of that set are
-/// stale.
+/// Puts a state together again, with its processes in the shares that they were in. Those of a set
+/// may own something else now, except that their drivers have the values that they had. The drivers
+/// of that set are stale.
 pub fn put_together(apart: Apart, changed: &NumberSet) -> FlatState
     requires shares { AreShares apart.remains.each (counts apart.shares) }
     requires owned { (before : List Owned) × AreApart apart.values.items apart.last_values.items before apart.remains

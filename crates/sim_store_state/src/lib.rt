@@ -1,4 +1,4 @@
-//! What a simulation holds between two cycles, in flat lists.
+//! The state that a simulation holds between two cycles, in flat lists.
 #![tactic(auto)]
 
 mod assignment;

@@ -1,4 +1,4 @@
-//! Lists of numbers, while they are made.
+//! Lists of numbers under construction.
 
 ghost use Rattle.std.specs.Prelude.{ℕ, ◌≡◌, ◌<◌, ◌||◌, ◌&&◌, ◌==◌, [], List, length, slice_index_or, IfOk, OnOk};
 ghost use Rattle.std.specs.List.{All};
@@ -19,7 +19,7 @@ pub fn add(lists: &mut [Items<usize>], place: usize, number: usize) -> Result<()
     Ok(())
 }
 
-/// Lists of nothing.
+/// Empty lists.
 pub fn empty_lists(alloc: Global, count: usize) -> Result<Vec<Items<usize>>, AllocError>
     ensures empty { IfOk result (λ v. All (λ (list : List ℕ). list ≡ []) v.items) }
     ensures count { IfOk result (λ v. length v.items ≡ count) }
@@ -31,7 +31,7 @@ pub fn empty_lists(alloc: Global, count: usize) -> Result<Vec<Items<usize>>, All
     Ok(lists)
 }
 
-/// Lists, one after another.
+/// Lists as the rows of an array.
 pub fn in_rows(alloc: Global, lists: &[Items<usize>]) -> Result<RowArray<usize>, AllocError>
     ensures { IfOk result (λ r. r ≡ lists.now) }
 {

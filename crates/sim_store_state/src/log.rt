@@ -12,7 +12,7 @@ use sim_store_sets::NumberSet;
 use std::alloc::{AllocError, Global};
 use std::marker::Model;
 
-/// When a record is, and where its changes start.
+/// The time of a record in femtoseconds, its delta number, and where its changes start.
 #[derive(Clone, Copy)]
 pub struct Mark {
     pub time: u64,
@@ -20,7 +20,7 @@ pub struct Mark {
     pub start: usize,
 }
 
-/// Appends the change of a net, if there is one.
+/// Appends the change of a net, if it has changed.
 fn append_change(changes: &mut Vec<(u32, Logic)>, number: usize, value: Logic, last: Logic)
     requires few { number < 2 ^ 32 }
     requires room { vec_len changes.old < vec_capacity changes.old }
@@ -34,7 +34,7 @@ fn append_change(changes: &mut Vec<(u32, Logic)>, number: usize, value: Logic, l
     }
 }
 
-/// Appends the changes of nets, in net order. It looks only at nets that are touched.
+/// Appends the changes of nets, in net order. It looks only at touched nets.
 fn append_changes(
     changes: &mut Vec<(u32, Logic)>,
     values: &[Logic],
@@ -67,7 +67,7 @@ fn append_values(changes: &mut Vec<(u32, Logic)>, values: &[Logic])
     }
 }
 
-/// Where the changes of a record start and end; `count` is that of all changes.
+/// Where the changes of a record start and end; `count` is the number of all changes.
 fn bounds(marks: &[Mark], count: usize, number: usize) -> (usize, usize)
     requires { number + 1 ≤ length marks.now }
     ensures start { result.0 ≡ (slice_index_or marks.now number (end_mark count)).start }
@@ -95,7 +95,7 @@ pub struct Log {
     changes: Vec<(u32, Logic)>,
 }
 
-/// By hand, so that crates which drop one need no proof of what is in it.
+/// Written by hand so that code which drops it needs no proof about its contents.
 impl Drop for Log {
     fn drop(self) {
         let Log { marks, changes } = self;
@@ -120,7 +120,7 @@ impl Model for Log {
 }
 
 impl Log {
-    /// No records. It takes no memory.
+    /// A log without records. It takes no memory.
     pub fn new(alloc: Global) -> Log
         ensures { result.records ≡ [] }
     {
@@ -130,21 +130,21 @@ impl Log {
         }
     }
 
-    /// How many records there are.
+    /// The number of records.
     pub fn len(&self) -> usize
         ensures { result ≡ length self.now.records }
     {
         self.marks.len()
     }
 
-    /// How many changes they have in all.
+    /// The number of changes in all records.
     pub fn count(&self) -> usize
         ensures { result ≡ length (all_changes self.now.records) }
     {
         self.changes.len()
     }
 
-    /// When the record with a number is: its time and its delta number.
+    /// The time, in femtoseconds, and the delta number of the record with a number.
     pub fn time(&self, number: usize) -> (u64, u64)
         requires { number < length self.now.records }
         ensures { result ≡ ((record_at self.now.records number).time, (record_at self.now.records number).delta) }
@@ -173,8 +173,8 @@ impl Log {
         Ok(())
     }
 
-    /// Appends a record of the nets that changed, which are among those that are touched. There is
-    /// room for it, so it takes no memory.
+    /// Appends a record of the nets that changed, all of which are touched. There is room for it,
+    /// so it takes no memory.
     pub(crate) fn append(
         &mut self,
         time: u64,

@@ -1,4 +1,4 @@
-//! Nets: their values (IEEE 1076-2008, 14.7.3), and how processes see them.
+//! The values of nets (IEEE 1076-2008, 14.7.3), and how processes see them.
 
 ghost use Rattle.std.specs.Prelude.{ℕ, [], ◌≡◌, ◌<◌, false, length, map, fold, slice_index_or, ◌↔◌, IsTrue, IfOk};
 ghost use Rattle.sim_logic.specs.declared.logic.Logic as logic;
@@ -35,7 +35,7 @@ fn source_value(source: Source, driving: &[Logic]) -> Logic
     }
 }
 
-/// The values of the sources, resolved from the left.
+/// The values of the sources, resolved from left to right.
 fn merged(sources: &[Source], driving: &[Logic]) -> Logic
     ensures { result ≡ fold resolution_table logic.Logic.Z (map (value_from driving.now) sources.now) }
 {
@@ -46,7 +46,8 @@ fn merged(sources: &[Source], driving: &[Logic]) -> Logic
     value
 }
 
-/// The value of a net with these sources. It reads the value of each driver, and no driver.
+/// The value of a net with these sources (14.7.3.2, 14.7.3.3). It looks at values of drivers, not
+/// at drivers.
 pub fn net_value(sources: &[Source], driving: &[Logic]) -> Logic
     ensures { result ≡ row_from driving.now sources.now }
 {
@@ -56,7 +57,7 @@ pub fn net_value(sources: &[Source], driving: &[Logic]) -> Logic
     }
 }
 
-/// The last values of the nets that are touched become their values; those of the others are.
+/// The last values of touched nets become their values; those of other nets are already equal.
 pub fn settle(last_values: &mut [Logic], values: &[Logic], touched: &NumberSet)
     requires sized { length last_values.old ≡ length values.now }
     requires touched { AreTouched values.now last_values.old touched.now }
@@ -71,7 +72,7 @@ pub fn settle(last_values: &mut [Logic], values: &[Logic], touched: &NumberSet)
     }
 }
 
-/// The nets that are touched get the values of their sources; the others have them.
+/// Touched nets take the values of their sources (14.7.5.3 d); other nets have them already.
 pub fn resolve_touched(
     values: &mut [Logic],
     touched: &NumberSet,
@@ -93,7 +94,7 @@ pub fn resolve_touched(
     }
 }
 
-/// A net with this value, whose last value was this.
+/// A net with this value and this last value.
 fn changed_to(value: Logic, last: Logic) -> NetView
     ensures { result ≡ spec.changed_to value last }
 {
@@ -104,7 +105,7 @@ fn changed_to(value: Logic, last: Logic) -> NetView
     }
 }
 
-/// The net with a number.
+/// What is seen of the net with a number.
 fn view_at(values: &[Logic], last_values: &[Logic], number: usize) -> NetView
     ensures { result ≡ net_at (views_of values.now last_values.now) number }
 {
@@ -118,7 +119,7 @@ fn view_at(values: &[Logic], last_values: &[Logic], number: usize) -> NetView
     changed_to(values[number], last_values[number])
 }
 
-/// The nets with these numbers.
+/// What is seen of the nets with these numbers.
 pub fn views_at(
     alloc: Global,
     values: &[Logic],
@@ -133,7 +134,7 @@ pub fn views_at(
         .collect(alloc)
 }
 
-/// How the nets with these numbers are seen, by place.
+/// What is seen of the nets with these numbers, by place.
 #[derive(Clone, Copy)]
 pub struct Seen<'a> {
     pub object_nets: &'a [usize],
@@ -141,7 +142,7 @@ pub struct Seen<'a> {
     pub last_values: &'a [Logic],
 }
 
-/// How a process sees the nets of its ports and signals.
+/// What a process sees of its ports and signals.
 #[derive(Clone, Copy)]
 pub struct SeenBy<'a> {
     pub process: &'a Process,
@@ -149,7 +150,7 @@ pub struct SeenBy<'a> {
     pub last_values: &'a [Logic],
 }
 
-/// How nets are seen by their numbers.
+/// What is seen of nets, by number.
 #[derive(Clone, Copy)]
 pub struct ByNumber<'a> {
     pub values: &'a [Logic],
@@ -199,21 +200,21 @@ impl<'a> Nets for SeenBy<'a> {
     }
 }
 
-/// Whether two views are one.
+/// Whether two views are equal.
 fn are_one(view: NetView, other: NetView) -> bool
     ensures { IsTrue result ↔ (view ≡ other) }
 {
     view.value == other.value && view.event == other.event && view.last == other.last
 }
 
-/// Whether the net with a number is seen so.
+/// Whether this is what is seen of the net with a number.
 fn is_seen(values: &[Logic], last_values: &[Logic], number: usize, view: NetView) -> bool
     ensures { IsTrue result ↔ (view ≡ net_at (views_of values.now last_values.now) number) }
 {
     are_one(view, view_at(values, last_values, number))
 }
 
-/// Whether the nets with these numbers are seen so.
+/// Whether these are what is seen of the nets with these numbers.
 pub fn are_views(
     values: &[Logic],
     last_values: &[Logic],

@@ -1,4 +1,4 @@
-//! Which processes a cycle resumes (IEEE 1076-2008, 14.7.5.3).
+//! Which processes a cycle resumes (IEEE 1076-2008, 14.7.5.3 f).
 
 ghost use Rattle.std.specs.Prelude.{ℕ, ◌≡◌, ◌<◌, ◌||◌, ◌&&◌, ◌==◌, [], List, length, slice_index_or, IfOk, OnOk};
 ghost use Rattle.sim_flat_design.specs.Processes.{Process as process_value};
@@ -18,7 +18,7 @@ use sim_store_sets::{NumberSet, RowArray};
 use sqlite_items::Items;
 use std::alloc::{AllocError, Global};
 
-/// Adds this process to those that are sensitive to the nets of its list.
+/// Adds a process to those sensitive to each net of its list.
 fn add_process(
     sensitive: &mut [Items<usize>],
     number: usize,
@@ -33,7 +33,7 @@ fn add_process(
     Ok(())
 }
 
-/// Adds these processes to those that are sensitive to nets.
+/// Adds these processes to those sensitive to each net.
 fn add_processes(sensitive: &mut [Items<usize>], processes: &[Process]) -> Result<(), AllocError>
     ensures { OnOk result ((n p : ℕ) → n < length sensitive.old
         → is_among (slice_index_or sensitive.new n []) p ≡ (is_among (slice_index_or sensitive.old n []) p
@@ -45,8 +45,8 @@ fn add_processes(sensitive: &mut [Items<usize>], processes: &[Process]) -> Resul
     Ok(())
 }
 
-/// For each net of a design, which processes are sensitive to it. It takes time in proportion to
-/// the nets and to all sensitivities.
+/// For each net of a design, the processes sensitive to it. The time is proportional to the number
+/// of nets plus the length of all sensitivity lists.
 pub fn sensitive(alloc: Global, design: &Design) -> Result<RowArray<usize>, AllocError>
     ensures value { IfOk result (λ r. AreSensitive design.now.processes r) }
     ensures nets { IfOk result (λ r. length r ≡ length design.now.nets) }
@@ -56,7 +56,7 @@ pub fn sensitive(alloc: Global, design: &Design) -> Result<RowArray<usize>, Allo
     in_rows(alloc, lists.as_slice())
 }
 
-/// The processes that are sensitive to the net with a number; none if there is no such net.
+/// The processes sensitive to the net with a number; none if there is no such net.
 fn sensitive_to(sensitive: &RowArray<usize>, net: usize) -> &[usize]
     ensures { result.now ≡ slice_index_or sensitive.now net [] }
 {
@@ -66,7 +66,7 @@ fn sensitive_to(sensitive: &RowArray<usize>, net: usize) -> &[usize]
     sensitive.row(net)
 }
 
-/// Processes that are sensitive to a net of these changes are resumed.
+/// Resumes the processes sensitive to a net of these changes.
 fn resume_sensitive(resumed: &mut NumberSet, changes: &[(u32, Logic)], sensitive: &RowArray<usize>)
     ensures sized { length resumed.new ≡ length resumed.old }
     ensures members { (p : ℕ) → p < length resumed.old → is_in resumed.new p ≡ (is_told sensitive.now changes.now p || is_in resumed.old p) }
@@ -76,8 +76,8 @@ fn resume_sensitive(resumed: &mut NumberSet, changes: &[(u32, Logic)], sensitive
     }
 }
 
-/// Finds the processes that are resumed after a cycle with these changes: those that are sensitive to
-/// a net with an event, and no others. It looks only at the nets that changed.
+/// Finds the processes that resume in a cycle with these changes (14.7.5.3 f.2): those sensitive to
+/// a net with an event, and no others. It looks only at nets that changed.
 pub fn find_resumed(resumed: &mut NumberSet, changes: &[(u32, Logic)], sensitive: &RowArray<usize>)
     ensures sized { length resumed.new ≡ length resumed.old }
     ensures found { (nets : List NetView) (processes : List process_value) (p : ℕ) → changes.now ≡ changes_from 0 nets → length sensitive.now ≡ length nets

@@ -1,4 +1,4 @@
-//! Many members of a set at once.
+//! Insertion of several members into a set.
 
 ghost use Rattle.std.specs.Prelude.{ℕ, ◌≡◌, ◌<◌, ◌≤◌, ◌⊎◌, ◌||◌, ◌==◌, false, length};
 ghost use Rattle.sim_store_sets.specs.Numbers.{is_in};
@@ -6,7 +6,7 @@ ghost use Rattle.sim_standard.specs.Orders.{is_among};
 
 use sim_store_sets::NumberSet;
 
-/// Makes a number a member, if it is below the bound.
+/// Inserts a number, if it is below the bound.
 fn insert_below(set: &mut NumberSet, number: usize)
     ensures sized { length set.new ≡ length set.old }
     ensures members { (n : ℕ) → n < length set.old → is_in set.new n ≡ ((number == n) || is_in set.old n) }
@@ -16,7 +16,7 @@ fn insert_below(set: &mut NumberSet, number: usize)
     }
 }
 
-/// Makes numbers members, those that are below the bound.
+/// Inserts those of these numbers that are below the bound.
 pub fn insert_each(set: &mut NumberSet, numbers: &[usize])
     ensures sized { length set.new ≡ length set.old }
     ensures members { (n : ℕ) → n < length set.old → is_in set.new n ≡ (is_among numbers.now n || is_in set.old n) }
@@ -26,7 +26,7 @@ pub fn insert_each(set: &mut NumberSet, numbers: &[usize])
     }
 }
 
-/// Makes each number of a range a member.
+/// Inserts each number of a range.
 pub fn insert_range(set: &mut NumberSet, start: usize, end: usize)
     requires order { start ≤ end }
     requires within { end ≤ length set.old }

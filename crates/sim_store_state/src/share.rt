@@ -19,14 +19,13 @@ use sim_wave::Driver;
 use std::alloc::{AllocError, Global};
 use std::marker::Model;
 
-/// The drivers and the variables of some processes side by side, by place. Contracts see what each
-/// of these owns.
+/// The drivers and variables of adjacent processes, by place. Contracts see what each of them owns.
 pub struct Share {
     drivers: RowArray<Driver>,
     variables: RowArray<Held>,
 }
 
-/// By hand, so that crates which drop one need no proof of what is in it.
+/// Written by hand so that code which drops it needs no proof about its contents.
 impl Drop for Share {
     fn drop(self) {
         let Share { drivers, variables } = self;
@@ -48,7 +47,7 @@ impl Model for Share {
 }
 
 impl Share {
-    /// Of as many lists of drivers as of variables.
+    /// A share of as many lists of drivers as of variables.
     pub fn new(drivers: RowArray<Driver>, variables: RowArray<Held>) -> Share
         requires { length drivers ≡ length variables }
         ensures { result ≡ owned_lists drivers variables }
@@ -56,7 +55,7 @@ impl Share {
         Share { drivers, variables }
     }
 
-    /// How many processes there are.
+    /// The number of processes.
     pub fn len(&self) -> usize
         ensures { result ≡ length self.now }
     {
@@ -72,9 +71,9 @@ impl Share {
         (drivers, variables)
     }
 
-    /// Executes a process, which has this number and stands at this place, by its code, where nets
-    /// have these values, unless the edge is missing without which it does nothing. If allocation
-    /// fails, what it owns must not be executed again.
+    /// Executes the process with this number, at this place, by its code, with these values of
+    /// nets, unless the edge is missing without which it does nothing. If allocation fails, it may
+    /// have been executed in part, and must not be executed again.
     #[inline(always)]
     pub fn resume(
         &mut self,
@@ -121,7 +120,7 @@ impl Share {
         )
     }
 
-    /// Executes a process by its code, also where the edge is missing.
+    /// Executes a process by its code, even if its edge is missing.
     fn execute(
         &mut self,
         alloc: Global,

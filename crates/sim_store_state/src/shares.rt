@@ -13,13 +13,13 @@ use sim_wave::Driver;
 use std::alloc::{AllocError, Global};
 use std::marker::Model;
 
-/// Shares, one after another. Contracts see what the processes of each of them own.
+/// Shares, one after another. Contracts see what the processes of each share own.
 pub struct Shares {
     drivers: Vec<RowArray<Driver>>,
     variables: Vec<RowArray<Held>>,
 }
 
-/// By hand, so that functions which drop one need no proof of what is in it.
+/// Written by hand so that code which drops it needs no proof about its contents.
 impl Drop for Shares {
     fn drop(self) {
         let Shares { drivers, variables } = self;
@@ -55,7 +55,7 @@ fn are_alike(drivers: &[RowArray<Driver>], variables: &[RowArray<Held>]) -> bool
     true
 }
 
-/// Copies of so many lists, from the one with a number on.
+/// Copies of so many lists, from a number on.
 fn copied_from(
     alloc: Global,
     lists: &DividedRows<Held>,
@@ -73,7 +73,7 @@ fn copied_from(
     Ok(rows)
 }
 
-/// Copies of lists of variables, in parts with as many lists as those of drivers.
+/// Copies of lists of variables, divided into parts as the lists of drivers are.
 fn copied_like(
     alloc: Global,
     drivers: &[RowArray<Driver>],
@@ -94,8 +94,8 @@ fn copied_like(
     Ok(parts)
 }
 
-/// Lists of variables, which are in parts of so many, in parts with as many lists as those of
-/// drivers. If they are so, none is copied.
+/// Lists of variables, in parts of so many, divided into parts as the lists of drivers are. If they
+/// already are, none is copied.
 fn parts_like(
     alloc: Global,
     drivers: &[RowArray<Driver>],
@@ -115,7 +115,7 @@ fn parts_like(
 }
 
 impl Shares {
-    /// None, with room for so many.
+    /// No shares, with room for so many.
     pub fn with_room(alloc: Global, count: usize) -> Result<Shares, AllocError>
         ensures { IfOk result (λ s. s ≡ []) }
     {
@@ -124,8 +124,8 @@ impl Shares {
         Ok(Shares { drivers, variables })
     }
 
-    /// The shares of the processes that have these drivers and these variables, which are in parts of
-    /// so many, as the drivers are.
+    /// The shares of the processes with these drivers, and with these variables in parts of so
+    /// many.
     pub fn of(
         alloc: Global,
         drivers: Vec<RowArray<Driver>>,
@@ -142,14 +142,14 @@ impl Shares {
         Ok(Shares { drivers, variables })
     }
 
-    /// How many shares there are.
+    /// The number of shares.
     pub fn count(&self) -> usize
         ensures { result ≡ length self.now }
     {
         self.drivers.len()
     }
 
-    /// Adds a share at the end. If allocation fails it is gone.
+    /// Adds a share at the end. If allocation fails, it is lost.
     pub fn push(&mut self, share: Share) -> Result<(), AllocError>
         ensures { OnOk result (self.new ≡ self.old ++ share ∷ []) }
     {
@@ -161,7 +161,7 @@ impl Shares {
         Ok(())
     }
 
-    /// All but the last share, and that one; none where there is none.
+    /// All shares but the last, and the last one; `None` if there is none.
     pub fn pop(self) -> Option<(Shares, Share)>
         ensures { MatchOption result (self ≡ []) (λ r. self ≡ r.0 ++ r.1 ∷ []) }
     {

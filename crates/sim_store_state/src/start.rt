@@ -1,5 +1,5 @@
 //! The state of a design before any process is executed (IEEE 1076-2008, 14.7.5.2), and what is
-//! made once for its cycles.
+//! computed once for its cycles.
 
 ghost use Rattle.std.specs.Prelude.{ℕ, [], None, false, ◌≡◌, ◌+◌, ◌<◌, ◌≤◌, ◌==◌, ◌||◌, ◌&&◌, map, length, take, drop, slice_index_or, replicate, IfOk, OnOk};
 ghost use Rattle.std.specs.List.{All};
@@ -19,7 +19,7 @@ use sim_wave::Driver;
 use sqlite_items::Items;
 use std::alloc::{AllocError, Global};
 
-/// Drivers with their first values and nothing pending.
+/// Drivers with their initial values and no pending transactions.
 fn idle_drivers(alloc: Global, drivers: &[DriverOf]) -> Result<Vec<Driver>, AllocError>
     ensures { IfOk result (λ v. v.items ≡ map (λ d. at_start.idle d.first) drivers.now) }
 {
@@ -38,7 +38,7 @@ fn drivers_of<'a>(drivers: &'a [DriverOf], process: &Process) -> &'a [DriverOf]
     &drivers[first..first + process.body().drivers()]
 }
 
-/// The drivers of a process at first.
+/// The initial drivers of a process.
 fn own_drivers(
     alloc: Global,
     drivers: &[DriverOf],
@@ -50,7 +50,7 @@ fn own_drivers(
     idle_drivers(alloc, drivers_of(drivers, process))
 }
 
-/// The drivers of each process at first.
+/// The initial drivers of each process.
 fn first_drivers(
     alloc: Global,
     drivers: &[DriverOf],
@@ -66,7 +66,7 @@ fn first_drivers(
     Ok(rows)
 }
 
-/// The variables of each process at first.
+/// The initial variables of each process.
 fn first_variables(alloc: Global, processes: &[Process]) -> Result<RowArray<Held>, AllocError>
     ensures { IfOk result (λ r. r ≡ map (λ p. p.body.variables) processes.now) }
 {
@@ -77,7 +77,7 @@ fn first_variables(alloc: Global, processes: &[Process]) -> Result<RowArray<Held
     Ok(rows)
 }
 
-/// The drivers and the variables of each process at first.
+/// The initial drivers and variables of each process.
 fn first_owned(
     alloc: Global,
     design: &Design,
@@ -97,7 +97,7 @@ fn driving_values(alloc: Global, drivers: &[Driver]) -> Result<Vec<Logic>, Alloc
     drivers.iter().map(|driver| driver.value()).collect(alloc)
 }
 
-/// The value of each net, from the values of the drivers.
+/// The value of each net, given the values of the drivers.
 fn values(alloc: Global, nets: &[Net], driving: &[Logic]) -> Result<Vec<Logic>, AllocError>
     ensures { IfOk result (λ v. v.items ≡ map (row_from driving.now) (sources_of nets.now)) }
 {
@@ -108,7 +108,7 @@ fn values(alloc: Global, nets: &[Net], driving: &[Logic]) -> Result<Vec<Logic>, 
     Ok(values)
 }
 
-/// The value of each net, and the value that it had before, which is the same.
+/// The value of each net, and its last value, which is the same.
 fn first_values(
     alloc: Global,
     nets: &[Net],
@@ -122,8 +122,7 @@ fn first_values(
     Ok((values, last_values))
 }
 
-/// The drivers and the variables of each process at first, in one part, and the value of each
-/// driver.
+/// The initial drivers and variables of each process, in one part, and the value of each driver.
 fn first_parts(
     alloc: Global,
     design: &Design,
@@ -152,7 +151,7 @@ fn in_one_part(
     Ok((drivers, variables))
 }
 
-/// What processes own at first, and the values of drivers and nets that come of it.
+/// What processes own initially, and the values of drivers and nets that follow from it.
 #[derive(Drop)]
 pub struct FirstContents {
     pub drivers: DividedRows<Driver>,
@@ -162,7 +161,7 @@ pub struct FirstContents {
     pub last_values: Vec<Logic>,
 }
 
-/// What a design begins with.
+/// The initial contents for a design.
 pub fn first_contents(alloc: Global, design: &Design) -> Result<FirstContents, AllocError>
     ensures drivers { IfOk result (λ r. r.drivers ≡ map (λ p. (at_start.first_owned design.now.drivers p).drivers) design.now.processes) }
     ensures variables { IfOk result (λ r. r.variables ≡ map (λ p. p.body.variables) design.now.processes) }
@@ -181,7 +180,7 @@ pub fn first_contents(alloc: Global, design: &Design) -> Result<FirstContents, A
     })
 }
 
-/// The sources of each net of a design, side by side.
+/// The sources of each net of a design, as rows.
 fn sources(alloc: Global, design: &Design) -> Result<RowArray<Source>, AllocError>
     ensures { IfOk result (λ r. r ≡ sources_of design.now.nets) }
 {
@@ -192,7 +191,7 @@ fn sources(alloc: Global, design: &Design) -> Result<RowArray<Source>, AllocErro
     Ok(rows)
 }
 
-/// A source of a net: where it is a driver, the net is one of that driver's.
+/// Adds a net to those of its source, if that is a driver.
 fn add_source(fan_out: &mut [Items<usize>], net: usize, source: Source) -> Result<(), AllocError>
     ensures { OnOk result ((n d : ℕ) → d < length fan_out.old
         → is_among (slice_index_or fan_out.new d []) n ≡ (is_among (slice_index_or fan_out.old d []) n || (is_driver source d && (net == n)))) }
@@ -203,7 +202,7 @@ fn add_source(fan_out: &mut [Items<usize>], net: usize, source: Source) -> Resul
     }
 }
 
-/// The sources of a net: it is a net of each driver among them.
+/// Adds a net to those of each driver among its sources.
 fn add_sources(
     fan_out: &mut [Items<usize>],
     net: usize,
@@ -218,7 +217,7 @@ fn add_sources(
     Ok(())
 }
 
-/// The sources of all nets.
+/// Adds each net to those of the drivers among its sources.
 fn add_nets(fan_out: &mut [Items<usize>], sources: &RowArray<Source>) -> Result<(), AllocError>
     ensures { OnOk result ((n d : ℕ) → d < length fan_out.old
         → is_among (slice_index_or fan_out.new d []) n ≡ (is_among (slice_index_or fan_out.old d []) n || is_source (slice_index_or sources.now n []) d)) }
@@ -229,8 +228,8 @@ fn add_nets(fan_out: &mut [Items<usize>], sources: &RowArray<Source>) -> Result<
     Ok(())
 }
 
-/// For each of this number of drivers, the nets that have it as a source. A driver beyond them is
-/// passed over. It takes time in proportion to the drivers and to all sources.
+/// For each of so many drivers, the nets of which it is a source. Drivers beyond these are skipped.
+/// The time is proportional to the number of drivers plus that of all sources.
 fn fan_out(
     alloc: Global,
     sources: &RowArray<Source>,
@@ -244,8 +243,8 @@ fn fan_out(
     in_rows(alloc, lists.as_slice())
 }
 
-/// The sources of each net of a design, and the nets of each of its drivers, of which there are
-/// this many.
+/// The sources of each net of a design, and the nets of each of its drivers, of which there are so
+/// many.
 pub fn connections(
     alloc: Global,
     design: &Design,
@@ -260,8 +259,7 @@ pub fn connections(
     Ok((sources, fan_out))
 }
 
-/// That none of these drivers has a pending transaction or is stale, and none of these nets is
-/// touched.
+/// An empty queue, no stale drivers and no touched nets, for so many drivers and nets.
 pub fn nothing_pending(
     alloc: Global,
     drivers: usize,

@@ -1,4 +1,4 @@
--- Where the faults of a file stand among its tokens.
+-- Where the faults of a file are among its tokens.
 use Rattle.std.proofs.Common.{◌≡◌, ◌≢◌, ℕ, get_or, ◌+◌, ◌-◌, ◌<◌, ◌≤◌, ◌⊎◌, inl, inr, List, ◌∷◌, ◌++◌, length, Some, None, Err, refl, sym, ap, subst}
 use Rattle.std.proofs.Common.{Result, Ok, IfOk, IfErr, ◌∙◌, arith, length-append}
 use Rattle.std.specs.List.{slice_get, Contains}
@@ -78,14 +78,14 @@ place_at tokens n end = place_in tokens (length tokens - n) end (slice_get_cases
 no_file : (i m : Input) (e : ParseError) → e ≢ error.OutOfMemory → Reads (file i) (Err e) m → AreNoFile i
 no_file i m e some r = λ other w. is_refused i e other (r some) w
 
--- the fault that is reported of the tokens is one that they have
+-- the fault that is reported for the tokens is one of theirs
 pub reported_of : (i m : Input) (end : ℕ) (e : ParseError) → Reads (file i) (Err e) m → IsFaultOf i end (fault_of i end e)
 reported_of i m end error.OutOfMemory r = tt
 reported_of i m end (error.Syntax n) r = (no_file i m (error.Syntax n) (λ p. absurd cc) r, place_at i n end)
 reported_of i m end (error.TooDeep n) r = (no_file i m (error.TooDeep n) (λ p. absurd cc) r, opens_at i n end (deep_opening i n (r (λ q. absurd cc))))
 reported_of i m end (error.TimeRange n) r = (no_file i m (error.TimeRange n) (λ p. absurd cc) r, large_at i n end (large_time i n (r (λ q. absurd cc))))
 
--- what the reader of a file answers of the tokens
+-- the answer of the file's reader for the tokens
 pub found_of : (i m : Input) (r : Result DesignFile ParseError) → Reads (file i) r m → IfOk r (λ f. IsFile f i)
 found_of i m (Ok f) h = is_found i m f h
 found_of i m (Err e) h = tt

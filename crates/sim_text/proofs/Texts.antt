@@ -1,4 +1,4 @@
--- The file of a text's tokens is the only one that the text is; and their fault is the text's, when they are cut again.
+-- The file of a text's tokens is the text's only file; the fault of the tokens is the text's, when the text is divided again.
 use Rattle.std.proofs.Common.{◌≡◌, ℕ, List, length, Result, Ok, Err, IfOk, subst}
 use Rattle.sim_text_tokens.specs.Token.{Token}
 use Rattle.sim_text_tokens.specs.declared.error.TextError.{TextError}
@@ -27,7 +27,7 @@ again text e ts are h = record {
   holds = subst (λ us. IsFaultOf us (length text) (fault_of us (length text) e)) (one_cutting text h.tokens ts h.are_tokens are) h.holds;
 }
 
--- The fault of the tokens, reported of those that were cut again.
+-- The fault of the tokens, reported for the tokens of a second division.
 pub reported_again : (text : List ℕ) (e : ParseError) (ts : List Token) → AreTokens text ts
     → HasTokens text (λ us. IsFaultOf us (length text) (fault_of us (length text) e)) → IsFault text (fault_of ts (length text) e)
 reported_again text error.OutOfMemory ts are h = tt

@@ -17,7 +17,7 @@ abbrev pub start_or : Option Token → ℕ → ℕ
 start_or (Some t) end = t.start
 start_or None end = end
 
--- where the token starts that has this many from it on; after the last one the text ends
+-- the start of the token at which this many tokens remain; the end of the text after the last one
 abbrev pub place_of : List Token → ℕ → ℕ → ℕ
 place_of tokens left end = start_or (slice_get tokens (length tokens - left)) end
 
@@ -28,11 +28,11 @@ fault_of tokens end (error.Syntax left) = fault.Syntax (place_of tokens left end
 fault_of tokens end (error.TooDeep left) = fault.TooDeep (place_of tokens left end)
 fault_of tokens end (error.TimeRange left) = fault.TimeRange (place_of tokens left end)
 
--- At this byte starts a token, or the text ends there.
+-- A token starts at this byte, or the text ends there.
 abbrev pub IsPlace : List Token → ℕ → ℕ → Type 0
 IsPlace tokens end at = (at ≡ end) ⊎ ((t : Token) × Contains tokens t × (t.start ≡ at))
 
--- At this byte starts the number of a time that is, with the unit after it, larger than the largest (5.2.4).
+-- The number of a time starts at this byte; with the unit after it, the time is larger than the largest (5.2.4).
 pub record HasLargeTime (tokens : List Token) (at : ℕ) : Type 0 where
   pub front : List Token
   pub number : Token
@@ -45,18 +45,18 @@ pub record HasLargeTime (tokens : List Token) (at : ℕ) : Type 0 where
   pub named : Stands (UnitWord unit) word
   pub large : largest_time < time_of number.text unit
 
--- At this byte starts a token that opens a pair of parentheses or an if statement.
+-- A token that opens a pair of parentheses or an if statement starts at this byte.
 pub record OpensAt (tokens : List Token) (at : ℕ) : Type 0 where
   pub token : Token
   pub among : Contains tokens token
   pub opens : (token.kind ≡ k.LeftParen) ⊎ (token.kind ≡ k.If)
   pub place : token.start ≡ at
 
--- No file is written with the tokens, within the limits.
+-- The tokens spell no file within the limits.
 abbrev pub AreNoFile : List Token → Type 0
 AreNoFile tokens = (file : DesignFile) → IsFile file tokens → ⊥
 
--- Why the tokens of a text of this length are no file.
+-- Why the tokens of a text of this length spell no file.
 abbrev pub IsFaultOf : List Token → ℕ → TextError → Type 0
 IsFaultOf tokens end fault.Memory = Unit {0}
 IsFaultOf tokens end (fault.Syntax at) = AreNoFile tokens × IsPlace tokens end at

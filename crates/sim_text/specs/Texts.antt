@@ -1,4 +1,4 @@
--- What a text is, and why it is at fault.
+-- When a text is a file, and its faults.
 use Rattle.std.specs.Prelude.{◌≢◌, ℕ, ◌<◌, ◌≤◌, List, length}
 use Rattle.sim_text_tokens.specs.Limits.{most_bytes}
 use Rattle.sim_text_tokens.specs.Token.{Token}
@@ -9,18 +9,18 @@ use Rattle.sim_text_tree.specs.DesignFile.{DesignFile}
 use Rattle.sim_text_tree.specs.Grammar.{IsFile}
 use Rattle.sim_text.specs.Faults.{IsFaultOf}
 
--- The text is not too long, it has tokens, and of them this is true.
+-- The text is not too long, and it has tokens for which this holds.
 pub record HasTokens (text : List ℕ) (Holds : List Token → Type 0) : Type 0 where
   pub short : length text ≤ most_bytes
   pub tokens : List Token
   pub are_tokens : AreTokens text tokens
   pub holds : Holds tokens
 
--- The text is this file (IEEE 1076-2008, 13.1): the file is written with its tokens, within the limits.
+-- The text is this file (IEEE 1076-2008, 13.1): its tokens spell the file, within the limits.
 abbrev pub IsText : List ℕ → DesignFile → Type 0
 IsText text file = HasTokens text (λ tokens. IsFile file tokens)
 
--- The text is not too long, and its tokens have this fault, the leftmost (15.3).
+-- The text is not too long, and this is its leftmost lexical fault (15.3).
 pub record HasLexicalFault (text : List ℕ) (found : TextError) : Type 0 where
   pub short : length text ≤ most_bytes
   pub is : IsLexicalFault text found

@@ -14,7 +14,7 @@ use sim_text_tokens::{TextError, Token, tokens};
 use sim_text_tree::DesignFile;
 use std::alloc::Global;
 
-/// Where the token starts that has this many from it on; after the last one the text ends.
+/// The offset of the token at which `left` tokens remain; the end of the text after the last one.
 fn place_of(tokens: &[Token], left: usize, end: usize) -> usize
     ensures { result ≡ place_of tokens.now left end }
 {
@@ -24,7 +24,7 @@ fn place_of(tokens: &[Token], left: usize, end: usize) -> usize
     }
 }
 
-/// The fault that a refusal of a reader is, with its place in the text.
+/// The fault that corresponds to a parse error, with its offset in the text.
 fn fault_of(tokens: &[Token], end: usize, error: ParseError) -> TextError
     ensures { result ≡ fault_of tokens.now end error }
 {
@@ -42,18 +42,18 @@ fn fault_of(tokens: &[Token], end: usize, error: ParseError) -> TextError
     }
 }
 
-/// The file that these tokens are. Its names are moved out of them.
+/// The file that these tokens spell. Its names are moved out of them.
 fn file_of(alloc: Global, tokens: Vec<Token>) -> Result<DesignFile, ParseError>
     ensures found { IfOk result (λ file. IsFile file tokens.items) }
-    // No other file is written with these tokens.
+    // No other file is spelled by these tokens.
     ensures only { IfOk result (λ file. (other : DesignFile) → IsFile other tokens.items → other ≡ file) }
     ensures refused { IfErr result (λ e. (end : ℕ) → IsFaultOf tokens.items end (fault_of tokens.items end e)) }
 {
     file(alloc, &mut Cursor::new(tokens))
 }
 
-/// The fault of a text that a reader refused. The reader has used up its tokens, so they are cut
-/// again for the place.
+/// The fault of a text that a reader refused. The reader has consumed the tokens, so the text is
+/// divided into tokens again to find the offset.
 fn fault_in(alloc: Global, source: &[u8], error: ParseError) -> TextError
     requires { HasTokens source.now (λ tokens. IsFaultOf tokens (length source.now) (fault_of tokens (length source.now) error)) }
     ensures { IsFault source.now result }
@@ -67,16 +67,16 @@ fn fault_in(alloc: Global, source: &[u8], error: ParseError) -> TextError
     }
 }
 
-/// The file that a text is (IEEE 1076-2008, 13.1).
+/// The design file of a text (IEEE 1076-2008, 13.1).
 ///
-/// `TooLong` comes first, then the leftmost `BadByte`, `OpenComment` or `BadLiteral` of the text,
-/// then the fault of its tokens: `Syntax` at the first token up to which no file goes on, or at the
-/// end of the text; `TooDeep` at a parenthesis or an `if` inside 64 others; `TimeRange` at the
-/// number of a time above 2^62 - 1 fs.
+/// `TooLong` takes precedence, then the leftmost `BadByte`, `OpenComment` or `BadLiteral` of the
+/// text, then the fault of its tokens: `Syntax` at the first token that cannot continue any file,
+/// or at the end of the text; `TooDeep` at a parenthesis or an `if` inside 64 others; `TimeRange`
+/// at the number of a time above 2^62 - 1 fs.
 pub fn parse(alloc: Global, source: &[u8]) -> Result<DesignFile, TextError>
-    // The text is the file, or it is none, and this is why.
+    // Either the text is this file, or it is no file, for this reason.
     ensures read { MatchResult result (λ file. IsText source.now file) (λ e. IsFault source.now e) }
-    // It is no other file.
+    // The text is no other file.
     ensures only { IfOk result (λ file. (other : DesignFile) → IsText source.now other → other ≡ file) }
     ensures too_long { (result ≡ Err fault.TooLong) ↔ (most_bytes < length source.now) }
 {

@@ -1,6 +1,6 @@
--- What is written as a concurrent statement is read so. From the writing, taken apart by `split`, follow the tokens that the reader sees at each step,
--- and so its answer; lists by induction on the tokens that are left. What stands after a list or an optional part matters: it must not go on with it, so
--- a lemma asks of the next token that it does not.
+-- Completeness for concurrent statements: reading the tokens that spell one returns it. `split` takes the spelling apart, which gives the tokens that the
+-- reader sees at each step, and so its answer; lists by induction on the remaining tokens. A token after a list or an optional part must not continue it,
+-- so lemmas require this of the next token.
 use Rattle.std.proofs.Common.{◌≡◌, ℕ, zero, suc, ◌≤◌, Bool, true, false, ◌||◌, List, [], ◌∷◌, ◌++◌, length, map, Option, Some, None, Ok, refl}
 use Rattle.std.proofs.Common.{append_assoc, arith}
 use Rattle.sim_text_tokens.specs.declared.kind.Kind.{Kind}
@@ -60,7 +60,7 @@ postponed_again_again false true i j h e = rw (none_read h) (eat_not k.Postponed
 postponed_again_again true false i j h e = absurd (never_fits i j h)
 postponed_again_again true true i j h e = eat_read k.Postponed i j h
 
--- a process after its label and `postponed`
+-- a process, after its label and `postponed`
 process_again : (y : Process) (i j : Input) → Fits 64 64
     (mark k.Process ▸ mark k.LeftParen ▸ of_sensitivity y.sensitivity ▸ mark k.RightParen ▸ if_written y.is (mark k.Is) ▸
     all_of (map of_variable y.variables) ▸ mark k.Begin ▸ of_sequence y.statements ▸ mark k.End ▸
@@ -215,7 +215,7 @@ target_stops : (label w : Name) (i : Input) (y : Kind) → (y ≡ k.SignalAssign
 target_stops label w i k.SignalAssign stop = absurd (stop refl)
 target_stops label w i _ stop = refl
 
--- an instance after its label
+-- an instance, after its label
 unit_again : (label : Name) (unit : Instantiated) (xs : List Association) (i j : Input)
     → Fits 64 64 (of_instantiated unit ▸ of_port_map xs ▸ mark k.Semicolon) i j
     → labelled label i ≡ Ok (c.Instance (record { label = label; unit = unit; associations = xs }), j)
@@ -251,14 +251,14 @@ unit_again label (made.Entity l e a) xs i j h =
 
 -- ---- statements
 
--- what is known of a statement, and that it is read
+-- facts about a statement, and that it is read
 abbrev Again : Concurrent → Input → Input → Type 0
 Again y i j = (begins_concurrent (kind i) ≡ true) × (suc (length j) ≤ length i) × (concurrent i ≡ Ok (y, j))
 
 first_stops : (w : Name) (i m : Input) → Fits 64 64 (mark k.Colon) i m → first_by w (kind i) i ≡ labelled w m
 first_stops w i m h = let r = mark_read i m k.Colon h in rw (r.0, expect_read k.Colon i m h) refl
 
--- what stands after `postponed`
+-- a process from `postponed`
 postponed_process : (l : Option Name) (i m : Input) → Fits 64 64 (mark k.Postponed) i m → kind m ≡ k.Process → postponed l i ≡ concurrent_process l true m
 unfolding postponed
 postponed_process l i m h e = let r = mark_read i m k.Postponed h in rw (r.1, e) refl
@@ -270,7 +270,7 @@ postponed_assignment l t i m j h w =
     let r = mark_read i m k.Postponed h in
     rw (r.1, word_kind m j t w, word_read m j t w) refl
 
--- an assignment after its label and `postponed`
+-- an assignment, after its label, `postponed` and its target
 assigned_all : (a : ConcurrentSignalAssignment) (i j : Input)
     → Fits 64 64 (mark k.SignalAssign ▸ g.of_delay a.delay ▸ g.of_waveforms a.waveforms ▸ mark k.Semicolon) i j
     → concurrent_assigned a.label a.postponed a.target i ≡ Ok (c.Assignment a, j)
@@ -342,7 +342,7 @@ assignment_again (Some l) true t d w i j h =
       ) (assigned_all (record { label = Some l; postponed = true; target = t; delay = d; waveforms = w }) u.mid j u.back),
     )
 
--- a process after its label and `postponed`
+-- a process, after its label and `postponed`
 processed_all : (p : Process) (i j : Input) → process p.label p.postponed i ≡ Ok (p, j) → concurrent_process p.label p.postponed i ≡ Ok (c.Process p, j)
 unfolding concurrent_process
 processed_all p i j e = rw e refl

@@ -1,6 +1,5 @@
--- What is read as a concurrent statement is written so. For each reader there is a lemma that it `Gives` its writing: the tokens that it goes past are
--- the spelling of the tree that it answers. It goes through the reader's steps with `then_` and puts the writings of its parts together with `◌&◌`;
--- lists by induction on the tokens that are left.
+-- Soundness for concurrent statements: the tokens that a reader consumes spell its result. For each reader a lemma says that it `Gives` its spelling.
+-- The proof follows the steps of the reader with `then_` and joins the spellings of the parts with `◌&◌`; lists by induction on the remaining tokens.
 use Rattle.std.proofs.Common.{◌≡◌, ℕ, zero, suc, Bool, true, false, ◌||◌, List, [], ◌∷◌, ◌++◌, length, map, Option, Some, None, refl, ◌∙◌, append_assoc}
 use Rattle.sim_text_tokens.specs.declared.kind.Kind.{Kind}
 use Rattle.sim_text_tokens.specs.declared.kind.Kind.TheVariants as k

@@ -1,6 +1,6 @@
--- What is written as a declaration is read so. From the writing, taken apart by `split`, follow the tokens that the reader sees at each step, and so its
--- answer; lists by induction on the tokens that are left. What stands after a list or an optional part matters: it must not go on with it, so a lemma
--- asks of the next token that it does not.
+-- Completeness for declarations: reading the tokens that spell one returns it. `split` takes the spelling apart, which gives the tokens that the reader
+-- sees at each step, and so its answer; lists by induction on the remaining tokens. A token after a list or an optional part must not continue it, so
+-- lemmas require this of the next token.
 use Rattle.std.proofs.Common.{◌≡◌, ℕ, suc, ◌≤◌, Bool, true, false, List, [], ◌∷◌, length, map, Option, Some, None, Ok, refl, sym, subst}
 use Rattle.sim_text_tokens.specs.declared.kind.Kind.{Kind}
 use Rattle.sim_text_tokens.specs.declared.kind.Kind.TheVariants as k
@@ -26,7 +26,7 @@ use Rattle.sim_text_grammar.proofs.Lists.{separated_again, many_all_again}
 use Rattle.sim_text_grammar.specs.Declarations.{names, repeated, initial, mode, port_of, port, port_list, ports, object, variables, component_end}
 use Rattle.sim_text_grammar.specs.Declarations.{component, begins_declaration, declaration, declarations}
 
--- no first value follows
+-- no initial value follows
 abbrev NoFirst : Kind → Type 0
 NoFirst x = x ≡ k.VariableAssign → ⊥
 

@@ -1,5 +1,5 @@
--- Where the faults of expressions, waveforms and delays stand. A time is blamed where its number does not fit, a parenthesis where 64 others are open.
--- Every other reader has `Blames` of its parts, in the order in which it reads them.
+-- The places of faults in expressions, waveforms and delays. A time is at fault if it is too large, a parenthesis if 64 others are open. Any other
+-- reader has the `Blames` of its parts, in the order in which it reads them.
 use Rattle.std.proofs.Common.{◌≡◌, ℕ, zero, suc, ◌<◌, Bool, true, false, cond, List, [], ◌∷◌, ◌++◌, length, Option, Some, None, Err, refl, sym, ap, ◌∙◌, inl}
 use Rattle.std.proofs.lemmas.Bool.{leb-false}
 use Rattle.sim_logic.specs.declared.time.Unit.{Unit as TimeUnit}

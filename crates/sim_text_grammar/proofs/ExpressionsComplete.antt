@@ -1,6 +1,6 @@
--- What is written as an expression is read so. From the writing, taken apart by `split`, follow the tokens that the reader sees at each step, and so its
--- answer; parentheses inside one another by induction on how many may still open. What stands after a list or an optional part matters: it must not go
--- on with it, so a lemma asks of the next token that it does not.
+-- Completeness for expressions: reading the tokens that spell one returns it. `split` takes the spelling apart, which gives the tokens that the reader
+-- sees at each step, and so its answer; nested parentheses by induction on how many may still be open. A token after a list or an optional part must not
+-- continue it, so lemmas require this of the next token.
 use Rattle.std.proofs.Common.{◌≡◌, ℕ, zero, suc, ◌<◌, ◌≤◌, Bool, true, false, List, [], ◌∷◌, ◌++◌, length, map, Some, Ok, inl, inr, refl, ap, sym}
 use Rattle.std.proofs.Common.{subst, ◌∙◌, arith}
 use Rattle.sim_text_tokens.specs.declared.kind.Kind.{Kind}
@@ -29,7 +29,7 @@ use Rattle.sim_text_grammar.specs.Expressions.{named, named_by, goes_on, logical
 use Rattle.sim_text_grammar.specs.Expressions.{operands, chain, chain_by, expression_by, expression_in, nested, expression}
 use Rattle.sim_text_grammar.proofs.ExpressionsSound.{operands_w}
 
--- how far into what stands before it a token reaches: 3 into a name, 2 into a factor, 1 into a relation
+-- how strongly a token binds to the expression before it: 3 continues a name, 2 a factor, 1 a relation
 abbrev pub binds : Kind → ℕ
 binds k.Tick = 3
 binds k.LeftParen = 3
@@ -54,7 +54,7 @@ begins k.Word = true
 begins k.LeftParen = true
 begins _ = false
 
--- what a primary begins with isn't a `not`
+-- a primary does not begin with `not`
 primary_begins : (d n : ℕ) (x : Expression) (i m : Input) → Fits d n (of_primary x) i m → begins (kind i) ≡ true
 primary_begins d n x i m f = elim (primary_cases d n x i m f) as (λ _. begins (kind i) ≡ true) [
   | A_literal v at e h ↦ rw (literal_kind i m v at h) refl
@@ -64,7 +64,7 @@ primary_begins d n x i m f = elim (primary_cases d n x i m f) as (λ _. begins (
   | In_parentheses at y e h ↦ let s = split h in let c = mark_at_read i s.mid k.LeftParen at s.front in rw c.0 refl
 ]
 
--- what a relation begins with
+-- a token that can begin a relation
 abbrev leads : Kind → Bool
 leads k.Literal = true
 leads k.Word = true
@@ -78,7 +78,7 @@ begins_leads k.Word e = refl
 begins_leads k.LeftParen e = refl
 begins_leads _ e = absurd cc
 
--- what an expression begins with
+-- a token that can begin an expression
 abbrev pub opens : Kind → Bool
 opens k.Condition = true
 opens x = leads x
@@ -136,7 +136,7 @@ logical_again logical.Xnor = refl
 logical_again logical.Nand = refl
 logical_again logical.Nor = refl
 
--- a token that binds less is another
+-- a token that binds less is not the operator
 chain_ends : (o : Logical) (x : Kind) → binds x < 1 → same_kind x (logical_kind o) ≡ false
 chain_ends o x h = not_same x (logical_kind o) (λ e. let b : binds x ≡ 1 = ap binds e ∙ logical_binds o in absurd (omega arith))
 
@@ -150,7 +150,7 @@ operand_kind d n = cases_operand (OperandKind d n) (λ at x o i m h.
     let w = mark_at_read i s.mid o at s.front in
     (w.0, less (MarkAt o at) (of_relation x) i m g))
 
--- the next operator leaves a relation alone
+-- the next token does not continue a relation
 abbrev Apart : Kind → Type 0
 Apart x = binds x < 2
 
@@ -255,7 +255,7 @@ module _ (inner : Parser Expression) (d n : ℕ) (again : (at : ℕ) (x : Expres
       (λ l ls. refl) Apart (λ l i j h. operand_starts d n o l i j h) (operand_leads o) (λ l i j g. (operand_kind d n l (logical_kind o) i j g).1)
       (λ l i j g e. operand_again l (logical_kind o) i j g e) ls (length i) found i m h (omega arith) (omega arith) (chain_ends o (kind m) b)
 
-  -- what stands after the second operand
+  -- the tokens after the second operand
   further_follows : (o : Logical) (r : Bool) (ls : List Operand) (i m : Input)
       → Fits d n (more_operands r (map (λ l. of_operand l (logical_kind o)) ls)) i m → Apart (kind m) → Apart (kind i)
   further_follows o true ls i m h b = operands_follow o ls i m h b
@@ -325,7 +325,7 @@ nested_again (suc d) n at x i m h =
           k.RightParen t.mid m t.back,
     ) refl
 
--- an expression that is written so is read, unless what follows reaches into it
+-- an expression is read from its spelling, unless the next token continues it
 pub expression_again : {n : ℕ} (x : Expression) (i m : Input) → Fits 64 n (of_expression x) i m → binds (kind m) < 1 → expression i ≡ Ok (x, m)
 unfolding expression
 expression_again {n} x i m h b = expression_in_again (nested 64) 64 n (nested_again 64 n) x i m h b

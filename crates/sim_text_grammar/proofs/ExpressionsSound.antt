@@ -1,6 +1,6 @@
--- What is read as an expression is written so. For each reader there is a lemma that it `Gives` its writing: the tokens that it goes past are the
--- spelling of the tree that it answers. It goes through the reader's steps with `then_` and puts the writings of its parts together with `◌&◌`;
--- parentheses inside one another by induction on how many may still open.
+-- Soundness for expressions: the tokens that a reader consumes spell its result. For each reader a lemma says that it `Gives` its spelling. The
+-- proof follows the steps of the reader with `then_` and joins the spellings of the parts with `◌&◌`; nested parentheses by induction on how many
+-- may still be open.
 use Rattle.std.proofs.Common.{◌≡◌, ℕ, zero, suc, Bool, true, false, List, [], ◌∷◌, ◌++◌, map, Option, Some, None, refl, sym}
 use Rattle.std.proofs.lemmas.List.{append-nil}
 use Rattle.sim_text_tokens.specs.declared.kind.Kind.{Kind}
@@ -98,7 +98,7 @@ module _ (inner : Parser Expression) (p n : ℕ) (ok : (i : Input) → kind i �
   unfolding operand
   operand_gives x real i e = then_ (relation_gives (next i)) (λ t m h. done (rw operand_is (mark_at i x e real & h)))
 
-  -- what is read after the second operand
+  -- the operands read after the second one
   record Further (o : Logical) (found : List Operand) (i : Input) (xs : List Operand) (j : Input) : Type 0 where
     pub more : List Operand
     pub whole : xs ≡ found ++ more
@@ -137,7 +137,7 @@ module _ (inner : Parser Expression) (p n : ℕ) (ok : (i : Input) → kind i �
   unfolding expression_in
   expression_in_gives i = expression_gives_by i (kind i) refl
 
--- what stands in parentheses
+-- an expression in parentheses
 pub nested_gives : (p n : ℕ) (i : Input) → kind i ≡ k.LeftParen → Gives (λ t m. Fits p n (of_primary t) i m) (nested p i)
 unfolding nested
 nested_gives zero n i e = refused

@@ -1,6 +1,6 @@
--- Where the faults of a reader stand. `Blames i (r i)` says that what r leaves is the end of i, that a fault of a time stands at the number of a time
--- that is too large, and a fault of depth at a parenthesis or an `if`. Each single reader of a token has it here, and `blames_then` passes it through
--- readers made of readers.
+-- The places of a reader's faults. `Blames i (r i)` says that the tokens that r leaves are the end of i, that a `TimeRange` fault is at the number of
+-- a time that is too large, and a `TooDeep` fault at a parenthesis or an `if`. It is proved here for each reader of one token, and `blames_then`
+-- extends it to combined readers.
 use Rattle.std.proofs.Common.{◌≡◌, ℕ, zero, suc, Bool, true, false, cond, List, [], ◌∷◌, ◌++◌, Option, Some, None, Ok, Err, refl, sym, ap, ◌∙◌}
 use Rattle.std.proofs.Common.{append_assoc, ◌⊎◌, inl, inr}
 use Rattle.sim_text_tokens.specs.Token.{Token}
@@ -66,7 +66,7 @@ abbrev pub Blame : {A : Type 0} → Input → Outcome A → Type 0
 Blame i (Ok r) = Within i r.1
 Blame i (Err e) = Blamed i e
 
--- What is left is the end of the input, and a fault of a time is at one that is too large.
+-- The remaining tokens are the end of the input, and a `TimeRange` fault is at a number that is too large.
 pub record Blames {A : Type 0} (i : Input) (o : Outcome A) : Type 0 where
   pub blame : Blame i o
 
@@ -88,7 +88,7 @@ pub blames_then : {A B : Type 0} {i : Input} {o : Outcome A} {f : A → Parser B
     → ((a : A) (j : Input) → Blames j (f a j)) → Blames i (and_then o f)
 blames_then {A} {B} {i} {o} {f} h g = then_by i o f h.blame g
 
--- a token is gone past
+-- the same with one more token at the front
 pub blames_next : {A : Type 0} (i : Input) (o : Outcome A) → Blames (next i) o → Blames i o
 blames_next i o h = record { blame = wider i (next i) o (after i) h.blame }
 
@@ -101,7 +101,7 @@ blames_taken i = record { blame = after i }
 pub blames_syntax : {A : Type 0} {i : Input} {n : ℕ} → Blames {A = A} i (Err (Syntax n))
 blames_syntax = record { blame = tt }
 
--- what opens parentheses or an if is refused
+-- a parenthesis or an `if` that opens is refused
 pub blames_deep : {A : Type 0} (i : Input) (x : Kind) → kind i ≡ x → (k.EndOfText ≡ x → ⊥) → (x ≡ k.LeftParen) ⊎ (x ≡ k.If)
     → Blames {A = A} i (Err (TooDeep (left i)))
 unfolding kind left
@@ -185,7 +185,7 @@ gives_then_by : {A B : Type 0} (i : Input) (p : A → Input → Type 0) (o : Out
 gives_then_by i p (Ok r) f h b g = g r.0 r.1 h
 gives_then_by i p (Err e) f h b g = record { blame = b }
 
--- with what is known of what was read
+-- the same, where a property of the result is known
 pub blames_gives_then : {A B : Type 0} {i : Input} {p : A → Input → Type 0} {o : Outcome A} {f : A → Parser B} → Gives p o → Blames i o
     → ((a : A) (j : Input) → p a j → Blames i (f a j)) → Blames i (and_then o f)
 blames_gives_then {A} {B} {i} {p} {o} {f} h b g = gives_then_by i p o f h.gives b.blame g

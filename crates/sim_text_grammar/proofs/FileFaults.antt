@@ -1,5 +1,5 @@
--- Where the faults of declarations, statements, units and files stand. An `if` is blamed where 64 others are open. Every other reader has `Blames` of
--- its parts, in the order in which it reads them; the last lemma says it of a file.
+-- The places of faults in declarations, statements, units and files. An `if` is at fault if 64 others are open. Any other reader has the `Blames` of
+-- its parts, in the order in which it reads them; the last lemma says this for a file.
 use Rattle.std.proofs.Common.{◌≡◌, ℕ, zero, suc, Bool, true, false, ◌||◌, List, [], ◌∷◌, ◌++◌, length, Option, Some, None, inr, refl}
 use Rattle.sim_text_tokens.specs.declared.kind.Kind.{Kind}
 use Rattle.sim_text_tokens.specs.declared.kind.Kind.TheVariants as k
@@ -347,7 +347,7 @@ finish_by_blames : (i m : Input) → Blames m (u.finish_by m m)
 finish_by_blames i [] = blames_done []
 finish_by_blames i (t ∷ ts) = blames_syntax
 
--- a file's fault of a time is at one that is too large, and one of depth at what opens parentheses or an if
+-- in a file, a `TimeRange` fault is at a time that is too large, and a `TooDeep` fault at a parenthesis or an `if`
 pub file_blames : (i : Input) → Blames i (u.file i)
 unfolding u.file u.units_of u.finish left
 file_blames i = blames_then (blames_then (unit_blames i) (λ x j. many_from_blames u.goes_on u.unit unit_blames (length j) (x ∷ []) j))

@@ -1,11 +1,11 @@
--- What a reader gives. `Gives q (r i)` says that q holds of what the reader r reads and of what is left, if it reads anything; a reader made of
--- readers is gone through by `then_`, each step with what the one before it has shown.
+-- The results of a reader. `Gives q (r i)` says that q holds for the result of the reader r and the remaining tokens, if there is a result;
+-- `then_` follows combined readers, where each step may use what the one before has shown.
 use Rattle.std.proofs.Common.{Ok, Err}
 use Rattle.sim_text_tree.specs.Input.{Input}
 use Rattle.sim_text_grammar.specs.declared.error.ParseError.{ParseError}
 use Rattle.sim_text_grammar.specs.Readers.{Outcome, Parser, and_then}
 
--- What it reads is so, with what is left.
+-- The result and the remaining tokens have this property.
 abbrev pub Hits : {A : Type 0} → (A → Input → Type 0) → Outcome A → Type 0
 Hits q (Ok r) = q r.0 r.1
 Hits q (Err e) = Unit {0}

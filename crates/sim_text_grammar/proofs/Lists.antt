@@ -1,6 +1,7 @@
--- Lists of items, as many as come or with a token between two. What is read as such a list is written so (`many_gives` and `separated_gives`), and what
--- is written so is read (`many_again` and `separated_again`), where this holds of each item; by induction on how many tokens are left, or on the list.
--- A list that is written is read to its end because each item begins with what goes on with the list, and what stands after it does not.
+-- Lists of items, with or without a separator. If each item is spelled by the tokens from which it is read, so is a list (`many_gives` and
+-- `separated_gives`); if each is read from the tokens that spell it, so is a list (`many_again` and `separated_again`); by induction on the number of
+-- remaining tokens, or on the list. A list is read to its end because each item begins with a token that continues the list, and the token after it
+-- does not.
 use Rattle.std.proofs.Common.{◌≡◌, ℕ, zero, suc, ◌≤◌, Bool, true, false, cond, List, [], ◌∷◌, ◌++◌, length, map, Ok, refl, sym, subst, ◌∙◌, append_assoc, arith}
 use Rattle.std.proofs.lemmas.List.{append-nil}
 use Rattle.sim_text_tokens.specs.declared.kind.Kind.{Kind}
@@ -12,7 +13,7 @@ use Rattle.sim_text_tree.proofs.Writings.{◌&◌, split, none, none_read, never
 use Rattle.sim_text_grammar.proofs.Gives.{Gives, then_, map_, done}
 use Rattle.sim_text_grammar.proofs.Tokens.{same_is, is_same, not_same}
 
--- what was found, and more that is written here
+-- the items found so far, and more that are spelled here
 pub record More {A : Type 0} (p n : ℕ) (W : List A → Writing) (found : List A) (i : Input) (xs : List A) (j : Input) : Type 0 where
   pub more : List A
   pub whole : xs ≡ found ++ more
@@ -46,7 +47,7 @@ module _ {A : Type 0} (p n : ℕ) (goes_on : Kind → Bool) (item : Parser A) (w
     (cons : (a : A) (rest : List A) → W (a ∷ rest) ≡ w a ▸ W rest) (ends : Kind → Type 0)
     (starts : (a : A) (i j : Input) → Fits p n (w a) i j → goes_on (kind i) ≡ true)
     (leads : (x : Kind) → goes_on x ≡ true → ends x) where
-  -- what stands before the list ends there
+  -- whatever precedes the list ends there
   pub list_follows : (rest : List A) (i j : Input) → Fits p n (W rest) i j → ends (kind j) → ends (kind i)
   list_follows [] i j h e = subst (λ (x : Input). ends (kind x)) (sym (none_read (rw nil at h))) e
   list_follows (a ∷ rest) i j h e = let s = split (rw (cons a rest) at h) in leads (kind i) (starts a i s.mid s.front)
@@ -75,7 +76,7 @@ module _ {A : Type 0} (p n : ℕ) (goes_on : Kind → Bool) (item : Parser A) (w
         append_assoc found (a ∷ []) rest,
       ) refl
 
--- ---- with a token between two
+-- ---- with separators
 
 abbrev pub listed : {A : Type 0} → Kind → (A → Writing) → List A → Writing
 listed x w rest = each_after x (map w rest)
@@ -116,7 +117,7 @@ module _ {A : Type 0} (p n : ℕ) (x : Kind) (item : Parser A) (w : A → Writin
             (omega arith) e (not_same (kind j) x stop),
       ) refl
 
--- ---- any number of them
+-- ---- without separators
 
 pub many_all_gives : {A : Type 0} (p n : ℕ) (goes_on : Kind → Bool) (item : Parser A) (w : A → Writing)
     → ((i : Input) → goes_on (kind i) ≡ true → Gives (λ a j. Fits p n (w a) i j) (item i)) → (i : Input)
@@ -134,7 +135,7 @@ unfolding many left
 many_all_again p n go item w ends starts leads longer again xs i j h e stop = many_again p n go item w (λ ys. all_of (map w ys)) refl (λ a ys. refl)
     ends starts leads longer again xs (length i) [] i j h (omega arith) e stop
 
--- what a list or what stands after it begins with
+-- the first token of a list, or of what follows an empty one
 pub all_begin : {A : Type 0} (p n : ℕ) (w : A → Writing) (P : Kind → Type 0) → ((a : A) (i j : Input) → Fits p n (w a) i j → P (kind i))
     → (xs : List A) (i j : Input) → Fits p n (all_of (map w xs)) i j → P (kind j) → P (kind i)
 all_begin p n w P f [] i j h e = subst (λ (x : Input). P (kind x)) (sym (none_read h)) e

@@ -1,18 +1,18 @@
--- Each turn of a parser's loop reads one item: of as many as come, or of those that a token of one kind leads to.
--- What a loop keeps is a record, and of it there are two laws: a turn more tests the next token and reads an item, and after the last turn
--- what was found is all. So a loop's goals are answered by naming one of the two.
+-- Each iteration of a parser's loop reads one item of a list, with or without separators. The invariant of a loop is a record with two
+-- laws: one more iteration tests the next token and reads an item, and after the last one the list is complete. So the goals of a loop are
+-- answered by naming one of the two.
 use Rattle.std.proofs.Common.{◌≡◌, ℕ, ◌+◌, ◌-◌, ◌<◌, ◌≤◌, Bool, if◌then◌else◌, Ok, List, [], ◌∷◌, ◌++◌}
 use Rattle.sim_text_tokens.specs.declared.kind.Kind.{Kind}
 use Rattle.sim_text_tree.specs.Input.{Input, kind, next}
 use Rattle.sim_text_grammar.specs.Readers.{Outcome, Parser, ◌>>◌, take_token, same_kind, sees, many_from, and_then}
 use Rattle.sim_text_tree.proofs.Turns as turns
 
--- At turn `at` of `n`, with those found, the items that this input goes on with give the whole.
+-- At iteration `at` of `n`, the items found and those still to be read from this input are the whole.
 pub record AsManyAsCome {A : Type 0} (whole : Outcome (List A)) (goes_on : Kind → Bool) (item : Parser A) (n at : ℕ) (found : List A)
     (i : Input) : Type 0 where
   pub is : whole ≡ many_from goes_on item (n - at) found i
 
--- the same, where a token of this kind leads to each item
+-- the same, where a token of this kind precedes each item
 pub record AfterEach {A : Type 0} (whole : Outcome (List A)) (x : Kind) (item : Parser A) (n at : ℕ) (found : List A) (i : Input) : Type 0 where
   pub is : whole ≡ many_from (λ y. same_kind y x) (take_token >> item) (n - at) found i
 

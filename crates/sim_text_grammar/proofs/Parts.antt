@@ -1,4 +1,4 @@
--- A reader in parts: steps of a reader that stand together are a reader of their own, from whose answer the others go on.
+-- A reader in parts: some consecutive steps of a reader are a reader of their own, from whose answer the others continue.
 use Rattle.std.proofs.Common.{◌≡◌, refl, Ok, Err, [], ◌∷◌}
 use Rattle.sim_text_tokens.specs.declared.kind.Kind.{Kind}
 use Rattle.sim_text_tree.specs.Input.{Input}
@@ -15,7 +15,7 @@ pub beyond : {A C : Type 0} {f h : A → Parser C} (x : Outcome A) → ((a : A) 
 beyond (Ok p) goes_on = goes_on p.0 p.1
 beyond (Err e) goes_on = refl
 
--- A list begins with its first item, and what follows it goes on from there.
+-- A list is its first item, and then the further items from there.
 pub halves : {A : Type 0} (x : Kind) (item : Parser A) (i : Input) → separated x item i
     ≡ and_then (and_then (item i) (λ a. pure (a ∷ []))) (λ found i. many_from (λ y. same_kind y x) (take_token >> item) (left i) found i)
 unfolding separated

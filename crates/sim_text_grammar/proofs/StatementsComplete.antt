@@ -1,6 +1,6 @@
--- What is written as a sequential statement is read so. From the writing, taken apart by `split`, follow the tokens that the reader sees at each step,
--- and so its answer; ifs inside one another by induction on how many may still open. What stands after a list or an optional part matters: it must not
--- go on with it, so a lemma asks of the next token that it does not.
+-- Completeness for sequential statements: reading the tokens that spell one returns it. `split` takes the spelling apart, which gives the tokens that the
+-- reader sees at each step, and so its answer; nested ifs by induction on how many may still be open. A token after a list or an optional part must not
+-- continue it, so lemmas require this of the next token.
 use Rattle.std.proofs.Common.{◌≡◌, ℕ, zero, suc, ◌≤◌, Bool, true, false, List, length, map, Option, Some, None, Ok, refl, sym, subst, arith}
 use Rattle.sim_text_tokens.specs.declared.kind.Kind.{Kind}
 use Rattle.sim_text_tokens.specs.declared.kind.Kind.TheVariants as k
@@ -75,7 +75,7 @@ labelled_begins : (n : ℕ) (l : Option Name) (i t : Input) → Fits 64 n (g.lab
 labelled_begins n None i t h e = subst Begins (sym (none_read h)) e
 labelled_begins n (Some x) i t h e = let q = split h in rw (word_kind i q.mid x q.front) refl
 
--- what is known of a statement before it is read
+-- facts about a statement before it is read
 abbrev Known : Input → Input → Type 0
 Known i j = Begins i × (suc (length j) ≤ length i)
 
@@ -83,7 +83,7 @@ known : (x : Piece) (w : Writing) (n : ℕ) (i j : Input) → Fits 64 n (just x 
 known x w n i j h e = (e, less x w i j h)
 
 module _ (inner : Option Name → Parser Statement) (n : ℕ) (ok : InnerAgain n inner) where
-  -- how a statement after its label is read: what it begins with, and by which reader, with a label before it and without
+  -- how a statement is read after its label: its first token and its reader, with a label and without
   record StatementAgain (l : Option Name) (x : Statement) (i j : Input) : Type 0 where
     pub known_is : Known i j
     pub after_label : labelled inner l i ≡ Ok (x, j)

@@ -1,6 +1,6 @@
--- What is read as a sequential statement is written so. For each reader there is a lemma that it `Gives` its writing: the tokens that it goes past are
--- the spelling of the tree that it answers. It goes through the reader's steps with `then_` and puts the writings of its parts together with `◌&◌`; ifs
--- inside one another by induction on how many may still open.
+-- Soundness for sequential statements: the tokens that a reader consumes spell its result. For each reader a lemma says that it `Gives` its spelling.
+-- The proof follows the steps of the reader with `then_` and joins the spellings of the parts with `◌&◌`; nested ifs by induction on how many may still
+-- be open.
 use Rattle.std.proofs.Common.{◌≡◌, ℕ, zero, suc, List, map, Option, Some, None, refl}
 use Rattle.sim_text_tokens.specs.declared.kind.Kind.{Kind}
 use Rattle.sim_text_tokens.specs.declared.kind.Kind.TheVariants as k
@@ -67,7 +67,7 @@ null_gives n l t e =
     then_ (expect_gives {p = 64} {n = n} k.Semicolon (next t) (λ z. absurd cc)) (λ u m x.
     done (rw null_is (marks t k.Null e (λ z. absurd cc) & x)))
 
--- a label or none, and then a statement
+-- an optional label, and then a statement
 labels_give : (n : ℕ) (l : Option Name) (i t j : Input) (reader : Parser Statement) → Fits 64 n (g.labelled l) i t
     → Gives (λ x m. Fits 64 n (of_statement x l) t m) (reader j) → Gives (λ x m. Fits 64 n (of_sequential x) i m) (with_label l reader j)
 labels_give n l i t j reader h ok = then_ ok (λ x m y. done (rw sequential_is (h & y)))

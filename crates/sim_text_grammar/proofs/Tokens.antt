@@ -1,6 +1,6 @@
--- Single tokens. What a reader of one token goes past is the piece that it stands for (`word_gives`, `expect_gives`), and where that piece is written the
--- reader goes past it (`word_read`, `expect_read`); a reader that may find another token is gone on from by `eat_then` and `sees_then`. The readers of
--- tokens with a meaning are one, `token_as`, so that for each meaning only two lemmas about one token are left.
+-- Single tokens. The token that a reader consumes matches its piece (`word_gives`, `expect_gives`), and where the piece is spelled the reader consumes it
+-- (`word_read`, `expect_read`); `eat_then` and `sees_then` continue after a reader that may find another token. The readers of tokens with a meaning are
+-- all `token_as`, so that each meaning needs only two lemmas about one token.
 use Rattle.std.proofs.Common.{◌≡◌, ℕ, Bool, true, false, cond, List, [], ◌∷◌, Option, Some, None, Ok, Err, refl, sym, ap, ◌∙◌, codes, rules}
 use Rattle.std.specs.Str.{bytes_eq}
 use Rattle.std.proofs.lemmas.Slice.Eq.{bytes_eq-Decides}
@@ -24,7 +24,7 @@ use Rattle.sim_text_grammar.proofs.Gives.{Gives, done, refused}
 
 -- ---- kinds
 
--- a kind is one alone
+-- a token has only one kind
 pub other : {z x y : Kind} → z ≡ x → (x ≡ y → ⊥) → z ≡ y → ⊥
 other e f g = f (sym e ∙ g)
 
@@ -308,7 +308,7 @@ eat_then_by : {A : Type 0} (q : A → Input → Type 0) (f g : Parser A) (p n : 
 eat_then_by q f g p n x i m y z true e = y (marks i x (sees_is x i e) m)
 eat_then_by q f g p n x i m y z false e = z (λ h. let t : true ≡ false = sym (is_seen x i h) ∙ e in absurd cc)
 
--- a token of this kind, and what stands after it, or something else
+-- a token of this kind and its continuation, or something else
 pub eat_then : {A : Type 0} {q : A → Input → Type 0} (f g : Parser A) (p n : ℕ) (x : Kind) (i : Input) → (k.EndOfText ≡ x → ⊥)
     → (Fits p n (mark x) i (next i) → Gives q (f (next i))) → ((kind i ≡ x → ⊥) → Gives q (g i)) → Gives q (and_then (eat x i) (λ b. cond b f g))
 unfolding eat
@@ -327,7 +327,7 @@ pub eaten_written : {p n : ℕ} (x : Kind) (i j : Input) (b : Bool) → Eaten p 
 eaten_written x i j true h = h
 eaten_written x i j false h = none_to h.0
 
--- what is written or not is read so, where the next token is another
+-- an optional token is read, if the next token is of another kind
 pub written_read : {p n : ℕ} (x : Kind) (i j : Input) (b : Bool) → Fits p n (if_written b (mark x)) i j → (kind j ≡ x → ⊥) → eat x i ≡ Ok (b, j)
 written_read x i j true h stop = eat_read x i j h
 written_read x i j false h stop = let e = none_read h in rw e (eat_not x j stop)

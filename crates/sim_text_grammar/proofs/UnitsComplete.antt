@@ -1,6 +1,6 @@
--- What is written as a design unit or a file is read so. From the writing, taken apart by `split`, follow the tokens that the reader sees at each step,
--- and so its answer; lists by induction on the tokens that are left. What stands after a list or an optional part matters: it must not go on with it, so
--- a lemma asks of the next token that it does not.
+-- Completeness for design units and files: reading the tokens that spell one returns it. `split` takes the spelling apart, which gives the tokens that the
+-- reader sees at each step, and so its answer; lists by induction on the remaining tokens. A token after a list or an optional part must not continue it,
+-- so lemmas require this of the next token.
 use Rattle.std.proofs.Common.{◌≡◌, ℕ, zero, suc, ◌≤◌, Bool, true, false, List, [], ◌∷◌, ◌++◌, length, map, Ok, refl, append_assoc, arith}
 use Rattle.std.proofs.lemmas.List.{append-nil}
 use Rattle.sim_text_tokens.specs.declared.kind.Kind.{Kind}
@@ -29,7 +29,7 @@ use Rattle.sim_text_grammar.specs.Units.{architecture_body, architecture, librar
 use Rattle.sim_text_grammar.proofs.DeclarationsComplete.{names_again, repeated_again, ports_again, declarations_again}
 use Rattle.sim_text_grammar.proofs.ConcurrentsComplete.{concurrents_again}
 
--- a selected name ends before such a token
+-- no suffix of a selected name follows
 abbrev NoDot : Kind → Type 0
 NoDot x = x ≡ k.Dot → ⊥
 
@@ -129,7 +129,7 @@ unfolding context
 context_again xs i j h stop = many_all_again 64 64 begins_context context_item of_context_item (λ x. Unit {0}) (λ x a b f. (item_again x a b f).0)
     (λ x e. tt) (λ x a b f. (item_again x a b f).1) (λ x a b f d. (item_again x a b f).2) xs i j h tt stop
 
--- after the optional word comes a name or the end
+-- the optional word is followed by a name or the end
 name_or : (b : Bool) (text : List ℕ) (i j : Input) → Fits 64 64 (if_written b (just (This text))) i j → kind j ≡ k.Semicolon
     → (kind i ≡ k.Entity → ⊥) × (kind i ≡ k.Architecture → ⊥)
 name_or true text i j h e = let w = this_kind text i j h in (other w (λ z. absurd cc), other w (λ z. absurd cc))
@@ -202,7 +202,7 @@ architecture_again x i j h =
       ) refl,
     )
 
--- what is known of a unit's last part, and that it is read
+-- facts about a library unit, and that it is read
 abbrev Known : LibraryUnit → Input → Input → Type 0
 Known x i j = (begins_context (kind i) ≡ false) × (suc (length j) ≤ length i) × (library_unit i ≡ Ok (x, j))
 
@@ -231,7 +231,7 @@ unfolding of_context_item
 item_kind (items.Library ns) i j h = let s = split h in goes (kind i) (other (mark_read i s.mid k.Library s.front).0 (λ z. absurd cc))
 item_kind (items.Use xs) i j h = let s = split h in goes (kind i) (other (mark_read i s.mid k.Use s.front).0 (λ z. absurd cc))
 
--- a unit begins with a token that is no end
+-- the first token of a unit is not the end of the text
 unit_starts : (x : DesignUnit) (i j : Input) → Fits 64 64 (of_unit x) i j → goes_on (kind i) ≡ true
 unfolding of_unit
 unit_starts x i j h =
@@ -250,7 +250,7 @@ units_again (x ∷ xs) i j h stop =
           (omega arith) tt stop,
     ) refl
 
--- the end of a text
+-- at the end of the text no unit follows
 ended : goes_on (kind []) ≡ false
 unfolding kind
 ended = rw (is_same k.EndOfText k.EndOfText refl) refl

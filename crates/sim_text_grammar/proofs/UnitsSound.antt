@@ -1,6 +1,5 @@
--- What is read as a design unit or a file is written so. For each reader there is a lemma that it `Gives` its writing: the tokens that it goes past are
--- the spelling of the tree that it answers. It goes through the reader's steps with `then_` and puts the writings of its parts together with `◌&◌`;
--- lists by induction on the tokens that are left.
+-- Soundness for design units and files: the tokens that a reader consumes spell its result. For each reader a lemma says that it `Gives` its spelling.
+-- The proof follows the steps of the reader with `then_` and joins the spellings of the parts with `◌&◌`; lists by induction on the remaining tokens.
 use Rattle.std.proofs.Common.{◌≡◌, ℕ, zero, suc, Bool, List, [], ◌∷◌, ◌++◌, length, map, refl, sym, subst, ◌∙◌, append_assoc}
 use Rattle.std.proofs.lemmas.List.{append-nil}
 use Rattle.sim_text_tokens.specs.declared.kind.Kind.{Kind}
@@ -21,7 +20,7 @@ use Rattle.sim_text_grammar.specs.Units.{architecture_body, architecture, librar
 use Rattle.sim_text_grammar.proofs.DeclarationsSound.{names_give, repeated_gives, ports_give, declarations_give}
 use Rattle.sim_text_grammar.proofs.ConcurrentsSound.{concurrents_give}
 
--- what was found, and more that is written here
+-- the suffixes found so far, and more that are spelled here
 record Suffixed (found : List Name) (i : Input) (r : List Name × Bool) (j : Input) : Type 0 where
   more : List Name
   whole : r.0 ≡ found ++ more

@@ -1,6 +1,6 @@
--- What is written as a waveform or a delay is read so. From the writing, taken apart by `split`, follow the tokens that the reader sees at each step,
--- and so its answer; lists by induction on the tokens that are left. What stands after a list or an optional part matters: it must not go on with it, so
--- a lemma asks of the next token that it does not.
+-- Completeness for waveforms and delays: reading the tokens that spell one returns it. `split` takes the spelling apart, which gives the tokens that the
+-- reader sees at each step, and so its answer; lists by induction on the remaining tokens. A token after a list or an optional part must not continue it,
+-- so lemmas require this of the next token.
 use Rattle.std.proofs.Common.{◌≡◌, ℕ, zero, suc, ◌<◌, ◌≤◌, Bool, true, false, cond, List, [], ◌∷◌, ◌++◌, length, Option, Some, None, Ok, refl, sym}
 use Rattle.std.proofs.Common.{◌∙◌, append_assoc, arith}
 use Rattle.std.proofs.lemmas.List.{append-nil}
@@ -46,7 +46,7 @@ time_again {p} {n} t i m h =
     } in
     rw (number_read i s.0 (t.digits, t.at) x, unit_read s.0 m t.unit u, le-leb (time_of t.digits t.unit) largest_time h.latest_fits) refl
 
--- An element ends before such a token; a waveform, if it is no comma either.
+-- An element ends before a token of this kind; a waveform does too, if it is not a comma.
 abbrev pub EndsElement : Kind → Type 0
 EndsElement x = (binds x < 1) × (x ≡ k.After → ⊥)
 
@@ -71,7 +71,7 @@ unfolding waveform of_waveform
 waveform_again {n} w i m h e stop = separated_again 64 n k.Comma element of_element EndsElement (omega arith, λ z. absurd cc)
     (λ x i j f d. element_again {n = n} x i j f d) w i m h e stop
 
--- no delay is written before such a token
+-- a token that begins a delay mechanism
 abbrev pub delays_by : Kind → Bool
 delays_by k.Transport = true
 delays_by k.Inertial = true
@@ -95,9 +95,9 @@ delay_again (delays.Reject t) i m h e =
     let w = mark_read i s.mid k.Reject s.front in
     rw (w.0, w.1, time_again t s.mid r.mid r.front, expect_read k.Inertial r.mid m r.back) refl
 
--- ---- waveforms waveforms
+-- ---- conditional waveforms
 
--- the last token of an assignment
+-- the next token is the semicolon of an assignment
 abbrev pub Closed : Input → Type 0
 Closed j = kind j ≡ k.Semicolon
 
@@ -170,7 +170,7 @@ pub conditional_again : {n : ℕ} (c : ConditionalWaveforms) (i j : Input) → F
 unfolding waveforms of_waveforms left
 conditional_again {n} c i j h e = alternatives_again n (length i) [] c.conditional c.otherwise i j h (omega arith) e
 
--- ---- what they begin with
+-- ---- their first tokens
 
 pub element_opens : (n : ℕ) (x : Element) (i j : Input) → Fits 64 n (of_element x) i j → opens (kind i) ≡ true
 unfolding of_element
@@ -200,7 +200,7 @@ opens_no_delay k.Not e = refl
 opens_no_delay k.Condition e = refl
 opens_no_delay _ e = absurd cc
 
--- a concurrent assignment after its target
+-- a concurrent assignment, after its target
 pub assigned_again : {n : ℕ} (a : ConcurrentSignalAssignment) (i j : Input)
     → Fits 64 n (mark k.SignalAssign ▸ of_delay a.delay ▸ of_waveforms a.waveforms ▸ mark k.Semicolon) i j → assigned a.label a.postponed a.target i ≡ Ok (a, j)
 unfolding assigned

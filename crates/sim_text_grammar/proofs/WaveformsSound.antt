@@ -1,6 +1,5 @@
--- What is read as a waveform or a delay is written so. For each reader there is a lemma that it `Gives` its writing: the tokens that it goes past are
--- the spelling of the tree that it answers. It goes through the reader's steps with `then_` and puts the writings of its parts together with `◌&◌`;
--- lists by induction on the tokens that are left.
+-- Soundness for waveforms and delays: the tokens that a reader consumes spell its result. For each reader a lemma says that it `Gives` its spelling.
+-- The proof follows the steps of the reader with `then_` and joins the spellings of the parts with `◌&◌`; lists by induction on the remaining tokens.
 use Rattle.std.proofs.Common.{◌≡◌, ℕ, zero, suc, Bool, true, false, cond, List, [], ◌∷◌, ◌++◌, length, Option, Some, None, Err, refl, sym, ◌∙◌}
 use Rattle.std.proofs.Common.{append_assoc, arith}
 use Rattle.std.proofs.lemmas.List.{append-nil}
@@ -80,9 +79,9 @@ pub delay_gives : {n : ℕ} (i : Input) → Gives (λ w q. Fits 64 n (of_delay w
 unfolding delay
 delay_gives {n} i = delay_by_gives n i (kind i) refl
 
--- ---- waveforms waveforms
+-- ---- conditional waveforms
 
--- the condition has that waveform, and the rest is its condition
+-- a conditional waveform with this waveform, whose condition is spelled here
 pub record Chosen (n : ℕ) (w : List Element) (i : Input) (c : ConditionalWaveform) (j : Input) : Type 0 where
   pub same : c.waveform ≡ w
   pub fits : Fits 64 n (of_expression c.condition) i j
@@ -91,7 +90,7 @@ choice_gives : (n : ℕ) (w : List Element) (i : Input) → Gives (Chosen n w i)
 unfolding condition
 choice_gives n w i = then_ (expression_gives {n = n} i) (λ v j x. done (record { same = refl; fits = x }))
 
--- what was found, and alternatives that are written here
+-- the waveforms found so far, and alternatives that are spelled here
 pub record Alternatives (n : ℕ) (found : List ConditionalWaveform) (i : Input) (c : ConditionalWaveforms) (j : Input) : Type 0 where
   pub more : List ConditionalWaveform
   pub whole : c.conditional ≡ found ++ more
@@ -126,7 +125,7 @@ pub conditional_gives : {n : ℕ} (i : Input) → Gives (λ c q. Fits 64 n (of_w
 unfolding waveforms of_waveforms left
 conditional_gives {n} i = map_ (alternatives_give n (length i) [] i) (λ c q f. rw f.whole f.fits)
 
--- a concurrent assignment after its target
+-- a concurrent assignment, after its target
 pub assigned_gives : {n : ℕ} (label : Option Name) (postponed : Bool) (target : Name) (i s t j : Input) → Fits 64 n (labelled label) i s
     → Fits 64 n (if_written postponed (mark k.Postponed)) s t → Fits 64 n (word_at target) t j
     → Gives (λ a q. Fits 64 n (of_concurrent_assignment a) i q) (assigned label postponed target j)

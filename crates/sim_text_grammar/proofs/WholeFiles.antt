@@ -1,5 +1,5 @@
--- The laws of a whole text, from its four halves. What is read as a file is written so (UnitsSound), and what is written so is read (UnitsComplete). As
--- a reader has one answer, no tokens are two files, and tokens that are refused are none; where a fault stands is in FileFaults.
+-- The laws of a whole file. A file is spelled by the tokens from which it is read (UnitsSound), and read from the tokens that spell it (UnitsComplete).
+-- As a reader has one answer, the same tokens do not spell two files, and tokens that are refused spell none; FileFaults has the places of faults.
 use Rattle.std.proofs.Common.{◌≡◌, ℕ, List, [], Ok, Err, refl, sym, ap, subst, ◌∙◌}
 use Rattle.sim_text_grammar.specs.declared.error.ParseError.{ParseError}
 use Rattle.sim_text_grammar.specs.declared.error.ParseError.TheVariants.{TimeRange, TooDeep}
@@ -34,15 +34,15 @@ is_refused i e y f h = let both : ok_of (y, []) ≡ Err e = sym (file_again y i 
 pub one_file : (i : Input) (a b : DesignFile) → IsFile a i → IsFile b i → a ≡ b
 one_file i a b x y = is_only i [] b a (file_again b i y) x
 
--- a fault of a time stands at one that is too large
+-- a `TimeRange` fault is at a time that is too large
 pub large_time : (i : Input) (n : ℕ) → file i ≡ Err (TimeRange n) → IsTooLarge i n
 large_time i n e = subst (λ (o : Outcome DesignFile). Blame i o) e (file_blames i).blame
 
--- a fault of depth stands at what opens parentheses or an if
+-- a `TooDeep` fault is at a parenthesis or an `if`
 pub deep_opening : (i : Input) (n : ℕ) → file i ≡ Err (TooDeep n) → IsOpening i n
 deep_opening i n e = subst (λ (o : Outcome DesignFile). Blame i o) e (file_blames i).blame
 
--- units that are read up to the end of the tokens are written with them
+-- units that are read up to the end of the tokens are spelled by them
 pub units_read : (i j m : Input) (xs : List DesignUnit) → units_of i ≡ Ok (xs, j) → finish j ≡ Ok (tt, m) → AreUnits xs i
 unfolding file
 units_read i j m xs e f = let read : file i ≡ Ok (record { units = xs }, m) = rw (e, f) refl in is_found i m (record { units = xs }) read

@@ -1,4 +1,4 @@
--- How concurrent statements are read.
+-- Readers of concurrent statements.
 use Rattle.std.specs.Prelude.{ℕ, zero, suc, Bool, true, false, ◌||◌, if◌then◌else◌, List, [], ◌∷◌, ◌++◌, Option, Some, None}
 use Rattle.sim_text_tokens.specs.declared.kind.Kind.{Kind}
 use Rattle.sim_text_tokens.specs.declared.kind.Kind.TheVariants as k
@@ -30,7 +30,7 @@ sensitivity = do
     ns ← names
     pure (sensitivities.Names ns))
 
--- `postponed` again, which only a postponed process has
+-- `postponed` repeated, which is allowed only for a postponed process
 abbrev pub postponed_again : Bool → Parser Bool
 postponed_again true = eat k.Postponed
 postponed_again false = pure false
@@ -56,7 +56,7 @@ process_body label postponed sensitive is found = do
     label_repeated = again;
   })
 
--- a process after its label and `postponed`
+-- a process, after its label and `postponed`
 unfoldable pub process : Option Name → Bool → Parser Process
 process label postponed = do
   expect k.Process
@@ -85,7 +85,7 @@ actual_by _ = do
 unfoldable pub actual : Parser Actual
 actual = peek >>= actual_by
 
--- what stands after the arrow of a formal
+-- an association, after the arrow of its formal
 unfoldable pub associated : Name → Parser Association
 associated formal = do
   x ← actual
@@ -112,11 +112,11 @@ free_by _ = do
 unfoldable pub free_association : Parser Association
 free_association = peek >>= free_by
 
--- an association, where a formal may have been named before
+-- an association; its formal is required once one was named
 unfoldable pub association : Bool → Parser Association
 association named = if named then named_association else free_association
 
--- further associations, at most that many
+-- further associations, at most n
 unfoldable pub associations_from : ℕ → Bool → List Association → Parser (List Association)
 associations_from zero named found = refuse
 associations_from (suc n) named found = do
@@ -128,7 +128,7 @@ associations_from (suc n) named found = do
 unfoldable pub associations : Parser (List Association)
 associations = λ i. associations_from (left i) false [] i
 
--- a port map, where one is written
+-- a port map, if one is written
 unfoldable pub port_map : Parser (List Association)
 port_map = do
   is_written ← eat k.Port
@@ -139,14 +139,14 @@ port_map = do
     expect k.RightParen
     pure found) else pure []
 
--- what stands after the component or the entity of an instance
+-- the port map and the semicolon of an instance
 unfoldable pub instance : Name → Instantiated → Parser Concurrent
 instance label unit = do
   found ← port_map
   expect k.Semicolon
   pure (c.Instance (record { label = label; unit = unit; associations = found }))
 
--- the name of an architecture, where one is written
+-- the name of an architecture, if one is written
 unfoldable pub chosen : Parser (Option Name)
 chosen = do
   is_written ← eat k.LeftParen
@@ -155,7 +155,7 @@ chosen = do
     expect k.RightParen
     pure (Some n)) else pure None
 
--- an entity, and its architecture where one is written (11.7)
+-- an entity, and its architecture if one is written (11.7)
 unfoldable pub entity_named : Parser Instantiated
 entity_named = do
   take_token
@@ -167,13 +167,13 @@ entity_named = do
 
 -- ---- statements
 
--- a concurrent assignment from after its target (11.6)
+-- a concurrent assignment, after its target (11.6)
 unfoldable pub concurrent_assigned : Option Name → Bool → Name → Parser Concurrent
 concurrent_assigned label postponed target = do
   found ← assigned label postponed target
   pure (c.Assignment found)
 
--- a process after its label and `postponed`
+-- a process, after its label and `postponed`
 unfoldable pub concurrent_process : Option Name → Bool → Parser Concurrent
 concurrent_process label postponed = do
   found ← process label postponed
@@ -186,19 +186,19 @@ postponed_by label _ = do
   n ← word
   concurrent_assigned label true n
 
--- a process or an assignment from `postponed` on
+-- a process or an assignment, from `postponed`
 unfoldable pub postponed : Option Name → Parser Concurrent
 postponed label = do
   take_token
   kind ← peek
   postponed_by label kind
 
--- an assignment or an instance, from after its first name
+-- an assignment or an instance, after a label and its first name
 abbrev pub target_by : Name → Name → Kind → Parser Concurrent
 target_by label n k.SignalAssign = concurrent_assigned (Some label) false n
 target_by label n _ = instance label (made.Component false n)
 
--- a statement after its label, by the kind of its first token
+-- a statement, after its label, by the kind of its first token
 abbrev pub labelled_by : Name → Kind → Parser Concurrent
 labelled_by label k.Process = concurrent_process (Some label) false
 labelled_by label k.Postponed = postponed (Some label)
@@ -214,11 +214,11 @@ labelled_by label _ = do
   kind ← peek
   target_by label n kind
 
--- a statement after its label
+-- a statement, after its label
 unfoldable pub labelled : Name → Parser Concurrent
 labelled label = peek >>= labelled_by label
 
--- a statement from after its first name
+-- a statement, after its first name
 abbrev pub first_by : Name → Kind → Parser Concurrent
 first_by first k.SignalAssign = concurrent_assigned None false first
 first_by first _ = do

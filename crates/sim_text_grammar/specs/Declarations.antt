@@ -1,4 +1,4 @@
--- How declarations are read.
+-- Readers of declarations.
 use Rattle.std.specs.Prelude.{ℕ, Bool, true, false, if◌then◌else◌, List, [], Option, Some, None, Ok}
 use Rattle.sim_text_tokens.specs.declared.kind.Kind.{Kind}
 use Rattle.sim_text_tokens.specs.declared.kind.Kind.TheVariants as k
@@ -19,11 +19,11 @@ use Rattle.sim_text_grammar.specs.Readers.{same_kind}
 unfoldable pub names : Parser (List Name)
 names = separated k.Comma word
 
--- the name again, where a word stands
+-- the name repeated, if a word comes next
 unfoldable pub repeated : List ℕ → Parser Bool
 repeated text = λ i. if sees k.Word i then (repeat text >> pure true) i else Ok (false, i)
 
--- a first value, by the kind of its token
+-- an initial value, by the kind of its token
 abbrev pub initial_by : Kind → Parser (Option Initial)
 initial_by k.Literal = do
   found ← literal
@@ -32,7 +32,7 @@ initial_by _ = do
   n ← word
   pure (Some (first_values.Named n))
 
--- a first value, where one is written
+-- an initial value, if one is written
 unfoldable pub initial : Parser (Option Initial)
 initial = do
   is_written ← eat k.VariableAssign
@@ -45,11 +45,11 @@ mode_by k.Out = take_token >> pure (Some modes.Out)
 mode_by k.Inout = take_token >> pure (Some modes.Inout)
 mode_by _ = pure None
 
--- a mode, where one is written
+-- a mode, if one is written
 unfoldable pub mode : Parser (Option Mode)
 mode = peek >>= mode_by
 
--- what stands after the names of ports
+-- a port declaration, after its names
 unfoldable pub port_of : Bool → List Name → Parser PortDeclaration
 port_of signal ns = do
   expect k.Colon
@@ -65,11 +65,11 @@ port = do
   ns ← names
   port_of signal ns
 
--- ports with semicolons between them (6.5.6.3)
+-- ports, separated by semicolons (6.5.6.3)
 unfoldable pub port_list : Parser (List PortDeclaration)
 port_list = separated k.Semicolon port
 
--- a port clause, where one is written
+-- a port clause, if one is written
 unfoldable pub ports : Parser (List PortDeclaration)
 ports = do
   is_written ← eat k.Port
@@ -80,7 +80,7 @@ ports = do
     expect k.Semicolon
     pure found) else pure []
 
--- signals or variables, from their names on
+-- signals or variables, from their names
 unfoldable pub object : Parser ObjectDeclaration
 object = do
   ns ← names

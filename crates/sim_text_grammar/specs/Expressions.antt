@@ -1,4 +1,4 @@
--- How expressions are read.
+-- Readers of expressions.
 use Rattle.std.specs.Prelude.{ℕ, zero, suc, Bool, true, false, List, [], ◌∷◌, Option, Some, None, Err}
 use Rattle.sim_text_tokens.specs.declared.kind.Kind.{Kind}
 use Rattle.sim_text_tokens.specs.declared.kind.Kind.TheVariants as k
@@ -15,7 +15,7 @@ use Rattle.sim_text_tree.specs.Limits.{most_parentheses}
 use Rattle.sim_text_grammar.specs.Readers.{Parser, ◌>>=◌, ◌>>◌, pure, peek, take_token, word, literal, event, expect, same_kind, many_from, left}
 use Rattle.sim_text_tree.specs.Grammar.{logical_kind, is_repeatable}
 
--- what stands after a name
+-- the part of a primary after its first name
 abbrev pub named_by : Name → Kind → Parser Expression
 named_by n k.Tick = take_token >> event >> pure (e.Event n)
 named_by n k.LeftParen = do
@@ -32,7 +32,7 @@ named = do
   kind ← peek
   named_by n kind
 
--- the logical operator, where the kind is one
+-- the logical operator whose token has this kind, if any
 abbrev pub logical_of : Kind → Option Logical
 logical_of k.And = Some logical.And
 logical_of k.Or = Some logical.Or
@@ -42,11 +42,11 @@ logical_of k.Nand = Some logical.Nand
 logical_of k.Nor = Some logical.Nor
 logical_of _ = None
 
--- whether the operator is written again
+-- whether the operator is repeated
 abbrev pub goes_on : Logical → Kind → Bool
 goes_on o kind = same_kind kind (logical_kind o)
 
--- The parameter reads what stands in parentheses, from the first on.
+-- The parameter reads an expression in parentheses, from the `(`.
 module _ (nested : Parser Expression) where
   -- a primary, by the kind of its first token
   abbrev pub primary_by : Kind → Parser Expression
@@ -72,14 +72,14 @@ module _ (nested : Parser Expression) where
   unfoldable pub factor : Parser Expression
   factor = peek >>= factor_by
 
-  -- a comparison from its operator on
+  -- a comparison, from its operator
   abbrev pub comparison : Expression → Relational → Parser Expression
   comparison a operator = do
     at ← take_token
     b ← factor
     pure (e.Comparison a operator at b)
 
-  -- a relation from its first operand on
+  -- a relation, from the token after its first operand
   abbrev pub relation_by : Expression → Kind → Parser Expression
   relation_by a k.Equal = comparison a relational.Equal
   relation_by a k.Unequal = comparison a relational.Unequal
@@ -92,14 +92,14 @@ module _ (nested : Parser Expression) where
     kind ← peek
     relation_by a kind
 
-  -- an operator and what stands after it
+  -- an operator and the operand after it
   unfoldable pub operand : Parser Operand
   operand = do
     at ← take_token
     found ← relation
     pure (roll-Operand (record { operator_at = at; operand = found }))
 
-  -- further operands, where the operator may be written again
+  -- further operands, if the operator may be repeated
   abbrev pub more_operands : Bool → Logical → List Operand → Parser (List Operand)
   more_operands true o found = λ i. many_from (goes_on o) operand (left i) found i
   more_operands false o found = pure found
@@ -110,14 +110,14 @@ module _ (nested : Parser Expression) where
     second ← operand
     more_operands (is_repeatable o) o (second ∷ [])
 
-  -- an expression from its first operator on
+  -- an expression, from its first operator
   abbrev pub chain_by : Expression → Option Logical → Parser Expression
   chain_by first (Some o) = do
     rest ← operands o
     pure (e.Chain o first rest)
   chain_by first None = pure first
 
-  -- relations, and a logical operator between each two
+  -- relations, with a logical operator between adjacent ones
   unfoldable pub chain : Parser Expression
   chain = do
     first ← relation
@@ -136,7 +136,7 @@ module _ (nested : Parser Expression) where
   unfoldable pub expression_in : Parser Expression
   expression_in = peek >>= expression_by
 
--- what stands in parentheses, and in at most that many
+-- an expression in parentheses, with at most this many pairs open
 unfoldable pub nested : ℕ → Parser Expression
 nested zero = λ i. Err (TooDeep (left i))
 nested (suc depth) = do
@@ -145,6 +145,6 @@ nested (suc depth) = do
   expect k.RightParen
   pure (e.Parenthesized at inner)
 
--- an expression with at most as many parentheses open as there may be (9.1)
+-- an expression with at most as many open parentheses as allowed (9.1)
 unfoldable pub expression : Parser Expression
 expression = expression_in (nested most_parentheses)

@@ -1,4 +1,4 @@
--- Where a fault stands among the tokens of a text.
+-- The places of faults among the tokens of a text.
 use Rattle.std.specs.Prelude.{◌≡◌, ℕ, ◌<◌, ◌⊎◌, List, ◌∷◌, ◌++◌, length}
 use Rattle.sim_logic.specs.declared.time.Unit.{Unit as TimeUnit}
 use Rattle.sim_logic.specs.Time.{largest_time}
@@ -7,7 +7,7 @@ use Rattle.sim_text_tokens.specs.declared.kind.Kind.TheVariants as k
 use Rattle.sim_text_tree.specs.Times.{time_of}
 use Rattle.sim_text_tree.specs.Writing.{UnitWord, Stands}
 
--- The n-th token from the end is the number of a time, and with the unit after it that time is too large (5.2.4).
+-- The n-th token from the end is the number of a time that, with the unit after it, is too large (5.2.4).
 pub record IsTooLarge (tokens : List Token) (n : ℕ) : Type 0 where
   pub front : List Token
   pub number : Token

@@ -1,4 +1,4 @@
--- What a reader is, the readers of single tokens and of lists, and how readers are put together.
+-- The type of readers, the readers of single tokens and of lists, and the ways to combine readers.
 use Rattle.std.specs.Prelude.{◌≡◌, ◌≢◌, ℕ, zero, suc, Bool, true, false, if◌then◌else◌, List, [], ◌∷◌, ◌++◌, length, Option, Some, None, Result, Ok, Err, codes}
 use Rattle.std.specs.Str.{bytes_eq}
 use denote.Enum.Bare.{sameb}
@@ -15,13 +15,13 @@ use Rattle.sim_text_tree.specs.Input.{Input, kind, place, next}
 use Rattle.sim_text_grammar.specs.declared.error.ParseError.{ParseError}
 use Rattle.sim_text_grammar.specs.declared.error.ParseError.TheVariants.{OutOfMemory, Syntax}
 
--- how many tokens are left
+-- the number of remaining tokens
 unfoldable pub left : Input → ℕ
 left i = length i
 
 -- ---- parsers
 
--- what was read and what is left, or a fault
+-- the result and the remaining tokens, or a fault
 abbrev pub Outcome : Type 0 → Type 0
 Outcome A = Result (A × Input) ParseError
 
@@ -29,12 +29,12 @@ Outcome A = Result (A × Input) ParseError
 abbrev pub Parser : Type 0 → Type 0
 Parser A = Input → Outcome A
 
--- goes on after what was read, unless there was a fault
+-- continues with the result, unless there was a fault
 abbrev pub and_then : {A B : Type 0} → Outcome A → (A → Parser B) → Outcome B
 and_then (Ok p) f = f p.0 p.1
 and_then (Err e) f = Err e
 
--- one parser, and then one that depends on what it read
+-- one parser, and then one that depends on its result
 infixl 10 ◌>>=◌
 abbrev pub ◌>>=◌ : {A B : Type 0} → Parser A → (A → Parser B) → Parser B
 p >>= f = λ i. and_then (p i) f
@@ -52,27 +52,27 @@ pure a = λ i. Ok (a, i)
 abbrev pub refuse : {A : Type 0} → Parser A
 refuse = λ i. Err (Syntax (left i))
 
--- the kind of the next token, which is left
+-- the kind of the next token, which is not consumed
 abbrev pub peek : Parser Kind
 peek = λ i. Ok (kind i, i)
 
--- goes past the next token, and says where it starts
+-- consumes the next token; the result is where it starts
 abbrev pub take_token : Parser ℕ
 take_token = λ i. Ok (place i, next i)
 
 -- ---- single tokens
 
--- what was found, or a fault
+-- the value, or a fault if there is none
 abbrev pub found_or : {A : Type 0} → Option A → Input → Input → Outcome A
 found_or (Some a) i rest = Ok (a, rest)
 found_or None i rest = Err (Syntax (left i))
 
--- the next token, where it has a meaning
+-- the next token, if it has a meaning
 abbrev pub token_as : {A : Type 0} → (Token → Option A) → Parser A
 token_as f [] = Err (Syntax 0)
 token_as f (t ∷ ts) = found_or (f t) (t ∷ ts) ts
 
--- what was found, where the condition holds
+-- the value, if the condition holds
 abbrev pub only_if : {A : Type 0} → Bool → Option A → Option A
 only_if true a = a
 only_if false a = None
@@ -81,7 +81,7 @@ only_if false a = None
 unfoldable pub same_kind : Kind → Kind → Bool
 same_kind = sameb the_type
 
--- the name that a token is
+-- the name that a token is, if it is a word
 abbrev pub name_of : Token → Option Name
 name_of t = only_if (same_kind t.kind k.Word) (Some (record { text = t.text; at = t.start }))
 
@@ -89,7 +89,7 @@ name_of t = only_if (same_kind t.kind k.Word) (Some (record { text = t.text; at 
 unfoldable pub word : Parser Name
 word = token_as name_of
 
--- the value that a character literal's text names (IEEE 1164)
+-- the value of a character literal's text (IEEE 1164)
 abbrev pub logic_of : List ℕ → Option Logic
 logic_of t =
     if bytes_eq t (codes "U") then Some value.U else
@@ -102,12 +102,12 @@ logic_of t =
     (if bytes_eq t (codes "H") then Some value.H else
     (if bytes_eq t (codes "-") then Some value.Dash else None))))))))
 
--- a value, and where its token starts
+-- a value, with the start of its token
 abbrev pub placed : Token → Option Logic → Option (Logic × ℕ)
 placed t (Some v) = Some (v, t.start)
 placed t None = None
 
--- the value that a token is, and where it starts
+-- the value of a token and its start, if it is a character literal
 abbrev pub literal_of : Token → Option (Logic × ℕ)
 literal_of t = only_if (same_kind t.kind k.Literal) (placed t (logic_of t.text))
 
@@ -115,7 +115,7 @@ literal_of t = only_if (same_kind t.kind k.Literal) (placed t (logic_of t.text))
 unfoldable pub literal : Parser (Logic × ℕ)
 literal = token_as literal_of
 
--- the digits that a token is, and where it starts
+-- the digits of a token and its start, if it is a number
 abbrev pub number_of : Token → Option (List ℕ × ℕ)
 number_of t = only_if (same_kind t.kind k.Number) (Some (t.text, t.start))
 
@@ -143,11 +143,11 @@ unit_of t = only_if (same_kind t.kind k.Word) (unit_in t.text)
 unfoldable pub unit : Parser TimeUnit
 unit = token_as unit_of
 
--- whether a token is this word
+-- a token that must be this word
 abbrev pub word_is : List ℕ → Token → Option (Unit {0})
 word_is text t = only_if (same_kind t.kind k.Word) (only_if (bytes_eq t.text text) (Some tt))
 
--- the same word again
+-- the same word, repeated
 unfoldable pub repeat : List ℕ → Parser (Unit {0})
 repeat text = token_as (word_is text)
 
@@ -159,37 +159,37 @@ event = token_as (word_is (codes "event"))
 unfoldable pub sees : Kind → Input → Bool
 sees x i = same_kind (kind i) x
 
--- goes past a token of this kind, if it comes next
+-- consumes a token of this kind, if it comes next
 unfoldable pub eat : Kind → Parser Bool
 eat x = λ i. if sees x i then Ok (true, next i) else Ok (false, i)
 
--- a token of this kind, and where it starts
+-- consumes a token of this kind; the result is where it starts
 unfoldable pub expect : Kind → Parser ℕ
 expect x = λ i. if sees x i then Ok (place i, next i) else Err (Syntax (left i))
 
 -- ---- lists
 
--- further items, as long as the next token is one that leads to one
+-- further items, while the next token leads to one, at most n
 unfoldable pub many_from : {A : Type 0} → (Kind → Bool) → Parser A → ℕ → List A → Parser (List A)
 many_from goes_on item zero found = pure found
 many_from goes_on item (suc n) found = λ i. if goes_on (kind i) then and_then (item i) (λ a. many_from goes_on item n (found ++ a ∷ [])) else Ok (found, i)
 
--- items, as long as the next token is one that begins one
+-- items, while the next token begins one
 unfoldable pub many : {A : Type 0} → (Kind → Bool) → Parser A → Parser (List A)
 many goes_on item = λ i. many_from goes_on item (left i) [] i
 
--- items with such a token between two of them
+-- items, separated by tokens of this kind
 unfoldable pub separated : {A : Type 0} → Kind → Parser A → Parser (List A)
 separated x item = item >>= λ a. λ i. many_from (λ y. same_kind y x) (take_token >> item) (left i) (a ∷ []) i
 
--- ---- what a function that parses ensures: the parser's outcome, unless memory fails
+-- ---- the contract of a function that parses: the parser's outcome, unless memory fails
 
 -- The parser has this outcome, unless memory failed.
 abbrev pub Reads : {A : Type 0} → Outcome A → Result A ParseError → Input → Type 0
 Reads outcome (Ok a) new = outcome ≡ Ok (a, new)
 Reads outcome (Err e) new = e ≢ OutOfMemory → outcome ≡ Err e
 
--- The same of what this makes of the result.
+-- The parser has the outcome that `made` gives for this result, unless memory failed.
 abbrev pub ReadsAs : {A V : Type 0} → Outcome A → Result V ParseError → (V → A) → Input → Type 0
 ReadsAs outcome (Ok v) made new = outcome ≡ Ok (made v, new)
 ReadsAs outcome (Err e) made new = e ≢ OutOfMemory → outcome ≡ Err e

@@ -1,4 +1,4 @@
--- How sequential statements are read.
+-- Readers of sequential statements.
 use Rattle.std.specs.Prelude.{ℕ, zero, suc, Bool, true, false, if◌then◌else◌, List, Option, Some, None, Ok, Err}
 use Rattle.sim_text_tokens.specs.declared.kind.Kind.{Kind}
 use Rattle.sim_text_tokens.specs.declared.kind.Kind.TheVariants as k
@@ -14,16 +14,16 @@ use Rattle.sim_text_grammar.specs.Readers.{Parser, ◌>>=◌, ◌>>◌, pure, re
 use Rattle.sim_text_grammar.specs.Expressions.{expression}
 use Rattle.sim_text_grammar.specs.Waveforms.{delay, waveform}
 
--- the label again, which only a labelled statement has
+-- the label repeated, which is allowed only for a labelled statement
 abbrev pub label_by : Option Name → Parser Bool
 label_by None = refuse
 label_by (Some n) = repeat n.text >> pure true
 
--- the label again, where a word stands
+-- the label repeated, if a word comes next
 unfoldable pub label_again : Option Name → Parser Bool
 label_again label = λ i. if sees k.Word i then label_by label i else Ok (false, i)
 
--- a variable assignment from after its target (10.6)
+-- a variable assignment, after its target (10.6)
 unfoldable pub variable_assigned : Name → Parser Statement
 variable_assigned target = do
   take_token
@@ -31,7 +31,7 @@ variable_assigned target = do
   expect k.Semicolon
   pure (s.Variable (record { target = target; value = value }))
 
--- a signal assignment from after its target (10.5.2)
+-- a signal assignment, after its target (10.5.2)
 unfoldable pub signal_assigned : Name → Parser Statement
 signal_assigned target = do
   expect k.SignalAssign
@@ -45,7 +45,7 @@ abbrev pub assigned_by : Name → Kind → Parser Statement
 assigned_by target k.VariableAssign = variable_assigned target
 assigned_by target _ = signal_assigned target
 
--- an assignment, from after its target
+-- an assignment, after its target
 unfoldable pub assigned : Name → Parser Statement
 assigned target = peek >>= assigned_by target
 
@@ -56,7 +56,7 @@ null = do
   expect k.Semicolon
   pure s.Null
 
--- a statement with its label, or with none
+-- a statement with this label or without one
 abbrev pub with_label : Option Name → Parser Statement → Parser Sequential
 with_label label reader = do
   x ← reader
@@ -76,9 +76,9 @@ begins_statement k.If = true
 begins_statement k.Null = true
 begins_statement _ = false
 
--- The parameter reads an if statement after its label.
+-- The parameter reads an if statement, after its label.
 module _ (inner : Option Name → Parser Statement) where
-  -- a statement after its label, by the kind of its first token
+  -- a statement, after its label, by the kind of its first token
   abbrev pub labelled_by : Option Name → Kind → Parser Statement
   labelled_by label k.If = inner label
   labelled_by label k.Null = null
@@ -86,11 +86,11 @@ module _ (inner : Option Name → Parser Statement) where
     target ← word
     assigned target
 
-  -- a statement after its label
+  -- a statement, after its label
   unfoldable pub labelled : Option Name → Parser Statement
   labelled label = peek >>= labelled_by label
 
-  -- a statement from after its first name: its label, or the target of an assignment
+  -- a statement, after its first name, which is its label or the target of an assignment
   abbrev pub named_by : Name → Parser Sequential
   named_by first = do
     is_label ← eat k.Colon
@@ -120,11 +120,11 @@ module _ (inner : Option Name → Parser Statement) where
     found ← sequence
     pure (roll-Branch (record { condition = condition; statements = found }))
 
-  -- what stands after `if` and after each `elsif`
+  -- the branches after `if` and each `elsif`
   unfoldable pub branches : Parser (List Branch)
   branches = separated k.Elsif branch
 
-  -- `else` and its statements, where it is written
+  -- `else` and its statements, if written
   unfoldable pub otherwise : Parser (Option (List Sequential))
   otherwise = do
     is_else ← eat k.Else
@@ -141,7 +141,7 @@ if_end label found last = do
   expect k.Semicolon
   pure (s.If found last again)
 
--- an if statement after its label, in which at most that many may be open
+-- an if statement, after its label, with at most this many ifs open
 unfoldable pub if_statement : ℕ → Option Name → Parser Statement
 if_statement zero label = λ i. Err (TooDeep (left i))
 if_statement (suc depth) label = do
@@ -150,6 +150,6 @@ if_statement (suc depth) label = do
   last ← otherwise (if_statement depth)
   if_end label found last
 
--- statements with at most as many ifs open as there may be (10.1)
+-- statements with at most as many open ifs as allowed (10.1)
 unfoldable pub statements : Parser (List Sequential)
 statements = sequence (if_statement most_ifs)

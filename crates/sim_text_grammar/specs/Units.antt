@@ -1,4 +1,4 @@
--- How design units and files are read.
+-- Readers of design units and files.
 use Rattle.std.specs.Prelude.{ℕ, zero, suc, Bool, true, false, not, if◌then◌else◌, List, [], ◌∷◌, ◌++◌, Ok, Err}
 use Rattle.sim_text_tokens.specs.declared.kind.Kind.{Kind}
 use Rattle.sim_text_tokens.specs.declared.kind.Kind.TheVariants as k
@@ -22,7 +22,7 @@ use Rattle.sim_text_grammar.specs.Concurrents.{concurrents}
 
 -- ---- context clauses
 
--- further suffixes, at most that many, and whether the last is `all`
+-- further suffixes, at most n, and whether the last is `all`
 unfoldable pub suffixes_from : ℕ → List Name → Parser (List Name × Bool)
 suffixes_from zero found = refuse
 suffixes_from (suc n) found = do
@@ -43,7 +43,7 @@ selected = do
   found ← suffixes
   pure (record { prefix = prefix; suffixes = found.0; all = found.1 })
 
--- selected names with commas between them
+-- selected names, separated by commas
 unfoldable pub selected_names : Parser (List SelectedName)
 selected_names = separated k.Comma selected
 
@@ -131,20 +131,20 @@ unit = do
   found ← library_unit
   pure (record { context = before; library_unit = found })
 
--- whether a token is left, by its kind
+-- whether a token remains, from the kind of the next one
 abbrev pub goes_on : Kind → Bool
 goes_on kind = not (same_kind kind k.EndOfText)
 
--- one design unit, or several
+-- at least one design unit
 unfoldable pub units_of : Parser (List DesignUnit)
 units_of = unit >>= λ first. λ i. many_from goes_on unit (left i) (first ∷ []) i
 
--- a fault, where a token is left
+-- a fault if a token remains
 abbrev pub finish_by : Input → Input → Outcome (Unit {0})
 finish_by i [] = Ok (tt, i)
 finish_by i (t ∷ ts) = Err (Syntax (left i))
 
--- no token is left
+-- the end of the tokens
 unfoldable pub finish : Parser (Unit {0})
 finish = λ i. finish_by i i
 

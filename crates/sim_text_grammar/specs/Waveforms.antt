@@ -1,4 +1,4 @@
--- How waveforms and delays are read.
+-- Readers of waveforms and delays.
 use Rattle.std.specs.Prelude.{ℕ, zero, suc, Bool, true, false, if◌then◌else◌, List, [], ◌∷◌, ◌++◌, Option, Some, None, Err}
 use Rattle.sim_text_tokens.specs.declared.kind.Kind.{Kind}
 use Rattle.sim_text_tokens.specs.declared.kind.Kind.TheVariants as k
@@ -15,7 +15,7 @@ use Rattle.sim_text_tree.specs.Times.{TimeLiteral, is_time}
 use Rattle.sim_text_grammar.specs.Readers.{Parser, ◌>>=◌, ◌>>◌, pure, refuse, peek, take_token, number, unit, eat, expect, separated, left}
 use Rattle.sim_text_grammar.specs.Expressions.{expression}
 
--- the time at the front, whose number stands so far from the end
+-- a time; n is the place of a `TimeRange` fault
 unfoldable pub time_from : ℕ → Parser TimeLiteral
 time_from n = do
   digits ← number
@@ -26,7 +26,7 @@ time_from n = do
 unfoldable pub time : Parser TimeLiteral
 time = λ i. time_from (left i) i
 
--- a waveform element from after its value
+-- a waveform element, after its value
 abbrev pub delayed : Expression → Bool → Parser Element
 delayed value true = do
   t ← time
@@ -59,13 +59,13 @@ delay_by _ = pure delays.Unwritten
 unfoldable pub delay : Parser DelayMechanism
 delay = peek >>= delay_by
 
--- what stands after the `when` of a waveform
+-- a conditional waveform, after its `when`
 unfoldable pub condition : List Element → Parser ConditionalWaveform
 condition waveform = do
   found ← expression
   pure (record { waveform = waveform; condition = found })
 
--- waveforms with conditions, and at last perhaps one without
+-- waveforms with conditions, and finally a waveform without one, if written
 unfoldable pub alternatives_from : ℕ → List ConditionalWaveform → Parser ConditionalWaveforms
 alternatives_from zero found = refuse
 alternatives_from (suc n) found = do
@@ -81,7 +81,7 @@ alternatives_from (suc n) found = do
 unfoldable pub waveforms : Parser ConditionalWaveforms
 waveforms = λ i. alternatives_from (left i) [] i
 
--- a concurrent assignment from after its target (11.6)
+-- a concurrent assignment, after its target (11.6)
 unfoldable pub assigned : Option Name → Bool → Name → Parser ConcurrentSignalAssignment
 assigned label postponed target = do
   expect k.SignalAssign

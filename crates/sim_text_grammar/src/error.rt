@@ -1,17 +1,17 @@
-//! Why tokens have no tree.
+//! Why tokens have no syntax tree.
 
 ghost use Rattle.std.specs.Prelude.{◌≡◌};
 ghost use Rattle.sim_text_grammar.specs.declared.error.ParseError.TheVariants.{OutOfMemory};
 
 use std::alloc::{AllocError, AllocFailed};
 
-/// A fault, by how many tokens there are from it on.
+/// A fault. The number is how many tokens remain, the token at fault included.
 #[derive(Clone, Copy, PartialEq, Eq)]
 pub enum ParseError {
     OutOfMemory,
-    /// No tree has this token here.
+    /// The token cannot follow the tokens before it in any file, or the tokens end too early.
     Syntax(usize),
-    /// A parenthesis or an `if` inside as many others as there may be.
+    /// A parenthesis or an `if` that is nested more deeply than allowed.
     TooDeep(usize),
     /// The number of a time that is too large.
     TimeRange(usize),

@@ -1,4 +1,4 @@
-//! Laws of the reading of a file.
+//! Laws of reading a file.
 
 ghost use Rattle.std.specs.Prelude.{◌≡◌, ℕ, List, [], Ok, Err};
 ghost use Rattle.sim_text_tokens.specs.Token.{Token};
@@ -9,32 +9,32 @@ ghost use Rattle.sim_text_tree.specs.Grammar.{IsFile};
 ghost use Rattle.sim_text_grammar.specs.Faults.{IsTooLarge, IsOpening};
 ghost use Rattle.sim_text_grammar.specs.Units as spec;
 
-/// A file that is read from tokens is written with them, within the limits.
+/// A file that is read from tokens is spelled by them, within the limits.
 pub fn what_is_read_is_written_so()
     ensures { (tokens rest : List Token) (file : DesignFile) → spec.file tokens ≡ Ok (file, rest) → IsFile file tokens }
 {}
 
-/// A file that is written with tokens, within the limits, is read from them.
+/// A file that is spelled by tokens, within the limits, is read from them.
 pub fn what_is_written_is_read()
     ensures { (tokens : List Token) (file : DesignFile) → IsFile file tokens → spec.file tokens ≡ Ok (file, []) }
 {}
 
-/// No tokens are two files.
+/// The same tokens do not spell two files.
 pub fn no_tokens_are_two_files()
     ensures { (tokens : List Token) (a b : DesignFile) → IsFile a tokens → IsFile b tokens → a ≡ b }
 {}
 
-/// Tokens that are refused are no file.
+/// Tokens that are refused spell no file.
 pub fn what_is_refused_is_no_file()
     ensures { (tokens : List Token) (file : DesignFile) (e : ParseError) → spec.file tokens ≡ Err e → IsFile file tokens → ⊥ }
 {}
 
-/// A fault of a time stands at a number that is too large with its unit.
+/// A `TimeRange` fault is at a number that, with its unit, is too large.
 pub fn a_fault_of_a_time_is_at_a_large_one()
     ensures { (tokens : List Token) (n : ℕ) → spec.file tokens ≡ Err (TimeRange n) → IsTooLarge tokens n }
 {}
 
-/// A fault of depth stands at a parenthesis or an `if` that opens.
+/// A `TooDeep` fault is at a `(` or an `if`.
 pub fn a_fault_of_depth_is_at_an_opening()
     ensures { (tokens : List Token) (n : ℕ) → spec.file tokens ≡ Err (TooDeep n) → IsOpening tokens n }
 {}

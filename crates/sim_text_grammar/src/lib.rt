@@ -1,6 +1,6 @@
-//! How expressions, waveforms, declarations, statements, design units and files are read from
-//! tokens, as definitions, and their laws: what is read is written so, and what is written so is
-//! read, so that no tokens are two files.
+//! Definitions of how expressions, waveforms, declarations, statements, design units and files are
+//! read from tokens, and their laws: a file is read from exactly the tokens that spell it, so the
+//! same tokens do not spell two files.
 #![tactic(auto)]
 
 pub mod error;

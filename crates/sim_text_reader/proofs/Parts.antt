@@ -1,4 +1,4 @@
--- The readers that the code reads in parts: a call and its argument, and an assignment.
+-- Readers that the code splits into several functions: a call and its argument, and an assignment.
 use Rattle.std.proofs.Common.{◌≡◌, refl, Option, Bool}
 use Rattle.sim_text_tokens.specs.declared.kind.Kind.TheVariants as k
 use Rattle.sim_text_tree.specs.Name.{Name}

@@ -1,4 +1,4 @@
--- The readers that the code reads in parts: a signal assignment, and the end of an if statement.
+-- Readers that the code splits into several functions: a signal assignment, and the end of an if statement.
 use Rattle.std.proofs.Common.{◌≡◌, refl, List, Option}
 use Rattle.sim_text_tokens.specs.declared.kind.Kind.TheVariants as k
 use Rattle.sim_text_tree.specs.Name.{Name}

@@ -1,4 +1,4 @@
--- The readers that the code reads in parts: each part is a function of its own, from whose answer the others go on.
+-- Readers that the code splits into several functions: each function continues from the answer of the one before.
 use Rattle.std.proofs.Common.{◌≡◌, refl, ℕ, Bool, true, false, if◌then◌else◌, List, [], ◌∷◌, Option}
 use Rattle.sim_text_tokens.specs.declared.kind.Kind.{Kind}
 use Rattle.sim_text_tokens.specs.declared.kind.Kind.TheVariants as k
@@ -20,7 +20,7 @@ use Rattle.sim_text_grammar.specs.Concurrents.{process, process_body, sensitivit
 use Rattle.sim_text_grammar.specs.Units.{entity, architecture, architecture_body, item_by, selected_names, unit, units_of, goes_on}
 use Rattle.sim_text_grammar.proofs.Parts.{within, beyond}
 
--- what was read, where a semicolon comes next, and so for a parenthesis
+-- a result followed by a semicolon; below, one followed by a parenthesis
 abbrev ended : {A : Type 0} → Outcome A → Outcome A
 ended outcome = and_then outcome (λ a i. and_then (expect k.Semicolon i) (λ _. pure a))
 

@@ -1,8 +1,8 @@
--- What a cursor stands for.
--- Of the implementation: what `simulate` promises does not rest on this file.
+-- The value of a cursor.
+-- Implementation only: what `simulate` promises does not rest on this file.
 use Rattle.sim_text_tree.specs.Input.{Input}
 use Rattle.sim_text_reader.specs.declared.cursor.Cursor.{Cursor}
 
--- the tokens that a cursor has left
+-- the remaining tokens of a cursor
 abbrev pub view : Cursor → Input
 view c = c.rest.items

@@ -46,7 +46,7 @@ fn process_statements(alloc: Global, tokens: &mut Cursor) -> Result<Items<Sequen
     statements(alloc, tokens)
 }
 
-/// `[postponed]` at the end of a process, where it stood before it.
+/// `[postponed]` at the end of a process; only a postponed process can have it.
 fn postponed_again(tokens: &mut Cursor, postponed: bool) -> bool
     ensures { spec.postponed_again postponed (view tokens.old) ≡ Ok (result, view tokens.new) }
 {
@@ -181,7 +181,7 @@ fn free_association(tokens: &mut Cursor) -> Result<Association, ParseError>
     }
 }
 
-/// `id => actual` after an association with a formal, and else either form.
+/// `id => actual` after an association with a formal; otherwise either form.
 #[tactic(auto, unfolding(sim_text_grammar::specs::Concurrents::association))]
 fn association(tokens: &mut Cursor, named: bool) -> Result<Association, ParseError>
     ensures { Reads (spec.association named (view tokens.old)) result (view tokens.new) }
@@ -221,7 +221,7 @@ fn associations(alloc: Global, tokens: &mut Cursor) -> Result<Items<Association>
     Err(ParseError::Syntax(tokens.left()))
 }
 
-/// `[port map ( assocs )]`: without it there are no associations.
+/// `[port map ( assocs )]`; without it there are no associations.
 fn port_map(alloc: Global, tokens: &mut Cursor) -> Result<Items<Association>, ParseError>
     ensures { Reads (spec.port_map (view tokens.old)) result (view tokens.new) }
 {
@@ -233,7 +233,7 @@ fn port_map(alloc: Global, tokens: &mut Cursor) -> Result<Items<Association>, Pa
     tokens.past(Kind::RightParen, found)
 }
 
-/// Reads a port map, where one is written, and the semicolon after it.
+/// Reads a port map, if one is written, and the semicolon after it.
 fn port_map_ended(alloc: Global, tokens: &mut Cursor) -> Result<Items<Association>, ParseError>
     ensures { Reads (and_then (spec.port_map (view tokens.old)) (λ found i. and_then (expect k.Semicolon i) (λ _. pure found))) result (view tokens.new) }
 {
@@ -241,7 +241,7 @@ fn port_map_ended(alloc: Global, tokens: &mut Cursor) -> Result<Items<Associatio
     tokens.past(Kind::Semicolon, associations)
 }
 
-/// `[pmap] ;`, after the label and the unit.
+/// `[pmap] ;`, after the label and the component or entity.
 fn instance(
     alloc: Global,
     tokens: &mut Cursor,
@@ -258,7 +258,7 @@ fn instance(
     }))
 }
 
-/// `[( id )]`: the architecture of an entity that is instantiated.
+/// `[( id )]`: the architecture of an instantiated entity.
 #[tactic(auto, unfolding(sim_text_grammar::specs::Concurrents::chosen))]
 fn chosen(tokens: &mut Cursor) -> Result<Option<Name>, ParseError>
     ensures { Reads (spec.chosen (view tokens.old)) result (view tokens.new) }
@@ -300,8 +300,8 @@ fn concurrent_assigned(
     Ok(Concurrent::Assignment(found))
 }
 
-/// `process ( sens ) [is] {var} begin {seq} end [postponed] process [NAME] ;`, after what stands
-/// before it.
+/// `process ( sens ) [is] {var} begin {seq} end [postponed] process [NAME] ;`, after the label and
+/// `postponed`.
 #[tactic(auto, unfolding(sim_text_grammar::specs::Concurrents::concurrent_process))]
 fn concurrent_process(
     alloc: Global,
@@ -417,7 +417,7 @@ fn concurrent(alloc: Global, tokens: &mut Cursor) -> Result<Concurrent, ParseErr
     }
 }
 
-/// Whether a token of this kind can be the first of `conc`.
+/// Whether a token of this kind can begin `conc`.
 fn begins_concurrent(kind: Kind) -> bool
     ensures { result ≡ spec.begins_concurrent kind }
 {

@@ -14,7 +14,7 @@ use sim_text_tree::name::Name;
 use sqlite_items::Items;
 use std::collections::VecDeque;
 
-/// The tokens that are left. A token that is read leaves the cursor, so its text can be moved into
+/// The remaining tokens. A token that is read leaves the cursor, so that its text can be moved into
 /// the tree.
 #[derive(Drop)]
 pub struct Cursor {
@@ -22,7 +22,7 @@ pub struct Cursor {
 }
 
 impl Cursor {
-    /// At the first of these tokens.
+    /// A cursor at the first of these tokens.
     pub fn new(tokens: Vec<Token>) -> Cursor
         ensures { view result ≡ tokens.items }
     {
@@ -31,7 +31,7 @@ impl Cursor {
         }
     }
 
-    /// How many tokens are left.
+    /// The number of remaining tokens.
     #[tactic(auto, unfolding(sim_text_grammar::specs::Readers::left))]
     pub fn left(&self) -> usize
         ensures { result ≡ spec.left (view self.now) }
@@ -39,7 +39,7 @@ impl Cursor {
         self.rest.len()
     }
 
-    /// Whether no token is left.
+    /// Whether no token remains.
     pub fn is_empty(&self) -> bool
         ensures { IsTrue result ↔ (view self.now ≡ []) }
     {
@@ -57,7 +57,7 @@ impl Cursor {
         }
     }
 
-    /// Goes past the next token, and says where it starts.
+    /// Consumes the next token and returns its offset.
     #[tactic(auto, unfolding(sim_text_tree::specs::Input::next, sim_text_tree::specs::Input::place))]
     pub fn take(&mut self) -> usize
         ensures place { result ≡ input.place (view self.old) }
@@ -77,7 +77,7 @@ impl Cursor {
         same_kind(self.peek(), kind)
     }
 
-    /// Goes past a token of this kind, if it comes next.
+    /// Consumes the next token if it is of this kind, and returns whether it was.
     #[tactic(auto, unfolding(sim_text_grammar::specs::Readers::eat))]
     pub fn eat(&mut self, kind: Kind) -> bool
         ensures { spec.eat kind (view self.old) ≡ Ok (result, view self.new) }
@@ -89,8 +89,7 @@ impl Cursor {
         found
     }
 
-    /// Goes past a token of this kind, and says where it starts. `Syntax` comes where another is
-    /// next.
+    /// Consumes a token of this kind and returns its offset. `Syntax` if another token is next.
     #[tactic(auto, unfolding(sim_text_grammar::specs::Readers::expect, sim_text_grammar::specs::Readers::left))]
     pub fn expect(&mut self, kind: Kind) -> Result<usize, ParseError>
         ensures { Reads (spec.expect kind (view self.old)) result (view self.new) }
@@ -102,8 +101,8 @@ impl Cursor {
         }
     }
 
-    /// Goes past a token of the first kind and one of the second. `Syntax` comes where another is
-    /// next.
+    /// Consumes a token of the first kind and one of the second, and returns the offset of the
+    /// second. `Syntax` if another token is next.
     pub fn expect_both(&mut self, first: Kind, second: Kind) -> Result<usize, ParseError>
         ensures { Reads (spec.and_then (spec.expect first (view self.old)) (λ _. spec.expect second)) result (view self.new) }
     {
@@ -111,8 +110,8 @@ impl Cursor {
         self.expect(second)
     }
 
-    /// Goes past a token of this kind, and hands back what was read before it. `Syntax` comes where
-    /// another is next.
+    /// Consumes a token of this kind and returns `found`, which was read before it. `Syntax` if
+    /// another token is next.
     pub fn past<T: Drop>(&mut self, kind: Kind, found: T) -> Result<T, ParseError>
         ensures { Reads (spec.and_then (spec.expect kind (view self.old)) (λ _. spec.pure found)) result (view self.new) }
     {
@@ -120,8 +119,8 @@ impl Cursor {
         Ok(found)
     }
 
-    /// Goes past a token of this kind, and reads the name after it. `Syntax` comes where another
-    /// token is next.
+    /// Consumes a token of this kind and reads the name after it. `Syntax` if another token is
+    /// next.
     pub fn word_after(&mut self, kind: Kind) -> Result<Name, ParseError>
         ensures { Reads (spec.and_then (spec.expect kind (view self.old)) (λ _. spec.word)) result (view self.new) }
     {
@@ -129,7 +128,7 @@ impl Cursor {
         self.word()
     }
 
-    /// The next token, if it is of this kind; else it is left.
+    /// Takes the next token if it is of this kind.
     fn next_of(&mut self, kind: Kind) -> Option<Token>
         ensures left { IfNone result (view self.new ≡ view self.old) }
         ensures none { IfNone result ((t : Token) (rest : List Token) → view self.old ≡ t ∷ rest → spec.same_kind t.kind kind ≡ false) }
@@ -141,7 +140,7 @@ impl Cursor {
         }
     }
 
-    /// The name that comes next. `Syntax` comes where no word does.
+    /// Reads a name. `Syntax` if no name is next.
     #[tactic(auto, unfolding(sim_text_grammar::specs::Readers::word, sim_text_grammar::specs::Readers::left))]
     pub fn word(&mut self) -> Result<Name, ParseError>
         ensures { Reads (spec.word (view self.old)) result (view self.new) }
@@ -152,7 +151,7 @@ impl Cursor {
         }
     }
 
-    /// The character literal that comes next, and where it starts. `Syntax` comes where none does.
+    /// Reads a character literal; also returns its offset. `Syntax` if none is next.
     #[tactic(auto, unfolding(sim_text_grammar::specs::Readers::literal, sim_text_grammar::specs::Readers::left, sim_text_tree::specs::Input::next))]
     pub fn literal(&mut self) -> Result<(Logic, usize), ParseError>
         ensures { Reads (spec.literal (view self.old)) result (view self.new) }
@@ -172,8 +171,7 @@ impl Cursor {
         }
     }
 
-    /// The digits of the number that comes next, and where it starts. `Syntax` comes where none
-    /// does.
+    /// Reads a number; returns its digits and its offset. `Syntax` if none is next.
     #[tactic(auto, unfolding(sim_text_grammar::specs::Readers::number, sim_text_grammar::specs::Readers::left))]
     pub fn number(&mut self) -> Result<(Items<u8>, usize), ParseError>
         ensures { Reads (spec.number (view self.old)) result (view self.new) }
@@ -187,7 +185,7 @@ impl Cursor {
         }
     }
 
-    /// The word that comes next, as a unit of time (5.2.4). `Syntax` comes where it is none.
+    /// Reads a unit of time (5.2.4). `Syntax` if the next token is none.
     #[tactic(auto, unfolding(sim_text_grammar::specs::Readers::unit, sim_text_grammar::specs::Readers::left, sim_text_tree::specs::Input::next))]
     pub fn unit(&mut self) -> Result<Unit, ParseError>
         ensures { Reads (spec.unit (view self.old)) result (view self.new) }
@@ -206,7 +204,7 @@ impl Cursor {
         }
     }
 
-    /// Goes past this word. `Syntax` comes where another token is next.
+    /// Consumes this word. `Syntax` if another token is next.
     #[tactic(auto, unfolding(sim_text_grammar::specs::Readers::repeat, sim_text_grammar::specs::Readers::left, sim_text_tree::specs::Input::next))]
     pub fn repeat(&mut self, text: &[u8]) -> Result<(), ParseError>
         ensures { Reads (spec.repeat text.now (view self.old)) result (view self.new) }
@@ -224,7 +222,7 @@ impl Cursor {
         }
     }
 
-    /// Goes past the word `event`. `Syntax` comes where another token is next.
+    /// Consumes the word `event`. `Syntax` if another token is next.
     #[tactic(auto, unfolding(sim_text_grammar::specs::Readers::event, sim_text_grammar::specs::Readers::repeat))]
     pub fn event(&mut self) -> Result<(), ParseError>
         ensures { Reads (spec.event (view self.old)) result (view self.new) }
@@ -233,7 +231,7 @@ impl Cursor {
     }
 }
 
-/// What was read first, with what was read after it; where that is a fault, the fault.
+/// The first result with the second, or the fault of the second.
 pub fn both<A: Drop, B: Drop>(first: A, second: Result<B, ParseError>) -> Result<(A, B), ParseError>
     ensures ok { IfOk result (λ found. (found.0 ≡ first) × (second ≡ Ok found.1)) }
     ensures err { IfErr result (λ e. second ≡ Err e) }
@@ -244,7 +242,7 @@ pub fn both<A: Drop, B: Drop>(first: A, second: Result<B, ParseError>) -> Result
     }
 }
 
-/// Equality of kinds, as the readers of the grammar have it.
+/// Equality of kinds, as the grammar's readers define it.
 #[tactic(auto, unfolding(sim_text_grammar::specs::Readers::same_kind))]
 fn same_kind(a: Kind, b: Kind) -> bool
     ensures { result ≡ spec.same_kind a b }

@@ -18,7 +18,7 @@ use sim_text_tree::name::Name;
 use sqlite_items::Items;
 use std::alloc::Global;
 
-/// Reads one name, or several with commas between them.
+/// Reads one or more names, separated by commas.
 #[tactic(auto, using(sim_text_grammar::proofs::Parts::halves), unfolding(sim_text_grammar::specs::Declarations::names))]
 pub fn names(alloc: Global, tokens: &mut Cursor) -> Result<Several<Name>, ParseError>
     ensures { Reads (spec.names (view tokens.old)) result (view tokens.new) }
@@ -36,8 +36,8 @@ pub fn names(alloc: Global, tokens: &mut Cursor) -> Result<Several<Name>, ParseE
     Ok(found.fitted())
 }
 
-/// Reads the name written again, where a word stands, and says whether one does. `Syntax` comes at
-/// another word.
+/// Reads the repeated name if a word is next, and returns whether one was. `Syntax` at a different
+/// word.
 #[tactic(auto, unfolding(sim_text_grammar::specs::Declarations::repeated))]
 pub fn repeated(tokens: &mut Cursor, text: &[u8]) -> Result<bool, ParseError>
     ensures { Reads (spec.repeated text.now (view tokens.old)) result (view tokens.new) }
@@ -140,7 +140,7 @@ fn port_list(alloc: Global, tokens: &mut Cursor) -> Result<Items<PortDeclaration
     Ok(fitted(found))
 }
 
-/// Reads a port clause, where one is written (IEEE 1076-2008, 6.5.6.3). Where none is, there are no
+/// Reads a port clause, if one is written (IEEE 1076-2008, 6.5.6.3). Without one there are no
 /// ports.
 pub fn ports(alloc: Global, tokens: &mut Cursor) -> Result<Items<PortDeclaration>, ParseError>
     ensures { Reads (spec.ports (view tokens.old)) result (view tokens.new) }
@@ -154,7 +154,7 @@ pub fn ports(alloc: Global, tokens: &mut Cursor) -> Result<Items<PortDeclaration
     Ok(found)
 }
 
-/// Reads a first value, where one is written, and the semicolon after it.
+/// Reads an initial value, if one is written, and the semicolon after it.
 fn initial_ended(tokens: &mut Cursor) -> Result<Option<Initial>, ParseError>
     ensures { Reads (and_then (spec.initial (view tokens.old)) (λ first i. and_then (expect k.Semicolon i) (λ _. pure first))) result (view tokens.new) }
 {
@@ -193,8 +193,8 @@ pub fn variables(alloc: Global, tokens: &mut Cursor) -> Result<Items<ObjectDecla
     Ok(fitted(found))
 }
 
-/// Reads the name written again, where a word stands, and the semicolon after it; and says whether
-/// a word does.
+/// Reads the repeated name, if a word is next, and the semicolon after it; returns whether the name
+/// was repeated.
 fn name_ended(tokens: &mut Cursor, text: &[u8]) -> Result<bool, ParseError>
     ensures { Reads (and_then (spec.repeated text.now (view tokens.old)) (λ again i. and_then (expect k.Semicolon i) (λ _. pure again)))
         result (view tokens.new) }
@@ -233,7 +233,7 @@ fn component(alloc: Global, tokens: &mut Cursor) -> Result<ComponentDeclaration,
     component_end(tokens, name, is, ports)
 }
 
-/// Whether a token of this kind can be the first of `decl`.
+/// Whether a token of this kind can begin `decl`.
 fn begins_declaration(kind: Kind) -> bool
     ensures { result ≡ spec.begins_declaration kind }
 {

@@ -19,10 +19,10 @@ use sim_text_tree::name::Name;
 use sqlite_items::{Boxed, Items};
 use std::alloc::Global;
 
-/// How many parentheses of one expression may be open.
+/// The largest number of open parentheses in an expression.
 const MOST_PARENTHESES: usize = 64;
 
-/// An operand that was read, on the heap.
+/// The operand that was read, on the heap.
 fn boxed(
     alloc: Global,
     read: Result<Expression, ParseError>,
@@ -151,7 +151,7 @@ fn operand(alloc: Global, tokens: &mut Cursor, depth: usize) -> Result<Operand, 
     })
 }
 
-/// The operator whose token is of this kind; none where it is of no logical operator.
+/// The logical operator whose token has this kind, if any.
 fn logical_of(kind: Kind) -> Option<Logical>
     ensures { result ≡ spec.logical_of kind }
 {
@@ -180,7 +180,7 @@ fn kind_of(operator: Logical) -> Kind
     }
 }
 
-/// Whether the operator may be written again: `nand` and `nor` may not (9.2.2).
+/// Whether the operator may be repeated: `nand` and `nor` may not (9.2.2).
 fn is_repeatable(operator: Logical) -> bool
     ensures { result ≡ is_repeatable operator }
 {
@@ -210,8 +210,8 @@ fn more_operands(
     Ok(fitted(found))
 }
 
-/// `{and rel}` and the like after the first `rel`, with one operator throughout; of `nand` and
-/// `nor` one alone.
+/// `{and rel}` and the like, after the first `rel`; all operators are the same, and `nand` and
+/// `nor` occur only once.
 #[cycle(expression)]
 #[tactic(auto, unfolding(sim_text_grammar::specs::Expressions::operands))]
 fn operands(
@@ -250,7 +250,7 @@ fn chained(
     })
 }
 
-/// `rel {and rel}` and the like: relations, and a logical operator between each two.
+/// `rel {and rel}` and the like: relations, with a logical operator between adjacent ones.
 #[cycle(expression)]
 #[tactic(auto, unfolding(sim_text_grammar::specs::Expressions::chain))]
 fn chain(alloc: Global, tokens: &mut Cursor, depth: usize) -> Result<Expression, ParseError>
@@ -263,7 +263,7 @@ fn chain(alloc: Global, tokens: &mut Cursor, depth: usize) -> Result<Expression,
     }
 }
 
-/// `expr`, in which this many parentheses may still be opened.
+/// `expr`, in which this many more parentheses may be open.
 #[cycle(expression)]
 #[tactic(auto, unfolding(sim_text_grammar::specs::Expressions::expression_in))]
 fn expression_in(alloc: Global, tokens: &mut Cursor, depth: usize) -> Result<Expression, ParseError>
@@ -280,7 +280,7 @@ fn expression_in(alloc: Global, tokens: &mut Cursor, depth: usize) -> Result<Exp
     }
 }
 
-/// `( expr )`, where this many parentheses may still be opened; `TooDeep` where none may.
+/// `( expr )`, where this many more parentheses may be open; `TooDeep` if none may.
 #[cycle(expression)]
 #[tactic(auto, unfolding(sim_text_grammar::specs::Expressions::nested, sim_text_grammar::specs::Readers::left))]
 fn nested(alloc: Global, tokens: &mut Cursor, depth: usize) -> Result<Expression, ParseError>
@@ -295,8 +295,8 @@ fn nested(alloc: Global, tokens: &mut Cursor, depth: usize) -> Result<Expression
     tokens.past(Kind::RightParen, Expression::Parenthesized { at, inner })
 }
 
-/// Reads an expression (IEEE 1076-2008, 9.1). `Syntax` comes at the first token with which none
-/// goes on, `TooDeep` at a parenthesis inside 64 others.
+/// Reads an expression (IEEE 1076-2008, 9.1). `Syntax` at the first token that cannot continue one,
+/// `TooDeep` at a parenthesis inside 64 others.
 #[tactic(auto, unfolding(sim_text_grammar::specs::Expressions::expression))]
 pub fn expression(alloc: Global, tokens: &mut Cursor) -> Result<Expression, ParseError>
     ensures { Reads (spec.expression (view tokens.old)) result (view tokens.new) }

@@ -1,5 +1,5 @@
-//! The cursor from which the parser reads, and all that is read from it: expressions, waveforms,
-//! delays, statements, declarations, design units, and a file.
+//! The cursor, and the functions that read from it: expressions, waveforms, delays, statements,
+//! declarations, design units, and a file.
 #![tactic(auto)]
 
 mod concurrents;

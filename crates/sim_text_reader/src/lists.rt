@@ -1,4 +1,4 @@
-//! Lists whose items are read one after another. A fault of an item is a fault of the list.
+//! Lists whose items are read one after another. A fault in an item is a fault in the list.
 
 ghost use Rattle.std.specs.Prelude.{◌≡◌, ◌≢◌, ◌∷◌, [], ◌++◌, Ok, Err, IfOk, IfErr, OnOk, OnErr};
 ghost use Rattle.sim_text_grammar.specs.declared.error.ParseError.TheVariants.{OutOfMemory};
@@ -21,7 +21,7 @@ pub fn first_of<T: Drop>(
     Ok(found)
 }
 
-/// Puts the item that was read at the end.
+/// Appends the item that was read.
 pub fn add<T: Drop>(found: &mut Several<T>, read: Result<T, ParseError>) -> Result<(), ParseError>
     ensures ok { OnOk result ((next : T) × (read ≡ Ok next) × (found.new ≡ found.old ++ next ∷ [])) }
     ensures err { IfErr result (λ e. e ≢ OutOfMemory → read ≡ Err e) }
@@ -33,7 +33,7 @@ pub fn add<T: Drop>(found: &mut Several<T>, read: Result<T, ParseError>) -> Resu
     Ok(())
 }
 
-/// Puts the item that was read at the end.
+/// Appends the item that was read.
 pub fn push<T: Drop>(found: &mut Vec<T>, read: Result<T, ParseError>) -> Result<(), ParseError>
     ensures ok { OnOk result ((next : T) × (read ≡ Ok next) × (found.new.items ≡ found.old.items ++ next ∷ [])) }
     ensures err { IfErr result (λ e. e ≢ OutOfMemory → read ≡ Err e) }

@@ -25,11 +25,11 @@ use sim_text_tree::waveform::Waveform;
 use sqlite_items::Items;
 use std::alloc::Global;
 
-/// How many ifs of one process may be open.
+/// The largest number of open ifs in a process.
 const MOST_IFS: usize = 64;
 
-/// Reads the label written again, where a word stands, and says whether one does. `Syntax` comes at
-/// another word, and at any where there is no label.
+/// Reads the repeated label if a word is next, and returns whether one was. `Syntax` at a different
+/// word, or at any word if there is no label.
 #[tactic(auto, unfolding(sim_text_grammar::specs::Statements::label_again, sim_text_grammar::specs::Readers::left))]
 pub fn label_again(tokens: &mut Cursor, label: &Option<Name>) -> Result<bool, ParseError>
     ensures { Reads (spec.label_again label.now (view tokens.old)) result (view tokens.new) }
@@ -46,8 +46,8 @@ pub fn label_again(tokens: &mut Cursor, label: &Option<Name>) -> Result<bool, Pa
     }
 }
 
-/// Reads the label written again, where a word stands, and the semicolon after it; and says whether
-/// a word does.
+/// Reads the repeated label, if a word is next, and the semicolon after it; returns whether the
+/// label was repeated.
 pub fn label_ended(tokens: &mut Cursor, label: &Option<Name>) -> Result<bool, ParseError>
     ensures { Reads (and_then (spec.label_again label.now (view tokens.old)) (λ again i. and_then (expect k.Semicolon i) (λ _. pure again)))
         result (view tokens.new) }
@@ -117,14 +117,14 @@ fn null(tokens: &mut Cursor) -> Result<Statement, ParseError>
     Ok(Statement::Null)
 }
 
-/// Whether a token of this kind can be the first of `seq`.
+/// Whether a token of this kind can begin `seq`.
 fn begins_statement(kind: Kind) -> bool
     ensures { result ≡ spec.begins_statement kind }
 {
     matches!(kind, Kind::Word | Kind::If | Kind::Null)
 }
 
-/// Reads a statement after its label, or one that has none and begins with no name.
+/// Reads a statement after its label, or an unlabelled one that begins with no name.
 #[cycle(statement)]
 #[tactic(auto, unfolding(sim_text_grammar::specs::Statements::labelled))]
 fn labelled(
@@ -145,7 +145,7 @@ fn labelled(
     }
 }
 
-/// A statement that was read, without a label.
+/// The statement that was read, without a label.
 fn unlabelled(read: Result<Statement, ParseError>) -> Result<Sequential, ParseError>
     ensures ok { IfOk result (λ found. (statement : _) × (read ≡ Ok statement) × (found ≡ record { label = None; statement = statement })) }
     ensures err { IfErr result (λ e. read ≡ Err e) }
@@ -157,7 +157,7 @@ fn unlabelled(read: Result<Statement, ParseError>) -> Result<Sequential, ParseEr
     })
 }
 
-/// Reads a statement from after its first name: its label, or the target of an assignment.
+/// Reads a statement after its first name, which is its label or the target of an assignment.
 #[cycle(statement)]
 fn named(
     alloc: Global,
@@ -177,7 +177,7 @@ fn named(
     }
 }
 
-/// `seq`, in which this many ifs may still be opened.
+/// `seq`, in which this many more ifs may be open.
 #[cycle(statement)]
 #[tactic(auto, unfolding(sim_text_grammar::specs::Statements::statement))]
 fn statement(alloc: Global, tokens: &mut Cursor, depth: usize) -> Result<Sequential, ParseError>
@@ -199,7 +199,7 @@ fn statement(alloc: Global, tokens: &mut Cursor, depth: usize) -> Result<Sequent
     }
 }
 
-/// `{seq}`, in which this many ifs may still be opened.
+/// `{seq}`, in which this many more ifs may be open.
 #[cycle(statement)]
 #[tactic(auto, unfolding(sim_text_grammar::specs::Statements::sequence, sim_text_grammar::specs::Readers::many))]
 fn sequence(
@@ -298,8 +298,8 @@ fn if_end(
     })
 }
 
-/// `if expr then {seq} {elsif expr then {seq}} [else {seq}] end if [NAME] ;`; `TooDeep` where no
-/// more ifs may be opened.
+/// `if expr then {seq} {elsif expr then {seq}} [else {seq}] end if [NAME] ;`; `TooDeep` if no more
+/// ifs may be open.
 #[cycle(statement)]
 #[tactic(auto, unfolding(sim_text_grammar::specs::Statements::if_statement, sim_text_grammar::specs::Readers::left))]
 fn if_statement(
@@ -319,8 +319,7 @@ fn if_statement(
     if_end(tokens, label, branches, otherwise)
 }
 
-/// Reads the statements of a process (IEEE 1076-2008, 10.1). `TooDeep` comes at an `if` inside 64
-/// others.
+/// Reads the statements of a process (IEEE 1076-2008, 10.1). `TooDeep` at an `if` inside 64 others.
 #[tactic(auto, unfolding(sim_text_grammar::specs::Statements::statements))]
 pub fn statements(alloc: Global, tokens: &mut Cursor) -> Result<Items<Sequential>, ParseError>
     ensures { Reads (spec.statements (view tokens.old)) result (view tokens.new) }

@@ -24,7 +24,7 @@ use sim_text_tree::unit::{
 use sqlite_items::Items;
 use std::alloc::Global;
 
-/// `{. id} . (id | all)`, and whether `all` stands at the end.
+/// `{. id} . (id | all)`, and whether it ends in `all`.
 #[tactic(auto, unfolding(sim_text_grammar::specs::Units::suffixes, sim_text_grammar::specs::Readers::left))]
 fn suffixes(alloc: Global, tokens: &mut Cursor) -> Result<(Items<Name>, bool), ParseError>
     ensures { Reads (spec.suffixes (view tokens.old)) result (view tokens.new) }
@@ -111,7 +111,7 @@ fn context_item(alloc: Global, tokens: &mut Cursor) -> Result<ContextItem, Parse
     }
 }
 
-/// Whether a token of this kind can be the first of `context`.
+/// Whether a token of this kind can begin `context`.
 fn begins_context(kind: Kind) -> bool
     ensures { result ≡ spec.begins_context kind }
 {
@@ -275,7 +275,7 @@ fn finish(tokens: &mut Cursor) -> Result<(), ParseError>
     }
 }
 
-/// Reads a file (IEEE 1076-2008, 13.1). Behind its units no token may be left.
+/// Reads a file (IEEE 1076-2008, 13.1). No token may remain after its units.
 #[tactic(auto, unfolding(sim_text_grammar::specs::Units::file))]
 pub fn file(alloc: Global, tokens: &mut Cursor) -> Result<DesignFile, ParseError>
     ensures { Reads (spec.file (view tokens.old)) result (view tokens.new) }

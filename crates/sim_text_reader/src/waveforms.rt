@@ -19,7 +19,7 @@ use sim_text_tree::waveform::{
 };
 use std::alloc::Global;
 
-/// `num (fs | ps | ns | us | ms | sec | min | hr)`; `TimeRange` is where this many tokens are left.
+/// `num (fs | ps | ns | us | ms | sec | min | hr)`; `left` is the place of a `TimeRange` fault.
 #[tactic(auto, unfolding(sim_text_grammar::specs::Waveforms::time_from, sim_text_tree::specs::Times::is_time))]
 fn time_from(tokens: &mut Cursor, left: usize) -> Result<TimeLiteral, ParseError>
     ensures { Reads (spec.time_from left (view tokens.old)) result (view tokens.new) }
@@ -32,8 +32,8 @@ fn time_from(tokens: &mut Cursor, left: usize) -> Result<TimeLiteral, ParseError
     }
 }
 
-/// Reads a time: a number and a unit (IEEE 1076-2008, 5.2.4). `TimeRange` comes at the number,
-/// where the time is larger than the largest.
+/// Reads a time: a number and a unit (IEEE 1076-2008, 5.2.4). `TimeRange` at the number if the time
+/// is larger than the largest.
 #[tactic(auto, unfolding(sim_text_grammar::specs::Waveforms::time))]
 pub fn time(tokens: &mut Cursor) -> Result<TimeLiteral, ParseError>
     ensures { Reads (spec.time (view tokens.old)) result (view tokens.new) }
@@ -77,7 +77,7 @@ pub fn waveform(alloc: Global, tokens: &mut Cursor) -> Result<Waveform, ParseErr
     Ok(found.fitted())
 }
 
-/// Reads a delay mechanism, where one is written (IEEE 1076-2008, 10.5.2.1).
+/// Reads a delay mechanism, if one is written (IEEE 1076-2008, 10.5.2.1).
 #[tactic(auto, unfolding(sim_text_grammar::specs::Waveforms::delay))]
 pub fn delay(tokens: &mut Cursor) -> Result<DelayMechanism, ParseError>
     ensures { Reads (spec.delay (view tokens.old)) result (view tokens.new) }
@@ -158,7 +158,7 @@ fn waveforms_ended(alloc: Global, tokens: &mut Cursor) -> Result<ConditionalWave
     tokens.past(Kind::Semicolon, waveforms)
 }
 
-/// Reads what stands after the target of a concurrent assignment, with its semicolon (IEEE
+/// Reads a concurrent assignment after its target, up to and including its semicolon (IEEE
 /// 1076-2008, 11.6).
 pub fn assigned(
     alloc: Global,

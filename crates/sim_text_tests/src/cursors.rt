@@ -20,11 +20,11 @@ enum Step {
     Expect(Kind),
     Eat(Kind),
     Take,
-    /// Whether a token of this kind comes next, or none where it is the end.
+    /// Whether a token of this kind comes next; `EndOfText` at the end.
     Shows(Kind),
 }
 
-/// Texts, the calls of a cursor at their front, and what these answer.
+/// Texts, calls of a cursor at their front, and the answers.
 static CALLS: [(&str, &[Step], &str); 18] = [
     (" Ab_C;", &[Step::Word], "ab_c@1,"),
     (" 01_2;", &[Step::Number], "012@1,"),
@@ -82,7 +82,7 @@ pub fn cursor_of(alloc: Global, text: &str) -> Result<Cursor, Fail> {
     Ok(Cursor::new(tokens))
 }
 
-/// Puts the name that the cursor reads, or its refusal.
+/// Appends the name that the cursor reads, or its error.
 fn put_word(line: &mut Line, tokens: &mut Cursor) {
     match tokens.word() {
         Ok(name) => line.put_name(&name),
@@ -90,7 +90,7 @@ fn put_word(line: &mut Line, tokens: &mut Cursor) {
     }
 }
 
-/// Puts the digits that the cursor reads, or its refusal.
+/// Appends the digits that the cursor reads, or its error.
 fn put_number(line: &mut Line, tokens: &mut Cursor) {
     match tokens.number() {
         Ok((digits, at)) => line.put_digits(digits.as_slice(), at),
@@ -98,7 +98,7 @@ fn put_number(line: &mut Line, tokens: &mut Cursor) {
     }
 }
 
-/// Puts the literal that the cursor reads, or its refusal.
+/// Appends the literal that the cursor reads, or its error.
 fn put_literal(line: &mut Line, tokens: &mut Cursor) {
     match tokens.literal() {
         Ok((value, at)) => line.put_literal(value, at),
@@ -106,7 +106,7 @@ fn put_literal(line: &mut Line, tokens: &mut Cursor) {
     }
 }
 
-/// Puts the unit of time that the cursor reads, or its refusal.
+/// Appends the unit of time that the cursor reads, or its error.
 fn put_unit(line: &mut Line, tokens: &mut Cursor) {
     match tokens.unit() {
         Ok(unit) => line.put(unit_name(unit)),
@@ -114,7 +114,7 @@ fn put_unit(line: &mut Line, tokens: &mut Cursor) {
     }
 }
 
-/// Puts that something was passed, or the refusal.
+/// Appends that something was consumed, or the error.
 fn put_passed(line: &mut Line, answer: Result<(), ParseError>) {
     match answer {
         Ok(()) => line.put("passed"),
@@ -122,7 +122,7 @@ fn put_passed(line: &mut Line, answer: Result<(), ParseError>) {
     }
 }
 
-/// Puts the place of the token that was expected, or the refusal.
+/// Appends the offset of the expected token, or the error.
 fn put_expected(line: &mut Line, answer: Result<usize, ParseError>) {
     match answer {
         Ok(at) => line.put_number(at),
@@ -130,13 +130,13 @@ fn put_expected(line: &mut Line, answer: Result<usize, ParseError>) {
     }
 }
 
-/// Whether the next token is of this kind in all that a cursor says of it.
+/// Whether everything the cursor says of the next token agrees with this kind.
 fn shows(tokens: &Cursor, kind: Kind) -> bool {
     let is_end = kind == Kind::EndOfText;
     tokens.peek() == kind && tokens.sees(kind) && tokens.is_empty() == is_end
 }
 
-/// Makes one call of a cursor, and puts its answer.
+/// Makes one call of a cursor, and appends its answer.
 fn put_step(line: &mut Line, tokens: &mut Cursor, step: Step) {
     match step {
         Step::Word => put_word(line, tokens),
@@ -152,7 +152,7 @@ fn put_step(line: &mut Line, tokens: &mut Cursor, step: Step) {
     }
 }
 
-/// What these calls answer at the front of a text.
+/// The answers of these calls at the front of a text.
 fn answers(alloc: Global, text: &str, steps: &[Step]) -> Result<String, Fail> {
     let mut tokens = cursor_of(alloc, text)?;
     let mut line = Line::new(alloc);

@@ -1,6 +1,5 @@
-//! Tests of the parser's calls: they hold tokens, trees and their places against values that were
-//! worked by hand. A table of texts with their listings or faults belongs into the cases of
-//! `sim_run_cases`.
+//! Tests of the parser's functions, which compare tokens, trees and their places with values worked
+//! out by hand. Texts with their listings or faults belong in the cases of `sim_run_cases`.
 #![tactic(auto)]
 
 #[cfg(test)]

@@ -1,11 +1,11 @@
-//! A line, put together piece by piece.
+//! A line that is built piece by piece.
 
 use sim_logic::Logic;
 use sim_text_grammar::ParseError;
 use sim_text_tree::name::Name;
 use std::alloc::{AllocError, Global};
 
-/// A line, and whether there was memory for all of it: so that only its end has to ask.
+/// A line, and whether all allocations succeeded, so that only `whole` returns an error.
 #[derive(Drop)]
 pub struct Line {
     text: String,
@@ -21,28 +21,28 @@ impl Line {
         }
     }
 
-    /// Puts a text, unless memory was short before.
+    /// Appends a text, unless an allocation has failed.
     pub fn put(&mut self, text: &str) {
         if self.ended.is_ok() {
             self.ended = self.text.push_str(text);
         }
     }
 
-    /// Puts an optional text.
+    /// Appends an optional text.
     pub fn put_if(&mut self, written: bool, text: &str) {
         if written {
             self.put(text);
         }
     }
 
-    /// Puts a character of ASCII.
+    /// Appends an ASCII character.
     pub fn put_byte(&mut self, byte: u8) {
         if self.ended.is_ok() {
             self.ended = self.text.push(char::from(byte));
         }
     }
 
-    /// Puts a number in decimal.
+    /// Appends a number in decimal.
     pub fn put_number(&mut self, number: usize) {
         if self.ended.is_ok() {
             let text = &mut self.text;
@@ -50,31 +50,31 @@ impl Line {
         }
     }
 
-    /// Puts `true` or `false`.
+    /// Appends `true` or `false`.
     pub fn put_truth(&mut self, truth: bool) {
         self.put(if truth { "true" } else { "false" });
     }
 
-    /// Puts a token with its place.
+    /// Appends a token with its place.
     pub fn put_at(&mut self, token: &str, at: usize) {
         self.put(token);
         self.put("@");
         self.put_number(at);
     }
 
-    /// Puts a name with its place.
+    /// Appends a name with its place.
     pub fn put_name(&mut self, name: &Name) {
         self.put_at(name.as_str(), name.at());
     }
 
-    /// Puts a character literal with its place.
+    /// Appends a character literal with its place.
     pub fn put_literal(&mut self, value: Logic, at: usize) {
         self.put("'");
         self.put_byte(value.to_byte());
         self.put_at("'", at);
     }
 
-    /// Puts the digits of a number with its place.
+    /// Appends the digits of a number with its place.
     pub fn put_digits(&mut self, digits: &[u8], at: usize) {
         for digit in digits {
             self.put_byte(*digit);
@@ -82,7 +82,7 @@ impl Line {
         self.put_at("", at);
     }
 
-    /// Puts a label with its place and a colon, if there is one.
+    /// Appends a label with its place and a colon, if there is one.
     pub fn put_label(&mut self, label: &Option<Name>) {
         if let Some(name) = label {
             self.put_name(name);
@@ -90,7 +90,7 @@ impl Line {
         }
     }
 
-    /// Puts names with their places, and a comma between each two.
+    /// Appends names with their places, separated by commas.
     pub fn put_names(&mut self, names: &[Name]) {
         let mut between = "";
         for name in names {
@@ -100,7 +100,7 @@ impl Line {
         }
     }
 
-    /// Puts a refusal, and how many tokens were left where it came.
+    /// Appends an error, with the number of tokens that remained.
     pub fn put_refusal(&mut self, error: ParseError) {
         match error {
             ParseError::OutOfMemory => self.put("OutOfMemory"),
@@ -110,7 +110,7 @@ impl Line {
         }
     }
 
-    /// Puts the word of a refusal, and how many tokens were left.
+    /// Appends the name of an error, and the number of tokens that remained.
     fn put_left(&mut self, refusal: &str, left: usize) {
         self.put(refusal);
         self.put(" with ");

@@ -1,4 +1,4 @@
-//! Lists that are read item by item.
+//! Lists that are read one item at a time.
 
 use sim_text_tree::list::{Several, fitted, one};
 use std::test::Fail;

@@ -1,4 +1,4 @@
-//! Readers of parts of a text: the tree that each reads, as a line, and how many tokens it leaves.
+//! Readers of parts of a text: the tree that each reads, as a line, and the number of tokens left.
 
 use crate::cursors::cursor_of;
 use crate::line::Line;
@@ -32,11 +32,11 @@ enum Part {
     Variables,
     Declarations,
     Statements,
-    /// Whether the name `t` is written again.
+    /// Whether the name `t` is repeated.
     Repeated,
-    /// Whether the first word is written again, as a label.
+    /// Whether the first word is repeated, as a label.
     Label,
-    /// Whether a label is written again that there is not.
+    /// Whether a label that does not exist is repeated.
     NoLabel,
 }
 
@@ -161,7 +161,7 @@ static PARTS: [(Part, &str, &str, usize); 48] = [
     (Part::NoLabel, "l;", "Syntax with 2 left", 2),
 ];
 
-/// Puts the expression that is read, or the refusal.
+/// Appends the expression that is read, or the error.
 fn put_expression_read(line: &mut Line, alloc: Global, tokens: &mut Cursor) {
     match expression(alloc, tokens) {
         Ok(tree) => put_expression(line, &tree),
@@ -169,7 +169,7 @@ fn put_expression_read(line: &mut Line, alloc: Global, tokens: &mut Cursor) {
     }
 }
 
-/// Puts the place where the expression that is read starts, or the refusal.
+/// Appends the offset of the expression that is read, or the error.
 fn put_start(line: &mut Line, alloc: Global, tokens: &mut Cursor) {
     match expression(alloc, tokens) {
         Ok(tree) => line.put_number(tree.start()),
@@ -177,7 +177,7 @@ fn put_start(line: &mut Line, alloc: Global, tokens: &mut Cursor) {
     }
 }
 
-/// Puts the waveform that is read, or the refusal.
+/// Appends the waveform that is read, or the error.
 fn put_waveform_read(line: &mut Line, alloc: Global, tokens: &mut Cursor) {
     match waveform(alloc, tokens) {
         Ok(tree) => put_waveform(line, tree.as_slice()),
@@ -185,7 +185,7 @@ fn put_waveform_read(line: &mut Line, alloc: Global, tokens: &mut Cursor) {
     }
 }
 
-/// Puts the time that is read, or the refusal.
+/// Appends the time that is read, or the error.
 fn put_time_read(line: &mut Line, tokens: &mut Cursor) {
     match time(tokens) {
         Ok(tree) => put_time(line, &tree),
@@ -193,7 +193,7 @@ fn put_time_read(line: &mut Line, tokens: &mut Cursor) {
     }
 }
 
-/// Puts the delay mechanism that is read, or the refusal.
+/// Appends the delay mechanism that is read, or the error.
 fn put_delay_read(line: &mut Line, tokens: &mut Cursor) {
     match delay(tokens) {
         Ok(tree) => put_delay(line, &tree),
@@ -201,7 +201,7 @@ fn put_delay_read(line: &mut Line, tokens: &mut Cursor) {
     }
 }
 
-/// Puts the assignment that is read after its target, or the refusal.
+/// Appends the assignment that is read after its target, or the error.
 fn put_assigned(line: &mut Line, alloc: Global, tokens: &mut Cursor, target: Name) {
     match assigned(alloc, tokens, None, false, target) {
         Ok(tree) => put_assignment(line, &tree),
@@ -209,7 +209,7 @@ fn put_assigned(line: &mut Line, alloc: Global, tokens: &mut Cursor, target: Nam
     }
 }
 
-/// Puts the names that are read, or the refusal.
+/// Appends the names that are read, or the error.
 fn put_names_read(line: &mut Line, alloc: Global, tokens: &mut Cursor) {
     match names(alloc, tokens) {
         Ok(tree) => line.put_names(tree.as_slice()),
@@ -217,7 +217,7 @@ fn put_names_read(line: &mut Line, alloc: Global, tokens: &mut Cursor) {
     }
 }
 
-/// Puts the port clause that is read, or the refusal.
+/// Appends the port clause that is read, or the error.
 fn put_ports_read(line: &mut Line, alloc: Global, tokens: &mut Cursor) {
     match ports(alloc, tokens) {
         Ok(tree) => put_ports(line, tree.as_slice()),
@@ -225,7 +225,7 @@ fn put_ports_read(line: &mut Line, alloc: Global, tokens: &mut Cursor) {
     }
 }
 
-/// Puts the variable declarations that are read, or the refusal.
+/// Appends the variable declarations that are read, or the error.
 fn put_variables_read(line: &mut Line, alloc: Global, tokens: &mut Cursor) {
     match variables(alloc, tokens) {
         Ok(tree) => put_variables(line, tree.as_slice()),
@@ -233,7 +233,7 @@ fn put_variables_read(line: &mut Line, alloc: Global, tokens: &mut Cursor) {
     }
 }
 
-/// Puts the declarations that are read, or the refusal.
+/// Appends the declarations that are read, or the error.
 fn put_declarations_read(line: &mut Line, alloc: Global, tokens: &mut Cursor) {
     match declarations(alloc, tokens) {
         Ok(tree) => put_declarations(line, tree.as_slice()),
@@ -241,7 +241,7 @@ fn put_declarations_read(line: &mut Line, alloc: Global, tokens: &mut Cursor) {
     }
 }
 
-/// Puts the sequential statements that are read, or the refusal.
+/// Appends the sequential statements that are read, or the error.
 fn put_statements_read(line: &mut Line, alloc: Global, tokens: &mut Cursor) {
     match statements(alloc, tokens) {
         Ok(tree) => put_statements(line, tree.as_slice()),
@@ -249,7 +249,7 @@ fn put_statements_read(line: &mut Line, alloc: Global, tokens: &mut Cursor) {
     }
 }
 
-/// Puts whether something was read, or the refusal.
+/// Appends whether something was read, or the error.
 fn put_answer(line: &mut Line, answer: Result<bool, ParseError>) {
     match answer {
         Ok(found) => line.put_truth(found),
@@ -268,7 +268,7 @@ fn put_named(line: &mut Line, alloc: Global, tokens: &mut Cursor, part: Part) {
     }
 }
 
-/// Reads a part of a text, and puts what came of it.
+/// Reads a part of a text, and appends the result.
 fn put_part(line: &mut Line, alloc: Global, tokens: &mut Cursor, part: Part) {
     match part {
         Part::Expression => put_expression_read(line, alloc, tokens),
@@ -287,7 +287,7 @@ fn put_part(line: &mut Line, alloc: Global, tokens: &mut Cursor, part: Part) {
     }
 }
 
-/// What is read at the front of a text, and how many tokens are left.
+/// The result at the front of a text, and the number of tokens left.
 fn read(alloc: Global, text: &str, part: Part) -> Result<(String, usize), Fail> {
     let mut tokens = cursor_of(alloc, text)?;
     let mut line = Line::new(alloc);

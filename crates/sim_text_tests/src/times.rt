@@ -6,7 +6,7 @@ use sqlite_items::Items;
 use std::alloc::{AllocError, Global};
 use std::test::Fail;
 
-/// That number of a unit in femtoseconds.
+/// The time of this number of units in femtoseconds.
 fn femtoseconds(alloc: Global, digits: &str, unit: Unit) -> Result<Option<u64>, AllocError> {
     let written = Items::from_slice(alloc, digits.as_bytes())?;
     match TimeLiteral::of(written, 0, unit) {

@@ -45,7 +45,7 @@ static FILES: [(&str, &str); 9] = [
     ),
 ];
 
-/// The line of the design file of a text.
+/// The line for the design file of a text.
 fn parsed(alloc: Global, text: &str) -> Result<String, Fail> {
     let file = parse(alloc, text.as_bytes())?;
     let mut line = Line::new(alloc);

@@ -1,4 +1,4 @@
-//! Tokens by their kinds, texts and places, and the faults of texts that have none.
+//! Tokens by kind, text and place, and the faults of texts without tokens.
 
 use sim_text::{Kind, TextError, Token, tokens};
 use std::alloc::Global;
@@ -36,7 +36,7 @@ fn is_row(token: &Token, row: &Row<'_>) -> bool {
     token.kind() == row.0 && token.text() == row.1 && token.start() == row.2 && token.end() == row.3
 }
 
-/// Whether the tokens are as the rows say.
+/// Whether the tokens agree with the rows.
 fn are_alike(found: &[Token], rows: &[Row<'_>]) -> bool {
     for (token, row) in found.iter().zip(rows) {
         if !is_row(token, row) {
@@ -54,7 +54,7 @@ fn tokens_have_their_text_and_place(rt: HostRuntime) -> Result<(), Fail> {
     Ok(())
 }
 
-/// Whether a text is one token, of this kind.
+/// Whether a text is a single token of this kind.
 fn is_one(alloc: Global, text: &str, kind: Kind) -> Result<bool, TextError> {
     match tokens(alloc, text.as_bytes())?.as_slice() {
         [token] => Ok(token.kind() == kind && token.start() == 0 && token.end() == text.len()),
@@ -146,12 +146,12 @@ fn a_fault_is_the_leftmost(rt: HostRuntime) {
     }
 }
 
-/// Whether a text has no token, and no fault.
+/// Whether a text has neither a token nor a fault.
 fn is_blank(alloc: Global, text: &[u8]) -> bool {
     matches!(tokens(alloc, text), Ok(found) if found.is_empty())
 }
 
-/// Whether a text is refused for its length.
+/// Whether a text is refused because of its length.
 fn is_too_long(alloc: Global, text: &[u8]) -> bool {
     matches!(tokens(alloc, text), Err(TextError::TooLong))
 }

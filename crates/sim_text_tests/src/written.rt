@@ -1,5 +1,5 @@
-//! A tree as one line: its text without blanks that nobody needs, and after each token whose place
-//! the tree keeps `@` and the place.
+//! A tree as one line: its text with only the necessary spaces, and `@` and the place after each
+//! token whose place the tree keeps.
 
 pub mod declarations;
 pub mod expressions;

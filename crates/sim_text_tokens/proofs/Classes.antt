@@ -1,4 +1,4 @@
--- A piece is of one class, which its first two bytes tell.
+-- The first two bytes of a piece determine its class.
 use Rattle.std.proofs.Common.{◌≡◌, ℕ, ◌≤◌, ◌<◌, Bool, true, false, ◌&&◌, ◌||◌, ◌==◌, List, [], ◌∷◌, length, Option, Some, None, refl, sym, ◌∙◌, arith}
 use Rattle.std.specs.Prelude.{nat_le, nat_lt, is_some, if◌then◌else◌}
 use Rattle.std.specs.List.{list_all}
@@ -17,7 +17,7 @@ abbrev pub begins_comment : ℕ → Text → Bool
 begins_comment a [] = false
 begins_comment a (b ∷ bs) = (a == 45 && b == 45) || (a == 47 && b == 42)
 
--- the class that the first bytes tell
+-- the class that the first two bytes determine
 unfoldable pub class_by : Bool → ℕ → Text → Class
 class_by after_name a rest =
     if is_separator a then class.Separator
@@ -27,7 +27,7 @@ class_by after_name a rest =
     else (if begins_comment a rest then class.Comment
     else class.Delimiter))))
 
--- what a table's spellings pass, and a text that is found there
+-- a text found in a table whose spellings all pass a test passes it too
 pub found_in : (test : Text → Bool) (table : List (Text × Kind)) (bytes : Text) → list_all (λ e. test e.0) table ≡ true
     → is_some (kind_in table bytes) ≡ true → test bytes ≡ true
 found_in test [] bytes all h = absurd cc
@@ -44,7 +44,7 @@ pub digit_only : (a : ℕ) → is_ascii_digit a ≡ true → (is_separator a ≡
 unfolding is_separator
 digit_only a h = (grind (arith, nat_tests), grind (arith, nat_tests))
 
--- a piece with its first byte has the class that its first bytes tell
+-- the first bytes of a piece determine its class
 abbrev pub TellsClass : Bool → Class → Text → Type 0
 TellsClass after_name c [] = ⊥
 TellsClass after_name c (a ∷ rest) = class_by after_name a rest ≡ c
@@ -122,7 +122,7 @@ class_of after_name class.Tick text h = of_tick after_name text h
 class_of after_name class.Comment text h = of_comment after_name text h
 class_of after_name class.Delimiter text h = of_delimiter after_name text (found_in (delimiter_class after_name) delimiters text (delimiters_tell after_name) h)
 
--- a text is a piece of one class at most
+-- a text is a piece of at most one class
 pub one_class : (after_name : Bool) (c d : Class) (text : Text) → is_piece after_name c text ≡ true → is_piece after_name d text ≡ true → c ≡ d
 one_class after_name c d [] p q = absurd (class_of after_name c [] p)
 one_class after_name c d (a ∷ rest) p q = sym (class_of after_name c (a ∷ rest) p) ∙ class_of after_name d (a ∷ rest) q

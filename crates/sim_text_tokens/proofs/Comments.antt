@@ -6,7 +6,7 @@ use Rattle.sim_text_tokens.specs.Pieces.{Text, is_line_end, is_closed_at_end}
 use Rattle.sim_text_tokens.specs.Scan.{line_len, closed_len}
 use Rattle.sim_text_tokens.proofs.Tests.{by_cases, and_both}
 
--- a length with so many bytes before it
+-- a length, after k more bytes
 abbrev pub further : ℕ → Option ℕ → Option ℕ
 further k None = None
 further k (Some n) = Some (k + n)
@@ -15,7 +15,7 @@ further_map : (k : ℕ) (o : Option ℕ) → further k (option_map suc o) ≡ fu
 further_map k None = refl
 further_map k (Some n) = ap Some (omega arith)
 
--- no `*/` stands at the front
+-- no `*/` is at the front
 pub closed_len_step : (k a : ℕ) (after : Text) → ((b : ℕ) (bs : Text) → after ≡ b ∷ bs → (a == 42 && b == 47) ≡ false)
     → further k (closed_len (a ∷ after)) ≡ further (suc k) (closed_len after)
 closed_len_step k a [] h = refl
@@ -33,7 +33,7 @@ line_inside (b ∷ bs) = by_cases (is_line_end b)
     (λ t. let n : line_len (b ∷ bs) ≡ 0 = rw t refl in omega arith)
     (λ t. let n : line_len (b ∷ bs) ≡ suc (line_len bs) = rw t refl in let ih = line_inside bs in omega arith)
 
--- no front without a line end is longer
+-- a front without a line end is no longer than `line_len`
 pub line_most : (front beyond : Text) → list_all (λ x. not (is_line_end x)) front ≡ true → length front ≤ line_len (front ++ beyond)
 line_most [] beyond h = omega arith
 line_most (b ∷ bs) beyond h = by_cases (is_line_end b)
@@ -54,7 +54,7 @@ not_both : (b c : Bool) → (not b && c) ≡ true → (b ≡ false) × (c ≡ tr
 not_both true c h = absurd cc
 not_both false c h = (refl, h)
 
--- what closes at its end is where the first `*/` ends, whatever follows
+-- a front closed at its end is where the first `*/` ends, whatever follows
 pub closed_exact : (front beyond : Text) → is_closed_at_end front ≡ true → closed_len (front ++ beyond) ≡ Some (length front)
 closed_exact [] beyond h = absurd cc
 closed_exact (a ∷ []) beyond h = absurd cc

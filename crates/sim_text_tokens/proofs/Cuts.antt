@@ -1,4 +1,4 @@
--- A cutting goes on by the longest piece at its end, and a text has one cutting.
+-- A division continues with the longest piece at its end, and a text has only one division.
 use Rattle.std.proofs.Common.{◌≡◌, ℕ, suc, ◌+◌, ◌≤◌, ◌<◌, Bool, true, false, List, [], ◌∷◌, ◌++◌, length, take, drop, Option, Some, None, refl, sym}
 use Rattle.std.proofs.Common.{ap, subst, ◌∙◌, arith, append_assoc, add-zero, zero-add, length-append}
 use Rattle.std.proofs.lemmas.List.{take-append-drop, length-take-le, append-nil}
@@ -38,7 +38,7 @@ longest_at after_name first rest c n h =
           (front_at_most after_name first rest n b.3 d front beyond (e ∙ take-append-drop n (first ∷ rest)) p);
     }
 
--- where a scan finds none, none may stand
+-- where the scan finds no piece, none may stand
 pub none_at : (after_name : Bool) (first : ℕ) (rest : Text) → piece_at after_name first rest ≡ None → NoneStands after_name (first ∷ rest)
 none_at after_name first rest h c [] beyond e p = not_empty after_name c p
 none_at after_name first rest h c (x ∷ front) beyond e p =
@@ -77,7 +77,7 @@ tokens_more at (q ∷ ps) p =
     rw (← where_it_is) (ap (λ x. placed at (at + length q.bytes) (token_of q.class q.bytes) ++ x) (tokens_more (at + length q.bytes) ps p) ∙ sym
     (append_assoc (placed at (at + length q.bytes) (token_of q.class q.bytes)) (tokens_from (at + length q.bytes) ps) _))
 
--- A front of the text is cut into pieces with these tokens; it ends at this place, and the rest is left.
+-- A front of the text is divided into pieces with these tokens; it ends at this place, and the rest is left.
 pub record SoFar (source : Text) (tokens : List Token) (after_name : Bool) (at : ℕ) (rest : Text) : Type 0 where
   pub pieces : List Piece
   pub cut : IsCut source pieces rest
@@ -132,7 +132,7 @@ same_first after_name p q x y e hp hq =
     piece_is : {p q : Piece} → p.class ≡ q.class → p.bytes ≡ q.bytes → p ≡ q
     piece_is c b = λ i. record { class = c i; bytes = b i }
 
--- two cuttings of a text that can't go on are one
+-- two divisions of a text that cannot be continued are the same
 pub same_cut : (after_name : Bool) (ps qs : List Piece) (r s : Text) → joined ps ++ r ≡ joined qs ++ s → AreLongest after_name ps r
     → AreLongest after_name qs s → NoneStands (ends_in_name after_name ps) r → NoneStands (ends_in_name after_name qs) s → (ps ≡ qs) × (r ≡ s)
 same_cut after_name [] [] r s e hp hq np nq = (refl, e)

@@ -1,4 +1,4 @@
--- What a scan finds is the longest piece that may stand there, and where it finds none, none may.
+-- A scan finds the longest piece that may stand at a place, and where it finds none, none may.
 use Rattle.std.proofs.Common.{◌≡◌, ℕ, suc, ◌+◌, ◌≤◌, ◌<◌, Bool, true, false, ◌&&◌, ◌||◌, ◌==◌, not, [], ◌∷◌, ◌++◌, length, take, Option, Some, None}
 use Rattle.std.proofs.Common.{refl, sym, subst, ◌∙◌, arith}
 use Rattle.std.specs.Prelude.{is_some, option_map}
@@ -15,14 +15,14 @@ use Rattle.sim_text_tokens.proofs.Tails.{tail_fits, tail_inside, tail_most}
 use Rattle.sim_text_tokens.proofs.Comments.{line_fits, line_inside, line_most, closed_exact, closed_fits}
 use Rattle.sim_text_tokens.proofs.Classes.{class_by, begins_comment, class_of, letter_only, digit_only, delimiter_short}
 
--- the extent is that of the longest piece that may stand at a byte and the rest, or none may
+-- the extent is that of the longest possible piece at a byte and the rest; none if no piece is possible
 abbrev pub IsBest : Bool → ℕ → Text → Option Extent → Type 0
 IsBest after_name first rest None = (c : Class) (front beyond : Text) → front ++ beyond ≡ rest → is_piece after_name c (first ∷ front) ≡ true → ⊥
 IsBest after_name first rest (Some e) =
     (0 < e.1) × (e.1 ≤ suc (length rest)) × (is_piece after_name e.0 (take e.1 (first ∷ rest)) ≡ true)
     × ((c : Class) (front beyond : Text) → front ++ beyond ≡ rest → is_piece after_name c (first ∷ front) ≡ true → suc (length front) ≤ e.1)
 
--- a piece is one of the class that its first bytes tell
+-- a piece has the class that its first bytes determine
 as_reported : (after_name : Bool) (c d : Class) (first : ℕ) (front : Text) → class_by after_name first front ≡ d
     → is_piece after_name c (first ∷ front) ≡ true → is_piece after_name d (first ∷ front) ≡ true
 as_reported after_name c d first front reported p =
@@ -140,7 +140,7 @@ module _ (after_name : Bool) (first : ℕ) (rest : Text) (reported : (front beyo
       → is_some (kind_in delimiters (first ∷ front)) ≡ true
   only_delimiter c front beyond e p = as_reported after_name c class.Delimiter first front (reported front beyond e) p
 
--- with no byte after it, or where the two bytes are none
+-- no byte follows, or the first two bytes form no delimiter
 best_single : (after_name : Bool) (first : ℕ) (rest : Text)
     → ((front beyond : Text) → front ++ beyond ≡ rest → class_by after_name first front ≡ class.Delimiter)
     → ((front beyond : Text) → front ++ beyond ≡ rest → is_some (kind_in delimiters (first ∷ front)) ≡ true → front ≡ [])
@@ -165,7 +165,7 @@ front_of_none : (front beyond : Text) → front ++ beyond ≡ [] → front ≡ [
 front_of_none [] beyond e = refl
 front_of_none (x ∷ front) beyond e = absurd cc
 
--- no delimiter begins with these two bytes
+-- the first two bytes begin no delimiter
 alone_before : (first b : ℕ) (rest : Text) → is_some (kind_in delimiters (first ∷ b ∷ [])) ≡ false → (front beyond : Text)
     → front ++ beyond ≡ b ∷ rest → is_some (kind_in delimiters (first ∷ front)) ≡ true → front ≡ []
 alone_before first b rest f [] beyond e h = refl
@@ -227,7 +227,7 @@ hyphen_most after_name rest c (x ∷ front) beyond e p =
     or_false true h = refl
     or_false false h = h
 
--- after a hyphen that another does not follow
+-- a hyphen that no other hyphen follows begins no piece
 hyphen_none : (after_name : Bool) (b : ℕ) (rest : Text) → (b == 45) ≡ false → (c : Class) (front beyond : Text) → front ++ beyond ≡ b ∷ rest
     → is_piece after_name c (45 ∷ front) ≡ true → ⊥
 unfolding class_by is_separator

@@ -1,4 +1,4 @@
--- Where tokens lie, that none is the end of the text, and that each text has tokens or a fault.
+-- The places of tokens, that none has the kind after the last, and that each text has tokens or a fault.
 use Rattle.std.proofs.Common.{◌≡◌, ℕ, zero, suc, ◌+◌, ◌≤◌, ◌<◌, ◌⊎◌, inl, inr, Bool, true, false, List, [], ◌∷◌, ◌++◌, length, take, drop, map}
 use Rattle.std.proofs.Common.{Option, Some, None, refl, sym, ap, subst, arith, length-append, length-drop}
 use Rattle.std.specs.List.{list_all, AllByRecursion}
@@ -54,7 +54,7 @@ kept : (k : Kind) → is_kept k ≡ true → k ≡ kind.EndOfText → ⊥
 unfolding is_kept
 kept k h e = let f : is_kept k ≡ false = rw e refl in absurd cc
 
--- what a table's kinds pass, and a kind that is found there
+-- a kind found in a table whose kinds all pass a test passes it too
 kind_found : (table : List (Text × Kind)) (bytes : Text) (k : Kind) → list_all (λ (e : Text × Kind). is_kept e.1) table ≡ true
     → kind_in table bytes ≡ Some k → is_kept k ≡ true
 kind_found [] bytes k all h = absurd cc
@@ -112,7 +112,7 @@ tokens_kept at (p ∷ ps) = placed_kept at (at + length p.bytes) (token_of p.cla
 pub no_end : (text : Text) (tokens : List Token) → AreTokens text tokens → AllByRecursion (λ t. t.kind ≡ kind.EndOfText → ⊥) tokens
 no_end text tokens x = subst (λ (ts : List Token). AllByRecursion (λ t. t.kind ≡ kind.EndOfText → ⊥) ts) x.tokens_are (tokens_kept 0 x.pieces)
 
--- what a text has: its tokens, or a lexical fault
+-- the outcome for a text: its tokens, or a lexical fault
 abbrev pub Outcome : Text → Type 0
 Outcome text = ((tokens : List Token) × AreTokens text tokens) ⊎ ((fault : TextError) × IsLexicalFault text fault)
 

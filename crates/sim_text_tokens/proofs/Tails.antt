@@ -1,4 +1,4 @@
--- The bytes that a tail takes are a tail, and no more are.
+-- The bytes that a scan takes as a tail are a tail, and no more are.
 use Rattle.std.proofs.Common.{◌≡◌, ℕ, suc, ◌≤◌, Bool, true, false, ◌&&◌, ◌||◌, ◌==◌, [], ◌∷◌, ◌++◌, length, take, refl, arith}
 use Rattle.sim_text_tokens.specs.Pieces.{Text, is_tail}
 use Rattle.sim_text_tokens.specs.Scan.{tail_len}
@@ -43,7 +43,7 @@ under : (a b c : Bool) → (a || (b && c)) ≡ true → a ≡ false → (b ≡ t
 under true b c h f = absurd cc
 under false b c h f = and_both b c h
 
--- no front that is a tail is longer
+-- a front that is a tail is no longer than `tail_len`
 pub tail_most : (test : ℕ → Bool) (front beyond : Text) → is_tail test front ≡ true → length front ≤ tail_len test (front ++ beyond)
 tail_most test [] beyond h = omega arith
 tail_most test (b ∷ []) [] h = let n : tail_len test (b ∷ []) ≡ 1 = rw h refl in omega arith

@@ -1,4 +1,4 @@
--- One turn of the lexer's loop.
+-- One iteration of the lexer's loop.
 use Rattle.std.proofs.Common.{◌≡◌, ℕ, suc, ◌+◌, ◌-◌, ◌≤◌, ◌<◌, Bool, List, [], ◌∷◌, ◌++◌, length, get_or, take, drop, Option, Some, None, IsTrue, sym}
 use Rattle.std.proofs.Common.{ap, subst, ◌∙◌, arith}
 use Rattle.std.proofs.Math.Seq.{take-length}
@@ -48,7 +48,7 @@ module _ (source : Text) (tokens : List Token) (after_name : Bool) (at : ℕ) (t
   stands c n e = let whole = first_and_rest text filled in
       subst (λ (t : Text). IsTrue (is_piece after_name c (take n t))) whole (longest_at after_name (first_byte text) (after_first text) c n (sym e)).stands
 
-  -- the token of the piece has a word where it is one
+  -- if the token of the piece is a word, its text is one
   pub new_token : (c : Class) (n : ℕ) (front : Text) (token : Option (Kind × Text)) → Some (c, n) ≡ piece_at after_name (first_byte text) (after_first text) →
       front ≡ take n text → token ≡ token_of c front → (k : Kind) (x : Text) → token ≡ Some (k, x) → HasWord k x
   new_token c n front token e f t k x some =

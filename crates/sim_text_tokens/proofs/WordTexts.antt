@@ -1,4 +1,4 @@
--- The text of a word token is a word: the letters of a piece are folded to small ones.
+-- The text of a word token is a word: the letters of a piece are folded to lower case.
 use Rattle.std.proofs.Common.{◌≡◌, ℕ, Bool, true, false, ◌&&◌, ◌||◌, not, List, [], ◌∷◌, map, filter, take, drop, Option, Some, None}
 use Rattle.std.proofs.Common.{refl, ap, ◌==◌, arith}
 use Rattle.std.proofs.lemmas.Bool.Decides.{nat_tests}
@@ -68,7 +68,7 @@ delimiter_text (Some found) kind text e = let both_are : pair found [] ≡ pair 
 kinds_are : (a : Kind) (x : Text) (b : Kind) (y : Text) → Some (pair a x) ≡ Some (pair b y) → a ≡ b
 kinds_are a x b y e = let both_are : pair a x ≡ pair b y = cc in ap (λ (p : Kind × Text). p.0) both_are
 
--- the text of a token of a piece: where the token is a word, it is one
+-- if the token of a piece is a word, its text is one
 pub has_word : (after_name : Bool) (c : Class) (bytes : Text) (kind : Kind) (text : Text) → is_piece after_name c bytes ≡ true
     → token_of c bytes ≡ Some (kind, text) → HasWord kind text
 has_word after_name class.Word bytes kind text p e h =

@@ -1,6 +1,6 @@
--- The limit of a text.
+-- The limit on the length of a text.
 use Rattle.std.specs.Prelude.{ℕ}
 
--- how many bytes a text may have
+-- the largest length of a text, in bytes
 abbrev pub most_bytes : ℕ
 most_bytes = 1048576

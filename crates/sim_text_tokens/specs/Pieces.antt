@@ -1,4 +1,4 @@
--- The pieces of a text: what may stand at a place of it (IEEE 1076-2008, 15).
+-- The pieces of a text: what may stand at a place in it (IEEE 1076-2008, 15).
 use Rattle.std.specs.Prelude.{ℕ, Bool, true, false, ◌&&◌, ◌||◌, not, ◌==◌, nat_eq, nat_le, if◌then◌else◌, List, [], ◌∷◌, take, drop, map, filter}
 use Rattle.std.specs.Prelude.{Option, Some, None, is_some, codes}
 use Rattle.std.specs.List.{list_all, list_any}
@@ -21,7 +21,7 @@ is_separator b = b == 32 || (nat_le 9 b && nat_le b 13)
 unfoldable pub is_line_end : ℕ → Bool
 is_line_end b = nat_le 10 b && nat_le b 13
 
--- the values of std_ulogic (IEEE 1164), of which the letters are upper case
+-- the characters of the values of std_ulogic (IEEE 1164); letters are upper case
 abbrev pub value_bytes : Text
 value_bytes = codes "UX01ZWLH-"
 
@@ -36,23 +36,23 @@ abbrev pub is_line_comment : Text → Bool
 is_line_comment (a ∷ b ∷ bs) = (a == 45 && b == 45) && list_all (λ x. not (is_line_end x)) bs
 is_line_comment _ = false
 
--- the first `*/` in these bytes is at their end
+-- these bytes end in the first `*/` among them
 abbrev pub is_closed_at_end : Text → Bool
 is_closed_at_end (a ∷ b ∷ []) = a == 42 && b == 47
 is_closed_at_end (a ∷ b ∷ c ∷ bs) = not (a == 42 && b == 47) && is_closed_at_end (b ∷ c ∷ bs)
 is_closed_at_end _ = false
 
--- `/*`, and what follows up to the first `*/` (15.9)
+-- `/*` and the bytes up to the first `*/` (15.9)
 abbrev pub is_delimited_comment : Text → Bool
 is_delimited_comment (a ∷ b ∷ bs) = (a == 47 && b == 42) && is_closed_at_end bs
 is_delimited_comment _ = false
 
--- what a table has for a spelling
+-- the kind that a table has for a spelling
 abbrev pub kind_in : List (Text × Kind) → Text → Option Kind
 kind_in [] bytes = None
 kind_in (entry ∷ table) bytes = if bytes_eq entry.0 bytes then Some entry.1 else kind_in table bytes
 
--- the delimiters but the tick (15.3)
+-- the delimiters except the tick (15.3)
 unfoldable pub delimiters : List (Text × Kind)
 delimiters =
     (codes "(", kind.LeftParen) ∷ (codes ")", kind.RightParen) ∷ (codes ";", kind.Semicolon) ∷ (codes ":", kind.Colon) ∷ (codes ",", kind.Comma)
@@ -82,8 +82,8 @@ reserved_words =
     ∷ (codes "when", kind.When)
     ∷ (codes "xnor", kind.Xnor) ∷ (codes "xor", kind.Xor) ∷ []
 
--- These bytes are one piece of the class. `after_name` says whether the token before them, over separators and
--- comments, is a word that is not reserved: there an apostrophe is a tick, and elsewhere it begins a literal.
+-- These bytes are one piece of the class. `after_name` says whether the previous token, ignoring separators and
+-- comments, is a word that is not reserved: an apostrophe there is a tick, and elsewhere it begins a literal.
 abbrev pub is_piece : Bool → Class → Text → Bool
 is_piece after_name class.Separator (b ∷ []) = is_separator b
 is_piece after_name class.Comment bytes = is_line_comment bytes || is_delimited_comment bytes
@@ -104,7 +104,7 @@ abbrev pub delimiter_token : Option Kind → Option (Kind × Text)
 delimiter_token None = None
 delimiter_token (Some k) = Some (k, [])
 
--- the kind and text of the token that a piece is; a separator or a comment is none
+-- the kind and text of the token that a piece is; none for a separator or a comment
 abbrev pub token_of : Class → Text → Option (Kind × Text)
 token_of class.Separator bytes = None
 token_of class.Comment bytes = None

@@ -1,5 +1,5 @@
--- How far the piece at the front of a text reaches. proofs/ has that it is the longest that may stand there.
--- Of the implementation: what `simulate` promises does not rest on this file.
+-- The length of the piece at the front of a text. proofs/ shows that it is the longest possible.
+-- Implementation only: what `simulate` promises does not rest on this file.
 use Rattle.std.specs.Prelude.{ℕ, suc, ◌+◌, Bool, true, false, ◌&&◌, ◌==◌, nat_eq, if◌then◌else◌, [], ◌∷◌, Option, Some, None, is_some, option_map}
 use Rattle.std.specs.List.{list_any}
 use Rattle.std.specs.Char.{is_ascii_digit, is_ascii_alphabetic, is_ascii_alphanumeric}
@@ -7,18 +7,18 @@ use Rattle.sim_text_tokens.specs.declared.class.Class.{Class}
 use Rattle.sim_text_tokens.specs.declared.class.Class.TheVariants as class
 use Rattle.sim_text_tokens.specs.Pieces.{Text, is_separator, is_line_end, value_bytes, delimiters, kind_in}
 
--- how many bytes at the front are a tail
+-- the number of bytes at the front that form a tail
 abbrev pub tail_len : (ℕ → Bool) → Text → ℕ
 tail_len test [] = 0
 tail_len test (b ∷ []) = if test b then 1 else 0
 tail_len test (b ∷ d ∷ bs) = if test b then suc (tail_len test (d ∷ bs)) else (if b == 95 && test d then suc (suc (tail_len test bs)) else 0)
 
--- how many bytes stand before the first line end
+-- the number of bytes before the first line end
 abbrev pub line_len : Text → ℕ
 line_len [] = 0
 line_len (b ∷ bs) = if is_line_end b then 0 else suc (line_len bs)
 
--- how many bytes the first `*/` ends, if there is one
+-- the number of bytes up to and including the first `*/`, if there is one
 abbrev pub closed_len : Text → Option ℕ
 closed_len [] = None
 closed_len (a ∷ []) = None

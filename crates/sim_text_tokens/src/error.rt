@@ -1,12 +1,12 @@
-//! Why a text is not read.
+//! Faults of a text.
 
 use std::alloc::{AllocError, AllocFailed};
 use thiserror::Error;
 
-/// A fault of a text, and the place of its byte from 0.
+/// A fault of a text. A place is the offset of a byte, from 0.
 #[derive(Clone, Copy, Debug, PartialEq, Eq, Error)]
 pub enum TextError {
-    /// No memory.
+    /// An allocation failed.
     #[error("Memory")]
     Memory,
     /// The text has more than 1,048,576 bytes.
@@ -15,19 +15,19 @@ pub enum TextError {
     /// No token begins with this byte.
     #[error("BadByte at {at}")]
     BadByte { at: usize },
-    /// The `/*` of a comment that is not closed.
+    /// The `/*` of a comment that is never closed.
     #[error("OpenComment at {at}")]
     OpenComment { at: usize },
     /// An apostrophe that begins no character literal.
     #[error("BadLiteral at {at}")]
     BadLiteral { at: usize },
-    /// The number of a time above 2^62 - 1 fs.
+    /// The number of a time literal above 2^62 - 1 fs.
     #[error("TimeRange at {at}")]
     TimeRange { at: usize },
-    /// A parenthesis, or an `if`, inside 64 others.
+    /// A parenthesis or an `if` that is nested in 64 others.
     #[error("TooDeep at {at}")]
     TooDeep { at: usize },
-    /// A token that no file has here.
+    /// A token that cannot follow the tokens before it in any file, or the end of the text.
     #[error("Syntax at {at}")]
     Syntax { at: usize },
 }

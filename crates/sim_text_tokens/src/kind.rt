@@ -109,6 +109,6 @@ pub enum Kind {
     Xnor,
     /// `xor`
     Xor,
-    /// What a parser sees past the last token. No token is of this kind.
+    /// The kind that the parser sees after the last token. No token has it.
     EndOfText,
 }

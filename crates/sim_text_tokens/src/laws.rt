@@ -1,4 +1,4 @@
-//! Laws of the cutting of a text.
+//! Laws of dividing a text into tokens.
 
 ghost use Rattle.std.specs.Prelude.{◌≡◌, ◌≢◌, ◌⊎◌, ℕ, List, length};
 ghost use Rattle.std.specs.List.{AllByRecursion};
@@ -8,7 +8,7 @@ ghost use Rattle.sim_text_tokens.specs.Cutting.{AreTokens, IsLexicalFault, AreIn
 
 use crate::kind::Kind;
 
-/// No text is cut in two ways.
+/// No text is divided in two ways.
 pub fn a_text_has_one_cutting()
     ensures { (text : List ℕ) (a b : List Token) → AreTokens text a → AreTokens text b → a ≡ b }
 {}
@@ -30,12 +30,12 @@ pub fn a_text_has_tokens_or_a_fault()
         ((tokens : List Token) × AreTokens text tokens) ⊎ ((fault : TextError) × IsLexicalFault text fault) }
 {}
 
-/// Tokens lie after one another inside the text, and none is empty.
+/// The tokens follow one another inside the text, and none is empty.
 pub fn tokens_lie_in_order()
     ensures { (text : List ℕ) (tokens : List Token) → AreTokens text tokens → AreInOrder 0 tokens (length text) }
 {}
 
-/// No token is of the kind that a parser sees past the last one.
+/// No token has the kind that the parser sees after the last one.
 pub fn no_token_is_the_end()
     ensures { (text : List ℕ) (tokens : List Token) → AreTokens text tokens →
         AllByRecursion (λ t. t.kind ≢ Kind.EndOfText) tokens }

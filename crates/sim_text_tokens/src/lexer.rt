@@ -1,4 +1,4 @@
-//! Cuts a text into its tokens.
+//! Divides a text into tokens.
 
 ghost use Rattle.std.specs.Prelude.{◌≡◌, ◌<◌, ◌↔◌, ◌≢◌, ◌==◌, not, length, take, drop, map, filter, IfOk, IfErr, Err};
 ghost use Rattle.std.specs.Char.{to_ascii_lowercase};
@@ -16,7 +16,7 @@ use crate::words::{double_delimiter, reserved_word, single_delimiter};
 use sqlite_items::Items;
 use std::alloc::{AllocError, Global};
 
-/// The most bytes that a text may have.
+/// The largest length of a text, in bytes.
 const MOST_BYTES: usize = 1_048_576;
 
 type KindAndText = (Kind, Items<u8>);
@@ -63,7 +63,7 @@ fn literal_text(alloc: Global, bytes: &[u8]) -> Result<Items<u8>, AllocError>
     }
 }
 
-/// The kind and text of the token that a piece is; a separator or a comment is none.
+/// The kind and text of the token that a piece is; `None` for a separator or a comment.
 fn token_of(alloc: Global, class: Class, bytes: &[u8]) -> Result<Option<KindAndText>, AllocError>
     ensures { IfOk result (λ t. t ≡ pieces.token_of class bytes.now) }
 {
@@ -84,7 +84,7 @@ fn is_name(kind: Kind) -> bool
     matches!(kind, Kind::Word)
 }
 
-/// The fault of a place where no piece may stand.
+/// The fault at a place where no piece can begin.
 fn fault_at(at: usize, byte: u8, rest: &[u8]) -> TextError
     ensures { result ≡ cutting.fault_at at byte rest.now }
 {
@@ -95,7 +95,7 @@ fn fault_at(at: usize, byte: u8, rest: &[u8]) -> TextError
     }
 }
 
-/// Cuts the whole text, whatever its length.
+/// Divides a text of any length into tokens.
 fn cut(alloc: Global, source: &[u8]) -> Result<Vec<Token>, TextError>
     ensures found { IfOk result (λ v. AreTokens source.now v.items) }
     ensures fault { IfErr result (λ e. e ≢ TextError.Memory → IsLexicalFault source.now e) }
@@ -120,13 +120,13 @@ fn cut(alloc: Global, source: &[u8]) -> Result<Vec<Token>, TextError>
     Ok(tokens)
 }
 
-/// The tokens of a text, from the left, each the longest that may stand at its place (IEEE
+/// The tokens of a text, from left to right, each the longest possible at its place (IEEE
 /// 1076-2008, 15.3).
 ///
-/// Separators and comments stand between tokens and are dropped, and two tokens need no separator
-/// between them. An apostrophe after a word that is not reserved is a tick; elsewhere it begins a
-/// character literal. `TooLong` comes first, then the leftmost of the other faults; `Memory` where
-/// an allocation is refused before that is reached.
+/// Separators and comments between tokens are dropped, and no separator is required between two
+/// tokens. An apostrophe after a word that is not reserved is a tick; elsewhere it begins a
+/// character literal. `TooLong` takes precedence, then the leftmost of the other faults; `Memory`
+/// if an allocation fails before that one is reached.
 pub fn tokens(alloc: Global, source: &[u8]) -> Result<Vec<Token>, TextError>
     ensures too_long { (result ≡ Err TextError.TooLong) ↔ (most_bytes < length source.now) }
     ensures found { IfOk result (λ v. AreTokens source.now v.items) }

@@ -11,7 +11,7 @@ use crate::words::{double_delimiter, single_delimiter};
 /// A class and a length in bytes.
 pub type Extent = (Class, usize);
 
-/// Whether a byte parts tokens: a blank, a tab, or the end of a line (IEEE 1076-2008, 15.3).
+/// Whether a byte separates tokens: a space, a tab, or a line end (IEEE 1076-2008, 15.3).
 #[tactic(auto, unfolding(crate::specs::Pieces::is_separator))]
 fn is_separator(b: u8) -> bool
     ensures { result ≡ pieces.is_separator b }
@@ -27,7 +27,7 @@ fn is_line_end(b: u8) -> bool
     b'\n' <= b && b <= b'\r'
 }
 
-/// How many bytes at the front go on with a word.
+/// The number of bytes at the front that continue a word.
 fn word_tail(bytes: &[u8]) -> usize
     ensures value { result ≡ spec.tail_len is_ascii_alphanumeric bytes.now }
     ensures inside { result ≤ length bytes.now }
@@ -42,7 +42,7 @@ fn word_tail(bytes: &[u8]) -> usize
     }
 }
 
-/// How many bytes at the front go on with a number.
+/// The number of bytes at the front that continue a number.
 fn number_tail(bytes: &[u8]) -> usize
     ensures value { result ≡ spec.tail_len is_ascii_digit bytes.now }
     ensures inside { result ≤ length bytes.now }
@@ -57,7 +57,7 @@ fn number_tail(bytes: &[u8]) -> usize
     }
 }
 
-/// How many bytes stand before the first line end.
+/// The number of bytes before the first line end.
 fn line_len(bytes: &[u8]) -> usize
     ensures value { result ≡ spec.line_len bytes.now }
     ensures inside { result ≤ length bytes.now }
@@ -71,7 +71,7 @@ fn line_len(bytes: &[u8]) -> usize
     }
 }
 
-/// How many bytes the first `*/` ends.
+/// The number of bytes up to and including the first `*/`.
 fn closed_len(bytes: &[u8]) -> Option<usize>
     ensures value { result ≡ spec.closed_len bytes.now }
     ensures inside { IfSome result (λ n. n ≤ length bytes.now) }
@@ -97,7 +97,7 @@ fn is_value(v: u8) -> bool
     )
 }
 
-/// Behind an apostrophe.
+/// The piece that begins with an apostrophe, by the bytes after it.
 #[tactic(auto, unfolding(crate::specs::Scan::apostrophe))]
 fn apostrophe(after_name: bool, rest: &[u8]) -> Option<Extent>
     ensures value { result ≡ spec.apostrophe after_name rest.now }
@@ -123,7 +123,7 @@ fn delimiter(first: u8, rest: &[u8]) -> Option<Extent>
     }
 }
 
-/// Behind a hyphen.
+/// The piece that begins with a hyphen, by the bytes after it.
 #[tactic(auto, unfolding(crate::specs::Scan::hyphen))]
 fn hyphen(rest: &[u8]) -> Option<Extent>
     ensures value { result ≡ spec.hyphen rest.now }
@@ -135,7 +135,7 @@ fn hyphen(rest: &[u8]) -> Option<Extent>
     }
 }
 
-/// Behind a slash.
+/// The piece that begins with a slash, by the bytes after it.
 #[tactic(auto, unfolding(crate::specs::Scan::slash))]
 fn slash(rest: &[u8]) -> Option<Extent>
     ensures value { result ≡ spec.slash rest.now }
@@ -147,8 +147,8 @@ fn slash(rest: &[u8]) -> Option<Extent>
     }
 }
 
-/// The longest piece at the front of a text, by its first byte and the bytes after it; `None` where
-/// no piece may stand. `after_name` says whether the token before is a word that is not reserved.
+/// The longest piece at the front of a text, by its first byte and the bytes after it; `None` if no
+/// piece can begin there. `after_name`: the previous token is a word that is not reserved.
 #[tactic(auto, unfolding(crate::specs::Scan::piece_at))]
 pub fn piece_at(after_name: bool, first: u8, rest: &[u8]) -> Option<Extent>
     ensures value { result ≡ spec.piece_at after_name first rest.now }

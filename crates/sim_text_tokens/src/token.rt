@@ -4,7 +4,7 @@ use crate::kind::Kind;
 use sqlite_items::Items;
 use std::marker::Model;
 
-/// One token of a text (IEEE 1076-2008, 15.2).
+/// A token of a text (IEEE 1076-2008, 15.2).
 #[derive(Drop)]
 pub struct Token {
     kind: Kind,
@@ -27,7 +27,7 @@ impl Token {
     ghost use Rattle.std.specs.Prelude.{◌≡◌};
     ghost use Rattle.sim_text_tokens.specs.Token.{HasWord};
 
-    /// The token of this kind and text between these places.
+    /// A token of this kind and text, from `start` to before `end`.
     pub(crate) fn new(kind: Kind, text: Items<u8>, start: usize, end: usize) -> Token
         requires { HasWord kind text }
         ensures { result ≡ record { kind = kind; text = text; start = start; end = end } }
@@ -47,9 +47,9 @@ impl Token {
         self.kind
     }
 
-    /// Of a word that is not reserved its letters, digits and underscores, in lower case; of a
-    /// number its digits without underscores; of a character literal the byte between its
-    /// apostrophes; else nothing.
+    /// For a word that is not reserved, its letters, digits and underscores, in lower case; for a
+    /// number, its digits without underscores; for a character literal, the byte between its
+    /// apostrophes; otherwise nothing.
     pub fn text(&self) -> &[u8]
         ensures text { result.now ≡ self.now.text }
         ensures word { HasWord self.now.kind result.now }
@@ -57,7 +57,7 @@ impl Token {
         self.text.as_slice()
     }
 
-    /// The same as text, which is moved out of it: nothing is copied.
+    /// The same text, moved out of the token without a copy.
     pub fn into_text(self) -> Items<u8>
         ensures text { result ≡ self.text }
         ensures word { HasWord self.kind result }
@@ -65,14 +65,14 @@ impl Token {
         self.text
     }
 
-    /// The place of its first byte in the text, from 0.
+    /// The offset of its first byte in the text, from 0.
     pub fn start(&self) -> usize
         ensures { result ≡ self.now.start }
     {
         self.start
     }
 
-    /// The place after its last byte.
+    /// The offset after its last byte.
     pub fn end(&self) -> usize
         ensures { result ≡ self.now.end }
     {

@@ -5,7 +5,7 @@ ghost use Rattle.sim_text_tokens.specs.Pieces.{kind_in, delimiters, reserved_wor
 
 use crate::kind::Kind;
 
-/// The reserved words (IEEE 1076-2008, 15.10), those of the subset.
+/// The reserved words of the subset (IEEE 1076-2008, 15.10).
 const RESERVED_WORDS: [(&[u8], Kind); 37] = [
     (b"after", Kind::After),
     (b"all", Kind::All),
@@ -46,7 +46,7 @@ const RESERVED_WORDS: [(&[u8], Kind); 37] = [
     (b"xor", Kind::Xor),
 ];
 
-/// The kind of a word of the table; none of another word.
+/// The kind of a word in the table, or `None`.
 fn find(mut table: &[(&[u8], Kind)], word: &[u8]) -> Option<Kind>
     ensures { result ≡ kind_in (map (λ e. (e.0.now, e.1)) table.entry.now) word.now }
 {
@@ -59,7 +59,7 @@ fn find(mut table: &[(&[u8], Kind)], word: &[u8]) -> Option<Kind>
     None
 }
 
-/// The reserved word with these letters, which are in lower case.
+/// The kind of the reserved word with these letters, which are in lower case.
 #[tactic(auto, unfolding(crate::specs::Pieces::reserved_words))]
 pub fn reserved_word(word: &[u8]) -> Option<Kind>
     ensures { result ≡ kind_in reserved_words word.now }
@@ -67,7 +67,7 @@ pub fn reserved_word(word: &[u8]) -> Option<Kind>
     find(&RESERVED_WORDS, word)
 }
 
-/// The delimiter of this byte alone.
+/// The kind of the delimiter that is this byte alone.
 #[tactic(auto, unfolding(crate::specs::Pieces::delimiters))]
 pub fn single_delimiter(a: u8) -> Option<Kind>
     ensures { result ≡ kind_in delimiters (a ∷ []) }
@@ -84,7 +84,7 @@ pub fn single_delimiter(a: u8) -> Option<Kind>
     }
 }
 
-/// The delimiter of these two bytes.
+/// The kind of the delimiter that is these two bytes.
 #[tactic(auto, unfolding(crate::specs::Pieces::delimiters))]
 pub fn double_delimiter(a: u8, b: u8) -> Option<Kind>
     ensures { result ≡ kind_in delimiters (a ∷ b ∷ []) }

@@ -1,5 +1,5 @@
--- The levels of the grammar of expressions: a primary is a factor, a factor a relation, a relation an expression; and
--- what is one of these is of the level below, or the one kind of expression that this level adds.
+-- The levels of the grammar of expressions: a primary is a factor, a factor a relation, a relation an expression;
+-- conversely, each is of the level below or is the one kind of expression that its level adds.
 use Rattle.std.proofs.Common.{◌≡◌, ℕ, List, ◌⊎◌, inl, inr, refl, sym, subst, codes}
 use Rattle.sim_logic.specs.declared.logic.Logic.{Logic}
 use Rattle.sim_text_tokens.specs.declared.kind.Kind.TheVariants as k
@@ -16,11 +16,11 @@ use Rattle.sim_text_tree.proofs.Writings.{never_fits}
 use Rattle.sim_text_tree.proofs.ExpressionRules.{literal_levels, named_levels, event_levels, call_levels, parenthesized_levels, not_levels}
 use Rattle.sim_text_tree.proofs.ExpressionRules.{compared_levels, chain_levels, condition_levels, operands_of, cases_expression}
 
--- what holds of the levels that an expression has
+-- a property of the levels of an expression, across an equation
 at_levels : (P : Levels → Type 0) {l : Levels} (x : Expression) → levels_of x ≡ l → P l → P (levels_of x)
 at_levels P x e h = subst P (sym e) h
 
--- ---- what may stand where less may
+-- ---- inclusion of the levels
 
 -- a primary is a factor
 abbrev primary_is_factor_at : ℕ → ℕ → Input → Input → Levels → Type 0
@@ -73,7 +73,7 @@ relation_is_expression p n = cases_expression (λ x. (i j : Input) → relation_
     (λ x b at y i j. at_levels (relation_is_expression_at p n i j) _ (compared_levels x b at y) (λ h. h))
     (λ b x ls i j. at_levels (relation_is_expression_at p n i j) _ (chain_levels b x ls) (λ h. absurd (never_fits i j h)))
 
--- ---- what an expression of a level is
+-- ---- cases at each level
 
 -- a factor that begins with `not`
 pub record IsNot (p n : ℕ) (x : Expression) (i m : Input) : Type 0 where
@@ -98,7 +98,7 @@ pub record IsCondition (p n : ℕ) (x : Expression) (i m : Input) : Type 0 where
   pub is : x ≡ e.Condition at operand
   pub fits : Fits p n (just (MarkAt k.Condition at) ▸ of_primary operand) i m
 
--- relations with a logical operator between each two
+-- relations with a logical operator between adjacent ones
 pub record IsChain (p n : ℕ) (x : Expression) (i m : Input) : Type 0 where
   pub operator : Logical
   pub first : Expression
@@ -106,7 +106,7 @@ pub record IsChain (p n : ℕ) (x : Expression) (i m : Input) : Type 0 where
   pub is : x ≡ e.Chain operator first rest
   pub fits : Fits p n (of_relation first ▸ operands_of operator rest) i m
 
--- it is a primary, or begins with `not`
+-- a factor is a primary, or begins with `not`
 abbrev factor_case : ℕ → ℕ → Input → Input → Expression → Levels → Type 0
 factor_case p n i j x l = Fits p n l.as_factor i j → Fits p n l.as_primary i j ⊎ IsNot p n x i j
 
@@ -123,7 +123,7 @@ factor_cases p n = cases_expression (λ x. (i j : Input) → factor_case p n i j
     (λ x b at y i j. at_levels (factor_case p n i j (e.Comparison x b at y)) _ (compared_levels x b at y) (λ h. absurd (never_fits i j h)))
     (λ b x ls i j. at_levels (factor_case p n i j (e.Chain b x ls)) _ (chain_levels b x ls) (λ h. absurd (never_fits i j h)))
 
--- it is a factor, or compares two
+-- a relation is a factor, or compares two
 abbrev relation_case : ℕ → ℕ → Input → Input → Expression → Levels → Type 0
 relation_case p n i j x l = Fits p n l.as_relation i j → Fits p n l.as_factor i j ⊎ IsComparison p n x i j
 
@@ -141,7 +141,7 @@ relation_cases p n = cases_expression (λ x. (i j : Input) → relation_case p n
     (λ h. inr (record { left = x; operator = b; at = at; right = y; is = refl; fits = h })))
     (λ b x ls i j. at_levels (relation_case p n i j (e.Chain b x ls)) _ (chain_levels b x ls) (λ h. absurd (never_fits i j h)))
 
--- it is a relation, or begins with `??`, or is a chain
+-- an expression is a relation, or begins with `??`, or is a chain
 abbrev expression_case : ℕ → ℕ → Input → Input → Expression → Levels → Type 0
 expression_case p n i j x l = Fits p n l.as_expression i j → Fits p n l.as_relation i j ⊎ IsCondition p n x i j ⊎ IsChain p n x i j
 
@@ -161,7 +161,7 @@ expression_cases p n = cases_expression (λ x. (i j : Input) → expression_case
     (λ b x ls i j. at_levels (expression_case p n i j (e.Chain b x ls)) _ (chain_levels b x ls)
     (λ h. inr (inr (record { operator = b; first = x; rest = ls; is = refl; fits = h }))))
 
--- which primary an expression is
+-- the cases of a primary
 pub data PrimaryCase (p n : ℕ) (x : Expression) (i m : Input) : Type 0 where
   A_literal : (v : Logic) (at : ℕ) → x ≡ e.Literal v at → Fits p n (just (LiteralAt v at)) i m → PrimaryCase p n x i m
   A_name : (y : Name) → x ≡ e.Named y → Fits p n (word_at y) i m → PrimaryCase p n x i m

@@ -1,4 +1,4 @@
--- How each expression is written, as an equation, and each expression as one of its variants.
+-- The spelling of each expression, as an equation, and each expression as one of its variants.
 use Rattle.std.proofs.Common.{◌≡◌, ℕ, List, [], ◌∷◌, map, refl, sym, ap, subst, ◌∙◌, codes}
 use Rattle.sim_logic.specs.declared.logic.Logic.{Logic}
 use Rattle.sim_text_tokens.specs.declared.kind.Kind.{Kind}
@@ -67,7 +67,7 @@ operands_same : (g : Operand → Kind → Writing) (kind : Kind) (ls : List Oper
 operands_same g kind [] = refl
 operands_same g kind (l ∷ ls) = ap (λ (ws : List Writing). g l kind ∷ ws) (operands_same g kind ls)
 
--- operands after the first: none, or one and perhaps more
+-- operands after the first: at least one
 abbrev pub operands_of : Logical → List Operand → Writing
 operands_of operator [] = never
 operands_of operator (l ∷ ls) =
@@ -85,7 +85,7 @@ chain_levels b x ls =
     ap levels_of (sym (e.rolls-Chain b x ls)) ∙ folds.fold-roll-Expression Levels (Kind → Writing) expression_rule operand_rule (o.Chain b x ls)
     ∙ ap (λ (w : Writing). an_expression (of_relation x ▸ w)) (operands_are b ls)
 
--- ---- each variant at the level that adds it
+-- ---- each variant, at the level that adds it
 
 pub literal_is : (v : Logic) (at : ℕ) → of_primary (e.Literal v at) ≡ just (LiteralAt v at)
 unfolding of_primary

@@ -1,4 +1,4 @@
--- Where each expression starts, and that its first token does.
+-- Where each expression starts, and that its first token starts there.
 use Rattle.std.proofs.Common.{◌≡◌, ℕ, List, inl, inr, sym, ap, ◌∙◌}
 use Rattle.sim_logic.specs.declared.logic.Logic.{Logic}
 use Rattle.sim_text_tokens.specs.declared.kind.Kind.TheVariants as k

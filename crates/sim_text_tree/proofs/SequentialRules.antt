@@ -1,4 +1,4 @@
--- How each sequential statement is written, as an equation, and each statement as one of its variants.
+-- The spelling of each sequential statement, as an equation, and each statement as one of its variants.
 use Rattle.std.proofs.Common.{◌≡◌, Bool, List, map, Option, Some, None, sym, ap, subst, ◌∙◌}
 use Rattle.sim_text_tokens.specs.declared.kind.Kind.TheVariants as k
 use Rattle.sim_text_tree.specs.Name.{Name}

@@ -62,7 +62,7 @@ none_to e = record { takes = e; parentheses_fit = omega arith; ifs_fit = omega a
 pub none_read : {p n : ℕ} {i j : Input} → Fits p n nothing i j → i ≡ j
 none_read x = x.takes
 
--- nothing stands before it
+-- nothing precedes it
 pub only : {p n : ℕ} {w : Writing} {i j m : Input} → i ≡ j → Fits p n w j m → Fits p n w i m
 only {p} {n} {w} {i} {j} {m} e h = subst (λ (x : Input). Fits p n w x m) (sym e) h
 
@@ -88,7 +88,7 @@ if_read x = record { takes = x.takes; parentheses_fit = x.parentheses_fit; ifs_f
 pub if_none : {p : ℕ} {a : Writing} {i j : Input} → Fits p 0 (in_if a) i j → ⊥
 if_none x = omega (arith, x.ifs_fit)
 
--- more ifs may be open
+-- it also fits where more ifs may be open
 pub deeper_fits : {p n m : ℕ} {a : Writing} {i j : Input} → n ≤ m → Fits p n a i j → Fits p m a i j
 deeper_fits e x = record { takes = x.takes; parentheses_fit = x.parentheses_fit; ifs_fit = omega (arith, x.ifs_fit, e); latest_fits = x.latest_fits }
 
@@ -100,7 +100,7 @@ takes_length (p ∷ ps) (c ∷ cs) j h = omega (arith, takes_length ps cs j h.1)
 pub shorter : {p n : ℕ} {w : Writing} (i j : Input) → Fits p n w i j → length j + length w.pieces ≡ length i
 shorter {p} {n} {w} i j h = takes_length w.pieces i j h.takes
 
--- one token, and more
+-- a spelling that begins with a token uses at least one token
 pub less : {p n : ℕ} (x : Piece) (w : Writing) (i m : Input) → Fits p n (just x ▸ w) i m → suc (length m) ≤ length i
 less {p} {n} x w i m h =
     let s = split h in

@@ -1,4 +1,4 @@
--- A design file, as clauses see it (IEEE 1076-2008, 13.1).
+-- The value of a design file in contracts (IEEE 1076-2008, 13.1).
 use Rattle.std.specs.Prelude.{List}
 use Rattle.sim_text_tree.specs.declared.unit.DesignUnit.{DesignUnit}
 

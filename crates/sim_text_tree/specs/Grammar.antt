@@ -1,4 +1,4 @@
--- The language: how each tree is written.
+-- The language: the tokens that spell each tree.
 use Rattle.std.specs.Prelude.{Bool, true, false, ◌||◌, List, [], ◌∷◌, map, Option, Some, None, codes}
 use Rattle.sim_text_tokens.specs.Token.{Token}
 use Rattle.sim_text_tokens.specs.declared.kind.Kind.{Kind}
@@ -75,32 +75,32 @@ logical_kind logical.Xnor = k.Xnor
 logical_kind logical.Nand = k.Nand
 logical_kind logical.Nor = k.Nor
 
--- whether the operator may be written again after its second operand (9.1): `nand` and `nor` may not
+-- whether the operator may be repeated after its second operand (9.1): `nand` and `nor` may not
 abbrev pub is_repeatable : Logical → Bool
 is_repeatable logical.Nand = false
 is_repeatable logical.Nor = false
 is_repeatable _ = true
 
--- How an expression is written where the grammar asks for a primary, a factor, a relation and an expression (9.1).
+-- How an expression is spelled where the grammar requires a primary, a factor, a relation or an expression (9.1).
 pub record Levels : Type 0 where
   pub as_primary : Writing
   pub as_factor : Writing
   pub as_relation : Writing
   pub as_expression : Writing
 
--- what may stand anywhere
+-- allowed everywhere
 abbrev pub a_primary : Writing → Levels
 a_primary w = record { as_primary = w; as_factor = w; as_relation = w; as_expression = w }
 
--- what is no primary
+-- not a primary
 abbrev pub a_factor : Writing → Levels
 a_factor w = record { as_primary = never; as_factor = w; as_relation = w; as_expression = w }
 
--- what is no factor either
+-- neither a primary nor a factor
 abbrev pub a_relation : Writing → Levels
 a_relation w = record { as_primary = never; as_factor = never; as_relation = w; as_expression = w }
 
--- what is an expression alone
+-- only an expression
 abbrev pub an_expression : Writing → Levels
 an_expression w = record { as_primary = never; as_factor = never; as_relation = never; as_expression = w }
 
@@ -108,18 +108,18 @@ an_expression w = record { as_primary = never; as_factor = never; as_relation = 
 abbrev pub operand_rule : x.Operand-F Levels (Kind → Writing) → Kind → Writing
 operand_rule o kind = just (MarkAt kind o.operator_at) ▸ o.operand.as_relation
 
--- what stands after the second operand: more of them where the operator may be written again, else nothing
+-- the operands after the second: any number if the operator may be repeated, otherwise none
 abbrev pub more_operands : Bool → List Writing → Writing
 more_operands true rest = all_of rest
 more_operands false [] = nothing
 more_operands false (w ∷ ws) = never
 
--- the operands after the first: one, or as many as there are where the operator may be written again
+-- the operands after the first: one, or any number if the operator may be repeated
 abbrev pub operands_rule : Logical → List (Kind → Writing) → Writing
 operands_rule operator [] = never
 operands_rule operator (second ∷ rest) = second (logical_kind operator) ▸ more_operands (is_repeatable operator) (map (λ o. o (logical_kind operator)) rest)
 
--- an expression from the writings of its parts (9.1)
+-- an expression, from the spellings of its parts (9.1)
 abbrev pub expression_rule : x.Expression-F Levels (Kind → Writing) → Levels
 expression_rule (x.Literal value at) = a_primary (just (LiteralAt value at))
 expression_rule (x.Named n) = a_primary (word_at n)
@@ -131,7 +131,7 @@ expression_rule (x.Condition at operand) = an_expression (just (MarkAt k.Conditi
 expression_rule (x.Comparison left operator at right) = a_relation (left.as_factor ▸ just (MarkAt (relational_kind operator) at) ▸ right.as_factor)
 expression_rule (x.Chain operator first rest) = an_expression (first.as_relation ▸ operands_rule operator rest)
 
--- how an expression is written
+-- the spellings of an expression
 unfoldable pub levels_of : Expression → Levels
 levels_of = folds.fold-Expression Levels (Kind → Writing) expression_rule operand_rule
 
@@ -161,7 +161,7 @@ of_factor e = (levels_of e).as_factor
 unfoldable pub of_time : TimeLiteral → Writing
 of_time t = record { pieces = NumberAt t.digits t.at ∷ UnitWord t.unit ∷ []; parentheses = 0; ifs = 0; latest = time_of t.digits t.unit }
 
--- `after` and a time, where it is written
+-- `after` and a time, if written
 abbrev pub of_after : Option TimeLiteral → Writing
 of_after None = nothing
 of_after (Some t) = mark k.After ▸ of_time t
@@ -178,7 +178,7 @@ of_waveform w = separated_by k.Comma (map of_element w)
 unfoldable pub of_conditional : ConditionalWaveform → Writing
 of_conditional c = of_waveform c.waveform ▸ mark k.When ▸ of_expression c.condition
 
--- `else` and a waveform without a condition, where it is written
+-- `else` and a waveform without a condition, if written
 abbrev pub of_last : Option (List Element) → Writing
 of_last None = nothing
 of_last (Some w) = mark k.Else ▸ of_waveform w
@@ -188,7 +188,7 @@ abbrev pub of_more : List ConditionalWaveform → Option (List Element) → Writ
 of_more [] last = of_last last
 of_more (c ∷ cs) last = mark k.Else ▸ of_conditional c ▸ of_more cs last
 
--- waveforms with conditions, and at last perhaps one without
+-- waveforms with conditions, and finally a waveform without one, if written
 abbrev pub of_alternatives : List ConditionalWaveform → Option (List Element) → Writing
 of_alternatives [] None = never
 of_alternatives [] (Some w) = of_waveform w
@@ -205,18 +205,18 @@ of_delay delay.Transport = mark k.Transport
 of_delay delay.Inertial = mark k.Inertial
 of_delay (delay.Reject t) = mark k.Reject ▸ of_time t ▸ mark k.Inertial
 
--- a label, where it is written
+-- a label, if there is one
 abbrev pub labelled : Option Name → Writing
 labelled None = nothing
 labelled (Some n) = word_at n ▸ mark k.Colon
 
--- the label again, where it is written and there is one
+-- the label repeated, if that is written; only a label that is there can be repeated
 abbrev pub label_again : Bool → Option Name → Writing
 label_again false label = nothing
 label_again true None = never
 label_again true (Some n) = just (This n.text)
 
--- `postponed` again, where it is written and stood before
+-- `postponed` repeated, if that is written; only a `postponed` that is there can be repeated
 abbrev pub postponed_again : Bool → Bool → Writing
 postponed_again false postponed = nothing
 postponed_again true false = never
@@ -238,12 +238,12 @@ of_signal_assignment a = word_at a.target ▸ mark k.SignalAssign ▸ of_delay a
 unfoldable pub of_variable_assignment : VariableAssignment → Writing
 of_variable_assignment a = word_at a.target ▸ mark k.VariableAssign ▸ of_expression a.value ▸ mark k.Semicolon
 
--- `else` and its statements, where it is written
+-- `else` and its statements, if written
 abbrev pub otherwise_rule : Option (List Writing) → Writing
 otherwise_rule None = nothing
 otherwise_rule (Some statements) = mark k.Else ▸ all_of statements
 
--- a statement after this label from the writings of its parts (10.1); an if statement may repeat the label at its end (10.8)
+-- a statement after this label, from the spellings of its parts (10.1); an if statement may repeat the label (10.8)
 abbrev pub statement_rule : s.Statement-F (Option Name → Writing) Writing Writing → Option Name → Writing
 statement_rule (s.Signal a) label = of_signal_assignment a
 statement_rule (s.Variable a) label = of_variable_assignment a
@@ -255,7 +255,7 @@ statement_rule s.Null label = mark k.Null ▸ mark k.Semicolon
 abbrev pub branch_rule : s.Branch-F (Option Name → Writing) Writing Writing → Writing
 branch_rule b = of_expression b.condition ▸ mark k.Then ▸ all_of b.statements
 
--- a label, where there is one, and a statement
+-- a label, if there is one, and a statement
 abbrev pub sequential_rule : s.Sequential-F (Option Name → Writing) Writing Writing → Writing
 sequential_rule x = labelled x.label ▸ x.statement x.label
 
@@ -275,7 +275,7 @@ of_sequential = sequential.fold-Sequential (Option Name → Writing) Writing Wri
 unfoldable pub of_sequence : List Sequential → Writing
 of_sequence x = all_of (map of_sequential x)
 
--- the statements after `else`, where it is written
+-- the statements after `else`, if written
 abbrev pub of_otherwise : Option (List Sequential) → Writing
 of_otherwise None = nothing
 of_otherwise (Some statements) = mark k.Else ▸ of_sequence statements
@@ -286,13 +286,13 @@ of_otherwise (Some statements) = mark k.Else ▸ of_sequence statements
 unfoldable pub of_names : List Name → Writing
 of_names ns = separated_by k.Comma (map word_at ns)
 
--- `:=` and a first value, where it is written
+-- `:=` and an initial value, if written
 abbrev pub of_initial : Option Initial → Writing
 of_initial None = nothing
 of_initial (Some (initial.Literal value at)) = mark k.VariableAssign ▸ just (LiteralAt value at)
 of_initial (Some (initial.Named n)) = mark k.VariableAssign ▸ word_at n
 
--- a mode, where it is written (6.5.2)
+-- a mode, if written (6.5.2)
 abbrev pub of_mode : Option Mode → Writing
 of_mode None = nothing
 of_mode (Some mode.In) = mark k.In
@@ -303,12 +303,12 @@ of_mode (Some mode.Inout) = mark k.Inout
 unfoldable pub of_port : PortDeclaration → Writing
 of_port p = if_written p.signal (mark k.Signal) ▸ of_names p.names ▸ mark k.Colon ▸ of_mode p.mode ▸ word_at p.mark ▸ of_initial p.initial
 
--- a port clause, where there are ports (6.5.6.3)
+-- a port clause, if there are ports (6.5.6.3)
 abbrev pub of_ports : List PortDeclaration → Writing
 of_ports [] = nothing
 of_ports (p ∷ ps) = mark k.Port ▸ mark k.LeftParen ▸ separated_by k.Semicolon (map of_port (p ∷ ps)) ▸ mark k.RightParen ▸ mark k.Semicolon
 
--- names, their type mark and their first value
+-- names, their type mark and their initial value
 unfoldable pub of_object : ObjectDeclaration → Writing
 of_object o = of_names o.names ▸ mark k.Colon ▸ word_at o.mark ▸ of_initial o.initial ▸ mark k.Semicolon
 
@@ -345,7 +345,7 @@ of_actual (actual.Named n) = word_at n
 of_actual (actual.Literal value at) = just (LiteralAt value at)
 of_actual (actual.Open at) = just (MarkAt k.Open at)
 
--- an association, positional or not, where a formal may have been named before
+-- the formal of an association, which is required once one was named
 abbrev pub formally : Bool → Option Name → Writing
 formally named (Some n) = word_at n ▸ mark k.Arrow
 formally false None = nothing
@@ -356,7 +356,7 @@ abbrev pub is_named : Option Name → Bool
 is_named (Some n) = true
 is_named None = false
 
--- an association, where a formal may have been named before (6.5.7)
+-- an association; its formal is required once one was named (6.5.7)
 abbrev pub of_association : Bool → Association → Writing
 of_association named a = formally named a.formal ▸ of_actual a.actual
 
@@ -365,17 +365,17 @@ abbrev pub of_associations : Bool → List Association → Writing
 of_associations named [] = nothing
 of_associations named (a ∷ more) = mark k.Comma ▸ of_association named a ▸ of_associations (named || is_named a.formal) more
 
--- a port map, where one is written
+-- a port map, if there are associations
 abbrev pub of_port_map : List Association → Writing
 of_port_map [] = nothing
 of_port_map (a ∷ more) = mark k.Port ▸ mark k.Map ▸ mark k.LeftParen ▸ of_association false a ▸ of_associations (is_named a.formal) more ▸ mark k.RightParen
 
--- an architecture in parentheses, where it is written
+-- an architecture in parentheses, if written
 abbrev pub of_chosen : Option Name → Writing
 of_chosen None = nothing
 of_chosen (Some n) = mark k.LeftParen ▸ word_at n ▸ mark k.RightParen
 
--- what an instance is made of (11.7)
+-- the component or entity of an instance (11.7)
 abbrev pub of_instantiated : Instantiated → Writing
 of_instantiated (instantiated.Component written n) = if_written written (mark k.Component) ▸ word_at n
 of_instantiated (instantiated.Entity library entity architecture) = mark k.Entity ▸ word_at library ▸ mark k.Dot ▸ word_at entity ▸ of_chosen architecture
@@ -392,7 +392,7 @@ of_concurrent (concurrent.Instance x) = of_instance x
 
 -- ---- design units (3, 13)
 
--- suffixes, each after a dot, and perhaps `.all`
+-- suffixes, each after a dot, and then `.all`, if written
 abbrev pub of_suffixes : List Name → Bool → Writing
 of_suffixes [] true = mark k.Dot ▸ mark k.All
 of_suffixes [] false = nothing
@@ -437,10 +437,10 @@ of_unit x = all_of (map of_context_item x.context) ▸ of_library_unit x.library
 unfoldable pub of_units : List DesignUnit → Writing
 of_units xs = some_of (map of_unit xs)
 
--- The tokens are those units, within the limits.
+-- The tokens spell these units, within the limits.
 abbrev pub AreUnits : List DesignUnit → List Token → Type 0
 AreUnits units tokens = Fits most_parentheses most_ifs (of_units units) tokens []
 
--- The tokens are that design file, within the limits.
+-- The tokens spell this design file, within the limits.
 abbrev pub IsFile : DesignFile → List Token → Type 0
 IsFile file tokens = AreUnits file.units tokens

@@ -1,10 +1,10 @@
--- The tokens that are left of a text, and the next of them.
+-- The remaining tokens of a text, and the next of them.
 use Rattle.std.specs.Prelude.{ℕ, List, [], ◌∷◌}
 use Rattle.sim_text_tokens.specs.Token.{Token}
 use Rattle.sim_text_tokens.specs.declared.kind.Kind.{Kind}
 use Rattle.sim_text_tokens.specs.declared.kind.Kind.TheVariants as k
 
--- the tokens that are left
+-- the remaining tokens
 abbrev pub Input : Type 0
 Input = List Token
 
@@ -18,7 +18,7 @@ unfoldable pub place : Input → ℕ
 place [] = 0
 place (t ∷ ts) = t.start
 
--- what is left after the next token
+-- the tokens after the next one
 unfoldable pub next : Input → Input
 next [] = []
 next (t ∷ ts) = ts

@@ -1,10 +1,10 @@
 -- The limits of a design file.
 use Rattle.std.specs.Prelude.{ℕ}
 
--- how many parentheses of one expression may be open
+-- the largest number of open parentheses in an expression
 abbrev pub most_parentheses : ℕ
 most_parentheses = 64
 
--- how many ifs of one process may be open
+-- the largest number of open ifs in a process
 abbrev pub most_ifs : ℕ
 most_ifs = 64

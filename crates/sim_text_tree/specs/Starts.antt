@@ -8,7 +8,7 @@ use Rattle.sim_text_tree.specs.declared.expression.Expression.TheFolds as folds
 abbrev pub operand_start : x.Operand-F ℕ ℕ → ℕ
 operand_start o = o.operator_at
 
--- an expression, by where its parts start
+-- where an expression starts, from the starts of its parts
 abbrev pub expression_start : x.Expression-F ℕ ℕ → ℕ
 expression_start (x.Literal value at) = at
 expression_start (x.Named n) = n.at

@@ -1,4 +1,4 @@
--- Spellings: the tokens that a tree is written with, and its limits. Reading has no part in it.
+-- Spellings: the tokens of a tree, and its limits. They are independent of reading.
 use Rattle.std.specs.Prelude.{◌≡◌, ℕ, suc, ◌≤◌, max, Bool, true, false, List, [], ◌∷◌, ◌++◌, codes}
 use Rattle.sim_logic.specs.declared.logic.Logic.{Logic}
 use Rattle.sim_logic.specs.Logic.{byte_of}
@@ -11,7 +11,7 @@ use Rattle.sim_text_tokens.specs.declared.kind.Kind.TheVariants as k
 use Rattle.sim_text_tree.specs.Name.{Name}
 use Rattle.sim_text_tree.specs.Input.{Input}
 
--- one token of a spelling: its kind, with its text and its start where the tree keeps them
+-- one token of a spelling: its kind, and its text and start if the tree keeps them
 pub data Piece : Type 0 where
   Mark : Kind → Piece
   MarkAt : Kind → ℕ → Piece
@@ -33,7 +33,7 @@ unit_name u.Sec = codes "sec"
 unit_name u.Min = codes "min"
 unit_name u.Hr = codes "hr"
 
--- The token is that piece.
+-- The token matches that piece.
 abbrev pub Stands : Piece → Token → Type 0
 Stands (Mark kind) t = t.kind ≡ kind
 Stands (MarkAt kind at) t = (t.kind ≡ kind) × (t.start ≡ at)
@@ -44,13 +44,13 @@ Stands (UnitWord unit) t = (t.kind ≡ k.Word) × (t.text ≡ unit_name unit)
 Stands (This text) t = (t.kind ≡ k.Word) × (t.text ≡ text)
 Stands Never t = ⊥
 
--- The pieces stand at the front of the tokens, and these are left.
+-- The pieces match the front of the tokens i, and the tokens j remain.
 abbrev pub Takes : List Piece → Input → Input → Type 0
 Takes [] i j = i ≡ j
 Takes (p ∷ ps) [] j = ⊥
 Takes (p ∷ ps) (t ∷ ts) j = Stands p t × Takes ps ts j
 
--- a spelling, how many parentheses and how many ifs are open in it at most, and its largest time
+-- a spelling, the largest numbers of parentheses and of ifs open in it, and its largest time
 pub record Writing : Type 0 where
   pub pieces : List Piece
   pub parentheses : ℕ
@@ -69,7 +69,7 @@ just p = record { pieces = p ∷ []; parentheses = 0; ifs = 0; latest = 0 }
 abbrev pub mark : Kind → Writing
 mark kind = just (Mark kind)
 
--- what no tokens are
+-- a spelling that no tokens match
 abbrev pub never : Writing
 never = just Never
 
@@ -91,12 +91,12 @@ abbrev pub all_of : List Writing → Writing
 all_of [] = nothing
 all_of (w ∷ ws) = w ▸ all_of ws
 
--- each after such a token
+-- each after a token of this kind
 abbrev pub each_after : Kind → List Writing → Writing
 each_after kind [] = nothing
 each_after kind (w ∷ ws) = (mark kind ▸ w) ▸ each_after kind ws
 
--- at least one, and such a token between two
+-- at least one, with a token of this kind between two
 abbrev pub separated_by : Kind → List Writing → Writing
 separated_by kind [] = never
 separated_by kind (w ∷ ws) = w ▸ each_after kind ws
@@ -106,7 +106,7 @@ abbrev pub some_of : List Writing → Writing
 some_of [] = never
 some_of (w ∷ ws) = w ▸ all_of ws
 
--- that, where it is written
+-- the spelling, if it is written
 abbrev pub if_written : Bool → Writing → Writing
 if_written true w = w
 if_written false w = nothing
@@ -115,7 +115,7 @@ if_written false w = nothing
 abbrev pub word_at : Name → Writing
 word_at n = just (WordAt n.text n.at)
 
--- The tokens from i to j are that writing, with at most that many parentheses and ifs open, and no time is too large.
+-- The tokens from i to j match the spelling, at most that many parentheses and ifs are open, and no time is too large.
 pub record Fits (parentheses ifs : ℕ) (w : Writing) (i j : Input) : Type 0 where
   pub takes : Takes w.pieces i j
   pub parentheses_fit : w.parentheses ≤ parentheses

@@ -5,7 +5,7 @@ use crate::name::Name;
 use sim_logic::Logic;
 use sqlite_items::Items;
 
-/// A first value (6.4.2.3): a character literal and its place, or a name.
+/// The initial value of a declaration (6.4.2.3): a character literal and its place, or a name.
 #[derive(Drop)]
 pub enum Initial {
     Literal { value: Logic, at: usize },
@@ -26,7 +26,7 @@ pub struct PortDeclaration {
     /// Whether `signal` is written.
     pub signal: bool,
     pub names: Several<Name>,
-    /// The mode, where it is written.
+    /// The mode, if one is written.
     pub mode: Option<Mode>,
     pub mark: Name,
     pub initial: Option<Initial>,
@@ -46,7 +46,7 @@ pub struct ComponentDeclaration {
     pub name: Name,
     /// Whether `is` is written.
     pub is: bool,
-    /// Empty where there is no port clause.
+    /// Empty if there is no port clause.
     pub ports: Items<PortDeclaration>,
     /// Whether the name is written again at the end.
     pub name_repeated: bool,

@@ -4,11 +4,11 @@ use crate::name::Name;
 use sim_logic::{Logic, Logical, Relational};
 use sqlite_items::{Boxed, Items};
 
-/// An expression (9.1). A place is that of the first byte of a token.
+/// An expression (9.1). A place is the offset of the first byte of a token.
 ///
-/// Which expressions may be operands of which is the grammar's business (`specs/Grammar.antt`): an
-/// operand of a chain is no chain, one of a comparison is no comparison either, and one of `not` or
-/// `??` is a primary.
+/// The grammar (`specs/Grammar.antt`) restricts the operands: those of a chain are not chains,
+/// those of a comparison are neither chains nor comparisons, and those of `not` and `??` are
+/// primaries.
 #[derive(Drop)]
 #[cycle(expression)]
 pub enum Expression {
@@ -17,7 +17,7 @@ pub enum Expression {
         value: Logic,
         at: usize,
     },
-    /// A signal, a port, a variable, or `true` or `false`.
+    /// A signal, a port, a variable, `true` or `false`.
     Named(Name),
     /// `NAME ' event` (16.2).
     Event(Name),
@@ -26,30 +26,30 @@ pub enum Expression {
         function: Name,
         argument: Name,
     },
-    /// The place is that of the `(`.
+    /// `( EXPRESSION )`, with the place of the `(`.
     Parenthesized {
         at: usize,
         inner: Boxed<Expression>,
     },
-    /// The place is that of the `not` (9.2.2).
+    /// `not OPERAND`, with the place of the `not` (9.2.2).
     Not {
         at: usize,
         operand: Boxed<Expression>,
     },
-    /// The condition operator; the place is that of the `??` (9.2.9).
+    /// `?? OPERAND`, the condition operator, with the place of the `??` (9.2.9).
     Condition {
         at: usize,
         operand: Boxed<Expression>,
     },
-    /// Two operands, the operator between them, and its place (9.2.3).
+    /// Two operands, the relational operator between them, and its place (9.2.3).
     Comparison {
         left: Boxed<Expression>,
         operator: Relational,
         at: usize,
         right: Boxed<Expression>,
     },
-    /// A logical operator between each two of the operands, which group from the left (9.2.2).
-    /// `nand` and `nor` have two.
+    /// A logical operator between adjacent operands, which are grouped from the left (9.2.2).
+    /// `nand` and `nor` have two operands.
     Chain {
         operator: Logical,
         first: Boxed<Expression>,
@@ -69,7 +69,7 @@ impl Expression {
     ghost use Rattle.std.specs.Prelude.{◌≡◌};
     ghost use Rattle.sim_text_tree.specs.Starts.{start_of};
 
-    /// Where its first token starts.
+    /// The offset of its first token.
     #[tactic(auto, using(crate::proofs::ExpressionStarts::starts))]
     pub fn start(&self) -> usize
         ensures { result ≡ start_of self.now }

@@ -4,14 +4,14 @@ use crate::list::Several;
 use crate::unit::DesignUnit;
 use std::marker::Model;
 
-/// A design file: its design units in order. It is written with some tokens, within the limits: no
-/// time is larger than the largest, no expression has more than 64 parentheses open and no process
-/// more than 64 ifs, and what the grammar asks for is there.
+/// A design file: its design units in order. Some list of tokens spells it within the limits: no
+/// time is larger than the largest, at most 64 parentheses of an expression and 64 ifs of a process
+/// are open, and everything that the grammar requires is present.
 pub struct DesignFile {
     units: Several<DesignUnit>,
 }
 
-/// By hand, so that crates which drop one need no proof of what is in it.
+/// Written by hand so that crates which drop a file need no proof about its contents.
 impl Drop for DesignFile {
     fn drop(self) {
         let DesignFile { units } = self;
@@ -43,7 +43,7 @@ impl DesignFile {
     ghost use Rattle.sim_text_tokens.specs.Token.{Token};
     ghost use Rattle.sim_text_tree.specs.Grammar.{AreUnits};
 
-    /// The file of these units, which are written with some tokens, within the limits.
+    /// The file of these units, which some list of tokens spells within the limits.
     pub fn new(units: Several<DesignUnit>) -> DesignFile
         requires { (tokens : List Token) × AreUnits units tokens }
         ensures { result ≡ record { units = units } }

@@ -1,4 +1,4 @@
-//! The syntax tree of a text, and how it is written.
+//! The syntax tree of a text, and the tokens that spell it.
 #![tactic(auto)]
 
 pub mod declaration;

@@ -1,4 +1,4 @@
-//! Lists that are read item by item.
+//! Lists that are read one item at a time.
 
 ghost use Rattle.std.specs.Prelude.{◌≡◌, ◌∷◌, [], IfOk};
 
@@ -6,7 +6,7 @@ use sqlite_items::Items;
 use std::alloc::{AllocError, Global};
 use std::marker::Model;
 
-/// A list of one item or more.
+/// A list of at least one item.
 #[derive(Drop)]
 pub struct Several<T> {
     items: Vec<T>,
@@ -40,7 +40,7 @@ impl<T> Several<T> {
 impl<T: Drop> Several<T> {
     ghost use Rattle.std.specs.Prelude.{◌≡◌, ◌∷◌, [], ◌++◌, IfOk, OnOk, OnErr};
 
-    /// A list of one item, with no room for others beside it: most lists of a text have one.
+    /// A list of one item, without spare capacity: most lists in a text have one item.
     pub fn new(alloc: Global, first: T) -> Result<Several<T>, AllocError>
         ensures { IfOk result (λ s. s ≡ first ∷ []) }
     {
@@ -48,7 +48,7 @@ impl<T: Drop> Several<T> {
         Ok(Several { items })
     }
 
-    /// Puts an item at the end.
+    /// Appends an item.
     pub fn push(&mut self, item: T) -> Result<(), AllocError>
         ensures ok { OnOk result (self.new ≡ self.old ++ item ∷ []) }
         ensures err { OnErr result (self.new ≡ self.old) }
@@ -57,7 +57,7 @@ impl<T: Drop> Several<T> {
         Ok(())
     }
 
-    /// The same list without the room that it has to spare.
+    /// The same list without spare capacity.
     pub fn fitted(self) -> Several<T>
         ensures { result ≡ self }
     {
@@ -67,7 +67,7 @@ impl<T: Drop> Several<T> {
     }
 }
 
-/// A list of one item, with no room for others beside it.
+/// A list of one item, without spare capacity.
 pub fn one<T: Drop>(alloc: Global, item: T) -> Result<Vec<T>, AllocError>
     ensures { IfOk result (λ v. v.items ≡ item ∷ []) }
 {
@@ -76,7 +76,7 @@ pub fn one<T: Drop>(alloc: Global, item: T) -> Result<Vec<T>, AllocError>
     Ok(items)
 }
 
-/// These items as a list of a tree, without the room that they have to spare.
+/// These items as a list of a tree, without spare capacity.
 pub fn fitted<T>(items: Vec<T>) -> Items<T>
     ensures { result ≡ items.items }
 {

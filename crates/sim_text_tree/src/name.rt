@@ -6,8 +6,7 @@ use std::alloc::{AllocError, Global};
 use std::marker::Model;
 use std::str::from_utf8_unchecked;
 
-/// A name as the text has it: its small letters, digits and underscores, capital letters folded to
-/// small ones; and the place of its first byte.
+/// A name: its letters, in lower case, digits and underscores, and the offset of its first byte.
 #[derive(Drop)]
 pub struct Name {
     text: Items<u8>,
@@ -31,7 +30,7 @@ impl Name {
     ghost use Rattle.sim_text_tokens.specs.declared.kind.Kind.TheVariants as kind;
     ghost use Rattle.sim_text_tokens.specs.Token.{is_word};
 
-    /// The name that a word of the text is. The word's text is moved into it.
+    /// The name of this word. The text of the word is moved into it.
     pub fn of(token: Token) -> Name
         requires { token.kind ≡ kind.Word }
         ensures { result ≡ record { text = token.text; at = token.start } }
@@ -43,7 +42,7 @@ impl Name {
         }
     }
 
-    /// The same name again.
+    /// A copy of the name.
     pub fn try_copy(&self, alloc: Global) -> Result<Name, AllocError>
         ensures { IfOk result (λ n. n ≡ self.now) }
     {
@@ -61,7 +60,7 @@ impl Name {
         self.text.as_slice()
     }
 
-    /// The same as text.
+    /// The same text as a `str`.
     #[tactic(auto, using(crate::proofs::Names::word_is_utf8))]
     pub fn as_str(&self) -> &str
         ensures text { result.now ≡ self.now.text }
@@ -71,7 +70,7 @@ impl Name {
         unsafe { from_utf8_unchecked(bytes) }
     }
 
-    /// The place of its first byte in the text, from 0.
+    /// The offset of its first byte in the text, from 0.
     pub fn at(&self) -> usize
         ensures { result ≡ self.now.at }
     {

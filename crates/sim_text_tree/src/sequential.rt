@@ -20,7 +20,7 @@ pub struct VariableAssignment {
     pub value: Expression,
 }
 
-/// A sequential statement and its label, where one is written (10.1).
+/// A sequential statement and its label, if it has one (10.1).
 #[derive(Drop)]
 #[cycle(sequential)]
 pub struct Sequential {
@@ -36,9 +36,9 @@ pub enum Statement {
     Variable(VariableAssignment),
     /// An if statement (10.8).
     If {
-        /// What stands after `if` and after each `elsif`, in order.
+        /// The conditions after `if` and each `elsif` with their statements, in order.
         branches: Items<Branch>,
-        /// The statements after `else`, where it is written.
+        /// The statements after `else`, if it is written.
         otherwise: Option<Items<Sequential>>,
         /// Whether the label is written again at the end.
         label_repeated: bool,

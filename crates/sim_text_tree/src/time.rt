@@ -1,4 +1,4 @@
-//! Times as they are written (IEEE 1076-2008, 5.2.4).
+//! Time literals (IEEE 1076-2008, 5.2.4).
 
 ghost use Rattle.std.specs.Prelude.{◌≤◌};
 ghost use Rattle.std.specs.Option.{SomeIff};
@@ -9,8 +9,8 @@ use sim_logic::{Time, Unit};
 use sqlite_items::Items;
 use std::marker::Model;
 
-/// A time as it is written: the digits of its number, their place, and its unit. It is no larger
-/// than the largest time.
+/// A time as it is written: the digits of its number, the offset of the number, and its unit. It is
+/// at most the largest time.
 #[derive(Drop)]
 pub struct TimeLiteral {
     digits: Items<u8>,
@@ -31,7 +31,7 @@ impl Model for TimeLiteral {
     ghost invariant = { λ t. (t.time ≡ time_of t.digits t.unit) × (time_of t.digits t.unit ≤ largest_time) };
 }
 
-/// The time that digits and a unit write; `None` exactly where it is larger than the largest.
+/// The time that the digits and the unit denote; `None` exactly if it is larger than the largest.
 fn written_time(digits: &[u8], unit: Unit) -> Option<Time>
     ensures { SomeIff result (time_of digits.now unit ≤ largest_time) (time_of digits.now unit) }
 {
@@ -51,8 +51,8 @@ impl TimeLiteral {
     ghost use Rattle.sim_logic.specs.Time.{largest_time};
     ghost use Rattle.sim_text_tree.specs.Times.{time_of};
 
-    /// The time with these digits, which start at this place, and this unit; `None` exactly where
-    /// it is larger than the largest time.
+    /// The time with these digits, which start at this offset, and this unit; `None` exactly if it
+    /// is larger than the largest time.
     pub fn of(digits: Items<u8>, at: usize, unit: Unit) -> Option<TimeLiteral>
         ensures { SomeIff result (time_of digits unit ≤ largest_time) (record { digits = digits; at = at; unit = unit }) }
     {
@@ -72,7 +72,7 @@ impl TimeLiteral {
         self.digits.as_slice()
     }
 
-    /// Where its number starts.
+    /// The offset of its number.
     pub fn at(&self) -> usize
         ensures { result ≡ self.now.at }
     {
@@ -86,7 +86,7 @@ impl TimeLiteral {
         self.unit
     }
 
-    /// The time.
+    /// Its value, in femtoseconds.
     pub fn time(&self) -> Time
         ensures value { result ≡ time_of self.now.digits self.now.unit }
         ensures bound { result ≤ largest_time }

@@ -43,12 +43,12 @@ pub enum Actual {
 /// An association of a port map (6.5.7).
 #[derive(Drop)]
 pub struct Association {
-    /// `None` where it is positional.
+    /// `None` if the association is positional.
     pub formal: Option<Name>,
     pub actual: Actual,
 }
 
-/// What an instance is made of (11.7).
+/// The component or entity of an instance (11.7).
 #[derive(Drop)]
 pub enum Instantiated {
     Component {
@@ -59,7 +59,7 @@ pub enum Instantiated {
     Entity {
         library: Name,
         entity: Name,
-        /// The architecture, where one is written.
+        /// The architecture, if one is written.
         architecture: Option<Name>,
     },
 }
@@ -69,7 +69,7 @@ pub enum Instantiated {
 pub struct Instance {
     pub label: Name,
     pub unit: Instantiated,
-    /// Empty where there is no port map.
+    /// Empty if there is no port map.
     pub associations: Items<Association>,
 }
 
@@ -101,7 +101,7 @@ pub enum ContextItem {
 #[derive(Drop)]
 pub struct Entity {
     pub name: Name,
-    /// Empty where there is no port clause.
+    /// Empty if there is no port clause.
     pub ports: Items<PortDeclaration>,
     /// Whether `entity` is written again at the end.
     pub word_repeated: bool,
@@ -135,7 +135,7 @@ pub struct DesignUnit {
     pub library_unit: LibraryUnit,
 }
 
-/// By hand, so that crates which drop one need no proof of what is in it.
+/// Written by hand so that crates which drop a unit need no proof about its contents.
 impl Drop for DesignUnit {
     fn drop(self) {
         let DesignUnit {

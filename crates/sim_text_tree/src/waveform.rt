@@ -13,7 +13,7 @@ pub struct Element {
     pub after: Option<TimeLiteral>,
 }
 
-/// A waveform: one element or more (10.5.2.1).
+/// A waveform: at least one element (10.5.2.1).
 pub type Waveform = Several<Element>;
 
 /// A waveform and the condition after its `when` (10.5.3).

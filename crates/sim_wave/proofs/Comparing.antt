@@ -33,7 +33,7 @@ are_same-Decides x y = (there, back)
         let first : eqb x.0 y.0 ≡ true = grind (arith, nat_tests) in
         from-both (eqb x.0 y.0) (sameb the_type x.1 y.1) first (true_same the_type x.1 y.1 (ap (λ (t : Transaction). t.1) e))
 
--- drivers with one value are the same where their transactions are
+-- drivers of equal value are equal if their transactions are
 pub same-pending : (a b : Waveform) (r : Bool) (xs ys : List Transaction) → xs ≡ a.pending → ys ≡ b.pending → a.value ≡ b.value → Decides r (xs ≡ ys)
     → IsTrue r ↔ (a ≡ b)
 same-pending a b r xs ys p q values d = (there, back)

@@ -1,4 +1,4 @@
--- An assignment with no delay leaves nothing of what was pending.
+-- An assignment without delay replaces all pending transactions.
 use Rattle.std.proofs.Common.{ℕ, suc, ◌+◌, ◌-◌, if◌then◌else◌, ◌≤◌, ◌≡◌, ◌∙◌, nat_lt, Bool, false, List, [], ◌∷◌, ◌++◌, ap, arith, refl}
 use Rattle.std.proofs.lemmas.Bool.Decides.{nat_tests}
 use Rattle.sim_logic.specs.declared.logic.Logic.{Logic}

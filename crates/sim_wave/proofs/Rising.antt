@@ -1,4 +1,4 @@
--- Transactions whose times rise strictly.
+-- Transactions whose times strictly ascend.
 use Rattle.std.proofs.Common.{ℕ, zero, suc, ◌+◌, ◌-◌, ◌<◌, ◌≤◌, ◌≡◌, ltb, Bool, true, false, if◌then◌else◌, List, [], ◌∷◌, ◌++◌, length, take, refl, ap}
 use Rattle.std.proofs.Common.{arith, Result, Ok, Err, OnOk, OnErr}
 use Rattle.std.proofs.lemmas.Bool.Decides.{nat_tests}
@@ -8,7 +8,7 @@ use Rattle.sim_standard.specs.declared.delay.Delay.{Delay}
 use Rattle.sim_standard.specs.declared.delay.Delay.TheVariants.{Transport, Inertial}
 use Rattle.sim_standard.specs.Editing.{before, edited, is_marked, kept_of, marked_of, scheduled}
 
--- from an earlier time on they rise too
+-- transactions that ascend from a time ascend from an earlier one too
 pub RisesFrom-earlier : (low high : ℕ) (xs : List Transaction) → low ≤ high → RisesFrom high xs → RisesFrom low xs
 RisesFrom-earlier low high [] le r = tt
 RisesFrom-earlier low high (x ∷ xs) le r = (omega arith, r.1)
@@ -28,7 +28,7 @@ RisesFrom-order low (x ∷ xs) zero (suc j) r le h = let ih = RisesFrom-at (suc 
 RisesFrom-order low (x ∷ xs) (suc i) zero r le h = absurd (omega arith)
 RisesFrom-order low (x ∷ xs) (suc i) (suc j) r le h = RisesFrom-order (suc x.0) xs i j r.1 (omega arith) (omega arith)
 
--- transactions after others
+-- transactions appended to others
 pub RisesFrom-append : (low bound : ℕ) (xs ys : List Transaction) → low ≤ bound → RisesFrom low xs
     → ((k : ℕ) → k < length xs → (transaction_at xs k).0 < bound) → RisesFrom bound ys → RisesFrom low (xs ++ ys)
 RisesFrom-append low bound [] ys le r h s = RisesFrom-earlier low bound ys le s
@@ -36,13 +36,13 @@ RisesFrom-append low bound (x ∷ xs) ys le r h s =
     let here : x.0 < bound = h 0 (omega arith) in
     (r.0, RisesFrom-append (suc x.0) bound xs ys (omega arith) r.1 (λ k l. h (suc k) (omega arith)) s)
 
--- the new transactions rise
+-- the new transactions ascend
 pub RisesFrom-scheduled : (now low : ℕ) (es : List Transaction) → RisesFrom low es → RisesFrom (now + low) (scheduled now es)
 RisesFrom-scheduled now low [] r = tt
 RisesFrom-scheduled now low (e ∷ es) r =
     (omega (arith, r.0), RisesFrom-earlier (suc (now + e.0)) (now + suc e.0) (scheduled now es) (omega arith) (RisesFrom-scheduled now (suc e.0) es r.1))
 
--- the transactions before a time rise, and are before it
+-- the transactions before a time ascend, and are before it
 pub before-rises : (low time : ℕ) (xs : List Transaction) → RisesFrom low xs → RisesFrom low (before time xs)
 before-rises low time [] r = tt
 before-rises low time (x ∷ xs) r = go (before-rises (suc x.0) time xs r.1) (ltb x.0 time)
@@ -61,7 +61,7 @@ before-below time (x ∷ xs) k h = go (before-below time xs) (ltb x.0 time) refl
     go ih true e (suc i) l = ih i (omega arith)
     go ih false e i l = ih i l
 
--- where the place of a time is known, the transactions before it are the front
+-- if the first `n` transactions are before a time and the others are not, the first `n` are those before it
 pub before-take : (time : ℕ) (xs : List Transaction) (n : ℕ) → n ≤ length xs
     → ((k : ℕ) → k < n → (transaction_at xs k).0 < time) → ((k : ℕ) → n ≤ k → k < length xs → time ≤ (transaction_at xs k).0)
     → before time xs ≡ take n xs
@@ -77,7 +77,7 @@ before-take time (x ∷ xs) (suc n) le below above =
     rw test (ap (λ (w : List Transaction). x ∷ w)
     (before-take time xs n (omega arith) (λ k l. below (suc k) (omega arith)) (λ k l h. above (suc k) (omega arith) (omega arith))))
 
--- the marked ones rise, and are before what all are before
+-- the marked transactions ascend, and are before any time that all are before
 pub marked_of-rises : (low limit : ℕ) (v : Logic) (xs : List Transaction) → RisesFrom low xs → RisesFrom low (marked_of limit v xs)
 marked_of-rises low limit v [] r = tt
 marked_of-rises low limit v (x ∷ xs) r = go (marked_of-rises (suc x.0) limit v xs r.1) (is_marked limit v x xs)
@@ -107,7 +107,7 @@ kept_of-below : (first : Transaction) (delay : Delay) (xs : List Transaction) �
 kept_of-below first Transport xs all = all
 kept_of-below first (Inertial reject) xs all = marked_of-below (first.0 - reject) first.0 first.1 xs all
 
--- what an assignment leaves rises
+-- the transactions that an assignment leaves ascend
 pub edited-rises : (now : ℕ) (old : List Transaction) (delay : Delay) (es : List Transaction) → 0 < length es → RisesFrom now old → RisesFrom 0 es
     → RisesFrom now (edited old now delay es)
 edited-rises now old delay [] some r s = absurd (omega arith)
@@ -118,7 +118,7 @@ edited-rises now old delay (e ∷ es) some r s =
     RisesFrom-append now (now + e.0) (kept_of delay first (before (now + e.0) old)) (scheduled now (e ∷ es)) (omega arith) front
     (kept_of-below first delay (before (now + e.0) old) (before-below (now + e.0) old)) new
 
--- what an assignment leaves rises, where an error leaves what was there
+-- the same, if an error leaves the old transactions
 pub edit-rises : {T E : Type 0} (r : Result T E) (now : ℕ) (old new : List Transaction) (delay : Delay) (es : List Transaction)
     → 0 < length es → RisesFrom now old → RisesFrom 0 es → OnOk r (new ≡ edited old now delay es) → OnErr r (new ≡ old) → RisesFrom now new
 edit-rises (Ok x) now old new delay es some r s ok err = rw ok (edited-rises now old delay es some r s)

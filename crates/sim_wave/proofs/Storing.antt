@@ -1,4 +1,4 @@
--- Lists of which the first part is not looked at.
+-- Lists of transactions whose first part has been taken.
 use Rattle.std.proofs.Common.{ℕ, zero, suc, ◌+◌, ◌-◌, ◌<◌, ◌≤◌, ◌≡◌, List, [], ◌∷◌, ◌++◌, length, take, drop, refl, ap, sym, ◌∙◌, arith, length-append}
 use Rattle.std.proofs.Common.{length-drop}
 use Rattle.std.specs.List.{remove_range}
@@ -20,7 +20,7 @@ drop_one-drop zero (suc zero) (x ∷ xs) e = refl
 drop_one-drop zero (suc (suc h')) (x ∷ xs) e = absurd (omega arith)
 drop_one-drop (suc h) (suc h') (x ∷ xs) e = drop_one-drop h h' xs (omega arith)
 
--- what an edit of a list leaves from a place on that it does not reach
+-- an edit beyond the first `h` transactions is an edit of the list without them
 pub drop-remove_range : (h f b e f' b' e' : ℕ) (xs ys : List Transaction) → f ≤ b → b ≤ e → e' ≤ length xs
     → f' ≡ h + f → b' ≡ h + b → e' ≡ h + e
     → drop h (remove_range (take e' xs) f' b' ++ ys) ≡ remove_range (take e (drop h xs)) f b ++ ys
@@ -36,7 +36,7 @@ drop-remove_range (suc h) f b e (suc f') (suc b') (suc e') [] ys fb be fits p q 
 drop-remove_range (suc h) f b e (suc f') (suc b') (suc e') (x ∷ xs) ys fb be fits p q r =
     drop-remove_range h f b e f' b' e' xs ys fb be (omega arith) (omega arith) (omega arith) (omega arith)
 
--- how many are left
+-- the number of transactions that are kept
 pub length-remove_range : (f b e : ℕ) (xs : List Transaction) → f ≤ b → b ≤ e → e ≤ length xs → length (remove_range (take e xs) f b) ≡ f + (e - b)
 length-remove_range f b e xs fb be fits =
     let taken : length (take e xs) ≡ e = length-take-le e xs fits in
@@ -69,7 +69,7 @@ IsRun-first (suc f) (suc b) (suc e) end v (x ∷ xs) n ns fb be fits run same q 
     IsRun-first f b e (end - 1) v xs n ns (omega arith) (omega arith) (omega arith) (λ i a c. run (suc i) (omega arith) (omega arith)) same (omega arith) k
     (omega arith) (omega arith)
 
--- the others rise too
+-- the others ascend too
 pub rises-drop_one : (xs : List Transaction) → RisesFrom 0 xs → RisesFrom 0 (drop 1 xs)
 rises-drop_one [] r = tt
 rises-drop_one (x ∷ xs) r = RisesFrom-earlier 0 (suc x.0) xs (omega arith) r.1
@@ -85,21 +85,21 @@ pub length-scheduled : (now : ℕ) (es : List Transaction) → length (scheduled
 length-scheduled now [] = refl
 length-scheduled now (e ∷ es) = ap suc (length-scheduled now es)
 
--- what is kept and the new ones are what is pending afterwards
+-- those kept and the new ones are pending afterwards
 pub kept-edited : (now : ℕ) (old : List Transaction) (delay : Delay) (es kept : List Transaction) → 0 < length es
     → kept ≡ kept_of delay (now + (transaction_at es 0).0, (transaction_at es 0).1) (before (now + (transaction_at es 0).0) old)
     → kept ++ scheduled now es ≡ edited old now delay es
 kept-edited now old delay [] kept some e = absurd (omega arith)
 kept-edited now old delay (x ∷ xs) kept some e = ap (λ (w : List Transaction). w ++ scheduled now (x ∷ xs)) e
 
--- how many are pending afterwards
+-- the number of transactions that are pending afterwards
 pub length-left : (now f b e : ℕ) (xs es : List Transaction) → f ≤ b → b ≤ e → e ≤ length xs
     → length (remove_range (take e xs) f b ++ scheduled now es) ≡ f + (e - b) + length es
 length-left now f b e xs es fb be fits =
     let front = length-remove_range f b e xs fb be fits in
     omega (arith, length-append (remove_range (take e xs) f b) (scheduled now es), length-scheduled now es)
 
--- a run of a list without its first transactions is one of the list
+-- a run of a list without its first transactions is a run of the list
 pub IsRun-undrop : (h s e s' e' : ℕ) (v : Logic) (xs : List Transaction) → IsRun (drop h xs) s e v → s' ≡ h + s → e' ≡ h + e → IsRun xs s' e' v
 IsRun-undrop h s e s' e' v xs run p q k g l =
     let at : transaction_at (drop h xs) (k - h) ≡ transaction_at xs (h + (k - h)) = get_or-drop h xs (k - h) (0, U) in
@@ -107,7 +107,7 @@ IsRun-undrop h s e s' e' v xs run p q k g l =
     let there : (transaction_at (drop h xs) (k - h)).1 ≡ v = run (k - h) (omega arith) (omega arith) in
     ap (λ (i : ℕ). (transaction_at xs i).1) (sym place) ∙ (ap (λ (t : Transaction). t.1) (sym at) ∙ there)
 
--- the run up to the first new one, after an edit of what a list has from a place on
+-- the run up to the first new transaction, after an edit of the pending part of a list
 pub IsRun-edited : (now h b e f' b' e' end : ℕ) (xs pending es : List Transaction) → 0 < length es → pending ≡ drop h xs
     → f' ≤ b' → b' ≤ e' → e' ≤ length xs → b' ≡ h + b → e' ≡ h + e
     → IsRun pending b e (transaction_at es 0).1 → end ≡ f' + (e' - b') + 1

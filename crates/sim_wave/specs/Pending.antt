@@ -1,5 +1,5 @@
--- The pending transactions of a driver, wherever they stand.
--- Of the implementation: what `simulate` promises does not rest on this file.
+-- The pending transactions of a driver, wherever they are stored.
+-- Implementation only: what `simulate` promises does not rest on this file.
 use Rattle.std.specs.Prelude.{List, [], ◌∷◌}
 use Rattle.sim_standard.specs.Drivers.{Transaction, transaction_at}
 use Rattle.sim_wave.specs.declared.pending.Pending.{Pending}

@@ -13,20 +13,20 @@ use sim_standard::Delay;
 use std::alloc::{AllocError, Global};
 use std::marker::Model;
 
-/// A value and when a driver takes it: a time in femtoseconds, or a delay from now.
+/// A time in femtoseconds, absolute or as a delay, and the value that a driver takes then.
 pub type Transaction = (u64, Logic);
 
-/// The number of pending transactions that need no allocation: they stand in the driver itself.
+/// The number of pending transactions that a driver holds itself, without an allocation.
 pub const IN_PLACE: usize = 2;
 
-/// A driver: its current value and its pending transactions, whose times rise strictly.
+/// A driver: its current value and its pending transactions, whose times strictly ascend.
 pub struct Driver {
     value: Logic,
     alloc: Global,
     pending: Pending,
 }
 
-/// By hand, so that crates which drop one need no proof of what is in it.
+/// Written by hand so that code which drops it needs no proof about its contents.
 impl Drop for Driver {
     fn drop(self) {
         let Driver {
@@ -80,7 +80,7 @@ impl Driver {
         self.pending.as_slice()
     }
 
-    /// The first pending time.
+    /// The time of the first pending transaction in femtoseconds, if there is one.
     pub fn next(&self) -> Option<u64>
         ensures { result ≡ next_of self.now.pending }
     {
@@ -90,8 +90,8 @@ impl Driver {
         }
     }
 
-    /// Makes the first pending transaction the value, if its time is `time`; says whether it did.
-    /// What stays is later than `time` where no transaction was earlier.
+    /// Takes the first pending transaction if its time is `time` in femtoseconds; returns whether
+    /// it did. If none was earlier than `time`, those that remain are later.
     pub fn take(&mut self, time: u64) -> bool
         ensures due { IsTrue result ↔ (next_of self.old.pending ≡ Some time) }
         ensures after { self.new ≡ taken time self.old }
@@ -123,15 +123,15 @@ impl Driver {
         })
     }
 
-    /// The two drivers have the same value and the same pending transactions.
+    /// Returns true if both drivers have the same value and the same pending transactions.
     pub fn same(&self, other: &Driver) -> bool
         ensures { IsTrue result ↔ (self.now ≡ other.now) }
     {
         self.value == other.value && self.pending.as_slice() == other.pending.as_slice()
     }
 
-    /// A signal assignment of one element with no delay at the time `now`: whatever was pending, it
-    /// alone is pending then (IEEE 1076-2008, 10.5.2.2). Where memory runs out, nothing changes.
+    /// Assigns one element without delay at the time `now` in femtoseconds: it replaces all pending
+    /// transactions (IEEE 1076-2008, 10.5.2.2). If memory runs out, nothing changes.
     #[inline(always)]
     pub fn assign_now(&mut self, now: u64, value: Logic) -> Result<(), AllocError>
         requires now { now ≤ largest_time }
@@ -148,9 +148,9 @@ impl Driver {
         Ok(())
     }
 
-    /// A signal assignment at the time `now`, whose elements are pairs of a delay and a value
-    /// (IEEE 1076-2008, 10.5.2.2). Times and delays are in femtoseconds. Where memory runs out,
-    /// nothing changes.
+    /// Carries out a signal assignment at the time `now` (IEEE 1076-2008, 10.5.2.2). Each element
+    /// is a delay and a value. Times and delays are in femtoseconds. If memory runs out, nothing
+    /// changes.
     pub fn edit(
         &mut self,
         now: u64,

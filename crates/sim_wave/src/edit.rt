@@ -24,7 +24,7 @@ pub(crate) struct Run {
 }
 
 impl Run {
-    /// No transactions.
+    /// The empty run.
     pub(crate) fn none() -> Run
         ensures { result ≡ record { start = 0; end = 0; value = logic.Logic.U } }
     {
@@ -35,7 +35,7 @@ impl Run {
         }
     }
 
-    /// The run in a list without its first `count` transactions.
+    /// The same run once the first `count` transactions of the list are removed.
     pub(crate) fn after(self, count: usize) -> Run
         ensures { result ≡ record {
           start = self.start - count;
@@ -50,7 +50,7 @@ impl Run {
         }
     }
 
-    /// Where the run begins, if it goes up to `end` and has this value; else `end`.
+    /// The start of the run if it reaches `end` and has this value, else `end`.
     fn start_before(self, end: usize, value: Logic) -> usize
         ensures within { result ≤ end }
         ensures start { result < end → self.start ≡ result }
@@ -65,7 +65,7 @@ impl Run {
     }
 }
 
-/// The old transactions that an edit keeps: those below `front`, and those from `back` up to `end`.
+/// The old transactions that an edit keeps: those before `front`, and from `back` up to `end`.
 #[derive(Clone, Copy)]
 pub(crate) struct Kept {
     pub(crate) front: usize,
@@ -75,14 +75,14 @@ pub(crate) struct Kept {
 }
 
 impl Kept {
-    /// How many there are.
+    /// The number of transactions that are kept.
     pub(crate) fn len(self) -> usize
         ensures { result ≡ self.front + (self.end - self.back) }
     {
         self.front + (self.end - self.back)
     }
 
-    /// The same transactions in a list that has `count` others before them, which are kept too.
+    /// The same for a list with `count` more transactions in front, all of which are kept.
     pub(crate) fn beyond(self, count: usize) -> Kept
         requires { count + self.end ≤ usize.MAX }
         ensures front { result.front ≡ count + self.front }
@@ -97,7 +97,7 @@ impl Kept {
     }
 }
 
-/// How many of the first `end` transactions are before `time`.
+/// The number of transactions before `time`, among the first `end`.
 fn count_before(pending: &[Transaction], end: usize, time: u64) -> usize
     requires rises { RisesFrom 0 pending.now }
     requires within { end ≤ length pending.now }
@@ -112,16 +112,16 @@ fn count_before(pending: &[Transaction], end: usize, time: u64) -> usize
     place
 }
 
-/// The transaction is not before `limit`, and has this value.
+/// Returns true if the transaction is not before `limit` and has this value.
 fn continues(transaction: Transaction, limit: u64, value: Logic) -> bool
     ensures { IsTrue result ↔ ((limit ≤ transaction.0) × (transaction.1 ≡ value)) }
 {
     transaction.0 >= limit && transaction.1 == value
 }
 
-/// Where the chain of transactions of this value begins that goes up to `end`. The remembered run
-/// is not gone over again, and before it the chain is followed no further than to `limit`, before
-/// which every transaction is marked.
+/// The start of the chain of transactions of this value that reaches `end`. The remembered run is
+/// not searched again, and before it the search stops at `limit`, before which every transaction is
+/// marked.
 fn chain_start(pending: &[Transaction], run: Run, end: usize, limit: u64, value: Logic) -> usize
     requires run { IsRun pending.now run.start run.end run.value }
     requires within { end ≤ length pending.now }
@@ -137,7 +137,7 @@ fn chain_start(pending: &[Transaction], run: Run, end: usize, limit: u64, value:
     place
 }
 
-/// What the delay keeps, where `first` is the first new transaction.
+/// The old transactions that the delay keeps, where `first` is the first new one.
 pub(crate) fn kept_by(pending: &[Transaction], run: Run, delay: Delay, first: Transaction) -> Kept
     requires rises { RisesFrom 0 pending.now }
     requires run { IsRun pending.now run.start run.end run.value }
@@ -176,7 +176,7 @@ pub(crate) fn close_gap(list: &mut Transactions, front: usize, back: usize)
     }
 }
 
-/// Appends the elements at their times.
+/// Appends the elements, each at `now` plus its delay.
 fn append(list: &mut Transactions, now: u64, elements: &[Transaction])
     requires room { vec_len list.old + length elements.now ≤ vec_capacity list.old }
     requires now { now ≤ largest_time }
@@ -189,7 +189,7 @@ fn append(list: &mut Transactions, now: u64, elements: &[Transaction])
     }
 }
 
-/// Puts the elements after what is kept, in a list that has room for them.
+/// Removes what is not kept, and appends the elements to a list that has room for them.
 pub(crate) fn rewrite(list: &mut Transactions, kept: Kept, now: u64, elements: &[Transaction])
     requires within { kept.end ≤ vec_len list.old }
     requires room { kept.front + (kept.end - kept.back) + length elements.now
@@ -206,7 +206,7 @@ pub(crate) fn rewrite(list: &mut Transactions, kept: Kept, now: u64, elements: &
     append(list, now, elements);
 }
 
-/// The delay keeps a single old transaction where this one is assigned.
+/// Returns true if the delay keeps `old`, the only pending transaction, when `new` is assigned.
 pub(crate) fn keeps(old: Transaction, delay: Delay, new: Transaction) -> bool
     requires { IsWithin delay new.0 }
     ensures { IsTrue result ↔ (kept_of delay new (before new.0 (old ∷ [])) ≡ old ∷ []) }

@@ -1,4 +1,4 @@
-//! The pending transactions of a driver: in the driver itself while there are at most two.
+//! The pending transactions of a driver. Up to two need no allocation.
 
 ghost use Rattle.std.specs.Prelude.{◌≡◌, ◌+◌, ◌-◌, ◌<◌, ◌≤◌, [], ◌∷◌, ◌++◌, length, take, drop, All, IfOk, IsOk, OnOk, OnErr};
 ghost use Rattle.sim_standard.specs.Drivers.{RisesFrom, Transaction as transaction, transaction_at};
@@ -13,7 +13,7 @@ use crate::stored::Stored;
 use sim_standard::Delay;
 use std::alloc::{AllocError, Global};
 
-/// Pending transactions, earliest first. A driver that once had more than two keeps their room.
+/// Pending transactions, earliest first. A driver that has once had more than two keeps that room.
 #[derive(Drop)]
 pub(crate) enum Pending {
     Nothing,
@@ -22,7 +22,7 @@ pub(crate) enum Pending {
     Many(Box<Stored>),
 }
 
-/// Both of two transactions.
+/// An array of two transactions as a slice.
 fn two_of(both: &[Transaction; 2]) -> &[Transaction]
     ensures { result.now ≡ transaction_at both.now 0 ∷ (transaction_at both.now 1 ∷ []) }
 {
@@ -42,7 +42,7 @@ impl Pending {
         }
     }
 
-    /// At most two transactions.
+    /// Up to two transactions, without an allocation.
     fn of_few(transactions: &[Transaction]) -> Pending
         requires { length transactions.now ≤ IN_PLACE }
         ensures { transactions_of result ≡ transactions.now }
@@ -69,7 +69,7 @@ impl Pending {
         Ok(Pending::Many(Box::new(alloc, stored)?))
     }
 
-    /// What is kept of the transactions, and then the elements: two at most.
+    /// The transactions that are kept, followed by the elements: at most two in all.
     fn of_kept(few: &[Transaction], kept: Kept, now: u64, elements: &[Transaction]) -> Pending
         requires some { 0 < length elements.now }
         requires within { kept.end ≤ length few.now }
@@ -104,8 +104,8 @@ impl Pending {
         }
     }
 
-    /// A signal assignment, as `Driver::edit` has it. It stays apart, so that the straight ways
-    /// there stay short.
+    /// Carries out a signal assignment, as `Driver::edit` does. It is out of line to keep the fast
+    /// paths there small.
     #[inline(never)]
     pub(crate) fn edit(
         &mut self,

@@ -1,4 +1,4 @@
-//! Pending transactions of any number.
+//! Any number of pending transactions.
 
 ghost use Rattle.std.specs.Prelude.{◌≡◌, ◌+◌, ◌-◌, ◌<◌, ◌≤◌, length, drop, All, IfOk, IsOk, OnOk, OnErr};
 ghost use Rattle.sim_logic.specs.declared.logic.Logic as logic;
@@ -12,10 +12,10 @@ use sim_standard::Delay;
 use std::alloc::{AllocError, Global};
 use std::marker::Model;
 
-/// Pending transactions, earliest first: those of the list from `head` on. The ones before `head`
-/// were taken. They are removed once the others are no more than they, so that no more transactions
-/// are moved than were taken. A run of equal values is remembered, so that an inertial edit does
-/// not go over them again.
+/// Pending transactions, earliest first: those of the list from `head` on. Those before `head` have
+/// been taken. They are removed once they are at least as many as the others, so that no more
+/// transactions are moved than were taken. A run of equal values is remembered, so that an inertial
+/// assignment does not search it again.
 #[derive(Drop)]
 pub(crate) struct Stored {
     list: Transactions,
@@ -39,7 +39,7 @@ impl Model for Stored {
 }
 
 impl Stored {
-    /// A copy of the transactions, with room for so many in all.
+    /// A copy of the transactions, with room for at least `room`.
     pub(crate) fn copy_of(
         alloc: Global,
         transactions: &[Transaction],
@@ -81,7 +81,7 @@ impl Stored {
         self.head = 0;
     }
 
-    /// A signal assignment, as `Driver::edit` has it.
+    /// Carries out a signal assignment, as `Driver::edit` does.
     pub(crate) fn edit(
         &mut self,
         now: u64,

@@ -3,7 +3,7 @@ use sim_text_tree::declaration::{
     ComponentDeclaration, Declaration, Initial, Mode, ObjectDeclaration, PortDeclaration,
 };
 
-/// Puts `:=` and the value, if one is written.
+/// Appends `:=` and the value, if one is written.
 fn put_initial(line: &mut Line, initial: &Option<Initial>) {
     match initial {
         None => {}
@@ -18,7 +18,7 @@ fn put_initial(line: &mut Line, initial: &Option<Initial>) {
     }
 }
 
-/// The word of a mode with a blank after it; nothing where none is written.
+/// The word of a mode and a space; nothing if none is written.
 fn mode(mode: Option<Mode>) -> &'static str {
     match mode {
         None => "",
@@ -28,7 +28,7 @@ fn mode(mode: Option<Mode>) -> &'static str {
     }
 }
 
-/// Puts a declaration of ports, with its names, mode and type mark.
+/// Appends a port declaration, with its names, mode and type mark.
 fn put_port(line: &mut Line, port: &PortDeclaration) {
     line.put_if(port.signal, "signal ");
     line.put_names(port.names.as_slice());
@@ -38,7 +38,7 @@ fn put_port(line: &mut Line, port: &PortDeclaration) {
     put_initial(line, &port.initial);
 }
 
-/// Puts a port clause, if there are ports.
+/// Appends a port clause, if there are ports.
 pub fn put_ports(line: &mut Line, ports: &[PortDeclaration]) {
     let mut between = "port(";
     for port in ports {
@@ -49,7 +49,7 @@ pub fn put_ports(line: &mut Line, ports: &[PortDeclaration]) {
     line.put_if(!ports.is_empty(), ");");
 }
 
-/// Puts a declaration of signals or variables after the word of its class.
+/// Appends a declaration of signals or variables, after the word for their class.
 fn put_object(line: &mut Line, class: &str, object: &ObjectDeclaration) {
     line.put(class);
     line.put_names(object.names.as_slice());
@@ -59,14 +59,14 @@ fn put_object(line: &mut Line, class: &str, object: &ObjectDeclaration) {
     line.put(";");
 }
 
-/// Puts the declarations of a process.
+/// Appends the declarations of a process.
 pub fn put_variables(line: &mut Line, variables: &[ObjectDeclaration]) {
     for variable in variables {
         put_object(line, "variable ", variable);
     }
 }
 
-/// Puts a component with its ports.
+/// Appends a component with its ports.
 fn put_component(line: &mut Line, component: &ComponentDeclaration) {
     line.put("component ");
     line.put_name(&component.name);
@@ -78,7 +78,7 @@ fn put_component(line: &mut Line, component: &ComponentDeclaration) {
     line.put(";");
 }
 
-/// Puts the declarations of an architecture.
+/// Appends the declarations of an architecture.
 pub fn put_declarations(line: &mut Line, declarations: &[Declaration]) {
     for declaration in declarations {
         match declaration {

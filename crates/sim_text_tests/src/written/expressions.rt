@@ -3,7 +3,7 @@ use sim_logic::{Logical, Relational};
 use sim_text_tree::expression::{Expression, Operand};
 use sim_text_tree::name::Name;
 
-/// Puts a function call, with the places of both names.
+/// Appends a function call, with the places of both names.
 fn put_call(line: &mut Line, function: &Name, argument: &Name) {
     line.put_name(function);
     line.put("(");
@@ -11,20 +11,20 @@ fn put_call(line: &mut Line, function: &Name, argument: &Name) {
     line.put(")");
 }
 
-/// Puts an operator with its place, between two blanks.
+/// Appends an operator with its place, between two spaces.
 fn put_operator(line: &mut Line, operator: &str, at: usize) {
     line.put(" ");
     line.put_at(operator, at);
     line.put(" ");
 }
 
-/// Puts what stands before an operand, with its place, and a blank after it.
+/// Appends the token before an operand, with its place, and a space.
 fn put_before(line: &mut Line, token: &str, at: usize) {
     line.put_at(token, at);
     line.put(" ");
 }
 
-/// The sign of a relational operator.
+/// The symbol of a relational operator.
 fn relational(operator: Relational) -> &'static str {
     match operator {
         Relational::Equal => "=",
@@ -44,7 +44,7 @@ fn logical(operator: Logical) -> &'static str {
     }
 }
 
-/// Puts each operand after the first with the operator before it.
+/// Appends each operand after the first, with the operator before it.
 #[cycle(expression)]
 fn put_operands(line: &mut Line, operator: &str, operands: &[Operand]) {
     for operand in operands {
@@ -53,7 +53,7 @@ fn put_operands(line: &mut Line, operator: &str, operands: &[Operand]) {
     }
 }
 
-/// Puts an expression with the places of its names, literals and operators.
+/// Appends an expression with the places of its names, literals and operators.
 #[cycle(expression)]
 pub fn put_expression(line: &mut Line, expression: &Expression) {
     match expression {

@@ -5,7 +5,7 @@ use sim_text_tree::sequential::{
     Branch, Sequential, SignalAssignment, Statement, VariableAssignment,
 };
 
-/// Puts a signal assignment.
+/// Appends a signal assignment.
 fn put_signal(line: &mut Line, assignment: &SignalAssignment) {
     line.put_name(&assignment.target);
     line.put("<=");
@@ -14,7 +14,7 @@ fn put_signal(line: &mut Line, assignment: &SignalAssignment) {
     line.put(";");
 }
 
-/// Puts a variable assignment.
+/// Appends a variable assignment.
 fn put_variable(line: &mut Line, assignment: &VariableAssignment) {
     line.put_name(&assignment.target);
     line.put(":=");
@@ -22,7 +22,7 @@ fn put_variable(line: &mut Line, assignment: &VariableAssignment) {
     line.put(";");
 }
 
-/// Puts the branches of an if statement, the first as `if` and the others as `elsif`.
+/// Appends the branches of an if statement, the first with `if` and the others with `elsif`.
 #[cycle(sequential)]
 fn put_branches(line: &mut Line, branches: &[Branch]) {
     let mut first = true;
@@ -35,7 +35,7 @@ fn put_branches(line: &mut Line, branches: &[Branch]) {
     }
 }
 
-/// Puts a statement without its label.
+/// Appends a statement without its label.
 #[cycle(sequential)]
 fn put_statement(line: &mut Line, statement: &Statement) {
     match statement {
@@ -59,7 +59,7 @@ fn put_statement(line: &mut Line, statement: &Statement) {
     }
 }
 
-/// Puts statements, each with its label.
+/// Appends statements, each with its label.
 #[cycle(sequential)]
 pub fn put_statements(line: &mut Line, statements: &[Sequential]) {
     for sequential in statements {

@@ -8,7 +8,7 @@ use sim_text_tree::unit::{
     LibraryUnit, Process, SelectedName, Sensitivity,
 };
 
-/// Puts a sensitivity list, or `all`.
+/// Appends a sensitivity list, or `all`.
 fn put_sensitivity(line: &mut Line, sensitivity: &Sensitivity) {
     match sensitivity {
         Sensitivity::All => line.put("all"),
@@ -16,7 +16,7 @@ fn put_sensitivity(line: &mut Line, sensitivity: &Sensitivity) {
     }
 }
 
-/// Puts a process, and whether `postponed` and its label are repeated at its end.
+/// Appends a process, and whether `postponed` and its label are repeated at its end.
 fn put_process(line: &mut Line, process: &Process) {
     line.put_label(&process.label);
     line.put_if(process.postponed, "postponed ");
@@ -34,7 +34,7 @@ fn put_process(line: &mut Line, process: &Process) {
     line.put(";");
 }
 
-/// Puts a name, a literal or `open`.
+/// Appends a name, a literal or `open`.
 fn put_actual(line: &mut Line, actual: &Actual) {
     match actual {
         Actual::Named(name) => line.put_name(name),
@@ -43,7 +43,7 @@ fn put_actual(line: &mut Line, actual: &Actual) {
     }
 }
 
-/// Puts a port map, with the formals that are written.
+/// Appends a port map, with the formals that are written.
 fn put_associations(line: &mut Line, associations: &[Association]) {
     let mut between = " port map(";
     for association in associations {
@@ -58,7 +58,7 @@ fn put_associations(line: &mut Line, associations: &[Association]) {
     line.put_if(!associations.is_empty(), ")");
 }
 
-/// Puts the entity or component of an instance.
+/// Appends the entity or component of an instance.
 fn put_instantiated(line: &mut Line, unit: &Instantiated) {
     match unit {
         Instantiated::Component {
@@ -86,7 +86,7 @@ fn put_instantiated(line: &mut Line, unit: &Instantiated) {
     }
 }
 
-/// Puts an instance with its port map.
+/// Appends an instance with its port map.
 fn put_instance(line: &mut Line, instance: &Instance) {
     line.put_name(&instance.label);
     line.put(":");
@@ -95,7 +95,7 @@ fn put_instance(line: &mut Line, instance: &Instance) {
     line.put(";");
 }
 
-/// Puts the statements of an architecture.
+/// Appends the statements of an architecture.
 fn put_concurrents(line: &mut Line, statements: &[Concurrent]) {
     for statement in statements {
         match statement {
@@ -106,7 +106,7 @@ fn put_concurrents(line: &mut Line, statements: &[Concurrent]) {
     }
 }
 
-/// Puts a selected name with its suffixes.
+/// Appends a selected name with its suffixes.
 fn put_selected(line: &mut Line, name: &SelectedName) {
     line.put_name(&name.prefix);
     for suffix in name.suffixes.as_slice() {
@@ -116,7 +116,7 @@ fn put_selected(line: &mut Line, name: &SelectedName) {
     line.put_if(name.all, ".all");
 }
 
-/// Puts the names of a use clause.
+/// Appends the names of a use clause.
 fn put_selected_names(line: &mut Line, names: &[SelectedName]) {
     let mut between = "use ";
     for name in names {
@@ -127,7 +127,7 @@ fn put_selected_names(line: &mut Line, names: &[SelectedName]) {
     line.put(";");
 }
 
-/// Puts library and use clauses.
+/// Appends library and use clauses.
 fn put_context(line: &mut Line, context: &[ContextItem]) {
     for item in context {
         match item {
@@ -141,7 +141,7 @@ fn put_context(line: &mut Line, context: &[ContextItem]) {
     }
 }
 
-/// Puts an entity with its ports.
+/// Appends an entity with its ports.
 fn put_entity(line: &mut Line, entity: &Entity) {
     line.put("entity ");
     line.put_name(&entity.name);
@@ -153,7 +153,7 @@ fn put_entity(line: &mut Line, entity: &Entity) {
     line.put(";");
 }
 
-/// Puts an architecture with its declarations and statements.
+/// Appends an architecture with its declarations and statements.
 fn put_architecture(line: &mut Line, architecture: &Architecture) {
     line.put("architecture ");
     line.put_name(&architecture.name);
@@ -169,7 +169,7 @@ fn put_architecture(line: &mut Line, architecture: &Architecture) {
     line.put(";");
 }
 
-/// Puts the units of a design file, each with its context clause.
+/// Appends the units of a design file, each with its context clause.
 pub fn put_file(line: &mut Line, file: &DesignFile) {
     for unit in file.units() {
         put_context(line, unit.context.as_slice());

@@ -6,7 +6,7 @@ use sim_text_tree::waveform::{
     ConcurrentSignalAssignment, ConditionalWaveforms, DelayMechanism, Element,
 };
 
-/// The word of a unit of time, with a blank before it.
+/// The name of a unit of time, preceded by a space.
 pub fn unit_name(unit: Unit) -> &'static str {
     match unit {
         Unit::Fs => " fs",
@@ -20,13 +20,13 @@ pub fn unit_name(unit: Unit) -> &'static str {
     }
 }
 
-/// Puts the digits of a time with their place, and its unit.
+/// Appends the digits of a time with their place, and its unit.
 pub fn put_time(line: &mut Line, time: &TimeLiteral) {
     line.put_digits(time.digits(), time.at());
     line.put(unit_name(time.unit()));
 }
 
-/// Puts elements with their delays, and a comma between each two.
+/// Appends elements with their delays, separated by commas.
 pub fn put_waveform(line: &mut Line, waveform: &[Element]) {
     let mut between = "";
     for element in waveform {
@@ -40,7 +40,7 @@ pub fn put_waveform(line: &mut Line, waveform: &[Element]) {
     }
 }
 
-/// Puts a delay mechanism, if one is written.
+/// Appends a delay mechanism, if one is written.
 pub fn put_delay(line: &mut Line, delay: &DelayMechanism) {
     match delay {
         DelayMechanism::Unwritten => {}
@@ -54,7 +54,7 @@ pub fn put_delay(line: &mut Line, delay: &DelayMechanism) {
     }
 }
 
-/// Puts conditional waveforms with their conditions.
+/// Appends conditional waveforms with their conditions.
 fn put_waveforms(line: &mut Line, waveforms: &ConditionalWaveforms) {
     let mut between = "";
     for waveform in waveforms.conditional.as_slice() {
@@ -70,7 +70,7 @@ fn put_waveforms(line: &mut Line, waveforms: &ConditionalWaveforms) {
     }
 }
 
-/// Puts a concurrent assignment with its label.
+/// Appends a concurrent assignment with its label.
 pub fn put_assignment(line: &mut Line, assignment: &ConcurrentSignalAssignment) {
     line.put_label(&assignment.label);
     line.put_if(assignment.postponed, "postponed ");

@@ -5,7 +5,7 @@ use Rattle.sim_standard.specs.Drivers.{Transaction}
 use Rattle.sim_standard.specs.Expressions as values
 use Rattle.sim_exec.proofs.assignments.element_values.Given as goal
 
--- what was found are the elements so far, and none is later than there are times
+-- the values found are those of the elements so far, and none is beyond the largest time
 abbrev pub invariant-loop-element : goal.invariant-loop-element
 invariant-loop-element g l = record {
   value : l.found.items ≡ values.element_values (g.N.Nets.look l.nets) l.variables (take l.element-index l.elements);

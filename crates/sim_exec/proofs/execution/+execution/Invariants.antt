@@ -4,7 +4,7 @@ use Rattle.sim_standard.specs.State.{Owned, driver_values}
 use Rattle.sim_standard.specs.Statements.{own_steps, statement_done, branch_done, in_turn, if_taken}
 use Rattle.sim_exec.proofs.execution.+execution.Given as goal
 
--- what is left, carried out now, gives what all give, carried out at first
+-- the remaining statements, carried out now, leave what all leave when carried out from the start
 abbrev pub invariant-execute_all-loop-statement : goal.invariant-execute_all-loop-statement
 invariant-execute_all-loop-statement g l =
     let done = map (statement_done (own_steps (g.N.Nets.look l.nets) l.now)) in
@@ -16,7 +16,7 @@ invariant-execute_all-loop-statement g l =
       values : driver_values own.drivers ≡ driver_values first.drivers;
     }
 
--- none so far is taken, and nothing is changed
+-- no branch so far is taken, and nothing is changed
 abbrev pub invariant-execute_branches-loop-branch : goal.invariant-execute_branches-loop-branch
 invariant-execute_branches-loop-branch g l =
     let done = map (branch_done (own_steps (g.N.Nets.look l.nets) l.now)) in

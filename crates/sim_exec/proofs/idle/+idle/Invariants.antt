@@ -3,7 +3,7 @@ use Rattle.sim_standard.specs.State.{Owned}
 use Rattle.sim_standard.specs.Statements.{own_steps, statement_done, in_turn}
 use Rattle.sim_exec.proofs.idle.+idle.Given as goal
 
--- none so far assigns anything
+-- no statement so far assigns anything
 abbrev pub invariant-assign_nothing-loop-statement : goal.invariant-assign_nothing-loop-statement
 invariant-assign_nothing-loop-statement g l =
     (now : ℕ) (own : Owned) → own.variables ≡ l.variables

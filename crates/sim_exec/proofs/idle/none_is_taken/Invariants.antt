@@ -3,7 +3,7 @@ use Rattle.sim_standard.specs.State.{Owned}
 use Rattle.sim_standard.specs.Statements.{own_steps, branch_done, if_taken, one_holds}
 use Rattle.sim_exec.proofs.idle.none_is_taken.Given as goal
 
--- none so far is taken, and no condition of these holds
+-- no branch so far is taken, nor does the condition of one hold
 abbrev pub invariant-loop-branch : goal.invariant-loop-branch
 invariant-loop-branch g l =
     ((now : ℕ) (otherwise : Owned → Owned) (own : Owned) → own.variables ≡ l.variables

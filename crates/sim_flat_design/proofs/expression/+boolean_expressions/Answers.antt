@@ -1,4 +1,4 @@
--- Each way out, and the loop.
+-- Each exit, and the loop.
 use Rattle.std.proofs.Common.{arith}
 use Rattle.std.proofs.lemmas.Grind.{common_steps}
 use Rattle.sim_flat_design.specs.declared.expression.BooleanExpression.TheFolds.{the_lemmas}

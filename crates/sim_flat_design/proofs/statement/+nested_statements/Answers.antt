@@ -1,4 +1,4 @@
--- Each way out, and each loop.
+-- Each exit, and each loop.
 use Rattle.std.proofs.Common.{arith}
 use Rattle.std.proofs.lemmas.Grind.{common_steps}
 use Rattle.sim_flat_design.specs.declared.statement.Statement.TheFolds.{the_lemmas}

@@ -6,7 +6,7 @@ use Rattle.sim_store.specs.Handing.{AreInOrder, IsRange, front_of, lengths}
 use Rattle.sim_store_simulation.specs.Simulation.{reached}
 use Rattle.sim_store.proofs.handing.orders_of.Given as goal
 
--- the processes that are left are those below a number, and the orders are for the others
+-- the processes that are left are those below a number, and the others have orders
 abbrev pub invariant-loop-turn : goal.invariant-loop-turn
 invariant-loop-turn g l = record {
   range : IsRange (front_of g.J.Naming.design (arc_value l.fn.front)) (reached (front_of g.J.Naming.design (arc_value l.fn.front))).owned 0 (joined l.shares);

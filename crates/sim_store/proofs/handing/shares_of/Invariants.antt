@@ -6,7 +6,7 @@ use Rattle.sim_store.specs.Handing.{AreParts, IsRange, completed, front_of}
 use Rattle.sim_store.proofs.Orders.{AreLeft}
 use Rattle.sim_store.proofs.handing.shares_of.Given as goal
 
--- the parts before one have been taken, and where the answers are to all orders, those that are left are to the orders that are left
+-- the parts before one have been taken; if the answers are to all orders, those left are to the orders left
 abbrev pub invariant-loop-answer : goal.invariant-loop-answer
 invariant-loop-answer g l =
     (goal.iterator-loop-answer g).can_next l.answer-iterator

@@ -4,7 +4,7 @@ use Rattle.sim_store_simulation.specs.Simulation.{with_marks}
 use Rattle.sim_store_simulation.proofs.Along.{IsAlong}
 use Rattle.sim_store_simulation.proofs.simulation.execute_listed.Given as goal
 
--- only what has been executed is other than before: those at the places so far
+-- only the executed processes have changed: those at the places so far
 abbrev pub invariant-loop-place : goal.invariant-loop-place
 invariant-loop-place l = record {
   of : IsOf l.design l.contents;

@@ -4,7 +4,7 @@ use Rattle.sim_store_simulation.specs.Simulation.{with_marks}
 use Rattle.sim_store_simulation.proofs.Walks.{Passed}
 use Rattle.sim_store_simulation.proofs.simulation.execute_missing.Given as goal
 
--- only what has been executed is other than before, and none so far is missing
+-- only the executed processes have changed, and none so far is missing
 abbrev pub invariant-loop-number : goal.invariant-loop-number
 invariant-loop-number l = record {
   of : IsOf l.design l.contents;

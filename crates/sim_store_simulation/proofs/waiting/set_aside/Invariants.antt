@@ -2,7 +2,7 @@ use Rattle.std.proofs.Common.{ℕ, ◌≡◌, ◌<◌, ◌≤◌, ◌-◌, ◌&&
 use Rattle.sim_store_sets.specs.Numbers.{is_in}
 use Rattle.sim_store_simulation.proofs.waiting.set_aside.Given as goal
 
--- those so far are parted, and the others are as they were
+-- those so far are divided, and the others are as they were
 abbrev pub invariant-loop-number : goal.invariant-loop-number
 invariant-loop-number l = record {
   sized : length l.set ≡ length l.fn.set;

@@ -1,4 +1,4 @@
--- They are the same where each two items are, of two lists of one length.
+-- Two lists of one length are the same if their items are.
 use Rattle.std.proofs.Common.{rules, tests}
 use Rattle.std.proofs.lemmas.Iterator.{YieldsList-from_slice, YieldsList-from_zip, same_from_all}
 use Rattle.sim_store_state.proofs.drivers.are_same.Goals as goal

@@ -4,7 +4,7 @@ use Rattle.sim_store_state.specs.Lending.{IsOfRow}
 use Rattle.sim_store_state.proofs.Walks.{Walked}
 use Rattle.sim_store_state.proofs.lending.mark_rows.Given as goal
 
--- no driver is left out of those of the processes that the walk has passed
+-- the walk has left out no driver of the processes that it passed
 abbrev pub invariant-loop-number : goal.invariant-loop-number
 invariant-loop-number l = record {
   within : l.from ≤ length l.processes;

@@ -3,6 +3,6 @@ use Rattle.sim_standard.specs.State.{net_at}
 use Rattle.sim_store_state.specs.FlatState.{views_of}
 use Rattle.sim_store_state.proofs.nets.are_views.Given as goal
 
--- they are seen so, as far as this
+-- the views up to here are right
 abbrev pub invariant-loop-i : goal.invariant-loop-i
 invariant-loop-i l = take l.i l.views ≡ map (net_at (views_of l.values l.last_values)) (take l.i l.numbers)

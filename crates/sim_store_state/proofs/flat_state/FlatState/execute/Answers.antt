@@ -22,7 +22,7 @@ use Rattle.sim_store_state.proofs.flat_state.FlatState.execute.Goals as goal
 abbrev with_own : FlatState → ℕ → Owned → FlatState
 with_own h n own = record { sources = h.sources; nets = h.nets; owned = set h.owned n own }
 
--- nothing was done where this is said
+-- nothing was done, if it says so
 if_unchanged : {E : Type 0} {ds es : List Waveform} (r : Result Bool E) → r ≡ Ok false → IfOk r (λ (done : Bool). done ≡ false → ds ≡ es) → ds ≡ es
 if_unchanged {ds = ds} {es = es} r e h = subst (λ (s : Result Bool _). IfOk s (λ (done : Bool). done ≡ false → ds ≡ es)) e h refl
 
