@@ -1,5 +1,5 @@
 #!/usr/bin/env python3
-"""Measures elaboration: `elaboration.py PROGRAM FOLDER [NAME ..]`, with `sim_run_bench` and the texts that texts.py wrote into the folder.
+"""Measures elaboration: `elaboration.py PROGRAM FOLDER [NAME ..]`, with `vsim_bench` and the texts that texts.py wrote into the folder.
 
 For each text: the least of ten times in one process, in ms, of `parse` and of `flatten`; the most memory of a process with one
 of each, in MiB; and the answer.

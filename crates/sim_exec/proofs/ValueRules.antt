@@ -15,7 +15,7 @@ use Rattle.sim_flat_design.specs.declared.expression.BooleanExpression.TheVarian
 use Rattle.sim_flat_design.specs.declared.expression.BooleanExpression.TheOpen as bo
 use Rattle.sim_flat_design.specs.declared.expression.BooleanExpression.TheFolds as boolean_folds
 use Rattle.sim_standard.specs.declared.net_view.NetView.{NetView}
-use Rattle.sim_standard.specs.Expressions.{logic_operation, boolean_operation, relation, condition, is_as_true, bit_of, truth_of, has_edge}
+use Rattle.sim_standard.specs.Expressions.{logic_operation, boolean_operation, relation, condition, is_same_boolean, bit_of, truth_of, has_edge}
 use Rattle.sim_standard.specs.Expressions.{logic_value_rule, logic_value, boolean_value_rule, boolean_value}
 
 module _ (look : ℕ → NetView) (variables : List Held) where
@@ -101,7 +101,8 @@ module _ (look : ℕ → NetView) (variables : List Held) where
       ∙ boolean_folds.fold-roll-BooleanExpression Bool (boolean_value_rule look variables) (bo.LogicComparison x op y)
 
   pub booleans_compared : (x : BooleanExpression) (op : Relational) (y : BooleanExpression)
-      → boolean_value look variables (b.BooleanComparison x op y) ≡ relation op (is_as_true (boolean_value look variables x) (boolean_value look variables y))
+      → boolean_value look variables (b.BooleanComparison x op y)
+      ≡ relation op (is_same_boolean (boolean_value look variables x) (boolean_value look variables y))
   unfolding boolean_value
   booleans_compared x op y =
       ap (boolean_value look variables) (sym (b.rolls-BooleanComparison x op y))

@@ -7,10 +7,10 @@ use Rattle.sim_flat_design.specs.declared.held.Held.{Held}
 use Rattle.sim_flat_design.specs.declared.held.Held.TheVariants as held
 use Rattle.sim_flat_design.specs.Bodies.{Body}
 use Rattle.sim_flat_design.specs.Processes.{Process}
-use Rattle.sim_standard.specs.Drivers.{Waveform, RisesFrom}
+use Rattle.sim_standard.specs.Drivers.{DriverState, RisesFrom}
 use Rattle.sim_standard.specs.declared.net_view.NetView.{NetView}
 use Rattle.sim_standard.specs.State.{State, Owned}
-use Rattle.sim_standard.specs.Processes.{outcome}
+use Rattle.sim_standard.specs.Processes.{owned_after}
 
 -- A process to be executed: the number of cycles completed, its number, the time, its views of the nets it reads, and what it owns.
 pub record Job : Type 0 where
@@ -30,7 +30,7 @@ holds_bit (held.Truth value) = false
 pub record IsReady (body : Body) (from : ℕ) (own : Owned) : Type 0 where
   pub drivers : length own.drivers ≡ body.drivers
   pub variables : map holds_bit own.variables ≡ map holds_bit body.variables
-  pub pending : All (λ (d : Waveform). RisesFrom from d.pending) own.drivers
+  pub pending : All (λ (d : DriverState). RisesFrom from d.pending) own.drivers
 
 -- There is a view of each net that the process reads, and what it owns fits it. All pending transactions are after the time.
 pub record IsJob (time : ℕ) (process : Process) (views : List NetView) (own : Owned) : Type 0 where
@@ -44,7 +44,7 @@ scene job = record { time = job.time; delta = 0; nets = job.views; owned = job.o
 
 -- what its process owns after the execution
 abbrev pub result_of : Job → Owned
-result_of job = outcome job.process (scene job)
+result_of job = owned_after job.process (scene job)
 
 -- What an executed job keeps: what its process owns then, or nothing if that is unchanged. It fits the body either way.
 pub record IsDone (job : Job) (kept : Option Owned) : Type 0 where

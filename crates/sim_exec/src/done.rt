@@ -21,7 +21,7 @@ use std::marker::Model;
 const UNSEEN: NetView = NetView {
     value: Logic::U,
     event: false,
-    last: Logic::U,
+    before: Logic::U,
 };
 
 /// The index of a number in an ascending list, or the length of the list if it is not there.

@@ -65,9 +65,9 @@ fn has_edge(rising: bool, net: NetView) -> bool
     ensures { result ≡ spec.has_edge rising net }
 {
     if rising {
-        net.event && Logic::rises(net.last, net.value)
+        net.event && Logic::rises(net.before, net.value)
     } else {
-        net.event && Logic::falls(net.last, net.value)
+        net.event && Logic::falls(net.before, net.value)
     }
 }
 

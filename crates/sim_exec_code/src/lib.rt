@@ -30,4 +30,4 @@ mod step;
 pub use code::Code;
 pub use codes::Codes;
 pub use frame::Frame;
-pub use quick::Quick;
+pub use quick::SingleAssignment;

@@ -15,7 +15,7 @@ ghost use Rattle.sim_flat.specs.Laws.{HasValueOf, flat_to, name_at, place_of, re
 
 /// In the source tree of each net of a design without faults, no port or signal of type std_ulogic
 /// has more than one source, in any instance (IEEE 1076-2008, 6.4.2.3).
-pub fn unresolved_names_have_at_most_one_source()
+pub fn unresolved_signals_have_at_most_one_source()
     ensures { (blocks : List Block) (top : Top) (design : Design) →
         IsFlat blocks top design → All IsResolvable (trees blocks top.block) }
 {}
@@ -23,7 +23,7 @@ pub fn unresolved_names_have_at_most_one_source()
 /// In a design without faults, the flat sources of each net, resolved as one list, give the value
 /// of its source tree, in which each associated port is resolved by itself, for all values of the
 /// drivers (IEEE 1076-2008, 14.7.3).
-pub fn nets_resolve_as_the_nested_names()
+pub fn nets_have_the_values_of_their_source_trees()
     ensures { (blocks : List Block) (top : Top) (design : Design) →
         IsFlat blocks top design → AllZip HasValueOf (trees blocks top.block) design.nets }
 {}
@@ -31,7 +31,7 @@ pub fn nets_resolve_as_the_nested_names()
 /// A design without faults is that of the whole hierarchy, and so are the source trees of its nets:
 /// the limit on the levels of instances cuts nothing off, since any larger number of levels gives
 /// the same.
-pub fn nothing_is_cut_off()
+pub fn the_limit_on_levels_cuts_nothing_off()
     ensures trees { (blocks : List Block) (top : Top) (design : Design) →
         IsFlat blocks top design → (n : ℕ) → levels ≤ n → trees_to n blocks top.block ≡ trees blocks top.block }
     ensures design { (blocks : List Block) (top : Top) (design : Design) →
@@ -40,7 +40,7 @@ pub fn nothing_is_cut_off()
 
 /// If an architecture's region gives a name the position of a port or signal, then the port or
 /// signal at this position of its block has that name.
-pub fn names_stand_at_their_places()
+pub fn names_are_at_their_positions()
     ensures { (l : Library) (a : Architecture) (name : List ℕ) (place : ℕ) →
         place_of (seen (region_of l a) name) ≡ Some place → name_at (block_of l a) place ≡ Some name }
 {}

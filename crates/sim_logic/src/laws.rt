@@ -18,19 +18,19 @@ pub fn resolution_is_commutative()
 {}
 
 /// A single value resolves to itself.
-pub fn a_single_value_stands()
+pub fn a_single_value_resolves_to_itself()
     ensures { (value : logic.Logic) → resolved (value ∷ []) ≡ value }
 {}
 
 /// Two or more values are resolved one after another, starting from `'Z'`.
-pub fn several_values_are_folded()
+pub fn several_values_are_resolved_from_left_to_right()
     ensures { (values : List logic.Logic) → 1 < length values
         → resolved values ≡ fold resolution_table logic.Logic.Z values }
 {}
 
 /// Resolving the flat sources of a source tree as one list gives the value of the tree, in which
 /// each port is resolved by itself.
-pub fn flat_sources_resolve_as_the_nested_names()
+pub fn flat_sources_have_the_value_of_their_source_tree()
     ensures { (driving : ℕ → logic.Logic) (tree : SourceTree) → IsResolvable tree
         → resolved (map (flat_source_value driving) (flat_sources tree)) ≡ nested driving tree }
 {}

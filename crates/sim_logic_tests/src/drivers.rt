@@ -124,7 +124,7 @@ fn leaves_each_time(
 }
 
 #[test]
-fn equal_values_stay_and_others_are_rejected(rt: HostRuntime) -> Result<(), Fail> {
+fn equal_values_are_kept_and_others_rejected(rt: HostRuntime) -> Result<(), Fail> {
     let alloc = rt.alloc();
     let inertial = Delay::Inertial { reject: 5 };
     let equal = [(8, One), (9, One), (10, One), (11, One), (12, One)];
@@ -143,7 +143,7 @@ fn leaves_of_many(alloc: Global, wanted: &[Transaction]) -> Result<bool, AllocEr
 }
 
 #[test]
-fn a_line_of_many_is_edited(rt: HostRuntime) -> Result<(), Fail> {
+fn many_pending_transactions_are_edited(rt: HostRuntime) -> Result<(), Fail> {
     assert!(rt; leaves_of_many(rt.alloc(), &[(8, One), (9, Zero), (12, One)])?);
     Ok(())
 }
@@ -172,7 +172,7 @@ fn leaves_of_one(
 }
 
 #[test]
-fn a_single_one_is_kept_or_rejected(rt: HostRuntime) -> Result<(), Fail> {
+fn a_single_pending_transaction_is_kept_or_rejected(rt: HostRuntime) -> Result<(), Fail> {
     assert!(rt; leaves_of_one(rt.alloc(), 5, One, &[(5, One), (8, One)])?);
     assert!(rt; leaves_of_one(rt.alloc(), 3, Zero, &[(8, Zero)])?);
     Ok(())

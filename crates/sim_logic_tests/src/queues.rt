@@ -1,6 +1,6 @@
 ghost use Rattle.std.specs.Prelude.{◌≡◌, length, IfOk};
 
-use sim_store_sets::{NumberSet, TimeQueue};
+use sim_containers::{NumberSet, TimeQueue};
 use std::alloc::{AllocError, Global};
 use std::test::Fail;
 
@@ -49,7 +49,7 @@ fn lists(alloc: Global, set: &NumberSet, wanted: &[usize]) -> Result<bool, Alloc
 }
 
 #[test]
-fn members_are_found_in_many_words(rt: HostRuntime) -> Result<(), Fail> {
+fn members_are_found_across_words(rt: HostRuntime) -> Result<(), Fail> {
     let mut set = NumberSet::new(rt.alloc(), 5000)?;
     put_each(&mut set, NUMBERS.as_slice(), true);
     assert!(rt; finds_each_next(&set));
@@ -77,7 +77,7 @@ fn has_members(set: &NumberSet) -> bool {
 }
 
 #[test]
-fn members_are_taken_out(rt: HostRuntime) -> Result<(), Fail> {
+fn members_are_removed(rt: HostRuntime) -> Result<(), Fail> {
     let mut set = NumberSet::full(rt.alloc(), 130)?;
     put_each(&mut set, [0, 63, 64, 128].as_slice(), false);
     assert!(rt; has_members(&set));
@@ -142,7 +142,7 @@ fn takes_at_the_last_times(alloc: Global, queue: &mut TimeQueue) -> Result<bool,
 }
 
 #[test]
-fn drivers_are_taken_at_their_last_times(rt: HostRuntime) -> Result<(), Fail> {
+fn drivers_are_taken_at_the_times_put_last(rt: HostRuntime) -> Result<(), Fail> {
     let mut queue = three(rt.alloc())?;
     assert!(rt; takes_at_the_last_times(rt.alloc(), &mut queue)?);
     Ok(())
@@ -158,7 +158,7 @@ fn takes_at_one_time_again(alloc: Global, queue: &mut TimeQueue) -> Result<bool,
 }
 
 #[test]
-fn the_time_that_was_taken_comes_again(rt: HostRuntime) -> Result<(), Fail> {
+fn a_time_taken_before_can_be_queued_again(rt: HostRuntime) -> Result<(), Fail> {
     let mut queue = three(rt.alloc())?;
     assert!(rt; takes_at_one_time_again(rt.alloc(), &mut queue)?);
     Ok(())

@@ -1,4 +1,4 @@
-use sim_store_sets::{DividedRows, RowArray};
+use sim_containers::{DividedRows, RowArray};
 use std::alloc::{AllocError, Global};
 use std::test::Fail;
 

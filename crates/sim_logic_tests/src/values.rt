@@ -55,7 +55,7 @@ fn are_edges() -> bool {
 }
 
 #[test]
-fn edges_go_from_a_zero_to_a_one(rt: HostRuntime) {
+fn edges_are_between_zero_and_one(rt: HostRuntime) {
     assert!(rt; are_edges());
 }
 
@@ -78,6 +78,6 @@ fn first_other_time() -> Option<usize> {
 }
 
 #[test]
-fn times_end_at_the_latest(rt: HostRuntime) {
+fn times_are_exact_up_to_the_latest_and_then_none(rt: HostRuntime) {
     assert_eq!(rt; first_other_time(), None);
 }

@@ -2,10 +2,10 @@
 use Rattle.std.specs.Prelude.{◌≡◌, List}
 use Rattle.sim_logic.specs.Sources.{SourceTree, nested}
 use Rattle.sim_flat_design.specs.Designs.{Net}
-use Rattle.sim_standard.specs.Drivers.{Waveform}
+use Rattle.sim_standard.specs.Drivers.{DriverState}
 use Rattle.sim_standard.specs.State.{driver_at}
 use Rattle.sim_standard.specs.Nets.{net_value}
 
 -- With these drivers, the cycle gives a net the value of its source tree, in which each port has the value of its own sources.
-abbrev pub HasNestedValue : List Waveform → SourceTree → Net → Type 0
+abbrev pub HasNestedValue : List DriverState → SourceTree → Net → Type 0
 HasNestedValue drivers t n = net_value drivers n ≡ nested (λ d. (driver_at drivers d).value) t

@@ -4,7 +4,7 @@ ghost use Rattle.std.specs.Prelude.{List};
 ghost use Rattle.std.specs.List.{AllZip};
 ghost use Rattle.sim_flat_design.specs.Designs.{Design};
 ghost use Rattle.sim_flat_blocks.specs.declared.parts.Block.{Block};
-ghost use Rattle.sim_standard.specs.Drivers.{Waveform};
+ghost use Rattle.sim_standard.specs.Drivers.{DriverState};
 ghost use Rattle.sim_flat.specs.declared.top.Top.{Top};
 ghost use Rattle.sim_flat.specs.Hierarchies.{IsFlat};
 ghost use Rattle.sim_flat.specs.Laws.{trees};
@@ -13,7 +13,7 @@ ghost use Rattle.sim_run.specs.Laws.{HasNestedValue};
 /// In each cycle of a design without faults, a net has the value of its source tree, in which each
 /// associated port is resolved by itself, whatever the values of its drivers
 /// (IEEE 1076-2008, 14.7.3).
-pub fn the_cycle_resolves_nets_as_the_nested_names()
-    ensures { (blocks : List Block) (top : Top) (design : Design) (drivers : List Waveform) →
+pub fn cycles_give_nets_the_values_of_their_source_trees()
+    ensures { (blocks : List Block) (top : Top) (design : Design) (drivers : List DriverState) →
         IsFlat blocks top design → AllZip (HasNestedValue drivers) (trees blocks top.block) design.nets }
 {}

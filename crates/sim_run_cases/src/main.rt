@@ -134,10 +134,8 @@ fn run_cases<R: Threads + Wait + Sync + AllocGlobal + Print>(
 fn tell_counts<R: Print>(rt: &R, name: &str, way: &Way, counts: Counts) -> Result<()> {
     let Counts { same, differ } = counts;
     match &way.workers {
-        None => println!(rt; "{name}: {same} as they are to be, {differ} differ")?,
-        Some(workers) => println!(rt;
-            "{name} by {workers}: {same} as they are to be, {differ} differ"
-        )?,
+        None => println!(rt; "{name}: {same} as expected, {differ} differ")?,
+        Some(workers) => println!(rt; "{name} by {workers}: {same} as expected, {differ} differ")?,
     }
     Ok(())
 }

@@ -109,7 +109,7 @@ fn both(
 static DRAWS: [(u8, u32); 4] = [(100, 165), (3, 3), (1, 2), (0, 1)];
 
 #[test]
-fn numbers_come_in_order_and_then_none(rt: HostRuntime) -> Result<(), Fail> {
+fn numbers_are_drawn_in_order_and_then_none(rt: HostRuntime) -> Result<(), Fail> {
     for (count, times) in &DRAWS {
         let count = usize::from(*count);
         let (claims, mut seat) = Claims::new(rt.alloc(), count)?;

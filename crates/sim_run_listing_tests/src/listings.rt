@@ -100,7 +100,7 @@ static LISTINGS: [(usize, &[u8], Result<(), WriteError>); 4] = [
 ];
 
 #[test]
-fn each_change_has_a_line_as_far_as_there_is_room(rt: HostRuntime) -> Result<(), Fail> {
+fn each_change_has_a_line_until_the_writer_is_full(rt: HostRuntime) -> Result<(), Fail> {
     for (room, bytes, ended) in &LISTINGS {
         let (written, end) = listed(rt.alloc(), *room)?;
         assert_eq!(rt; end, *ended, "{room}");
@@ -135,7 +135,7 @@ fn listed_by_nets(alloc: Global) -> Result<Vec<u8>, AllocError> {
 }
 
 #[test]
-fn the_path_of_a_net_stands_before_its_simple_name(rt: HostRuntime) -> Result<(), Fail> {
+fn the_path_of_a_net_precedes_its_simple_name(rt: HostRuntime) -> Result<(), Fail> {
     let written = listed_by_nets(rt.alloc())?;
     let expected = b"0 0 u.s 0\n5000000 0 u.s 1\ndone 1 1\n".as_slice();
     assert!(rt; written.as_slice() == expected);
@@ -150,7 +150,7 @@ fn goes_out_whole(alloc: Global) -> bool {
 }
 
 #[test]
-fn bytes_go_out_whole(rt: HostRuntime) {
+fn all_bytes_are_written(rt: HostRuntime) {
     assert!(rt; goes_out_whole(rt.alloc()));
 }
 

@@ -13,28 +13,28 @@ every change of a signal on standard output.";
 
 /// The part of the help after the options.
 const MORE: &str = "Input:
-  One design file of at most 1048576 bytes. The word --top names the entity to
-  simulate; its last architecture is taken.
+  One design file of at most 1048576 bytes. --top names the entity to simulate,
+  with its last architecture.
 
 Listing:
-  First a line for each signal with its value at time 0, then a line for each
-  change of a value:
+  First one line for each signal with its initial value, then one for each
+  change:
       TIME DELTA NAME VALUE
   TIME is in femtoseconds. DELTA counts the simulation cycles at one time, from 0.
-  NAME is in lower case, after the labels of the instances that it lies in, as
+  NAME is in lower case, with the labels of its instances in front, as in
   u1.u2.s. VALUE is one of U X 0 1 Z W L H and -. The last line is
       done CYCLES EVENTS
   with the number of simulation cycles and of changes after the initialization.
 
 Status:
-  0  the run is finished, or help was asked for
+  0  the run has finished, or help was requested
   1  the text or its design is refused
   2  the command line is refused, or an option is out of its range
   3  the run needs more simulation cycles than the limit, or a postponed process
-     makes a delta cycle follow
-  4  no memory, or reading or writing failed
-  A refusal is reported on standard error, as in 'vsim: Syntax at 77': the number is
-  a place in the input, in bytes from its start.
+     causes a delta cycle
+  4  out of memory, or reading or writing failed
+  A refusal goes to standard error, as in 'vsim: Syntax at 77', where the number is
+  a byte offset in the input.
 
 Example:
   With the file pulse.vhd
@@ -87,7 +87,7 @@ fn top_argument<'a>(alloc: Global) -> Arg<'a>
 {
     valued_argument(alloc, "top", "NAME")
         .required(true)
-        .help("The entity at the top of the design, in any case")
+        .help("The top entity, in upper or lower case")
 }
 
 /// `--stop FS`, by default the latest time.
@@ -96,7 +96,7 @@ fn stop_argument<'a>(alloc: Global) -> Arg<'a>
     ensures local { result.global ≡ false }
 {
     let latest = "4611686018427387903";
-    let help = "The last time that is simulated, in femtoseconds, at most the default";
+    let help = "The stop time in femtoseconds, at most the default";
     number_argument(alloc, "stop", "FS", value_parser!(u64), latest, help)
 }
 
@@ -105,7 +105,7 @@ fn limit_argument<'a>(alloc: Global) -> Arg<'a>
     ensures rule { rule_of result ≡ limit_rule }
     ensures local { result.global ≡ false }
 {
-    let help = "The most simulation cycles, 1 to 1000000";
+    let help = "The limit of simulation cycles, 1 to 1000000";
     number_argument(alloc, "limit", "N", value_parser!(u32), "10000", help)
 }
 
@@ -114,7 +114,8 @@ fn workers_argument<'a>(alloc: Global) -> Arg<'a>
     ensures rule { rule_of result ≡ workers_rule }
     ensures local { result.global ≡ false }
 {
-    let help = "How many threads execute processes, 1 to 16; four halve a run of long bodies";
+    let help =
+        "The number of threads, 1 to 16; four halve the time of a run with long process bodies";
     number_argument(alloc, "workers", "N", value_parser!(usize), "1", help)
 }
 

@@ -125,7 +125,7 @@ fn is_help(alloc: Global, line: &str) -> Result<bool, AllocError> {
 }
 
 #[test]
-fn words_that_are_meant_are_taken(rt: HostRuntime) -> Result<(), Fail> {
+fn valid_words_are_accepted(rt: HostRuntime) -> Result<(), Fail> {
     for row in &TAKEN {
         assert!(rt; is_taken(rt.alloc(), row)?, "{}", row.0);
     }
@@ -133,7 +133,7 @@ fn words_that_are_meant_are_taken(rt: HostRuntime) -> Result<(), Fail> {
 }
 
 #[test]
-fn other_words_are_refused(rt: HostRuntime) -> Result<(), Fail> {
+fn invalid_words_are_refused(rt: HostRuntime) -> Result<(), Fail> {
     for (line, parts) in &REFUSED {
         assert!(rt; is_refused(rt.alloc(), line, parts)?, "{line}");
     }
@@ -141,7 +141,7 @@ fn other_words_are_refused(rt: HostRuntime) -> Result<(), Fail> {
 }
 
 #[test]
-fn help_comes_where_it_is_asked_for(rt: HostRuntime) -> Result<(), Fail> {
+fn help_is_given_if_asked_for(rt: HostRuntime) -> Result<(), Fail> {
     for line in &HELP {
         assert!(rt; is_help(rt.alloc(), line)?, "{line}");
     }

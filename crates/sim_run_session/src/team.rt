@@ -8,7 +8,7 @@ ghost use Rattle.sim_store.specs.WaveStore as store;
 ghost use Rattle.sim_run_session.specs.Run.{IsSameRun};
 
 use sim_run_team::{Bell, Hints, Team, Work, pair};
-use sim_store::{Answer, Naming, Order, WaveStore};
+use sim_store::{Answer, DesignType, Order, WaveStore};
 use std::alloc::{AllocError, Global};
 use std::marker::{Brand, PhantomData};
 use std::sync::Wait;
@@ -16,20 +16,20 @@ use std::thread;
 use std::thread::Threads;
 
 /// The work of the phases of this design's run, in shares.
-struct Shares<J: Naming> {
-    of: PhantomData<J>,
+struct PhaseWork<D: DesignType> {
+    of: PhantomData<D>,
 }
 
-impl<J: Naming> Work for Shares<J> {
-    type Order = Order<J>;
+impl<D: DesignType> Work for PhaseWork<D> {
+    type Order = Order<D>;
 
-    type Answer = Answer<J>;
+    type Answer = Answer<D>;
 
-    fn is_large(order: &Order<J>, least: usize) -> bool {
+    fn is_large(order: &Order<D>, least: usize) -> bool {
         order.is_worthwhile(least)
     }
 
-    fn carry_out(alloc: Global, order: Order<J>) -> Option<Answer<J>> {
+    fn carry_out(alloc: Global, order: Order<D>) -> Option<Answer<D>> {
         order.execute(alloc).ok()
     }
 }
@@ -44,21 +44,21 @@ fn execute_alone(alloc: Global, run: WaveStore) -> Option<WaveStore>
 
 /// Executes all processes that are due, which take `steps` steps in all. Large shares go to
 /// workers. `None` if the team fails.
-fn execute_in_shares<J: Naming, R: Wait>(
+fn execute_in_shares<D: DesignType, R: Wait>(
     rt: &R,
     alloc: Global,
     run: WaveStore,
-    team: &mut Team<'_, Shares<J>>,
+    team: &mut Team<'_, PhaseWork<D>>,
     steps: usize,
 ) -> Option<WaveStore>
-    requires design { run.simulation.design ≡ J.design }
+    requires design { run.simulation.design ≡ D.design }
     requires untouched { hands.IsUntouched run }
     ensures same { IfSome result (λ s. s ≡ store.with_deposited run s.simulation.deposited) }
     ensures complete { IfSome result (λ s. simulations.IsComplete s.simulation) }
 {
-    let (rest, shares) = run.hand_out::<J>(alloc).ok()?;
+    let (handed_out, shares) = run.hand_out::<D>(alloc).ok()?;
     let answers = team.carry_out(rt, alloc, shares, steps)?;
-    match rest.take_back(alloc, answers) {
+    match handed_out.take_back(alloc, answers) {
         Ok(run) => Some(run),
         Err(_lost) => None,
     }
@@ -66,14 +66,14 @@ fn execute_in_shares<J: Naming, R: Wait>(
 
 /// Executes all processes that are due, by the team if there is enough work and the team is free.
 /// Each process takes about `length` steps. `None` if the team fails or memory runs out.
-fn execute<J: Naming, R: Wait>(
+fn execute<D: DesignType, R: Wait>(
     rt: &R,
     alloc: Global,
     run: WaveStore,
-    team: &mut Team<'_, Shares<J>>,
+    team: &mut Team<'_, PhaseWork<D>>,
     length: usize,
 ) -> Option<WaveStore>
-    requires { run.simulation.design ≡ J.design }
+    requires { run.simulation.design ≡ D.design }
     ensures same { IfSome result (λ s. s ≡ store.with_deposited run s.simulation.deposited) }
     ensures complete { IfSome result (λ s. simulations.IsComplete s.simulation) }
 {
@@ -86,14 +86,14 @@ fn execute<J: Naming, R: Wait>(
 }
 
 /// Carries out one phase of a cycle, and goes on; `None` if the team fails or memory runs out.
-fn go_on<J: Naming, R: Wait>(
+fn go_on<D: DesignType, R: Wait>(
     rt: &R,
     alloc: Global,
     run: WaveStore,
-    team: &mut Team<'_, Shares<J>>,
+    team: &mut Team<'_, PhaseWork<D>>,
     length: usize,
 ) -> Option<WaveStore>
-    requires design { run.simulation.design ≡ J.design }
+    requires design { run.simulation.design ≡ D.design }
     requires open { store.IsOpen run }
     ensures { IfSome result (IsSameRun run) }
 {
@@ -104,13 +104,13 @@ fn go_on<J: Naming, R: Wait>(
 }
 
 /// Carries on a run until it has ended; `None` if the team fails or memory runs out.
-fn lead<J: Naming, R: Wait>(
+fn lead<D: DesignType, R: Wait>(
     rt: &R,
     alloc: Global,
     run: WaveStore,
-    team: &mut Team<'_, Shares<J>>,
+    team: &mut Team<'_, PhaseWork<D>>,
 ) -> Option<WaveStore>
-    requires { run.simulation.design ≡ J.design }
+    requires { run.simulation.design ≡ D.design }
     ensures { IfSome result (λ r. IsSameRun run r × (r.ended ≢ None)) }
 {
     let length = run.mean_length().saturating_add(1);
@@ -133,16 +133,16 @@ fn bells(alloc: Global, workers: usize) -> Option<Vec<Bell>> {
     Some(bells)
 }
 
-/// Carries a run of the design that `J` names to its end. It starts up to `workers - 1` threads, as
+/// Carries a run of the design that `D` names to its end. It starts up to `workers - 1` threads, as
 /// many as can be. `None` if the team fails or memory runs out.
-fn run_by<J: Naming + Send + Sync, R: Threads + Wait + Sync>(
+fn run_by<D: DesignType + Send + Sync, R: Threads + Wait + Sync>(
     rt: &R,
     alloc: Global,
     run: WaveStore,
     workers: usize,
     hints: Hints,
 ) -> Option<WaveStore>
-    requires { run.simulation.design ≡ J.design }
+    requires { run.simulation.design ≡ D.design }
     ensures { IfSome result (λ r. IsSameRun run r × (r.ended ≢ None)) }
 {
     let main = Bell::new();
@@ -153,12 +153,12 @@ fn run_by<J: Naming + Send + Sync, R: Threads + Wait + Sync>(
         thread::scope_env(),
         rt,
         |scope| -> Option<WaveStore>
-            requires { run.simulation.design ≡ J.design }
+            requires { run.simulation.design ≡ D.design }
             ensures { IfSome result (λ r. IsSameRun run r × (r.ended ≢ None)) }
         {
             let mut team = Team::new(alloc, main, hints);
             for bell in bells {
-                let (line, worker) = pair::<Shares<J>>(alloc, bell).ok()?;
+                let (line, worker) = pair::<PhaseWork<D>>(alloc, bell).ok()?;
                 if scope
                     .spawn(move || worker.work(rt, alloc, bell, main))
                     .is_ok()

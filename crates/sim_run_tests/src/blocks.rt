@@ -48,7 +48,7 @@ fn records(alloc: Global) -> Result<Vec<Record>, AllocError>
 }
 
 #[test]
-fn a_long_listing_goes_out_in_blocks(rt: HostRuntime) -> Result<(), Fail> {
+fn a_long_listing_is_written_in_blocks(rt: HostRuntime) -> Result<(), Fail> {
     let alloc = rt.alloc();
     let names = names(alloc)?;
     let finished = Finished::new(names, records(alloc)?, 40_000);

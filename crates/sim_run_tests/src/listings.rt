@@ -23,7 +23,7 @@ fn options(alloc: Global) -> Result<Options, AllocError> {
 }
 
 #[test]
-fn a_failing_writer_has_a_prefix_of_the_listing(rt: HostRuntime) -> Result<(), Fail> {
+fn a_failing_writer_gets_a_prefix_of_the_listing(rt: HostRuntime) -> Result<(), Fail> {
     let alloc = rt.alloc();
     for in_all in 0..32 {
         for a_call in [1, 8192] {

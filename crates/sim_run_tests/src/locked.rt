@@ -157,7 +157,7 @@ fn first_wrong<R: Threads + Wait + Sync>(rt: &R, alloc: Global, workers: usize) 
 }
 
 #[test]
-fn what_is_answered_does_not_depend_on_the_workers(rt: HostRuntime) -> Result<(), Fail> {
+fn results_do_not_depend_on_the_number_of_workers(rt: HostRuntime) -> Result<(), Fail> {
     for workers in [1, 2, 16] {
         assert_eq!(rt; first_wrong(&rt, rt.alloc(), workers), None);
     }

@@ -81,7 +81,7 @@ fn are_one<R: Threads + Wait + Sync>(rt: &R, alloc: Global) -> Option<bool> {
 }
 
 #[test]
-fn who_looks_sees_beginnings_of_one_history(rt: HostRuntime) -> Result<(), Fail> {
+fn observers_see_prefixes_of_one_history(rt: HostRuntime) -> Result<(), Fail> {
     assert_eq!(rt; are_watched(&rt, rt.alloc()), Some(true));
     Ok(())
 }

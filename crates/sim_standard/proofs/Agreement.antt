@@ -10,11 +10,11 @@ use Rattle.std.proofs.lemmas.Grind.{flat_map-append}
 use Rattle.sim_logic.specs.declared.logic.Logic.{Logic}
 use Rattle.sim_logic.specs.Logic.{is_same}
 use Rattle.sim_logic.proofs.SameValues.{same_from_is_same}
-use Rattle.sim_standard.specs.Drivers.{Waveform}
+use Rattle.sim_standard.specs.Drivers.{DriverState}
 use Rattle.sim_flat_design.specs.Designs.{Design, Net}
 use Rattle.sim_flat_design.specs.Processes.{IsProcess}
 use Rattle.sim_standard.specs.declared.net_view.NetView.{NetView}
-use Rattle.sim_standard.specs.State.{State, net_at, waves}
+use Rattle.sim_standard.specs.State.{State, net_at, all_drivers}
 use Rattle.sim_standard.specs.declared.record.Record.{Record}
 use Rattle.sim_standard.specs.Cycle.{own_taken, cycle_in_turn, executed_in_turn, next_cycle_time, onward, or_first, standard, state_of}
 use Rattle.sim_standard.specs.Records.{all_changes, changes_from, numbered_value, values_of}
@@ -119,7 +119,7 @@ total-first d n = refl
 -- ---- the values of nets
 
 -- a net without an event keeps its value
-quiet : (ds : List Waveform) (nets : List Net) (olds : List NetView) (n : ℕ) → length olds ≡ length nets → n < length nets
+quiet : (ds : List DriverState) (nets : List Net) (olds : List NetView) (n : ℕ) → length olds ≡ length nets → n < length nets
     → (net_at (nets_updated ds nets olds) n).event ≡ false → (net_at (nets_updated ds nets olds) n).value ≡ (net_at olds n).value
 unfolding nets_updated
 quiet ds [] olds n e lt none = absurd (omega (arith, lt))
@@ -133,7 +133,7 @@ quiet ds (net ∷ nets) (old ∷ olds) (suc n) e lt none = quiet ds nets olds n 
 
 -- The nets of a state are those of the state before, each updated.
 record Follows (d : Design) (before now : State) : Type 0 where
-  drivers : List Waveform
+  drivers : List DriverState
   nets : now.nets ≡ nets_updated drivers d.nets before.nets
 
 module _ (d : Design) (is : All IsProcess d.processes) where
@@ -146,7 +146,7 @@ module _ (d : Design) (is : All IsProcess d.processes) where
   onward-follows : (x now : State) (t : Option ℕ) → onward d x t ≡ Some now → Follows d x now
   onward-follows x now None e = absurd (cc e)
   onward-follows x now (Some t) e = record {
-    drivers = waves (map (own_taken t) x.owned);
+    drivers = all_drivers (map (own_taken t) x.owned);
     nets = ap (λ (o : Option State). (or_first d o).nets) (sym e);
   }
 

@@ -8,7 +8,7 @@ use Rattle.sim_standard.specs.declared.net_view.NetView.{NetView}
 use Rattle.sim_standard.specs.State.{State, Owned, owned_at, with_owned, nothing_owned}
 use Rattle.sim_standard.specs.Expressions.{boolean_value}
 use Rattle.sim_standard.specs.Statements.{own_steps, carried_out, executed}
-use Rattle.sim_standard.specs.Processes.{Names, seen, owned_of, stepped, state_steps, part_names, outcome}
+use Rattle.sim_standard.specs.Processes.{Names, seen, owned_of, stepped, state_steps, part_names, owned_after}
 use Rattle.sim_standard.proofs.Alongside.{Keeps, each_of_all, all_go}
 
 -- what was put there is owned
@@ -50,9 +50,9 @@ module _ (n : Names) (s : State) (h : n.process < length s.owned) where
       s (owned_of n s) (with-itself n.process s)
 
 -- on a part, what the process owns afterwards
-pub outcome_is : (p : Process) (s : State) → zero < length s.owned → outcome p s
+pub owned_after_is : (p : Process) (s : State) → zero < length s.owned → owned_after p s
     ≡ executed (seen (part_names p) s) s.time p.body.statements (owned_at s.owned 0)
-unfolding outcome
-outcome_is p s h =
+unfolding owned_after
+owned_after_is p s h =
     ap (λ (u : State). owned_at u.owned 0) (only_owned (part_names p) s h p.body.statements)
     ∙ owned-with 0 (executed (seen (part_names p) s) s.time p.body.statements (owned_at s.owned 0)) s h

@@ -6,9 +6,9 @@ use Rattle.std.proofs.lemmas.Bool.Decides.{nat_tests}
 use Rattle.std.proofs.lemmas.List.{length-map}
 use Rattle.sim_flat_design.specs.Designs.{Design, Net}
 use Rattle.sim_flat_design.specs.Processes.{IsProcess}
-use Rattle.sim_standard.specs.State.{State, Owned, waves}
-use Rattle.sim_standard.specs.Processes.{part, outcome, process_at}
-use Rattle.sim_standard.specs.Drivers.{Waveform}
+use Rattle.sim_standard.specs.State.{State, Owned, all_drivers}
+use Rattle.sim_standard.specs.Processes.{part, owned_after, process_at}
+use Rattle.sim_standard.specs.Drivers.{DriverState}
 use Rattle.sim_standard.specs.declared.net_view.NetView.{NetView}
 use Rattle.sim_standard.specs.Cycle.{own_taken, is_at_once, is_waiting, first_in_turn, next_delta, those, next_cycle_time, onward}
 use Rattle.sim_standard.specs.Cycle.{precedes_delta, waiting_now, with_waiting, executed_in_turn, cycle_in_turn, standard}
@@ -66,7 +66,7 @@ merged-below f g r i (o ∷ os) same =
     rw (same i (omega arith) (omega arith))
     (ap (λ w. (if g i then r i else o) ∷ w) (merged-below f g r (suc i) os (λ k h l. same k (omega arith) (omega arith))))
 
-pub length-nets_updated : (ds : List Waveform) (nets : List Net) (olds : List NetView) → length olds ≡ length nets
+pub length-nets_updated : (ds : List DriverState) (nets : List Net) (olds : List NetView) → length olds ≡ length nets
     → length (nets_updated ds nets olds) ≡ length nets
 unfolding nets_updated
 length-nets_updated ds [] olds e = refl
@@ -82,7 +82,7 @@ FitsCycles d k (Some s) = (length s.nets ≡ length d.nets) × (s.delta ≤ k)
 
 module _ (d : Design) (k : ℕ) (s : State) where
   together_owned : (f : ℕ → Bool) (x : State) → length (together d.processes f x).owned ≡ length x.owned
-  together_owned f x = length-merged f (λ p. outcome (process_at d.processes p) (part (process_at d.processes p) p x)) 0 x.owned
+  together_owned f x = length-merged f (λ p. owned_after (process_at d.processes p) (part (process_at d.processes p) p x)) 0 x.owned
 
   pub executed_owned : length (executed_together d k s).owned ≡ length s.owned
   executed_owned =
@@ -127,7 +127,7 @@ module _ (d : Design) (is : All IsProcess d.processes) where
       let n = length d.processes in
       in_any_order d.processes (those f 0 n) s is len (those-once f 0 n) (those-below f 0 n (length s.owned) (omega (arith, len)))
       ∙ ap (λ (os : List Owned). record s { owned = os })
-      (merged-below (is_among (those f 0 n)) f (λ p. outcome (process_at d.processes p) (part (process_at d.processes p) p s)) 0 s.owned
+      (merged-below (is_among (those f 0 n)) f (λ p. owned_after (process_at d.processes p) (part (process_at d.processes p) p s)) 0 s.owned
       (λ j h l. those-in f 0 n j h (omega (arith, l, len))))
 
   pub first_is_together : (k : ℕ) (s : State) → length s.owned ≡ length d.processes → first_in_turn d k s ≡ first_together d k s
@@ -176,7 +176,7 @@ module _ (d : Design) (is : All IsProcess d.processes) where
 
   onward_fits : (k : ℕ) (x : State) (t : Option ℕ) → length x.nets ≡ length d.nets → x.delta ≤ k → FitsCycles d (suc k) (onward d x t)
   onward_fits k x None n slow = tt
-  onward_fits k x (Some t) n slow = (length-nets_updated (waves (map (own_taken t) x.owned)) d.nets x.nets n, step (eqb t x.time) refl)
+  onward_fits k x (Some t) n slow = (length-nets_updated (all_drivers (map (own_taken t) x.owned)) d.nets x.nets n, step (eqb t x.time) refl)
     where
       step : (b : Bool) → eqb t x.time ≡ b → next_delta t x.time x.delta ≤ suc k
       step true e = rw e (omega (arith, slow))
@@ -191,7 +191,7 @@ module _ (d : Design) (is : All IsProcess d.processes) where
 
   parallel_fits : (k : ℕ) → FitsCycles d k (parallel d k)
   unfolding parallel
-  parallel_fits zero = (length-map d.nets (net_started (waves (all_first_owned d))), omega arith)
+  parallel_fits zero = (length-map d.nets (net_started (all_drivers (all_first_owned d))), omega arith)
   parallel_fits (suc k) = cycle_fits k (parallel d k) (parallel_fits k)
 
   pub standard_fits : (k : ℕ) → FitsCycles d k (standard d k)

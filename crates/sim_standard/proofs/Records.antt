@@ -10,7 +10,7 @@ use Rattle.sim_logic.specs.declared.logic.Logic.{Logic}
 use Rattle.sim_flat_design.specs.Designs.{Design}
 use Rattle.sim_flat_design.specs.Processes.{IsProcess}
 use Rattle.sim_standard.specs.declared.net_view.NetView.{NetView}
-use Rattle.sim_standard.specs.State.{State, waves}
+use Rattle.sim_standard.specs.State.{State, all_drivers}
 use Rattle.sim_standard.specs.declared.record.Record.{Record}
 use Rattle.sim_standard.specs.Initialization.{all_first_owned}
 use Rattle.sim_standard.specs.Records.{all_changes, changes_from, numbered_value, values_of}
@@ -44,7 +44,7 @@ state_nets : (d : Design) → All IsProcess d.processes → (k : ℕ) → length
 state_nets d is k = go (standard d k) (standard_fits d is k)
   where
     go : (o : Option State) → FitsCycles d k o → length (or_first d o).nets ≡ length d.nets
-    go None f = length-map d.nets (net_started (waves (all_first_owned d)))
+    go None f = length-map d.nets (net_started (all_drivers (all_first_owned d)))
     go (Some s) f = f.0
 
 pub all_named : (d : Design) → All IsProcess d.processes → (k : ℕ) → All (IsNamed (length d.nets)) (records_to d k)

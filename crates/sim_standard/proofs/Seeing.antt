@@ -23,7 +23,7 @@ use Rattle.sim_flat_design.specs.Bodies.{waveform_objects, conditional_objects, 
 use Rattle.sim_standard.specs.Drivers.{Transaction}
 use Rattle.sim_standard.specs.declared.net_view.NetView.{NetView}
 use Rattle.sim_standard.specs.State.{Owned, driver_at}
-use Rattle.sim_standard.specs.Expressions.{logic_operation, boolean_operation, relation, condition, is_as_true, has_edge, logic_value_rule, logic_value}
+use Rattle.sim_standard.specs.Expressions.{logic_operation, boolean_operation, relation, condition, is_same_boolean, has_edge, logic_value_rule, logic_value}
 use Rattle.sim_standard.specs.Expressions.{boolean_value_rule, boolean_value, element_values, taken_waveform}
 use Rattle.sim_standard.specs.Statements.{own_steps, assigned, waveform_assigned, executed}
 use Rattle.sim_standard.proofs.Alongside.{Keeps, Each, each_left, each_right, all_go}
@@ -122,7 +122,8 @@ module _ (f g : ℕ → NetView) where
     boolean_parts (bo.BooleanComparison q op r) = boolean_step (bo.BooleanComparison q.0 op r.0) (λ e.
         let a = q.1 (each_left Alike (boolean_objects q.0) (boolean_objects r.0) e) in
         let b = r.1 (each_right Alike (boolean_objects q.0) (boolean_objects r.0) e) in
-        ap (λ (v : Bool). relation op (is_as_true v (boolean_value f vs r.0))) a ∙ ap (λ (v : Bool). relation op (is_as_true (boolean_value g vs q.0) v)) b)
+        ap (λ (v : Bool). relation op (is_same_boolean v (boolean_value f vs r.0))) a
+        ∙ ap (λ (v : Bool). relation op (is_same_boolean (boolean_value g vs q.0) v)) b)
 
     pub boolean_same : (x : BooleanExpression) → BooleanSame x
     boolean_same = boolean_folds.ind-BooleanExpression BooleanSame

@@ -6,7 +6,7 @@ use Rattle.std.proofs.lemmas.Bool.Decides.{nat_tests}
 use Rattle.std.proofs.lemmas.List.Elements.{All-get_or}
 use Rattle.sim_flat_design.specs.Processes.{Process, IsProcess}
 use Rattle.sim_standard.specs.State.{State, Owned, owned_at, with_owned, net_at}
-use Rattle.sim_standard.specs.Processes.{meaning, part, outcome, no_process, process_at}
+use Rattle.sim_standard.specs.Processes.{meaning, part, owned_after, no_process, process_at}
 use Rattle.sim_standard.proofs.Frame.{the_frame}
 use Rattle.sim_standard.specs.Orders.{is_among, one_by_one, NoRepeats, AllBelow}
 use Rattle.sim_standard.specs.Together.{merged, together}
@@ -61,7 +61,7 @@ merged-also f r i (suc p) n (o ∷ os) q =
 module _ (ps : List Process) (s : State) where
   -- what each process leaves of its part
   abbrev results : ℕ → Owned
-  results q = outcome (process_at ps q) (part (process_at ps q) q s)
+  results q = owned_after (process_at ps q) (part (process_at ps q) q s)
 
   -- the part of a process outside the set is as it was
   part-together : (f : ℕ → Bool) (p : ℕ) → f p ≡ false → part (process_at ps p) p (together ps f s) ≡ part (process_at ps p) p s
@@ -76,7 +76,7 @@ module _ (ps : List Process) (s : State) where
       let here : State = together ps f s in
       let there : p < length here.owned = omega (arith, h, length-merged f results 0 s.owned) in
       the_frame (process_at ps p) p here is there
-      ∙ (ap (λ (u : State). with_owned p (outcome (process_at ps p) u) here) (part-together f p out)
+      ∙ (ap (λ (u : State). with_owned p (owned_after (process_at ps p) u) here) (part-together f p out)
       ∙ ap (λ (os : List Owned). record s { owned = os }) (merged-also f results 0 p p s.owned (omega arith)))
 
   together-same : (f g : ℕ → Bool) → ((k : ℕ) → f k ≡ g k) → together ps f s ≡ together ps g s

@@ -6,7 +6,7 @@ use Rattle.sim_flat_design.specs.declared.waveform.Element.{Element}
 use Rattle.sim_flat_design.specs.declared.statement.Delay.{Delay}
 use Rattle.sim_flat_design.specs.declared.statement.Statement.{Statement}
 use Rattle.sim_flat_design.specs.Bodies.{objects_of}
-use Rattle.sim_standard.specs.Drivers.{Waveform}
+use Rattle.sim_standard.specs.Drivers.{DriverState}
 use Rattle.sim_standard.specs.declared.net_view.NetView.{NetView}
 use Rattle.sim_standard.specs.State.{Owned, driver_at, driver_values, no_driver}
 use Rattle.sim_standard.specs.Expressions.{boolean_value, taken_waveform}
@@ -14,9 +14,9 @@ use Rattle.sim_standard.specs.Statements.{own_steps, waveform_assigned, executed
 use Rattle.sim_standard.proofs.Alongside.{Keeps, each_of_all, all_go}
 
 -- a driver is replaced by one with its value
-value_kept : (drivers : List Waveform) (place : ℕ) (driver : Waveform) → driver.value ≡ (driver_at drivers place).value
+value_kept : (drivers : List DriverState) (place : ℕ) (driver : DriverState) → driver.value ≡ (driver_at drivers place).value
     → driver_values (set drivers place driver) ≡ driver_values drivers
-value_kept drivers place driver e = map-set_same (λ (d : Waveform). d.value) drivers place driver no_driver e
+value_kept drivers place driver e = map-set_same (λ (d : DriverState). d.value) drivers place driver no_driver e
 
 module _ (look : ℕ → NetView) (now : ℕ) where
   assignment_keeps : (place : ℕ) (mechanism : Delay) (elements : Option (List Element)) (own : Owned)

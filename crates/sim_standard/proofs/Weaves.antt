@@ -17,9 +17,9 @@ use Rattle.sim_flat_design.specs.Processes.{Process, IsProcess}
 use Rattle.sim_standard.specs.declared.net_view.NetView.{NetView}
 use Rattle.sim_standard.specs.State.{State, Owned, owned_at, with_owned}
 use Rattle.sim_standard.specs.Statements.{Steps, Guarded, in_turn, statement_rule, branch_rule, statement_done, branch_done, carried_out, own_steps, executed}
-use Rattle.sim_standard.specs.Processes.{Names, names_of, seen, owned_of, state_steps, part, outcome, no_process, process_at}
+use Rattle.sim_standard.specs.Processes.{Names, names_of, seen, owned_of, state_steps, part, owned_after, no_process, process_at}
 use Rattle.sim_standard.proofs.Owning.{with-itself}
-use Rattle.sim_standard.proofs.Frame.{same_outcome}
+use Rattle.sim_standard.proofs.Frame.{same_owned_after}
 use Rattle.sim_standard.specs.Together.{merged, together}
 use Rattle.sim_standard.specs.Expressions.{boolean_value}
 use Rattle.sim_flat_design.specs.declared.held.Held.{Held}
@@ -170,16 +170,16 @@ module _ (ps : List Process) (f : ℕ → Bool) (s : State) (all : (p : ℕ) →
 
   finishing-merged : (i : ℕ) (os : List Owned) → ((k : ℕ) → k < length os → owned_at os k ≡ owned_at s.owned (i + k)) → i + length os ≤ length s.owned
       → finishing (looks_of ps s) s.time (λ p. if f p then (process_at ps p).body.statements else []) i os
-      ≡ merged f (λ p. outcome (process_at ps p) (part (process_at ps p) p s)) i os
+      ≡ merged f (λ p. owned_after (process_at ps p) (part (process_at ps p) p s)) i os
   unfolding executed in_turn merged
   finishing-merged i [] at le = refl
   finishing-merged i (o ∷ os) at le =
       let mine : o ≡ owned_at s.owned i = at 0 (omega arith) ∙ ap (owned_at s.owned) (omega arith) in
-      let here : executed (looks_of ps s i) s.time (process_at ps i).body.statements o ≡ outcome (process_at ps i) (part (process_at ps i) i s) =
-      ap (executed (looks_of ps s i) s.time (process_at ps i).body.statements) mine ∙ same_outcome (process_at ps i) i s (all i (omega (arith, le))) in
+      let here : executed (looks_of ps s i) s.time (process_at ps i).body.statements o ≡ owned_after (process_at ps i) (part (process_at ps i) i s) =
+      ap (executed (looks_of ps s i) s.time (process_at ps i).body.statements) mine ∙ same_owned_after (process_at ps i) i s (all i (omega (arith, le))) in
       let rest = finishing-merged (suc i) os (λ k h. at (suc k) (omega (arith, h)) ∙ ap (owned_at s.owned) (omega arith)) (omega (arith, le)) in
       ap (λ w. executed (looks_of ps s i) s.time (if f i then (process_at ps i).body.statements else []) o ∷ w) rest
-      ∙ ap (λ w. w ∷ merged f (λ p. outcome (process_at ps p) (part (process_at ps p) p s)) (suc i) os) (pick (f i) here)
+      ∙ ap (λ w. w ∷ merged f (λ p. owned_after (process_at ps p) (part (process_at ps p) p s)) (suc i) os) (pick (f i) here)
     where
       pick : (c : Bool) {r : Owned} → executed (looks_of ps s i) s.time (process_at ps i).body.statements o ≡ r
           → executed (looks_of ps s i) s.time (if c then (process_at ps i).body.statements else []) o ≡ (if c then r else o)

@@ -4,7 +4,7 @@ use Rattle.std.specs.Prelude.{ℕ, zero, suc, ◌+◌, ◌==◌, ◌&&◌, ◌||
 use Rattle.sim_flat_design.specs.Designs.{Design}
 use Rattle.sim_standard.specs.declared.net_view.NetView.{NetView}
 use Rattle.sim_standard.specs.Drivers.{taken, next_time}
-use Rattle.sim_standard.specs.State.{State, Owned, net_at, waves}
+use Rattle.sim_standard.specs.State.{State, Owned, net_at, all_drivers}
 use Rattle.sim_standard.specs.Nets.{nets_updated}
 use Rattle.sim_standard.specs.Processes.{process_at}
 use Rattle.sim_standard.specs.Orders.{is_among, one_by_one}
@@ -28,7 +28,7 @@ updated design s time =
     record {
       time = time;
       delta = next_delta time s.time s.delta;
-      nets = nets_updated (waves owned) design.nets s.nets;
+      nets = nets_updated (all_drivers owned) design.nets s.nets;
       owned = owned;
       waiting = s.waiting;
     }
@@ -68,7 +68,7 @@ first_in_turn design cycles s = one_by_one design.processes (at_once design cycl
 -- ---- g): the time of the next cycle (14.7.5.1), after f.3 and, as h.5), after h.4
 
 abbrev pub next_cycle_time : State → Option ℕ
-next_cycle_time s = next_time (waves s.owned)
+next_cycle_time s = next_time (all_drivers s.owned)
 
 -- whether this is the time of a state
 abbrev pub is_time_of : State → Option ℕ → Bool

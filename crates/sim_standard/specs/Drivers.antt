@@ -12,8 +12,8 @@ Transaction = ℕ × Logic
 abbrev pub transaction_at : List Transaction → ℕ → Transaction
 transaction_at transactions place = slice_index_or transactions place (0, U)
 
--- a driver's projected output waveform: its current value and its pending transactions, the earliest first (14.7.2)
-pub record Waveform : Type 0 where
+-- the state of a driver: its current value and the pending transactions of its projected output waveform, the earliest first (14.7.2)
+pub record DriverState : Type 0 where
   pub value : Logic
   pub pending : List Transaction
 
@@ -29,26 +29,26 @@ next_of (x ∷ xs) = Some x.0
 
 -- ---- an active driver takes its transaction
 
--- a waveform after its first transaction has become its value, if it is of this time (14.7.2)
-abbrev pub taken_at : ℕ → Logic → List Transaction → Waveform
+-- a driver after its first transaction has become its value, if it is of this time (14.7.2)
+abbrev pub taken_at : ℕ → Logic → List Transaction → DriverState
 taken_at time value [] = record { value = value; pending = [] }
 taken_at time value (x ∷ xs) =
     if x.0 == time then record { value = x.1; pending = xs } else record { value = value; pending = x ∷ xs }
 
-abbrev pub taken : ℕ → Waveform → Waveform
-taken time waveform = taken_at time waveform.value waveform.pending
+abbrev pub taken : ℕ → DriverState → DriverState
+taken time driver = taken_at time driver.value driver.pending
 
 -- ---- the time of the next cycle (14.7.5.1)
 
 -- the times of all pending transactions
-abbrev pub pending_times : List Waveform → List ℕ
-pending_times drivers = flat_map (λ (d : Waveform). map (λ (x : Transaction). x.0) d.pending) drivers
+abbrev pub pending_times : List DriverState → List ℕ
+pending_times drivers = flat_map (λ (d : DriverState). map (λ (x : Transaction). x.0) d.pending) drivers
 
 -- The time of the next cycle: the earliest of all pending times; none if nothing is pending, where the standard has TIME'HIGH.
-abbrev pub IsNext : List Waveform → Option ℕ → Type 0
+abbrev pub IsNext : List DriverState → Option ℕ → Type 0
 IsNext drivers next =
     MatchOption next (pending_times drivers ≡ []) (λ time. Contains (pending_times drivers) time × All (λ (t : ℕ). time ≤ t) (pending_times drivers))
 
 -- the same, as a function
-unfoldable pub next_time : List Waveform → Option ℕ
+unfoldable pub next_time : List DriverState → Option ℕ
 next_time drivers = reduce min (pending_times drivers)

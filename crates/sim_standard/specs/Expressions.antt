@@ -34,16 +34,16 @@ logic_operation logical.Nand a b = not_table (and_table a b)
 logic_operation logical.Nor a b = not_table (or_table a b)
 
 -- whether two truth values are the same
-abbrev pub is_as_true : Bool → Bool → Bool
-is_as_true true b = b
-is_as_true false b = not b
+abbrev pub is_same_boolean : Bool → Bool → Bool
+is_same_boolean true b = b
+is_same_boolean false b = not b
 
 -- and on two boolean values (9.2.2)
 abbrev pub boolean_operation : Logical → Bool → Bool → Bool
 boolean_operation logical.And a b = a && b
 boolean_operation logical.Or a b = a || b
-boolean_operation logical.Xor a b = not (is_as_true a b)
-boolean_operation logical.Xnor a b = is_as_true a b
+boolean_operation logical.Xor a b = not (is_same_boolean a b)
+boolean_operation logical.Xnor a b = is_same_boolean a b
 boolean_operation logical.Nand a b = not (a && b)
 boolean_operation logical.Nor a b = not (a || b)
 
@@ -70,10 +70,10 @@ abbrev pub truth_of : Option Held → Bool
 truth_of (Some (held.Truth value)) = value
 truth_of _ = false
 
--- rising_edge or, for false, falling_edge: there is an event, and the last value and the value make such an edge (IEEE 1164)
+-- rising_edge or, for false, falling_edge: there is an event, and the value before this cycle and the value make such an edge (IEEE 1164)
 abbrev pub has_edge : Bool → NetView → Bool
-has_edge true net = net.event && rises net.last net.value
-has_edge false net = net.event && falls net.last net.value
+has_edge true net = net.event && rises net.before net.value
+has_edge false net = net.event && falls net.before net.value
 
 -- ---- expressions
 
@@ -98,7 +98,7 @@ module _ (look : ℕ → NetView) (variables : List Held) where
   boolean_value_rule (boolean.Chain operator first rest) = fold (boolean_operation operator) first rest
   boolean_value_rule (boolean.Condition operand) = condition (logic_value operand)
   boolean_value_rule (boolean.LogicComparison left operator right) = relation operator (is_same (logic_value left) (logic_value right))
-  boolean_value_rule (boolean.BooleanComparison left operator right) = relation operator (is_as_true left right)
+  boolean_value_rule (boolean.BooleanComparison left operator right) = relation operator (is_same_boolean left right)
 
   -- the value of an expression of type boolean
   unfoldable pub boolean_value : BooleanExpression → Bool

@@ -4,12 +4,12 @@ use Rattle.sim_logic.specs.declared.logic.Logic.{Logic}
 use Rattle.sim_flat_design.specs.declared.design.DriverOf.{DriverOf}
 use Rattle.sim_flat_design.specs.Processes.{Process}
 use Rattle.sim_flat_design.specs.Designs.{Design}
-use Rattle.sim_standard.specs.Drivers.{Waveform}
-use Rattle.sim_standard.specs.State.{State, Owned, waves}
+use Rattle.sim_standard.specs.Drivers.{DriverState}
+use Rattle.sim_standard.specs.State.{State, Owned, all_drivers}
 use Rattle.sim_standard.specs.Nets.{net_started}
 
 -- a driver with this value and no pending transaction
-abbrev pub idle : Logic → Waveform
+abbrev pub idle : Logic → DriverState
 idle value = record { value = value; pending = [] }
 
 -- what a process owns at first: its drivers and variables, with their initial values
@@ -25,4 +25,4 @@ all_first_owned design = map (first_owned design.drivers) design.processes
 abbrev pub first_state : Design → State
 first_state design =
     let owned = all_first_owned design in
-    record { time = 0; delta = 0; nets = map (net_started (waves owned)) design.nets; owned = owned; waiting = [] }
+    record { time = 0; delta = 0; nets = map (net_started (all_drivers owned)) design.nets; owned = owned; waiting = [] }

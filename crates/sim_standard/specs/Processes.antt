@@ -77,5 +77,5 @@ abbrev pub part_names : Process → Names
 part_names process = record { net = λ object. place_in process.reads (object_net process object); process = 0 }
 
 -- what a process owns after it has been executed on a part
-unfoldable pub outcome : Process → State → Owned
-outcome process s = owned_at (carried_out (state_steps (part_names process)) process.body.statements s).owned 0
+unfoldable pub owned_after : Process → State → Owned
+owned_after process s = owned_at (carried_out (state_steps (part_names process)) process.body.statements s).owned 0

@@ -5,12 +5,12 @@ use Rattle.std.specs.List.{flat_map}
 use Rattle.sim_logic.specs.declared.logic.Logic.{Logic}
 use Rattle.sim_logic.specs.declared.logic.Logic.TheVariants.{U}
 use Rattle.sim_flat_design.specs.declared.held.Held.{Held}
-use Rattle.sim_standard.specs.Drivers.{Waveform}
+use Rattle.sim_standard.specs.Drivers.{DriverState}
 use Rattle.sim_standard.specs.declared.net_view.NetView.{NetView}
 
 -- What a process owns: its drivers (14.7.2) and its variables, each by place.
 pub record Owned : Type 0 where
-  pub drivers : List Waveform
+  pub drivers : List DriverState
   pub variables : List Held
 
 -- A state: the time and the delta number of the last cycle, each net as that cycle left it, by number, what each process owns, by number, and the postponed
@@ -24,18 +24,18 @@ pub record State : Type 0 where
 
 -- ---- beyond the ends of the lists: never read in the state of a design
 
-abbrev pub no_driver : Waveform
+abbrev pub no_driver : DriverState
 no_driver = record { value = U; pending = [] }
 
 abbrev pub no_net : NetView
-no_net = record { value = U; event = false; last = U }
+no_net = record { value = U; event = false; before = U }
 
 abbrev pub nothing_owned : Owned
 nothing_owned = record { drivers = []; variables = [] }
 
 -- ---- its parts
 
-abbrev pub driver_at : List Waveform → ℕ → Waveform
+abbrev pub driver_at : List DriverState → ℕ → DriverState
 driver_at drivers n = slice_index_or drivers n no_driver
 
 abbrev pub net_at : List NetView → ℕ → NetView
@@ -45,12 +45,12 @@ abbrev pub owned_at : List Owned → ℕ → Owned
 owned_at owned n = slice_index_or owned n nothing_owned
 
 -- all drivers, by number: those of a process are adjacent
-abbrev pub waves : List Owned → List Waveform
-waves owned = flat_map (λ (o : Owned). o.drivers) owned
+abbrev pub all_drivers : List Owned → List DriverState
+all_drivers owned = flat_map (λ (o : Owned). o.drivers) owned
 
 -- the current values of drivers
-abbrev pub driver_values : List Waveform → List Logic
-driver_values drivers = map (λ (d : Waveform). d.value) drivers
+abbrev pub driver_values : List DriverState → List Logic
+driver_values drivers = map (λ (d : DriverState). d.value) drivers
 
 -- the state with one process owning this
 abbrev pub with_owned : ℕ → Owned → State → State

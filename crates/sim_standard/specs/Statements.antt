@@ -11,7 +11,7 @@ use Rattle.sim_flat_design.specs.declared.statement.Statement.{Statement}
 use Rattle.sim_flat_design.specs.declared.statement.Branch.{Branch}
 use Rattle.sim_flat_design.specs.declared.statement.Statement.TheOpen as s
 use Rattle.sim_flat_design.specs.declared.statement.Statement.TheFolds as folds
-use Rattle.sim_standard.specs.Drivers.{Transaction, Waveform}
+use Rattle.sim_standard.specs.Drivers.{Transaction, DriverState}
 use Rattle.sim_standard.specs.Editing.{edited, first_element}
 use Rattle.sim_standard.specs.declared.delay.Delay.{Delay as WaveDelay}
 use Rattle.sim_standard.specs.declared.delay.Delay.TheVariants.{Transport, Inertial}
@@ -80,7 +80,7 @@ delay_of mechanism.Inertial first = Inertial first
 delay_of (mechanism.Reject limit) first = Inertial limit
 
 -- a driver after these elements have been assigned to it (10.5.2.2)
-abbrev pub assigned : ℕ → Delay → List Transaction → Waveform → Waveform
+abbrev pub assigned : ℕ → Delay → List Transaction → DriverState → DriverState
 assigned now mechanism elements d = record d { pending = edited d.pending now (delay_of mechanism (first_element elements).0) elements }
 
 module _ (look : ℕ → NetView) (now : ℕ) where

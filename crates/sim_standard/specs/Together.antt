@@ -4,7 +4,7 @@ use Rattle.std.specs.Prelude.{ℕ, zero, suc, List, [], ◌∷◌, Bool, if◌th
 use Rattle.sim_flat_design.specs.Processes.{Process}
 use Rattle.sim_flat_design.specs.Designs.{Design}
 use Rattle.sim_standard.specs.State.{State, Owned}
-use Rattle.sim_standard.specs.Processes.{part, outcome, process_at}
+use Rattle.sim_standard.specs.Processes.{part, owned_after, process_at}
 use Rattle.sim_standard.specs.Initialization.{first_state}
 use Rattle.sim_standard.specs.Cycle.{is_at_once, is_waiting, next_cycle_time, onward, precedes_delta, waiting_now, with_waiting}
 
@@ -15,7 +15,7 @@ merged set results n (own ∷ owned) = (if set n then results n else own) ∷ me
 
 -- each process of a set on its own part of one state
 abbrev pub together : List Process → (ℕ → Bool) → State → State
-together processes set s = record s { owned = merged set (λ p. outcome (process_at processes p) (part (process_at processes p) p s)) 0 s.owned }
+together processes set s = record s { owned = merged set (λ p. owned_after (process_at processes p) (part (process_at processes p) p s)) 0 s.owned }
 
 -- f.3) the resumed processes that are not postponed
 abbrev pub first_together : Design → ℕ → State → State

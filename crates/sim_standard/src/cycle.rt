@@ -14,7 +14,7 @@ ghost use Rattle.sim_standard.specs.Weaving.{Woven, bodies};
 
 /// Processes executed one after another, in any order, each once, leave the state that they leave
 /// together, each on its own part of the state before.
-pub fn any_order_is_together()
+pub fn any_order_leaves_the_same_state()
     ensures { (processes : List Process) (order : List ℕ) (s : State) → All IsProcess processes → length s.owned ≡ length processes
         → NoRepeats order → AllBelow (length s.owned) order → one_by_one processes order s ≡ together processes (is_among order) s }
 {}
@@ -22,20 +22,20 @@ pub fn any_order_is_together()
 /// Some interleaving of the statements of a set of processes leads from one state to another
 /// exactly if that is the state which the processes leave together, each on its own part: no
 /// interleaving makes a difference.
-pub fn any_interleaving_is_together()
+pub fn any_interleaving_leaves_the_same_state()
     ensures { (processes : List Process) (set : ℕ → Bool) (s t : State) → All IsProcess processes → length s.owned ≡ length processes
         → Woven processes s (bodies set 0 processes) t ↔ (t ≡ together processes set s) }
 {}
 
 /// The states reached by executing the processes of each cycle together, each on its own part, are
 /// those of the standard's cycle, which executes them one after another on the whole state.
-pub fn the_states_are_the_standards()
+pub fn parallel_cycles_reach_the_states_of_the_standard()
     ensures { (design : Design) (cycles : ℕ) → All IsProcess design.processes → parallel design cycles ≡ standard design cycles }
 {}
 
 /// In a design without postponed processes, a cycle executes the processes that it resumes, and
 /// nothing else.
-pub fn without_postponed_processes_those_resumed_are_executed()
+pub fn without_postponed_processes_a_cycle_executes_the_resumed_ones()
     ensures { (design : Design) (cycles : ℕ) (s : State) → All IsProcess design.processes → All (λ p. p.postponed ≡ false) design.processes
         → length s.owned ≡ length design.processes → s.waiting ≡ []
         → executed_in_turn design cycles s ≡ one_by_one design.processes (those (is_resumed design cycles s) 0 (length design.processes)) s }
@@ -49,7 +49,7 @@ pub fn the_ends_of_cycles_are_those_of_the_standard()
 {}
 
 /// After each cycle, each net has the value of its last change in the records up to that cycle.
-pub fn the_records_give_the_values()
+pub fn the_records_determine_the_values()
     ensures { (design : Design) (cycles net : ℕ) (s : State) → All IsProcess design.processes → standard design cycles ≡ Some s → net < length design.nets
         → value_by (records_to design cycles) net ≡ Some (net_at s.nets net).value }
 {}

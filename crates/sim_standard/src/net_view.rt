@@ -9,5 +9,5 @@ pub struct NetView {
     /// Whether this cycle changed the value (14.7.3.4).
     pub event: bool,
     /// The value before this cycle, event or not. It is not `S'LAST_VALUE`.
-    pub last: Logic,
+    pub before: Logic,
 }

@@ -7,17 +7,17 @@ use Rattle.std.proofs.lemmas.List.{get_or-set_same, get_or-set_other, length-set
 use Rattle.std.proofs.lemmas.List.Elements.{All-get_or}
 use Rattle.sim_flat_design.specs.Designs.{Design}
 use Rattle.sim_flat_design.specs.Processes.{Process, IsProcess}
-use Rattle.sim_store_sets.specs.Words.{IsNext, NoneFrom}
+use Rattle.sim_containers.specs.Words.{IsNext, NoneFrom}
 use Rattle.sim_exec.specs.Jobs.{IsReady}
 use Rattle.sim_standard.specs.declared.net_view.NetView.{NetView}
 use Rattle.sim_standard.specs.State.{Owned, net_at, nothing_owned, owned_at}
 use Rattle.sim_standard.specs.Statements.{executed}
 use Rattle.sim_standard.specs.Processes.{object_net, no_process, process_at}
 use Rattle.sim_standard.specs.Together.{merged}
-use Rattle.sim_standard.proofs.Frame.{same_outcome}
+use Rattle.sim_standard.proofs.Frame.{same_owned_after}
 use Rattle.sim_standard.proofs.Together.{merged-out}
 use Rattle.sim_store_simulation.specs.Simulation.{Simulation, is_due, reached, those_in}
-use Rattle.sim_store.specs.Handing.{Front, IsFront, IsNextBelow, IsRange, NoneBetween, completed, front_of, result_in}
+use Rattle.sim_store.specs.Handing.{PhaseInput, IsPhaseInput, IsNextBelow, IsRange, NoneBetween, completed, at_input, result_in}
 
 -- a process of the set owns its result
 pub merged-in : (f : ℕ → Bool) (r : ℕ → Owned) (i p n : ℕ) (os : List Owned) → n ≡ i + p → f n ≡ true → p < length os
@@ -142,7 +142,7 @@ pub result-executed : (h : Simulation) (n time : ℕ) (own : Owned) → All IsPr
 result-executed h n time own all lt et eo =
     let q = process_at h.design.processes n in
     let is : IsProcess q = All-get_or IsProcess h.design.processes n no_process lt all in
-    rw (et, eo) (same_outcome q n (reached h) is)
+    rw (et, eo) (same_owned_after q n (reached h) is)
 
 -- the same, for the process and the nets at hand
 pub executed-is : (h : Simulation) (n time : ℕ) (own : Owned) (nets : List NetView) (q : Process) → All IsProcess h.design.processes
@@ -153,16 +153,16 @@ executed-is h n time own nets q all lt et eo en eq = rw (en, eq) (result-execute
 
 -- ---- due processes
 
-module _ {design own : Design} {f : Front} (i : IsFront design own f) where
-  pub none-between : (from to : ℕ) → to ≤ length design.processes → NoneFrom (those_in f.due) from → NoneBetween (is_due (front_of design f)) from to
+module _ {design own : Design} {f : PhaseInput} (i : IsPhaseInput design own f) where
+  pub none-between : (from to : ℕ) → to ≤ length design.processes → NoneFrom (those_in f.due) from → NoneBetween (is_due (at_input design f)) from to
   none-between from to le none p ge lt = sym (i.due_are p (omega (arith, le, lt))) ∙ none p ge
 
   pub none-beyond : (from to n : ℕ) → to ≤ length design.processes → IsNext (those_in f.due) from n → to ≤ n
-      → NoneBetween (is_due (front_of design f)) from to
+      → NoneBetween (is_due (at_input design f)) from to
   none-beyond from to n le next beyond p ge lt = sym (i.due_are p (omega (arith, le, lt))) ∙ next.first p ge (omega (arith, lt, beyond))
 
   pub next-below : (from to n : ℕ) → to ≤ length design.processes → IsNext (those_in f.due) from n → n < to
-      → IsNextBelow (is_due (front_of design f)) from to n
+      → IsNextBelow (is_due (at_input design f)) from to n
   next-below from to n le next lt = record {
     further = next.further;
     below = lt;

@@ -5,7 +5,7 @@ use Rattle.std.proofs.Math.Seq.{take-suc}
 use Rattle.std.proofs.lemmas.List.{drop_all, drop_more, length-append}
 use Rattle.std.proofs.lemmas.List.Sums.{sum_by-cons}
 use Rattle.sim_standard.specs.State.{Owned}
-use Rattle.sim_store_sets.specs.RowArray.{joined}
+use Rattle.sim_containers.specs.RowArray.{joined}
 use Rattle.sim_store_state.specs.Lending.{counts}
 use Rattle.sim_store_state.proofs.Sharing.{counts-more}
 use Rattle.sim_store_simulation.specs.declared.phase.Phase.{Phase}

@@ -17,7 +17,7 @@ use Rattle.sim_store_state.proofs.Walks.{member_within}
 use Rattle.sim_store_simulation.specs.Simulation.{Simulation, IsComplete, IsStateOf, is_before, is_due}
 use Rattle.sim_store_simulation.specs.Simulation.{reached, those_in, updated_last, with_marks}
 use Rattle.sim_store_simulation.specs.declared.phase.Phase.{Phase}
-use Rattle.sim_store.specs.Handing.{IsFront, IsRange, at_phase, completed, result_in}
+use Rattle.sim_store.specs.Handing.{IsPhaseInput, IsRange, at_phase, completed, result_in}
 use Rattle.sim_store_simulation.proofs.Going.{held-count, reached-all, ready-here}
 use Rattle.sim_store.proofs.Handed.{completed-other}
 
@@ -101,17 +101,17 @@ module _ {h : Simulation} {time delta : ℕ} {held : FlatState} {records : List 
   }
 
   -- what is read is that of the phase
-  pub fresh-front : (codes : Coded) (values last_values : List Logic) → AreCodesOf h.design.processes codes → views_of values last_values ≡ held.nets
-      → IsFront h.design h.design (record {
+  pub fresh-input : (codes : Coded) (values values_before : List Logic) → AreCodesOf h.design.processes codes → views_of values values_before ≡ held.nets
+      → IsPhaseInput h.design h.design (record {
         cycles = h.cycles;
         phase = h.phase;
         time = time;
         codes = codes;
         values = values;
-        last_values = last_values;
+        values_before = values_before;
         due = due;
       })
-  fresh-front codes values last_values are nets = record {
+  fresh-input codes values values_before are nets = record {
     design_is = refl;
     processes = i.processes;
     all_own = reached-all i;

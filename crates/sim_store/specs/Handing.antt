@@ -7,7 +7,7 @@ use Rattle.sim_logic.specs.Time.{largest_time}
 use Rattle.sim_flat_design.specs.Designs.{Design}
 use Rattle.sim_flat_design.specs.Processes.{IsProcess}
 use Rattle.sim_standard.specs.State.{State, Owned, owned_at}
-use Rattle.sim_standard.specs.Processes.{outcome, part, process_at}
+use Rattle.sim_standard.specs.Processes.{owned_after, part, process_at}
 use Rattle.sim_standard.specs.Together.{together}
 use Rattle.sim_exec.specs.Jobs.{IsReady}
 use Rattle.sim_exec_code.specs.Codes.{Coded, AreCodesOf}
@@ -26,33 +26,33 @@ completed h = together h.design.processes (is_due h) (reached h)
 
 -- what a process owns after it has been executed in a phase
 abbrev pub result_in : Simulation → ℕ → Owned
-result_in h p = outcome (process_at h.design.processes p) (part (process_at h.design.processes p) p (reached h))
+result_in h p = owned_after (process_at h.design.processes p) (part (process_at h.design.processes p) p (reached h))
 
--- What is read during a phase: the codes, the values and last values of nets, the due processes, and the time.
-pub record Front : Type 0 where
+-- What is read during a phase: the codes, the values of nets and those before the cycle, the due processes, and the time.
+pub record PhaseInput : Type 0 where
   pub cycles : ℕ
   pub phase : Phase
   pub time : ℕ
   pub codes : Coded
   pub values : List Logic
-  pub last_values : List Logic
+  pub values_before : List Logic
   pub due : List Bool
 
 -- the simulation that it belongs to
-abbrev pub front_of : Design → Front → Simulation
-front_of design f = at_phase design f.cycles f.phase
+abbrev pub at_input : Design → PhaseInput → Simulation
+at_input design f = at_phase design f.cycles f.phase
 
 -- It belongs to this design.
-pub record IsFront (design own : Design) (f : Front) : Type 0 where
+pub record IsPhaseInput (design own : Design) (f : PhaseInput) : Type 0 where
   pub design_is : own ≡ design
   pub processes : All IsProcess design.processes
-  pub all_own : length (reached (front_of design f)).owned ≡ length design.processes
+  pub all_own : length (reached (at_input design f)).owned ≡ length design.processes
   pub codes_are : AreCodesOf design.processes f.codes
-  pub nets_are : views_of f.values f.last_values ≡ (reached (front_of design f)).nets
-  pub time_is : f.time ≡ (reached (front_of design f)).time
+  pub nets_are : views_of f.values f.values_before ≡ (reached (at_input design f)).nets
+  pub time_is : f.time ≡ (reached (at_input design f)).time
   pub early : f.time ≤ largest_time
   pub due_sized : length f.due ≡ length design.processes
-  pub due_are : (p : ℕ) → p < length design.processes → those_in f.due p ≡ is_due (front_of design f) p
+  pub due_are : (p : ℕ) → p < length design.processes → those_in f.due p ≡ is_due (at_input design f) p
 
 -- The processes from a number on own this, as part of what all own, and it fits their bodies.
 pub record IsRange (h : Simulation) (all : List Owned) (from : ℕ) (owned : List Owned) : Type 0 where
@@ -101,13 +101,13 @@ pub record AreParts (cycles : ℕ) (phase : Phase) (parts : List ℕ) (ranges : 
   pub in_order : AreInOrder cycles phase 0 ranges
 
 -- What stays of a store while a phase is handed out in parts of so many processes each.
-pub record Rest : Type 0 where
+pub record HandedOutStore : Type 0 where
   pub store : WaveStore
   pub parts : List ℕ
 
 -- They are all orders of the phase that was handed out, or the answers to all of them, in order.
-abbrev pub AreAll : Rest → List Range → Type 0
-AreAll rest ranges = AreParts rest.store.simulation.cycles rest.store.simulation.phase rest.parts ranges
+abbrev pub AreAll : HandedOutStore → List Range → Type 0
+AreAll handed_out ranges = AreParts handed_out.store.simulation.cycles handed_out.store.simulation.phase handed_out.parts ranges
 
 -- The run has not ended, and no process has been executed in this phase.
 pub record IsUntouched (w : WaveStore) : Type 0 where

@@ -1,3 +1,3 @@
 pub mod WaveStore
 pub mod Handing
-pub mod Keeping
+pub mod Retained

@@ -5,58 +5,58 @@ ghost use Rattle.std.specs.Arc.{arc_value};
 ghost use Rattle.sim_store.specs.Handing as spec;
 ghost use Rattle.sim_store_simulation.specs.Simulation as simulations;
 ghost use Rattle.sim_store.specs.declared.error.HandOutError.TheVariants as reason;
-ghost use Rattle.sim_store_sets.specs.RowArray.{joined};
+ghost use Rattle.sim_containers.specs.RowArray.{joined};
 ghost use Rattle.sim_store_state.specs.Lending.{counts};
 
+use crate::design_type::DesignType;
 use crate::error::HandOutError;
-use crate::front::Front;
-use crate::naming::Naming;
 use crate::order::{Answer, Order};
+use crate::phase_input::PhaseInput;
 use sim_store_state::{Share, Shares};
 use std::alloc::{AllocError, Global};
 use std::sync::Arc;
 
 /// The order for the processes of a share, the first of which has this number.
-fn order_of<J: Naming>(
-    front: &Arc<Front<J>, Global>,
+fn order_of<D: DesignType>(
+    input: &Arc<PhaseInput<D>, Global>,
     from: usize,
     share: Share,
-) -> Result<Order<J>, AllocError>
-    requires { spec.IsRange (spec.front_of J.design (arc_value front.now))
-        (simulations.reached (spec.front_of J.design (arc_value front.now))).owned from share }
+) -> Result<Order<D>, AllocError>
+    requires { spec.IsRange (spec.at_input D.design (arc_value input.now))
+        (simulations.reached (spec.at_input D.design (arc_value input.now))).owned from share }
     ensures { IfOk result (λ o. o ≡ record {
-      cycles = (arc_value front.now).cycles;
-      phase = (arc_value front.now).phase;
+      cycles = (arc_value input.now).cycles;
+      phase = (arc_value input.now).phase;
       from = from;
       owned = share;
     }) }
 {
-    let theirs = Arc::try_clone(front)?;
+    let theirs = Arc::try_clone(input)?;
     Ok(Order::new(from, share, theirs))
 }
 
 /// The orders for all processes, in the order of their numbers.
-pub fn orders_of<J: Naming>(
+pub fn orders_of<D: DesignType>(
     alloc: Global,
     shares: Shares,
-    front: &Arc<Front<J>, Global>,
-) -> Result<Vec<Order<J>>, AllocError>
-    requires range { spec.IsRange (spec.front_of J.design (arc_value front.now))
-        (simulations.reached (spec.front_of J.design (arc_value front.now))).owned 0 (joined shares) }
-    requires all { length (joined shares) ≡ length J.design.processes }
-    ensures { IfOk result (λ v. spec.AreParts (arc_value front.now).cycles (arc_value front.now).phase (counts shares) v.items) }
+    input: &Arc<PhaseInput<D>, Global>,
+) -> Result<Vec<Order<D>>, AllocError>
+    requires range { spec.IsRange (spec.at_input D.design (arc_value input.now))
+        (simulations.reached (spec.at_input D.design (arc_value input.now))).owned 0 (joined shares) }
+    requires all { length (joined shares) ≡ length D.design.processes }
+    ensures { IfOk result (λ v. spec.AreParts (arc_value input.now).cycles (arc_value input.now).phase (counts shares) v.items) }
 {
     let count = shares.count();
     let mut orders = Vec::with_capacity(alloc, count)?;
     let mut shares = shares;
-    let mut to = front.count();
+    let mut to = input.count();
     for _turn in 0..count {
         let Some((rest, share)) = shares.pop() else {
             unreachable!()
         };
         shares = rest;
         to -= share.len();
-        let order = order_of(front, to, share)?;
+        let order = order_of(input, to, share)?;
         orders.push(order)?;
     }
     orders.as_mut_slice().reverse();
@@ -64,37 +64,45 @@ pub fn orders_of<J: Naming>(
 }
 
 /// The number of processes of each order.
-pub fn lengths_of<J: Naming>(alloc: Global, orders: &[Order<J>]) -> Result<Vec<usize>, AllocError>
+pub fn lengths_of<D: DesignType>(
+    alloc: Global,
+    orders: &[Order<D>],
+) -> Result<Vec<usize>, AllocError>
     ensures { IfOk result (λ v. v.items ≡ spec.lengths orders.now) }
 {
     orders.iter().map(|order| order.len()).collect(alloc)
 }
 
 /// Whether an answer is of the phase read here, and for so many processes from this one on.
-fn is_next<J: Naming>(answer: &Answer<J>, front: &Front<J>, from: usize, count: usize) -> bool
-    ensures { Decides result ((answer.now.cycles ≡ front.now.cycles) × (answer.now.phase ≡ front.now.phase)
+fn is_next<D: DesignType>(
+    answer: &Answer<D>,
+    input: &PhaseInput<D>,
+    from: usize,
+    count: usize,
+) -> bool
+    ensures { Decides result ((answer.now.cycles ≡ input.now.cycles) × (answer.now.phase ≡ input.now.phase)
         × (answer.now.from ≡ from) × (length answer.now.owned ≡ count)) }
 {
-    answer.cycles() == front.cycles()
-        && answer.phase() == front.phase()
+    answer.cycles() == input.cycles()
+        && answer.phase() == input.phase()
         && answer.from() == from
         && answer.len() == count
 }
 
 /// What all processes own, according to the answers to all orders of the phase read here, which had
 /// so many processes each.
-pub fn shares_of<J: Naming>(
+pub fn shares_of<D: DesignType>(
     alloc: Global,
-    front: &Front<J>,
+    input: &PhaseInput<D>,
     parts: &[usize],
-    answers: Vec<Answer<J>>,
+    answers: Vec<Answer<D>>,
 ) -> Result<Shares, HandOutError>
-    ensures range { IfOk result (λ s. spec.IsRange (spec.front_of J.design front.now)
-        (spec.completed (spec.front_of J.design front.now)).owned 0 (joined s)) }
+    ensures range { IfOk result (λ s. spec.IsRange (spec.at_input D.design input.now)
+        (spec.completed (spec.at_input D.design input.now)).owned 0 (joined s)) }
     ensures counts { IfOk result (λ s. counts s ≡ parts.now) }
-    ensures err { IfErr result (λ e. e ≡ reason.Stranger → spec.AreParts front.now.cycles front.now.phase parts.now answers.items → ⊥) }
+    ensures err { IfErr result (λ e. e ≡ reason.Stranger → spec.AreParts input.now.cycles input.now.phase parts.now answers.items → ⊥) }
 {
-    let _count = front.count();
+    let _count = input.count();
     let mut shares = Shares::with_room(alloc, parts.len())?;
     let mut from = 0;
     for answer in answers {
@@ -102,7 +110,7 @@ pub fn shares_of<J: Naming>(
         if number == parts.len() {
             return Err(HandOutError::Stranger);
         }
-        if !is_next(&answer, front, from, parts[number]) {
+        if !is_next(&answer, input, from, parts[number]) {
             return Err(HandOutError::Stranger);
         }
         from += parts[number];

@@ -1,18 +1,18 @@
 //! The state and the history of a run, and the calls that carry them on (IEEE 1076-2008, 14.7).
 #![tactic(auto)]
 
+mod design_type;
 mod error;
-mod front;
+mod handed_out;
 mod handing;
-mod kept;
-mod naming;
 mod order;
-mod rest;
+mod phase_input;
+mod retained;
 mod store;
 
+pub use design_type::DesignType;
 pub use error::{HandOutError, StoreError};
-pub use naming::Naming;
+pub use handed_out::HandedOutStore;
 pub use order::{Answer, Order};
-pub use rest::Rest;
 pub use sim_store_state::{Log, Record};
 pub use store::{Look, Step, WaveStore};

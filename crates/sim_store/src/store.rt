@@ -15,10 +15,10 @@ ghost use Rattle.sim_store.specs.WaveStore as spec;
 ghost use Rattle.sim_store.specs.declared.error.StoreError.TheVariants as refusal;
 ghost use Rattle.sim_store.specs.declared.store.Step.TheVariants as step;
 
+use crate::design_type::DesignType;
 use crate::error::StoreError;
-use crate::naming::Naming;
+use crate::handed_out::{HandedOutStore, hand_out_phase};
 use crate::order::Order;
-use crate::rest::{Rest, handed_out};
 use sim_exec::{Done, Job};
 use sim_flat_design::Design;
 use sim_logic::{LATEST, Logic};
@@ -261,8 +261,11 @@ impl WaveStore {
 
     /// Hands out what the processes own, so that due ones can be executed elsewhere: all processes,
     /// in their order, each share in one order. If allocation fails, the store is lost.
-    pub fn hand_out<J: Naming>(self, alloc: Global) -> Result<(Rest<J>, Vec<Order<J>>), AllocError>
-        requires design { self.simulation.design ≡ J.design }
+    pub fn hand_out<D: DesignType>(
+        self,
+        alloc: Global,
+    ) -> Result<(HandedOutStore<D>, Vec<Order<D>>), AllocError>
+        requires design { self.simulation.design ≡ D.design }
         requires untouched { hands.IsUntouched self }
         ensures store { IfOk result (λ r. r.0.store ≡ self) }
         ensures orders { IfOk result (λ r. hands.AreAll r.0 r.1.items) }
@@ -273,7 +276,7 @@ impl WaveStore {
             limit,
             ended: _,
         } = self;
-        handed_out::<J>(alloc, simulation, stop, limit)
+        hand_out_phase::<D>(alloc, simulation, stop, limit)
     }
 
     /// Goes on once all due processes have been executed (14.7.5.3): to the postponed processes of

@@ -226,8 +226,8 @@ fn next_delta(state: &State, time: u64) -> Option<u64> {
 /// The views of the nets once the drivers have taken their transactions.
 fn next_views(alloc: Global, design: &Design, state: &State) -> Option<Vec<NetView>> {
     let values = values_of(alloc, state.drivers.as_slice(), design.nets())?;
-    let last_values = values_in(alloc, state.views.as_slice())?;
-    views_of(alloc, values.as_slice(), last_values.as_slice())
+    let values_before = values_in(alloc, state.views.as_slice())?;
+    views_of(alloc, values.as_slice(), values_before.as_slice())
 }
 
 /// The cycle at a time: drivers first, then nets (14.7.5.3).

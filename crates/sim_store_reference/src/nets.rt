@@ -38,19 +38,19 @@ pub fn values_of(alloc: Global, drivers: &[Driver], nets: &[Net]) -> Option<Vec<
 }
 
 /// The view of a net, from its value and the value before.
-fn changed(value: Logic, last: Logic) -> NetView {
+fn changed(value: Logic, before: Logic) -> NetView {
     NetView {
         value,
-        event: value != last,
-        last,
+        event: value != before,
+        before,
     }
 }
 
 /// The views of nets, from their values and the values before.
-pub fn views_of(alloc: Global, values: &[Logic], last_values: &[Logic]) -> Option<Vec<NetView>> {
+pub fn views_of(alloc: Global, values: &[Logic], values_before: &[Logic]) -> Option<Vec<NetView>> {
     let mut views = Vec::new(alloc);
-    for (value, last) in values.iter().zip(last_values) {
-        views.push(changed(*value, *last)).ok()?;
+    for (value, before) in values.iter().zip(values_before) {
+        views.push(changed(*value, *before)).ok()?;
     }
     Some(views)
 }

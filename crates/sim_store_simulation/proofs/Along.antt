@@ -3,8 +3,8 @@ use Rattle.std.proofs.Common.{ℕ, zero, suc, ◌+◌, ◌-◌, ◌<◌, ◌≤�
 use Rattle.std.proofs.Common.{set, drop, add-one, refl, ap, sym, ◌∙◌, arith}
 use Rattle.std.proofs.Math.Decide.{dec_lt}
 use Rattle.std.proofs.lemmas.List.{get_or-set_other, get_or_past}
-use Rattle.sim_store_sets.specs.Numbers.{is_beside}
-use Rattle.sim_store_sets.specs.Words.{IsNext, NoneFrom}
+use Rattle.sim_containers.specs.Numbers.{is_beside}
+use Rattle.sim_containers.specs.Words.{IsNext, NoneFrom}
 use Rattle.sim_standard.specs.Cycle.{those}
 use Rattle.sim_standard.specs.declared.record.Record.{Record}
 use Rattle.sim_store_state.specs.FlatState.{FlatState}

@@ -7,17 +7,17 @@ use Rattle.std.proofs.lemmas.Bool.Decides.{nat_tests}
 use Rattle.std.proofs.lemmas.List.{get_or-set_same, get_or-set_other, length-set, length-map, length-append, get_or-map, get_or-replicate, length-replicate}
 use Rattle.std.proofs.lemmas.List.Elements.{All-map, All-weaker}
 use Rattle.std.proofs.lemmas.List.{drop-drop, length-take-le}
-use Rattle.sim_standard.specs.Drivers.{RisesFrom, Transaction, Waveform, next_time}
+use Rattle.sim_standard.specs.Drivers.{RisesFrom, Transaction, DriverState, next_time}
 use Rattle.sim_flat_design.specs.Bodies.{Body}
 use Rattle.sim_flat_design.specs.declared.design.DriverOf.{DriverOf}
 use Rattle.sim_flat_design.specs.Designs.{AreOwned, Design, most}
 use Rattle.sim_flat_design.specs.Processes.{Process, IsProcess}
 use Rattle.sim_standard.specs.declared.net_view.NetView.{NetView}
 use Rattle.std.proofs.lemmas.List.Elements.{All-get_or}
-use Rattle.sim_standard.specs.State.{State, Owned, driver_values, net_at, owned_at, nothing_owned, waves}
+use Rattle.sim_standard.specs.State.{State, Owned, driver_values, net_at, owned_at, nothing_owned, all_drivers}
 use Rattle.sim_standard.specs.Statements.{executed}
-use Rattle.sim_standard.specs.Processes.{object_net, part, outcome, no_process, process_at}
-use Rattle.sim_standard.proofs.Frame.{same_outcome}
+use Rattle.sim_standard.specs.Processes.{object_net, part, owned_after, no_process, process_at}
+use Rattle.sim_standard.proofs.Frame.{same_owned_after}
 use Rattle.sim_standard.proofs.ValuesKept.{values_kept}
 use Rattle.sim_logic.specs.Time.{largest_time}
 use Rattle.sim_exec.specs.Jobs.{IsJob, IsReady, Job, holds_bit, result_of, scene}
@@ -50,7 +50,7 @@ use Rattle.sim_standard.proofs.Parallel.{executed_delta, executed_nets, executed
 use Rattle.sim_store_simulation.proofs.Readiness.{ready_after}
 
 abbrev results : Simulation → ℕ → Owned
-results h q = outcome (process_at h.design.processes q) (part (process_at h.design.processes q) q (reached h))
+results h q = owned_after (process_at h.design.processes q) (part (process_at h.design.processes q) q (reached h))
 
 pub length-records_to : (d : Design) (k : ℕ) → length (records_to d k) ≡ suc k
 unfolding records_to
@@ -190,8 +190,8 @@ module _ {h : Simulation} {time delta : ℕ} {held : FlatState} {records : List 
       i.owned_are ∙ merged-below (those_in h.deposited) (is_due h) (results h) 0 (reached h).owned
       (λ k a b. both (those_in h.deposited k) (is_due h k) (i.ran k) (all k (omega (arith, b, reached-all i))))
 
-  pub next-is : next_time (waves held.owned) ≡ next_cycle_time (phase_end h.phase h.design h.cycles (updated_last h))
-  next-is = ap (λ (os : List Owned). next_time (waves os)) phase-complete
+  pub next-is : next_time (all_drivers held.owned) ≡ next_cycle_time (phase_end h.phase h.design h.cycles (updated_last h))
+  next-is = ap (λ (os : List Owned). next_time (all_drivers os)) phase-complete
 
 -- so if postponed processes come next, their phase begins
 module _ {h : Simulation} {time delta : ℕ} {held : FlatState} {records : List Record} {due waiting : List Bool}
@@ -260,17 +260,17 @@ module _ {h : Simulation} {time delta : ℕ} {held : FlatState} {records : List 
   in-turn : executed_in_turn h.design h.cycles (updated_last h) ≡ executed_together h.design h.cycles (updated_last h)
   in-turn = in_turn_is_together h.design i.processes h.cycles (updated_last h) (updated-all i)
 
-  standard-next : standard h.design (suc h.cycles) ≡ onward h.design (executed_together h.design h.cycles (updated_last h)) (next_time (waves held.owned))
+  standard-next : standard h.design (suc h.cycles) ≡ onward h.design (executed_together h.design h.cycles (updated_last h)) (next_time (all_drivers held.owned))
   unfolding standard
   standard-next =
       let x = executed_together h.design h.cycles (updated_last h) in
       ap (cycle_in_turn h.design h.cycles) i.there ∙ (ap (λ (y : State). onward h.design y (next_cycle_time y)) in-turn
-      ∙ ap (λ (os : List Owned). onward h.design x (next_time (waves os))) (sym present-complete))
+      ∙ ap (λ (os : List Owned). onward h.design x (next_time (all_drivers os))) (sym present-complete))
 
   -- a cycle that follows is at the first pending time
-  pub next-time-is : (t : ℕ) → next_after h ≡ CycleAt t → next_time (waves held.owned) ≡ Some t
+  pub next-time-is : (t : ℕ) → next_after h ≡ CycleAt t → next_time (all_drivers held.owned) ≡ Some t
   next-time-is t e =
-      ap (λ (os : List Owned). next_time (waves os)) present-complete
+      ap (λ (os : List Owned). next_time (all_drivers os)) present-complete
       ∙ (ap next_cycle_time (sym in-turn)
       ∙ time_of_cycle (has_postponed_delta h.design h.cycles (updated_last h)) (next_cycle_time (executed_in_turn h.design h.cycles (updated_last h))) t e)
     where
@@ -280,7 +280,7 @@ module _ {h : Simulation} {time delta : ℕ} {held : FlatState} {records : List 
       time_of_cycle false (Some u) t e = cc e
 
   -- the next cycle is at this time
-  pub advanced-time : (t : ℕ) → next_time (waves held.owned) ≡ Some t → (state_of h.design (suc h.cycles)).time ≡ t
+  pub advanced-time : (t : ℕ) → next_time (all_drivers held.owned) ≡ Some t → (state_of h.design (suc h.cycles)).time ≡ t
   advanced-time t some =
       let d = h.design in
       ap (λ (s : State). s.time) (ap (or_first d) (standard-next ∙ ap (onward d (executed_together d h.cycles (updated_last h))) some))
@@ -303,10 +303,10 @@ module _ {h : Simulation} {time delta : ℕ} {held : FlatState} {records : List 
   advanced-count t held' el =
       let x = executed_together h.design h.cycles (updated_last h) in
       ap (λ (w : FlatState). length w.nets) (el h.design x held-is)
-      ∙ length-nets_updated (waves (map (own_taken t) x.owned)) h.design.nets x.nets
+      ∙ length-nets_updated (all_drivers (map (own_taken t) x.owned)) h.design.nets x.nets
       (ap length (executed_nets h.design h.cycles (updated_last h) ∙ sym i.nets_are) ∙ net-count i)
 
-  pub advanced-keeps : (t : ℕ) → next_time (waves held.owned) ≡ Some t → t ≤ largest_time
+  pub advanced-keeps : (t : ℕ) → next_time (all_drivers held.owned) ≡ Some t → t ≤ largest_time
       → (δ k : ℕ) (held' : FlatState) (records' : List Record) (postponed due' waiting' deposited' : List Bool)
       → δ ≡ next_delta t time delta
       → ((design : Design) (s : State) → held ≡ flat_state_of design s → held' ≡ flat_state_of design (updated design s t))
@@ -419,12 +419,12 @@ module _ {h : Simulation} {time delta : ℕ} {held : FlatState} {records : List 
       record {
         number = lt;
         resumed = resumed;
-        result = rw (i.nets_are, still-owned i p out, i.time_is) (same_outcome q p (reached h) is);
+        result = rw (i.nets_are, still-owned i p out, i.time_is) (same_owned_after q p (reached h) is);
       }
 
 -- ---- in place
 
-sooner : (time : ℕ) (d : Waveform) → RisesFrom (suc time) d.pending → RisesFrom time d.pending
+sooner : (time : ℕ) (d : DriverState) → RisesFrom (suc time) d.pending → RisesFrom time d.pending
 sooner time d h = go d.pending h
   where
     go : (xs : List Transaction) → RisesFrom (suc time) xs → RisesFrom time xs
@@ -436,7 +436,8 @@ ready-sooner : (body : Body) (time : ℕ) (own : Owned) → IsReady body (suc ti
 ready-sooner body time own is = record {
   drivers = is.drivers;
   variables = is.variables;
-  pending = All-weaker (λ (d : Waveform). RisesFrom (suc time) d.pending) (λ (d : Waveform). RisesFrom time d.pending) (sooner time) own.drivers is.pending;
+  pending = All-weaker (λ (d : DriverState). RisesFrom (suc time) d.pending) (λ (d : DriverState). RisesFrom time d.pending) (sooner time) own.drivers
+      is.pending;
 }
 
 module _ {h : Simulation} {time delta : ℕ} {held : FlatState} {records : List Record} {due waiting : List Bool}
@@ -511,7 +512,7 @@ module _ {h : Simulation} {time delta : ℕ} {held : FlatState} {records : List 
   own-result d = record {
     number = d.number;
     resumed = d.resumed;
-    result = ap (λ (q : Process). outcome q (scene job)) o.process ∙ ap (outcome (process_at h.design.processes job.number)) o.shows;
+    result = ap (λ (q : Process). owned_after q (scene job)) o.process ∙ ap (owned_after (process_at h.design.processes job.number)) o.shows;
   }
 
   pub own-ready : IsReady job.process.body job.time (result_of job) → IsReady (process_at h.design.processes job.number).body time (result_of job)
@@ -539,7 +540,7 @@ module _ {h : Simulation} {time delta : ℕ} {held : FlatState} {records : List 
   kept-values d out (Some r) e =
       let q = process_at h.design.processes job.number in
       let is : IsProcess q = All-get_or IsProcess h.design.processes job.number no_process d.number i.processes in
-      let ran = same_outcome q job.number (reached h) is in
+      let ran = same_owned_after q job.number (reached h) is in
       let own = owned_at (reached h).owned job.number in
       let look = λ (object : ℕ). net_at (reached h).nets (object_net q object) in
       ap (λ (w : Owned). driver_values w.drivers) (e ∙ ((own-result d).result ∙ sym ran))
@@ -633,7 +634,7 @@ begins d k held records due waiting deposited few are all e₀ e er eu ep =
         rw at (record {
           drivers = length-map _ _ ∙ drivers-there (length d.nets) 0 0 d.drivers d.drivers d.processes refl are p lt;
           variables = refl;
-          pending = All-map (λ (w : Waveform). RisesFrom 1 w.pending) (λ (x : DriverOf). idle x.first) _ (λ j x l. tt);
+          pending = All-map (λ (w : DriverState). RisesFrom 1 w.pending) (λ (x : DriverOf). idle x.first) _ (λ j x l. tt);
         })
 
 -- ---- missing processes
@@ -665,7 +666,7 @@ module _ {h : Simulation} {time delta : ℕ} {held : FlatState} {records : List 
   ]
 
   -- what comes after a phase, by what the lists say
-  pub coming : IsComplete h → (next : Option ℕ) (is_delta is_empty : Bool) → next ≡ next_time (waves held.owned)
+  pub coming : IsComplete h → (next : Option ℕ) (is_delta is_empty : Bool) → next ≡ next_time (all_drivers held.owned)
       → is_delta ≡ (not (h.cycles == 0) && is_time_of (updated_last h) next) → IsTrue is_empty ↔ ((p : ℕ) → those_in waiting p ≡ false)
       → IsUpcoming h (upcoming_of h.phase is_delta (not is_empty) next)
   coming all next is_delta is_empty en ed ee =

@@ -1,7 +1,7 @@
 -- The numbers of the marked processes, one after another.
 use Rattle.std.proofs.Common.{ℕ, zero, suc, ◌+◌, ◌<◌, ◌≤◌, ◌≡◌, Bool, true, false, if◌then◌else◌, cond, List, ◌∷◌, length, refl, ap, subst, arith}
 use Rattle.std.specs.List.{filter, range_with_len}
-use Rattle.sim_store_sets.specs.Numbers.{is_in, members}
+use Rattle.sim_containers.specs.Numbers.{is_in, members}
 use Rattle.sim_store_simulation.specs.Simulation.{listed}
 use Rattle.sim_standard.specs.Cycle.{those}
 

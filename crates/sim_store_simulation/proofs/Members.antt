@@ -1,6 +1,6 @@
 -- Members of sets, by number.
 use Rattle.std.proofs.Common.{ℕ, zero, suc, ◌≡◌, false, replicate, refl}
-use Rattle.sim_store_sets.specs.Numbers.{is_in}
+use Rattle.sim_containers.specs.Numbers.{is_in}
 
 pub none-replicated : (n p : ℕ) → is_in (replicate n false) p ≡ false
 none-replicated zero p = refl

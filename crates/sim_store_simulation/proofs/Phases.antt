@@ -6,7 +6,7 @@ use Rattle.sim_flat_design.specs.Designs.{Design}
 use Rattle.sim_flat_design.specs.Processes.{IsProcess}
 use Rattle.sim_standard.specs.State.{State, Owned}
 use Rattle.sim_standard.specs.Orders.{is_among}
-use Rattle.sim_standard.specs.Processes.{part, outcome, process_at}
+use Rattle.sim_standard.specs.Processes.{part, owned_after, process_at}
 use Rattle.sim_standard.specs.Together.{together, first_together, executed_together}
 use Rattle.sim_standard.specs.Cycle.{is_at_once, is_postponed, is_resumed, is_waiting, is_time_of, first_in_turn, executed_in_turn, precedes_delta}
 use Rattle.sim_standard.specs.Cycle.{waiting_now, with_waiting, next_cycle_time, has_postponed_delta, following, following_of}
@@ -35,7 +35,7 @@ not-before phase.Postponed d k s p e = go (is_postponed d p) (is_resumed d k s p
 pub before-all : (f : Phase) (d : Design) (k : ℕ) (s : State) → length s.owned ≡ length d.processes → length (owned_before f d k s) ≡ length d.processes
 before-all phase.AtOnce d k s len = len
 before-all phase.Postponed d k s len =
-    length-merged (is_at_once d k s) (λ p. outcome (process_at d.processes p) (part (process_at d.processes p) p s)) 0 s.owned ∙ len
+    length-merged (is_at_once d k s) (λ p. owned_after (process_at d.processes p) (part (process_at d.processes p) p s)) 0 s.owned ∙ len
 
 module _ (d : Design) (is : All IsProcess d.processes) (k : ℕ) (s : State) (len : length s.owned ≡ length d.processes) where
   -- which processes wait, by the list of those that do
@@ -52,7 +52,7 @@ module _ (d : Design) (is : All IsProcess d.processes) (k : ℕ) (s : State) (le
   none-executed : waiting_now d k s ≡ [] → (together d.processes (is_waiting d k s) (first_together d k s)).owned ≡ (first_together d k s).owned
   none-executed e =
       let x = first_together d k s in
-      let r = λ (p : ℕ). outcome (process_at d.processes p) (part (process_at d.processes p) p x) in
+      let r = λ (p : ℕ). owned_after (process_at d.processes p) (part (process_at d.processes p) p x) in
       let many : length x.owned ≡ length d.processes = before-all phase.Postponed d k s len in
       merged-below (is_waiting d k s) (λ p. false) r 0 x.owned (λ p ge lt. none-waits e p (omega (arith, lt, many)))
       ∙ merged-none (λ p. false) r 0 x.owned (λ p. refl)

@@ -5,9 +5,9 @@ use Rattle.std.specs.List.{All}
 use Rattle.std.proofs.lemmas.Bool.{eqb-false}
 use Rattle.std.proofs.lemmas.List.{length-map}
 use Rattle.std.proofs.lemmas.List.Elements.{All-cons, All-head, All-map, All-nil, All-tail}
-use Rattle.sim_standard.specs.Drivers.{Transaction, Waveform, RisesFrom, taken, pending_times, next_time, IsNext}
+use Rattle.sim_standard.specs.Drivers.{Transaction, DriverState, RisesFrom, taken, pending_times, next_time, IsNext}
 use Rattle.sim_flat_design.specs.Bodies.{Body}
-use Rattle.sim_standard.specs.State.{Owned, owned_at, waves}
+use Rattle.sim_standard.specs.State.{Owned, owned_at, all_drivers}
 use Rattle.sim_exec.specs.Jobs.{IsReady}
 use Rattle.sim_standard.specs.Cycle.{own_taken}
 use Rattle.sim_store_state.proofs.Times.{next_is_least}
@@ -30,11 +30,11 @@ rest t [] ys h = h
 rest t (x ∷ xs) ys h = rest t xs ys h.1
 
 -- the least pending time is no later than any
-least_from : (t : ℕ) (ds : List Waveform) → next_time ds ≡ Some t → AllFrom t (pending_times ds)
+least_from : (t : ℕ) (ds : List DriverState) → next_time ds ≡ Some t → AllFrom t (pending_times ds)
 least_from t ds e = let least = subst (IsNext ds) e (next_is_least ds) in each_from t (pending_times ds) least.1
 
 -- if pending times rise and none is below this one, all are later after a transaction of this time is taken
-taken_later : (low t : ℕ) (d : Waveform) (xs : List Transaction) → d.pending ≡ xs → RisesFrom low xs → AllFrom t (map (λ (x : Transaction). x.0) xs)
+taken_later : (low t : ℕ) (d : DriverState) (xs : List Transaction) → d.pending ≡ xs → RisesFrom low xs → AllFrom t (map (λ (x : Transaction). x.0) xs)
     → RisesFrom (suc t) (taken t d).pending
 taken_later low t d [] e r f = let none : (taken t d).pending ≡ [] = rw e refl in rw none tt
 taken_later low t d (x ∷ xs) e r f =
@@ -45,21 +45,21 @@ taken_later low t d (x ∷ xs) e r f =
         → RisesFrom (suc t) (taken t d).pending
     go true q o =
         let at : x.0 ≡ t = eqb-true x.0 t q in
-        let is : (taken t d).pending ≡ xs = ap (λ (w : Waveform). w.pending) o ∙ rw q refl in
+        let is : (taken t d).pending ≡ xs = ap (λ (w : DriverState). w.pending) o ∙ rw q refl in
         rw is (subst (λ (n : ℕ). RisesFrom (suc n) xs) at r.1)
     go false q o =
         let apart = eqb-false x.0 t q in
-        let is : (taken t d).pending ≡ x ∷ xs = ap (λ (w : Waveform). w.pending) o ∙ rw q refl in
+        let is : (taken t d).pending ≡ x ∷ xs = ap (λ (w : DriverState). w.pending) o ∙ rw q refl in
         rw is (omega (arith, f.0, apart), r.1)
 
-drivers_later : (low t : ℕ) (ds : List Waveform) → All (λ (d : Waveform). RisesFrom low d.pending) ds → AllFrom t (pending_times ds)
-    → All (λ (d : Waveform). RisesFrom (suc t) (taken t d).pending) ds
-drivers_later low t [] r f = All-nil (λ (d : Waveform). RisesFrom (suc t) (taken t d).pending)
+drivers_later : (low t : ℕ) (ds : List DriverState) → All (λ (d : DriverState). RisesFrom low d.pending) ds → AllFrom t (pending_times ds)
+    → All (λ (d : DriverState). RisesFrom (suc t) (taken t d).pending) ds
+drivers_later low t [] r f = All-nil (λ (d : DriverState). RisesFrom (suc t) (taken t d).pending)
 drivers_later low t (d ∷ ds) r f =
     let own : List ℕ = map (λ (x : Transaction). x.0) d.pending in
-    All-cons (λ (w : Waveform). RisesFrom (suc t) (taken t w).pending) d ds
-    (taken_later low t d d.pending refl (All-head (λ (w : Waveform). RisesFrom low w.pending) d ds r) (front t own (pending_times ds) f))
-    (drivers_later low t ds (All-tail (λ (w : Waveform). RisesFrom low w.pending) d ds r) (rest t own (pending_times ds) f))
+    All-cons (λ (w : DriverState). RisesFrom (suc t) (taken t w).pending) d ds
+    (taken_later low t d d.pending refl (All-head (λ (w : DriverState). RisesFrom low w.pending) d ds r) (front t own (pending_times ds) f))
+    (drivers_later low t ds (All-tail (λ (w : DriverState). RisesFrom low w.pending) d ds r) (rest t own (pending_times ds) f))
 
 -- what a process owns fits it after the cycle, and all pending transactions are later
 pub taken_ready : (body : Body) (low t : ℕ) (own : Owned) → IsReady body low own → AllFrom t (pending_times own.drivers)
@@ -67,25 +67,26 @@ pub taken_ready : (body : Body) (low t : ℕ) (own : Owned) → IsReady body low
 taken_ready body low t own is f = record {
   drivers = length-map own.drivers (taken t) ∙ is.drivers;
   variables = is.variables;
-  pending = All-map (λ (d : Waveform). RisesFrom (suc t) d.pending) (taken t) own.drivers (drivers_later low t own.drivers is.pending f);
+  pending = All-map (λ (d : DriverState). RisesFrom (suc t) d.pending) (taken t) own.drivers (drivers_later low t own.drivers is.pending f);
 }
 
 -- the times of drivers, and of others after them
-times_append : (ds es : List Waveform) → pending_times (ds ++ es) ≡ pending_times ds ++ pending_times es
+times_append : (ds es : List DriverState) → pending_times (ds ++ es) ≡ pending_times ds ++ pending_times es
 times_append [] es = refl
 times_append (d ∷ ds) es = ap (λ (xs : List ℕ). map (λ (x : Transaction). x.0) d.pending ++ xs) (times_append ds es)
     ∙ sym (append_assoc (map (λ (x : Transaction). x.0) d.pending) (pending_times ds) (pending_times es))
 
 -- the times of each process are among those of all
-pub each_process : (t : ℕ) (os : List Owned) (p : ℕ) → p < length os → AllFrom t (pending_times (waves os)) → AllFrom t (pending_times (owned_at os p).drivers)
+pub each_process : (t : ℕ) (os : List Owned) (p : ℕ) → p < length os → AllFrom t (pending_times (all_drivers os))
+    → AllFrom t (pending_times (owned_at os p).drivers)
 each_process t [] p lt f = absurd (omega (arith, lt))
 each_process t (o ∷ os) zero lt f =
-    front t (pending_times o.drivers) (pending_times (waves os)) (subst (AllFrom t) (times_append o.drivers (waves os)) f)
+    front t (pending_times o.drivers) (pending_times (all_drivers os)) (subst (AllFrom t) (times_append o.drivers (all_drivers os)) f)
 each_process t (o ∷ os) (suc p) lt f =
-    each_process t os p (omega (arith, lt)) (rest t (pending_times o.drivers) (pending_times (waves os)) (subst (AllFrom t)
-    (times_append o.drivers (waves os)) f))
+    each_process t os p (omega (arith, lt)) (rest t (pending_times o.drivers) (pending_times (all_drivers os)) (subst (AllFrom t)
+    (times_append o.drivers (all_drivers os)) f))
 
 -- each process is ready after the cycle at the least pending time
-pub ready_after : (body : Body) (low t : ℕ) (os : List Owned) (p : ℕ) → p < length os → next_time (waves os) ≡ Some t → IsReady body low (owned_at os p)
+pub ready_after : (body : Body) (low t : ℕ) (os : List Owned) (p : ℕ) → p < length os → next_time (all_drivers os) ≡ Some t → IsReady body low (owned_at os p)
     → IsReady body (suc t) (own_taken t (owned_at os p))
-ready_after body low t os p lt e is = taken_ready body low t (owned_at os p) is (each_process t os p lt (least_from t (waves os) e))
+ready_after body low t os p lt e is = taken_ready body low t (owned_at os p) is (each_process t os p lt (least_from t (all_drivers os) e))

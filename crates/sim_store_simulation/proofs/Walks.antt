@@ -3,8 +3,8 @@ use Rattle.std.proofs.Common.{ℕ, ◌+◌, ◌<◌, ◌≡◌, ◌≢◌, ◌&&
 use Rattle.std.proofs.Common.{Option, None, Some, MatchOption}
 use Rattle.std.proofs.Math.Decide.{dec_lt}
 use Rattle.std.proofs.lemmas.Bool.Decides.{nat_tests}
-use Rattle.sim_store_sets.specs.Numbers.{is_beside}
-use Rattle.sim_store_sets.specs.Words.{IsNext, NoneFrom}
+use Rattle.sim_containers.specs.Numbers.{is_beside}
+use Rattle.sim_containers.specs.Words.{IsNext, NoneFrom}
 use Rattle.sim_standard.specs.declared.record.Record.{Record}
 use Rattle.sim_store_state.specs.FlatState.{FlatState}
 use Rattle.sim_store_state.proofs.Walks.{member_within, not_both}

@@ -6,7 +6,7 @@ use Rattle.std.specs.List.{All}
 use Rattle.sim_flat_design.specs.Designs.{Design, most}
 use Rattle.sim_flat_design.specs.Processes.{IsProcess}
 use Rattle.sim_standard.specs.State.{State, Owned, owned_at}
-use Rattle.sim_standard.specs.Processes.{part, outcome, process_at}
+use Rattle.sim_standard.specs.Processes.{part, owned_after, process_at}
 use Rattle.sim_logic.specs.Time.{largest_time}
 use Rattle.sim_exec.specs.Jobs.{IsReady, Job, scene}
 use Rattle.sim_exec_code.specs.Codes.{Coded, AreCodesOf, FitsAll}
@@ -153,7 +153,7 @@ in_postponed_phase h = record { design = h.design; cycles = h.cycles; phase = ph
 pub record IsResult (h : Simulation) (p : ℕ) (own : Owned) : Type 0 where
   pub number : p < length h.design.processes
   pub resumed : is_due h p ≡ true
-  pub result : own ≡ outcome (process_at h.design.processes p) (part (process_at h.design.processes p) p (reached h))
+  pub result : own ≡ owned_after (process_at h.design.processes p) (part (process_at h.design.processes p) p (reached h))
 
 -- What is compiled belongs to the design: for each net the processes sensitive to it, and for each process its code.
 pub record AreCompiled (design : Design) (sensitive : List (List ℕ)) (codes : Coded) (frame : ℕ) : Type 0 where

@@ -2,8 +2,8 @@
 
 ghost use Rattle.std.specs.Prelude.{ℕ, ◌≡◌, ◌<◌, ◌&&◌, ◌||◌, not, List, length, ◌+◌, ◌-◌, ◌^◌, IfOk, IfSome, MatchOption};
 ghost use Rattle.sim_flat_design.specs.Processes.{Process};
-ghost use Rattle.sim_store_sets.specs.Numbers.{is_beside};
-ghost use Rattle.sim_store_sets.specs.Words.{IsNext, NoneFrom};
+ghost use Rattle.sim_containers.specs.Numbers.{is_beside};
+ghost use Rattle.sim_containers.specs.Words.{IsNext, NoneFrom};
 ghost use Rattle.sim_standard.specs.Cycle.{has_event_in};
 ghost use Rattle.sim_standard.specs.Processes.{process_at};
 ghost use Rattle.sim_standard.specs.declared.net_view.NetView.{NetView};
@@ -13,7 +13,7 @@ ghost use Rattle.sim_store_state.specs.Sensitive.{AreSensitive};
 ghost use Rattle.sim_store_simulation.specs.Simulation.{listed, those_in};
 
 use crate::waiting::Waiting;
-use sim_store_sets::{NumberSet, RowArray};
+use sim_containers::{NumberSet, RowArray};
 use sim_store_state::{Log, find_resumed};
 use std::alloc::{AllocError, Global};
 use std::marker::Model;

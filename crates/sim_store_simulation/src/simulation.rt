@@ -23,11 +23,11 @@ use crate::history::records_from;
 use crate::phase::{Phase, Upcoming};
 use crate::totals::{count_last, none};
 use crate::waiting::Waiting;
+use sim_containers::{NumberSet, RowArray};
 use sim_exec::{Done, Job, Results};
 use sim_exec_code::{Codes, Frame};
 use sim_flat_design::{Design, Process};
 use sim_logic::Logic;
-use sim_store_sets::{NumberSet, RowArray};
 use sim_store_state::{FlatState, Log, Record, sensitive};
 use std::alloc::{AllocError, Global};
 use std::marker::Model;
@@ -296,7 +296,7 @@ fn execute(
     let process = &design.processes()[number];
     let compiled = &mut contents.compiled;
     let frame = &mut compiled.frame;
-    contents.state.resume(
+    contents.state.execute_unless_idle(
         alloc,
         number,
         process,

@@ -3,10 +3,10 @@
 ghost use Rattle.std.specs.Prelude.{ℕ, ◌≡◌, ◌<◌, ◌&&◌, ◌||◌, not, false, List, Some, length, slice_index_or, IfOk, IsTrue, ◌↔◌};
 ghost use Rattle.sim_flat_design.specs.Processes.{Process as process_value};
 ghost use Rattle.sim_standard.specs.Processes.{process_at};
-ghost use Rattle.sim_store_sets.specs.Numbers.{is_in};
+ghost use Rattle.sim_containers.specs.Numbers.{is_in};
 
+use sim_containers::NumberSet;
 use sim_flat_design::Process;
-use sim_store_sets::NumberSet;
 use std::alloc::{AllocError, Global};
 use std::marker::Model;
 

@@ -8,31 +8,31 @@ use Rattle.std.proofs.lemmas.List.{get_or-set_other, set-get_or}
 use Rattle.std.proofs.lemmas.Result.{on_ok_weaker}
 use Rattle.sim_flat_design.specs.Bodies.{Body}
 use Rattle.sim_exec.specs.Jobs.{IsReady}
-use Rattle.sim_standard.specs.Drivers.{Waveform, next_time}
+use Rattle.sim_standard.specs.Drivers.{DriverState, next_time}
 use Rattle.sim_standard.specs.State.{Owned, driver_at, no_driver}
 use Rattle.sim_standard.specs.declared.net_view.NetView.{NetView}
-use Rattle.sim_exec_code.specs.declared.quick.Quick.{Quick}
+use Rattle.sim_exec_code.specs.declared.quick.SingleAssignment.{SingleAssignment}
 use Rattle.sim_exec_code.specs.Codes.{is_missing}
 use Rattle.sim_exec_code.specs.Quick.{driven, quick_executed}
 use Rattle.sim_exec_code.proofs.Executions.{ready_after}
-use Rattle.sim_store_sets.specs.RowArray.{joined}
-use Rattle.sim_store_sets.specs.Numbers.{is_in}
-use Rattle.sim_store_sets.specs.Times.{time_of}
-use Rattle.sim_store_sets.proofs.Divided.{at-set}
+use Rattle.sim_containers.specs.RowArray.{joined}
+use Rattle.sim_containers.specs.Numbers.{is_in}
+use Rattle.sim_containers.specs.Times.{time_of}
+use Rattle.sim_containers.proofs.Divided.{at-set}
 use Rattle.sim_store_state.specs.Assignments.{AreAssigned}
 use Rattle.sim_store_state.specs.Changes.{AreTimes, time_at}
 use Rattle.sim_store_state.proofs.Telling.{IsAlone, put-back}
 
 -- it leaves the same of the same drivers
-pub assigned_as : {E : Type 0} (net net' : ℕ → NetView) (now : ℕ) (q : Quick) (done : Result Unit E) (old new old' new' : List Waveform) → net ≡ net'
-    → old ≡ old' → new ≡ new' → AreAssigned net now q done old new → AreAssigned net' now q done old' new'
+pub assigned_as : {E : Type 0} (net net' : ℕ → NetView) (now : ℕ) (q : SingleAssignment) (done : Result Unit E) (old new old' new' : List DriverState)
+    → net ≡ net' → old ≡ old' → new ≡ new' → AreAssigned net now q done old new → AreAssigned net' now q done old' new'
 assigned_as net net' now q done old new old' new' en eo ew a =
     subst (λ (f : ℕ → NetView). AreAssigned f now q done old' new') en
-    (subst (λ (ds : List Waveform). AreAssigned net now q done ds new') eo (subst (λ (ds : List Waveform). AreAssigned net now q done old ds) ew a))
+    (subst (λ (ds : List DriverState). AreAssigned net now q done ds new') eo (subst (λ (ds : List DriverState). AreAssigned net now q done old ds) ew a))
 
 -- ---- the time of one driver is put into the queue
 
-pub one_told : (times times' : List (Option ℕ)) (stale stale' : List Bool) (ds : List Waveform) (k : ℕ) (d : Waveform) → length times' ≡ length ds
+pub one_told : (times times' : List (Option ℕ)) (stale stale' : List Bool) (ds : List DriverState) (k : ℕ) (d : DriverState) → length times' ≡ length ds
     → length stale' ≡ length ds → (is_in stale' k ≡ false → time_of times' k ≡ time_at ds k) → IsAlone times times' stale stale' k
     → AreTimes times stale (set ds k d) → AreTimes times' stale' ds
 one_told times times' stale stale' ds k d lt ls here alone t = record {
@@ -48,16 +48,16 @@ one_told times times' stale stale' ds k d lt ls here alone t = record {
     go n false e = λ fresh.
         let apart : n ≢ k = grind (arith, nat_tests) in
         let other = alone n apart in
-        other.0 ∙ (t.current n (sym other.1 ∙ fresh) ∙ ap (λ (w : Waveform). next_time (w ∷ [])) (get_or-set_other ds k n d no_driver apart))
+        other.0 ∙ (t.current n (sym other.1 ∙ fresh) ∙ ap (λ (w : DriverState). next_time (w ∷ [])) (get_or-set_other ds k n d no_driver apart))
 
 -- a driver of one process, among all
-pub joined_put : (dss : List (List Waveform)) (n k start number : ℕ) (d : Waveform) → n < length dss → k < length (get_or dss n [])
+pub joined_put : (dss : List (List DriverState)) (n k start number : ℕ) (d : DriverState) → n < length dss → k < length (get_or dss n [])
     → start ≡ length (joined (take n dss)) → number ≡ start + k
     → joined (set dss n (set (get_or dss n []) k d)) ≡ set (joined dss) number d
 joined_put dss n k start number d lt within at is = at-set (record { among = lt; inside = within; counted = omega (arith, at, is) }) d
 
 -- if there is no such driver
-pub none_put : (dss : List (List Waveform)) (n k : ℕ) (d : Waveform) → length (get_or dss n []) ≤ k → set dss n (set (get_or dss n []) k d) ≡ dss
+pub none_put : (dss : List (List DriverState)) (n k : ℕ) (d : DriverState) → length (get_or dss n []) ≤ k → set dss n (set (get_or dss n []) k d) ≡ dss
 none_put dss n k d le = ap (set dss n) (set_out (get_or dss n []) k d le) ∙ set-get_or dss n []
 
 -- ---- the drivers of one process
@@ -68,11 +68,11 @@ set_twice (x ∷ xs) zero a b = refl
 set_twice (x ∷ xs) (suc n) a b = ap (λ l. x ∷ l) (set_twice xs n a b)
 
 -- the driver that was there, back in its place
-driver_back : (old new : List Waveform) (k : ℕ) → new ≡ set old k (driver_at new k) → set new k (driver_at old k) ≡ old
+driver_back : (old new : List DriverState) (k : ℕ) → new ≡ set old k (driver_at new k) → set new k (driver_at old k) ≡ old
 driver_back old new k e =
-    ap (λ (w : List Waveform). set w k (driver_at old k)) e ∙ (set_twice old k (driver_at new k) (driver_at old k) ∙ set-get_or old k no_driver)
+    ap (λ (w : List DriverState). set w k (driver_at old k)) e ∙ (set_twice old k (driver_at new k) (driver_at old k) ∙ set-get_or old k no_driver)
 
-pub row_back : (dss dss' : List (List Waveform)) (n k place : ℕ) → dss' ≡ set dss n (get_or dss' n [])
+pub row_back : (dss dss' : List (List DriverState)) (n k place : ℕ) → dss' ≡ set dss n (get_or dss' n [])
     → get_or dss' n [] ≡ set (get_or dss n []) k (driver_at (get_or dss' n []) k) → place ≡ k
     → set dss' n (set (get_or dss' n []) place (driver_at (get_or dss n []) k)) ≡ dss
 row_back dss dss' n k place e alone at =
@@ -82,13 +82,14 @@ row_back dss dss' n k place e alone at =
 -- ---- the process
 
 -- without its edge it owns what it owned
-pub idle_left : (net net' : ℕ → NetView) (now : ℕ) (q : Quick) (own : Owned) → net ≡ net' → is_missing net q.edge ≡ true → quick_executed net' now q own ≡ own
+pub idle_left : (net net' : ℕ → NetView) (now : ℕ) (q : SingleAssignment) (own : Owned) → net ≡ net' → is_missing net q.edge ≡ true
+    → quick_executed net' now q own ≡ own
 idle_left net net' now q own en idle =
     ap (λ (b : Bool). if b then own else record own { drivers = driven net' now q own.drivers })
     (ap (λ (f : ℕ → NetView). is_missing f q.edge) (sym en) ∙ idle)
 
 -- with it, what the assignment leaves
-pub assigned_left : {E : Type 0} (net net' : ℕ → NetView) (now : ℕ) (q : Quick) (done : Result Unit E) (own own' : Owned) → net ≡ net'
+pub assigned_left : {E : Type 0} (net net' : ℕ → NetView) (now : ℕ) (q : SingleAssignment) (done : Result Unit E) (own own' : Owned) → net ≡ net'
     → is_missing net q.edge ≡ false → AreAssigned net' now q done own.drivers own'.drivers → own'.variables ≡ own.variables
     → OnOk done (own' ≡ quick_executed net' now q own)
 assigned_left net net' now q done own own' en has a same =
@@ -96,11 +97,11 @@ assigned_left net net' now q done own own' en has a same =
     sym (ap (λ (b : Bool). if b then own else record own { drivers = driven net' now q own.drivers })
     (ap (λ (f : ℕ → NetView). is_missing f q.edge) (sym en) ∙ has)) in
     on_ok_weaker done (λ (is : own'.drivers ≡ driven net' now q own.drivers).
-    ap (λ (ds : List Waveform). record own' { drivers = ds }) is
+    ap (λ (ds : List DriverState). record own' { drivers = ds }) is
     ∙ (ap (λ vs. record { drivers = driven net' now q own.drivers; variables = vs }) same ∙ there)) a.ok
 
 -- and it is ready
-pub assigned_ready : {E : Type 0} (body : Body) (net : ℕ → NetView) (now : ℕ) (q : Quick) (done : Result Unit E) (own own' : Owned)
+pub assigned_ready : {E : Type 0} (body : Body) (net : ℕ → NetView) (now : ℕ) (q : SingleAssignment) (done : Result Unit E) (own own' : Owned)
     → AreAssigned net now q done own.drivers own'.drivers → own'.variables ≡ own.variables → IsReady body now own → IsReady body now own'
 assigned_ready body net now q done own own' a same ready =
     ready_after body now own.drivers own'.drivers own.variables own'.variables ready a.values (ap (map _) same) a.pending

@@ -6,14 +6,14 @@ use Rattle.std.proofs.lemmas.Bool.Decides.{nat_tests}
 use Rattle.std.proofs.lemmas.List.{length-map, same_lists, get_or_default, get_or-set_same, get_or-set_other}
 use Rattle.std.proofs.lemmas.Option.{same_Some}
 use Rattle.sim_logic.specs.declared.logic.Logic.{Logic}
-use Rattle.sim_standard.specs.Drivers.{Transaction, Waveform, taken, taken_at, next_time}
+use Rattle.sim_standard.specs.Drivers.{Transaction, DriverState, taken, taken_at, next_time}
 use Rattle.sim_standard.specs.State.{driver_at}
-use Rattle.sim_store_sets.specs.Numbers.{is_in}
-use Rattle.sim_store_sets.specs.Times as queue
-use Rattle.sim_store_sets.specs.Times.{time_of, is_at, earliest, those_at, clear, cleared, earlier}
+use Rattle.sim_containers.specs.Numbers.{is_in}
+use Rattle.sim_containers.specs.Times as queue
+use Rattle.sim_containers.specs.Times.{time_of, is_at, earliest, those_at, clear, cleared, earlier}
 use Rattle.sim_store_state.specs.Changes.{AreTimes, first_times, time_at}
 use Rattle.sim_store_state.proofs.Times.{none_next, next_append, least_bound, times}
-use Rattle.sim_store_sets.specs.Words.{IsNext}
+use Rattle.sim_containers.specs.Words.{IsNext}
 use Rattle.sim_store_state.proofs.Walks.{Walked, not_both, walk_more}
 
 -- ---- the times of all drivers
@@ -24,22 +24,22 @@ same_earlier (Some m) None = refl
 same_earlier (Some m) (Some n) = refl
 
 -- the least of them is the time of the next cycle
-pub earliest-next : (ds : List Waveform) → earliest (first_times ds) ≡ next_time ds
+pub earliest-next : (ds : List DriverState) → earliest (first_times ds) ≡ next_time ds
 earliest-next [] = sym none_next
 earliest-next (d ∷ ds) =
     ap (queue.earlier (next_time (d ∷ []))) (earliest-next ds) ∙ (same_earlier (next_time (d ∷ [])) (next_time ds) ∙ sym (next_append (d ∷ []) ds))
 
-pub time-of-first : (ds : List Waveform) (d : ℕ) → time_of (first_times ds) d ≡ time_at ds d
+pub time-of-first : (ds : List DriverState) (d : ℕ) → time_of (first_times ds) d ≡ time_at ds d
 unfolding next_time
 time-of-first [] d = refl
 time-of-first (w ∷ ds) zero = refl
 time-of-first (w ∷ ds) (suc d) = time-of-first ds d
 
 -- once it is up to date, any set of drivers may be stale
-pub up-to-date : (times : List (Option ℕ)) (stale : List Bool) (ds : List Waveform) → times ≡ first_times ds → length stale ≡ length ds
+pub up-to-date : (times : List (Option ℕ)) (stale : List Bool) (ds : List DriverState) → times ≡ first_times ds → length stale ≡ length ds
     → AreTimes times stale ds
 up-to-date times stale ds e l = record {
-  sized = ap length e ∙ length-map ds (λ (d : Waveform). next_time (d ∷ []));
+  sized = ap length e ∙ length-map ds (λ (d : DriverState). next_time (d ∷ []));
   marked = l;
   current = λ d _. ap (λ w. time_of w d) e ∙ time-of-first ds d;
 }
@@ -79,27 +79,27 @@ least-of-times (o ∷ ts) (suc d) s t e f =
 
 -- ---- drivers that are not due take nothing
 
-abbrev waveform : Logic → List Transaction → Waveform
-waveform value pending = record { value = value; pending = pending }
+abbrev driver_state : Logic → List Transaction → DriverState
+driver_state value pending = record { value = value; pending = pending }
 
 keeps : (time : ℕ) (v : Logic) (xs : List Transaction) → ((x : Transaction) (rest : List Transaction) → xs ≡ x ∷ rest → x.0 ≢ time)
     → taken_at time v xs ≡ record { value = v; pending = xs }
 keeps time v [] f = refl
 keeps time v (x ∷ xs) f = go (eqb x.0 time) refl
   where
-    go : (b : Bool) → eqb x.0 time ≡ b → (cond b (waveform x.1 xs) (waveform v (x ∷ xs))) ≡ waveform v (x ∷ xs)
+    go : (b : Bool) → eqb x.0 time ≡ b → (cond b (driver_state x.1 xs) (driver_state v (x ∷ xs))) ≡ driver_state v (x ∷ xs)
     go true e = absurd (f x xs refl (grind (arith, nat_tests)))
     go false e = refl
 
 -- the first pending time is no earlier than the least of its driver
-first-of : (w : Waveform) (x : Transaction) (rest : List Transaction) → w.pending ≡ x ∷ rest → next_time (w ∷ []) ≡ Some (fold min x.0 (times rest ++ []))
+first-of : (w : DriverState) (x : Transaction) (rest : List Transaction) → w.pending ≡ x ∷ rest → next_time (w ∷ []) ≡ Some (fold min x.0 (times rest ++ []))
 unfolding next_time
-first-of w x rest e = ap (λ (xs : List Transaction). next_time (waveform w.value xs ∷ [])) e
+first-of w x rest e = ap (λ (xs : List Transaction). next_time (driver_state w.value xs ∷ [])) e
 
 at-least : (time m : ℕ) (o : Option ℕ) → o ≡ Some m → m ≡ time → is_at time o ≡ true
 at-least time m o e f = ap (is_at time) e ∙ grind (arith, nat_tests)
 
-pub not-due : (ds : List Waveform) (time d : ℕ) → next_time ds ≡ Some time → is_at time (time_at ds d) ≡ false → taken time (driver_at ds d) ≡ driver_at ds d
+pub not-due : (ds : List DriverState) (time d : ℕ) → next_time ds ≡ Some time → is_at time (time_at ds d) ≡ false → taken time (driver_at ds d) ≡ driver_at ds d
 not-due ds time d e no_time = keeps time (driver_at ds d).value (driver_at ds d).pending later
   where
     later : (x : Transaction) (rest : List Transaction) → (driver_at ds d).pending ≡ x ∷ rest → x.0 ≢ time
@@ -126,21 +126,21 @@ time-cleared time (t ∷ ts) (suc d) = time-cleared time ts d
 clear-other : (time : ℕ) (o : Option ℕ) → is_at time o ≡ false → clear time o ≡ o
 clear-other time o e = ap (λ b. cond b None o) e
 
-pub driver-taken : (time : ℕ) (ds : List Waveform) (d : ℕ) → driver_at (map (taken time) ds) d ≡ taken time (driver_at ds d)
+pub driver-taken : (time : ℕ) (ds : List DriverState) (d : ℕ) → driver_at (map (taken time) ds) d ≡ taken time (driver_at ds d)
 driver-taken time [] d = refl
 driver-taken time (w ∷ ds) zero = refl
 driver-taken time (w ∷ ds) (suc d) = driver-taken time ds d
 
-pub others-keep : (ds : List Waveform) (times : List (Option ℕ)) (due : List Bool) (time : ℕ) → next_time ds ≡ Some time → times ≡ first_times ds
+pub others-keep : (ds : List DriverState) (times : List (Option ℕ)) (due : List Bool) (time : ℕ) → next_time ds ≡ Some time → times ≡ first_times ds
     → due ≡ those_at time times → (d : ℕ) → is_in due d ≡ false → taken time (driver_at ds d) ≡ driver_at ds d
 others-keep ds times due time e et ed d other =
     not-due ds time d e (ap (is_at time) (sym (time-of-first ds d)) ∙ (ap (λ w. is_at time (time_of w d)) (sym et) ∙ (sym (in-those-at time times d)
     ∙ (ap (λ w. is_in w d) (sym ed) ∙ other))))
 
-pub times-taken : (ds es : List Waveform) (times times' : List (Option ℕ)) (due : List Bool) (time : ℕ) → next_time ds ≡ Some time → times ≡ first_times ds
+pub times-taken : (ds es : List DriverState) (times times' : List (Option ℕ)) (due : List Bool) (time : ℕ) → next_time ds ≡ Some time → times ≡ first_times ds
     → due ≡ those_at time times → times' ≡ cleared time times → es ≡ map (taken time) ds → AreTimes times' due es
 times-taken ds es times times' due time e et ed ec ee =
-    let l : length times ≡ length ds = ap length et ∙ length-map ds (λ (d : Waveform). next_time (d ∷ [])) in
+    let l : length times ≡ length ds = ap length et ∙ length-map ds (λ (d : DriverState). next_time (d ∷ [])) in
     let k : length es ≡ length ds = ap length ee ∙ length-map ds (taken time) in
     record {
       sized = omega (arith, ap length ec, length-map times (clear time), l, k);
@@ -148,20 +148,21 @@ times-taken ds es times times' due time e et ed ec ee =
       current = λ d other.
           let apart : is_at time (time_of times d) ≡ false = sym (in-those-at time times d) ∙ (ap (λ w. is_in w d) (sym ed) ∙ other) in
           ap (λ w. time_of w d) ec ∙ (time-cleared time times d ∙ (clear-other time (time_of times d) apart ∙ (ap (λ w. time_of w d) et
-          ∙ (time-of-first ds d ∙ ap (λ (w : Waveform). next_time (w ∷ []))
+          ∙ (time-of-first ds d ∙ ap (λ (w : DriverState). next_time (w ∷ []))
           (sym (others-keep ds times due time e et ed d other) ∙ (sym (driver-taken time ds d) ∙ ap (λ w. driver_at w d) (sym ee)))))));
     }
 
 -- ---- bringing up to date
 
-pub all-times : (times : List (Option ℕ)) (ds : List Waveform) → length times ≡ length ds → ((d : ℕ) → time_of times d ≡ time_at ds d) → times ≡ first_times ds
+pub all-times : (times : List (Option ℕ)) (ds : List DriverState) → length times ≡ length ds → ((d : ℕ) → time_of times d ≡ time_at ds d)
+    → times ≡ first_times ds
 all-times times ds l same =
-    same_lists times (first_times ds) (l ∙ sym (length-map ds (λ (d : Waveform). next_time (d ∷ []))))
+    same_lists times (first_times ds) (l ∙ sym (length-map ds (λ (d : DriverState). next_time (d ∷ []))))
     (λ d x lt. get_or_default times d x None lt ∙ (same d ∙ (sym (time-of-first ds d)
-    ∙ get_or_default (first_times ds) d None x (omega (arith, l, lt, length-map ds (λ (d : Waveform). next_time (d ∷ [])))))))
+    ∙ get_or_default (first_times ds) d None x (omega (arith, l, lt, length-map ds (λ (d : DriverState). next_time (d ∷ [])))))))
 
 -- one more has its time
-pub times-more : (times times' : List (Option ℕ)) (ds : List Waveform) (t : Option ℕ) {stale : List Bool} {from n : ℕ}
+pub times-more : (times times' : List (Option ℕ)) (ds : List DriverState) (t : Option ℕ) {stale : List Bool} {from n : ℕ}
     → Walked stale from (λ (d : ℕ). time_of times d ≡ time_at ds d) → IsNext (is_in stale) from n → n < length times → times' ≡ set times n t
     → t ≡ time_at ds n → Walked stale (n + 1) (λ (d : ℕ). time_of times' d ≡ time_at ds d)
 times-more times times' ds t {stale} {from} {n} w next lt en et =

@@ -3,10 +3,10 @@ use Rattle.std.proofs.Common.{ℕ, zero, suc, ◌-◌, ◌<◌, ◌≡◌, ◌++
 use Rattle.std.proofs.Common.{length-append, subst}
 use Rattle.std.proofs.Math.Decide.{dec_lt}
 use Rattle.std.proofs.lemmas.List.{length-map, length-set, map-set, set-get_or, take_at, drop_at}
-use Rattle.sim_store_sets.specs.RowArray.{joined, rows, IsFlat}
-use Rattle.sim_store_sets.specs.DividedRows.{IsAt, AreParts}
-use Rattle.sim_store_sets.proofs.Flat.{joined-map, starts-set, written_back}
-use Rattle.sim_store_sets.proofs.Divided.{at-set, item-is, joined-joined, joined-at, length-at, same-parts}
+use Rattle.sim_containers.specs.RowArray.{joined, rows, IsFlat}
+use Rattle.sim_containers.specs.DividedRows.{IsAt, AreParts}
+use Rattle.sim_containers.proofs.Flat.{joined-map, starts-set, written_back}
+use Rattle.sim_containers.proofs.Divided.{at-set, item-is, joined-joined, joined-at, length-at, same-parts}
 
 cons-is : {A : Type 0} (x y : A) (xs ys : List A) → x ∷ xs ≡ y ∷ ys → (x ≡ y) × (xs ≡ ys)
 cons-is x y xs ys e = (cc, cc)

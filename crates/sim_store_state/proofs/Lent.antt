@@ -6,10 +6,10 @@ use Rattle.std.proofs.lemmas.List.{get_or-append_right, get_or-map, get_or_appen
 use Rattle.sim_logic.specs.declared.logic.Logic.{Logic}
 use Rattle.sim_flat_design.specs.declared.held.Held.{Held}
 use Rattle.sim_flat_design.specs.declared.design.Source.{Source}
-use Rattle.sim_standard.specs.Drivers.{Waveform, next_time}
+use Rattle.sim_standard.specs.Drivers.{DriverState, next_time}
 use Rattle.sim_standard.specs.State.{Owned, driver_at, driver_values, no_driver, nothing_owned, owned_at}
-use Rattle.sim_store_sets.specs.Numbers.{is_in}
-use Rattle.sim_store_sets.specs.RowArray.{joined}
+use Rattle.sim_containers.specs.Numbers.{is_in}
+use Rattle.sim_containers.specs.RowArray.{joined}
 use Rattle.sim_store_state.specs.Changes.{AreTimes, IsHeld}
 use Rattle.sim_store_state.specs.FlatState.{owned_lists}
 use Rattle.sim_store_state.specs.Lending.{HaveValues, IsOfRow, drivers_of, variables_of}
@@ -18,44 +18,44 @@ use Rattle.sim_store_state.proofs.Putting.{values-count, values-each}
 use Rattle.sim_store_state.proofs.Reaching.{same_rows}
 use Rattle.sim_store_state.proofs.Sharing.{rows-joined}
 
-pub drivers-of : (dss : List (List Waveform)) (vss : List (List Held)) → length dss ≡ length vss → drivers_of (owned_lists dss vss) ≡ dss
+pub drivers-of : (dss : List (List DriverState)) (vss : List (List Held)) → length dss ≡ length vss → drivers_of (owned_lists dss vss) ≡ dss
 drivers-of [] vss l = refl
 drivers-of (ds ∷ dss) [] l = absurd (omega (arith, l))
 drivers-of (ds ∷ dss) (vs ∷ vss) l = ap (λ w. ds ∷ w) (drivers-of dss vss (omega (arith, l)))
 
-pub variables-of : (dss : List (List Waveform)) (vss : List (List Held)) → length dss ≡ length vss → variables_of (owned_lists dss vss) ≡ vss
+pub variables-of : (dss : List (List DriverState)) (vss : List (List Held)) → length dss ≡ length vss → variables_of (owned_lists dss vss) ≡ vss
 variables-of [] [] l = refl
 variables-of [] (vs ∷ vss) l = absurd (omega (arith, l))
 variables-of (ds ∷ dss) [] l = absurd (omega (arith, l))
 variables-of (ds ∷ dss) (vs ∷ vss) l = ap (λ w. vs ∷ w) (variables-of dss vss (omega (arith, l)))
 
 -- what the lists of a state hold, in terms of what processes own
-pub held-apart : {values last_values driving : List Logic} {dss : List (List Waveform)} {vss : List (List Held)} {sources : List (List Source)}
+pub held-split : {values values_before driving : List Logic} {dss : List (List DriverState)} {vss : List (List Held)} {sources : List (List Source)}
     {fan_out : List (List ℕ)}
-    {times : List (Option ℕ)} {stale touched : List Bool} → IsHeld values last_values driving dss vss sources fan_out times stale touched
-    → IsHeld values last_values driving (drivers_of (owned_lists dss vss)) (variables_of (owned_lists dss vss)) sources fan_out times stale touched
-held-apart {dss = dss} {vss = vss} i = rw (drivers-of dss vss i.lists.owned, variables-of dss vss i.lists.owned) i
+    {times : List (Option ℕ)} {stale touched : List Bool} → IsHeld values values_before driving dss vss sources fan_out times stale touched
+    → IsHeld values values_before driving (drivers_of (owned_lists dss vss)) (variables_of (owned_lists dss vss)) sources fan_out times stale touched
+held-split {dss = dss} {vss = vss} i = rw (drivers-of dss vss i.lists.owned, variables-of dss vss i.lists.owned) i
 
 -- the drivers of each process have the values that they had, and so have all
-pub values-rows : (dss ess : List (List Waveform)) → length dss ≡ length ess
+pub values-rows : (dss ess : List (List DriverState)) → length dss ≡ length ess
     → ((p : ℕ) → p < length ess → driver_values (get_or dss p []) ≡ driver_values (get_or ess p []))
     → driver_values (joined dss) ≡ driver_values (joined ess)
 values-rows [] [] l same = refl
 values-rows [] (es ∷ ess) l same = absurd (omega (arith, l))
 values-rows (ds ∷ dss) [] l same = absurd (omega (arith, l))
 values-rows (ds ∷ dss) (es ∷ ess) l same =
-    let value_of = λ (d : Waveform). d.value in
+    let value_of = λ (d : DriverState). d.value in
     let rest : driver_values (joined dss) ≡ driver_values (joined ess) = values-rows dss ess (omega (arith, l)) (λ p lt. same (suc p) (omega (arith, lt))) in
     map-append value_of ds (joined dss) ∙ (ap (λ w. w ++ driver_values (joined dss)) (same 0 (omega arith))
     ∙ (ap (λ w. driver_values es ++ w) rest ∙ sym (map-append value_of es (joined ess))))
 
 -- the process whose driver has a number
-pub record Located (dss : List (List Waveform)) (d : ℕ) : Type 0 where
+pub record Located (dss : List (List DriverState)) (d : ℕ) : Type 0 where
   pub process : ℕ
   pub among : process < length dss
   pub inside : IsOfRow dss process d
 
-pub located : (dss : List (List Waveform)) (d : ℕ) → d < length (joined dss) → Located dss d
+pub located : (dss : List (List DriverState)) (d : ℕ) → d < length (joined dss) → Located dss d
 located [] d lt = absurd (omega (arith, lt))
 located (ds ∷ dss) d lt = elim (dec_lt d (length ds)) [
   | yes l ↦ record { process = 0; among = omega arith; inside = record { from = omega arith; below = omega (arith, l) } }
@@ -70,7 +70,7 @@ located (ds ∷ dss) d lt = elim (dec_lt d (length ds)) [
 ]
 
 -- if a process has its old drivers, and each other one as many as before, its drivers are where they were
-pub same-driver : (dss ess : List (List Waveform)) (p d : ℕ) → length dss ≡ length ess
+pub same-driver : (dss ess : List (List DriverState)) (p d : ℕ) → length dss ≡ length ess
     → ((q : ℕ) → q < length ess → length (get_or dss q []) ≡ length (get_or ess q []))
     → p < length dss → get_or dss p [] ≡ get_or ess p [] → IsOfRow dss p d → driver_at (joined dss) d ≡ driver_at (joined ess) d
 same-driver [] ess p d l many lt same is = absurd (omega (arith, lt))
@@ -78,7 +78,7 @@ same-driver (ds ∷ dss) [] p d l many lt same is = absurd (omega (arith, l))
 same-driver (ds ∷ dss) (es ∷ ess) zero d l many lt same is =
     let a : d < length ds = omega (arith, is.below) in
     let b : d < length es = omega (arith, a, ap length same) in
-    get_or_append_left ds (joined dss) no_driver d a ∙ (ap (λ (ws : List Waveform). driver_at ws d) same
+    get_or_append_left ds (joined dss) no_driver d a ∙ (ap (λ (ws : List DriverState). driver_at ws d) same
     ∙ sym (get_or_append_left es (joined ess) no_driver d b))
 same-driver (ds ∷ dss) (es ∷ ess) (suc p) d l many lt same is =
     let count = length-append ds (joined (take p dss)) in
@@ -91,8 +91,8 @@ same-driver (ds ∷ dss) (es ∷ ess) (suc p) d l many lt same is =
     ∙ (ap (driver_at (joined ess)) e ∙ sym (get_or-append_right es (joined ess) (length es) d no_driver refl (omega (arith, a, long)))))
 
 -- the times of the others are right
-pub times-of-others : {times : List (Option ℕ)} {stale : List Bool} (ess : List (List Waveform)) → AreTimes times stale (joined ess)
-    → (dss : List (List Waveform)) (changed stale' : List Bool) → length dss ≡ length ess → length (joined dss) ≡ length (joined ess)
+pub times-of-others : {times : List (Option ℕ)} {stale : List Bool} (ess : List (List DriverState)) → AreTimes times stale (joined ess)
+    → (dss : List (List DriverState)) (changed stale' : List Bool) → length dss ≡ length ess → length (joined dss) ≡ length (joined ess)
     → ((q : ℕ) → q < length ess → length (get_or dss q []) ≡ length (get_or ess q []))
     → ((q : ℕ) → q < length ess → is_in changed q ≡ false → get_or dss q [] ≡ get_or ess q [])
     → length stale' ≡ length stale → ((d : ℕ) → is_in stale' d ≡ false → is_in stale d ≡ false)
@@ -101,7 +101,7 @@ pub times-of-others : {times : List (Option ℕ)} {stale : List Bool} (ess : Lis
 times-of-others {times} {stale} ess t dss changed stale' l count many same sized kept marked = record {
   sized = t.sized ∙ sym count;
   marked = sized ∙ (t.marked ∙ sym count);
-  current = λ d fresh. t.current d (kept d fresh) ∙ ap (λ (w : Waveform). next_time (w ∷ [])) (sym (at d fresh));
+  current = λ d fresh. t.current d (kept d fresh) ∙ ap (λ (w : DriverState). next_time (w ∷ [])) (sym (at d fresh));
 }
   where
     inside : (d : ℕ) → is_in stale' d ≡ false → (w : Located dss d) → (b : Bool) → is_in changed w.process ≡ b
@@ -116,7 +116,7 @@ times-of-others {times} {stale} ess t dss changed stale' l count many same sized
     ]
 
 -- the drivers of the lists of what the same processes own now have the values that they had
-module _ (owned : List Owned) (dss : List (List Waveform)) (vss : List (List Held)) (now : List Owned) (view : owned_lists dss vss ≡ now)
+module _ (owned : List Owned) (dss : List (List DriverState)) (vss : List (List Held)) (now : List Owned) (view : owned_lists dss vss ≡ now)
     (long : length dss ≡ length vss) (changed : List Bool) (have : HaveValues changed now owned) where
   pub back-rows : length dss ≡ length owned
   back-rows = sym (length-owned dss vss long) ∙ (ap length view ∙ have.count)
@@ -168,13 +168,13 @@ module _ (owned : List Owned) (dss : List (List Waveform)) (vss : List (List Hel
       (λ q lt out. back-still q (omega (arith, lt, was)) out) sized kept marked
 
 -- Other lists hold the state in which the same processes own something else, their drivers having the values that they had.
-pub back-held : {values last_values driving : List Logic} (owned : List Owned) {sources : List (List Source)} {fan_out : List (List ℕ)}
+pub back-held : {values values_before driving : List Logic} (owned : List Owned) {sources : List (List Source)} {fan_out : List (List ℕ)}
     {times : List (Option ℕ)} {stale touched : List Bool}
-    → IsHeld values last_values driving (drivers_of owned) (variables_of owned) sources fan_out times stale touched
-    → (dss : List (List Waveform)) (vss : List (List Held)) (stale' : List Bool) → length dss ≡ length vss
+    → IsHeld values values_before driving (drivers_of owned) (variables_of owned) sources fan_out times stale touched
+    → (dss : List (List DriverState)) (vss : List (List Held)) (stale' : List Bool) → length dss ≡ length vss
     → driver_values (joined dss) ≡ driver_values (joined (drivers_of owned)) → AreTimes times stale' (joined dss)
-    → IsHeld values last_values driving dss vss sources fan_out times stale' touched
-back-held {values} {last_values} {driving} owned {sources} i dss vss stale' long same timed =
+    → IsHeld values values_before driving dss vss sources fan_out times stale' touched
+back-held {values} {values_before} {driving} owned {sources} i dss vss stale' long same timed =
     let count : length (joined dss) ≡ length (joined (drivers_of owned)) = values-count (joined dss) (joined (drivers_of owned)) same in
     record {
       lists = record { nets = i.lists.nets; owned = long };

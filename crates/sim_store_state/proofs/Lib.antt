@@ -19,5 +19,5 @@ pub mod Values
 pub mod Items
 pub mod Placed
 pub mod Sharing
-pub mod Outcomes
+pub mod WithoutValue
 pub mod Lent

@@ -58,12 +58,12 @@ log-push {qs = qs} {marks = marks} {changes = changes} i e time delta m cs marks
     }
 
 -- a record of each net has their values
-pub all_values : (n : ℕ) (values last_values : List Logic) → length values ≡ length last_values
-    → map numbered_value (enumerate_from n (views_of values last_values))
+pub all_values : (n : ℕ) (values values_before : List Logic) → length values ≡ length values_before
+    → map numbered_value (enumerate_from n (views_of values values_before))
     ≡ enumerate_from n values
-all_values n [] last_values e = refl
+all_values n [] values_before e = refl
 all_values n (v ∷ values) [] e = absurd (omega arith)
-all_values n (v ∷ values) (l ∷ last_values) e = ap (λ w. (n, v) ∷ w) (all_values (n + 1) values last_values (omega arith))
+all_values n (v ∷ values) (l ∷ values_before) e = ap (λ w. (n, v) ∷ w) (all_values (n + 1) values values_before (omega arith))
 
 pub records-count : (marks : List Mark) (changes : List (ℕ × Logic)) → length (records_in marks changes) ≡ length marks
 records-count [] changes = refl

@@ -2,10 +2,10 @@
 use Rattle.std.proofs.Common.{◌≡◌, List, Bool, false, IsTrue, sym, ap, ◌∙◌}
 use Rattle.std.specs.Bool.{Decides}
 use Rattle.sim_flat_design.specs.declared.held.Held.{Held}
-use Rattle.sim_standard.specs.Drivers.{Waveform}
+use Rattle.sim_standard.specs.Drivers.{DriverState}
 use Rattle.sim_standard.specs.State.{Owned}
 
-module _ (A : Type 0) (ds es : List Waveform) (vs ws : List Held) (own : Owned) (is : own ≡ record { drivers = es; variables = ws }) where
+module _ (A : Type 0) (ds es : List DriverState) (vs ws : List Held) (own : Owned) (is : own ≡ record { drivers = es; variables = ws }) where
   abbrev Mine : Owned
   Mine = record { drivers = ds; variables = vs }
 
@@ -13,7 +13,7 @@ module _ (A : Type 0) (ds es : List Waveform) (vs ws : List Held) (own : Owned) 
   part_is b a same decides = (
     λ yes. (
       a,
-      ap (λ (xs : List Waveform). record { drivers = xs; variables = vs }) same
+      ap (λ (xs : List DriverState). record { drivers = xs; variables = vs }) same
           ∙ (ap (λ (xs : List Held). record { drivers = es; variables = xs }) (decides.0 yes) ∙ sym is),
     ),
     λ both. decides.1 (ap (λ (o : Owned). o.variables) (both.1 ∙ is)),

@@ -3,9 +3,9 @@ use Rattle.std.proofs.Common.{ℕ, ◌<◌, ◌≡◌, ◌++◌, Bool, List, [],
 use Rattle.std.proofs.lemmas.List.{get_or_default, length-map}
 use Rattle.sim_flat_design.specs.declared.held.Held.{Held}
 use Rattle.sim_exec.specs.Jobs.{holds_bit}
-use Rattle.sim_store_sets.specs.RowArray.{joined}
-use Rattle.sim_store_sets.specs.DividedRows.{IsAt, AreParts}
-use Rattle.sim_store_sets.proofs.Divided.{put-back, read-at}
+use Rattle.sim_containers.specs.RowArray.{joined}
+use Rattle.sim_containers.specs.DividedRows.{IsAt, AreParts}
+use Rattle.sim_containers.proofs.Divided.{put-back, read-at}
 
 -- as many variables, since they are of the same types
 pub held-count : (vs ws : List Held) (types : List Bool) → map holds_bit vs ≡ types → map holds_bit ws ≡ types → length vs ≡ length ws

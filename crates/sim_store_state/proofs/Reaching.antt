@@ -5,7 +5,7 @@ use Rattle.std.proofs.lemmas.Bool.Decides.{nat_tests}
 use Rattle.std.proofs.lemmas.List.{take_more}
 use Rattle.sim_flat_design.specs.declared.design.Source.{Source}
 use Rattle.sim_flat_design.specs.declared.design.Source.TheVariants as source
-use Rattle.sim_standard.specs.Drivers.{Waveform}
+use Rattle.sim_standard.specs.Drivers.{DriverState}
 use Rattle.sim_standard.specs.State.{driver_at}
 use Rattle.sim_standard.specs.Nets.{source_value}
 use Rattle.sim_store_state.specs.Changes.{is_driver, is_source, row_value}
@@ -53,23 +53,23 @@ rows-more rows i n d row was now new lt is e f =
 
 -- ---- the value of a net depends on the values of its drivers alone
 
-pub same_source : (ds es : List Waveform) (s : Source) → ((d : ℕ) → is_driver s d ≡ true → (driver_at ds d).value ≡ (driver_at es d).value)
+pub same_source : (ds es : List DriverState) (s : Source) → ((d : ℕ) → is_driver s d ≡ true → (driver_at ds d).value ≡ (driver_at es d).value)
     → source_value ds s ≡ source_value es s
 same_source ds es (source.Driver n) same = let t : eqb n n ≡ true = grind (arith, nat_tests) in same n t
 same_source ds es (source.Constant v) same = refl
 
-same_values : (ds es : List Waveform) (row : List Source) → ((d : ℕ) → is_source row d ≡ true → (driver_at ds d).value ≡ (driver_at es d).value)
+same_values : (ds es : List DriverState) (row : List Source) → ((d : ℕ) → is_source row d ≡ true → (driver_at ds d).value ≡ (driver_at es d).value)
     → map (source_value ds) row ≡ map (source_value es) row
 same_values ds es [] same = refl
 same_values ds es (s ∷ row) same =
     ap (λ v. v ∷ map (source_value ds) row) (same_source ds es s (λ d e. same d (or_left (is_driver s d) (is_source row d) e)))
     ∙ ap (λ w. source_value es s ∷ w) (same_values ds es row (λ d e. same d (or_right (is_driver s d) (is_source row d) e)))
 
-pub same_row : (ds es : List Waveform) (row : List Source) → ((d : ℕ) → is_source row d ≡ true → (driver_at ds d).value ≡ (driver_at es d).value)
+pub same_row : (ds es : List DriverState) (row : List Source) → ((d : ℕ) → is_source row d ≡ true → (driver_at ds d).value ≡ (driver_at es d).value)
     → row_value ds row ≡ row_value es row
 same_row ds es row same = ap resolved (same_values ds es row same)
 
-pub same_rows : (ds es : List Waveform) (rows : List (List Source)) → ((d : ℕ) → (driver_at ds d).value ≡ (driver_at es d).value)
+pub same_rows : (ds es : List DriverState) (rows : List (List Source)) → ((d : ℕ) → (driver_at ds d).value ≡ (driver_at es d).value)
     → map (row_value ds) rows ≡ map (row_value es) rows
 same_rows ds es [] same = refl
 same_rows ds es (row ∷ rows) same =

@@ -3,17 +3,17 @@ use Rattle.std.proofs.Common.{ℕ, zero, suc, ◌+◌, ◌<◌, ◌≤◌, ◌^�
 use Rattle.std.proofs.Math.Seq.{take-add, take-suc}
 use Rattle.std.proofs.lemmas.List.{get_or-drop, get_or-map, length-append, length-drop, length-map, length-set, length-take, take_all}
 use Rattle.sim_flat_design.specs.declared.held.Held.{Held}
-use Rattle.sim_standard.specs.Drivers.{Waveform}
+use Rattle.sim_standard.specs.Drivers.{DriverState}
 use Rattle.sim_standard.specs.State.{Owned, nothing_owned}
-use Rattle.sim_store_sets.specs.RowArray.{joined}
-use Rattle.sim_store_sets.specs.DividedRows.{AreParts}
-use Rattle.sim_store_sets.proofs.Divided.{before-more, before-whole}
-use Rattle.sim_store_sets.proofs.Flat.{joined-push}
+use Rattle.sim_containers.specs.RowArray.{joined}
+use Rattle.sim_containers.specs.DividedRows.{AreParts}
+use Rattle.sim_containers.proofs.Divided.{before-more, before-whole}
+use Rattle.sim_containers.proofs.Flat.{joined-push}
 use Rattle.sim_store_state.specs.FlatState.{owned_lists}
 use Rattle.sim_store_state.specs.Lending.{AreShares, counts, owned_parts}
 use Rattle.sim_store_state.proofs.Contents.{as_owned, length-owned, owned-at, owned-set}
 
-module _ {os : List Owned} (dss : List (List Waveform)) (vss : List (List Held)) (e : owned_lists dss vss ≡ os) (l : length dss ≡ length vss) where
+module _ {os : List Owned} (dss : List (List DriverState)) (vss : List (List Held)) (e : owned_lists dss vss ≡ os) (l : length dss ≡ length vss) where
   pub share-count : length os ≡ length dss
   share-count = ap length (sym e) ∙ length-owned dss vss l
 
@@ -21,23 +21,23 @@ module _ {os : List Owned} (dss : List (List Waveform)) (vss : List (List Held))
   share-at p = ap (λ (w : List Owned). get_or w p nothing_owned) (sym e) ∙ owned-at dss vss p l
 
   -- one process owns other lists
-  pub share-set : (p : ℕ) (ds : List Waveform) (vs : List Held) (dss' : List (List Waveform)) (vss' : List (List Held))
+  pub share-set : (p : ℕ) (ds : List DriverState) (vs : List Held) (dss' : List (List DriverState)) (vss' : List (List Held))
       → dss' ≡ set dss p ds → vss' ≡ set vss p vs → owned_lists dss' vss' ≡ set os p (as_owned ds vs)
   share-set p ds vs dss' vss' ed ev = rw (ed, ev) (owned-set dss vss p ds vs l ∙ ap (λ (w : List Owned). set w p (as_owned ds vs)) e)
 
-  pub share-long : (p : ℕ) (ds : List Waveform) (vs : List Held) (dss' : List (List Waveform)) (vss' : List (List Held))
+  pub share-long : (p : ℕ) (ds : List DriverState) (vs : List Held) (dss' : List (List DriverState)) (vss' : List (List Held))
       → dss' ≡ set dss p ds → vss' ≡ set vss p vs → length dss' ≡ length vss'
   share-long p ds vs dss' vss' ed ev = omega (arith, ap length ed, ap length ev, length-set dss p ds, length-set vss p vs, l)
 
   -- what it owns then is what the new lists have there
-  pub share-now : (p : ℕ) (ds : List Waveform) (vs : List Held) (dss' : List (List Waveform)) (vss' : List (List Held))
+  pub share-now : (p : ℕ) (ds : List DriverState) (vs : List Held) (dss' : List (List DriverState)) (vss' : List (List Held))
       → dss' ≡ set dss p ds → vss' ≡ set vss p vs
       → get_or (owned_lists dss' vss') p nothing_owned ≡ as_owned (get_or dss' p []) (get_or vss' p [])
   share-now p ds vs dss' vss' ed ev = owned-at dss' vss' p (share-long p ds vs dss' vss' ed ev)
 
 -- ---- several shares
 
-pub owned-append : (dss ess : List (List Waveform)) (vss wss : List (List Held)) → length dss ≡ length vss
+pub owned-append : (dss ess : List (List DriverState)) (vss wss : List (List Held)) → length dss ≡ length vss
     → owned_lists (dss ++ ess) (vss ++ wss) ≡ owned_lists dss vss ++ owned_lists ess wss
 owned-append [] ess [] wss l = refl
 owned-append [] ess (vs ∷ vss) wss l = absurd (omega (arith, l))
@@ -67,8 +67,8 @@ counts-long (xs ∷ xss) [] e = absurd (omega (arith, ap length e))
 counts-long (xs ∷ xss) (ys ∷ yss) e = ap suc (counts-long xss yss (ap (λ w. drop 1 w) e))
 
 -- what the processes of one more share own
-pub parts-more : (dsss : List (List (List Waveform))) (vsss : List (List (List Held))) → length dsss ≡ length vsss
-    → (dss : List (List Waveform)) (vss : List (List Held))
+pub parts-more : (dsss : List (List (List DriverState))) (vsss : List (List (List Held))) → length dsss ≡ length vsss
+    → (dss : List (List DriverState)) (vss : List (List Held))
     → owned_parts (dsss ++ dss ∷ []) (vsss ++ vss ∷ []) ≡ owned_parts dsss vsss ++ owned_lists dss vss ∷ []
 parts-more [] [] l dss vss = refl
 parts-more [] (es ∷ vsss) l dss vss = absurd (omega (arith, l))
@@ -76,7 +76,7 @@ parts-more (es ∷ dsss) [] l dss vss = absurd (omega (arith, l))
 parts-more (es ∷ dsss) (ws ∷ vsss) l dss vss = ap (λ w. owned_lists es ws ∷ w) (parts-more dsss vsss (omega (arith, l)) dss vss)
 
 -- all of it
-pub parts-joined : (dsss : List (List (List Waveform))) (vsss : List (List (List Held))) → counts dsss ≡ counts vsss
+pub parts-joined : (dsss : List (List (List DriverState))) (vsss : List (List (List Held))) → counts dsss ≡ counts vsss
     → joined (owned_parts dsss vsss) ≡ owned_lists (joined dsss) (joined vsss)
 parts-joined [] [] e = refl
 parts-joined [] (vss ∷ vsss) e = absurd (omega (arith, ap length e))
@@ -86,14 +86,14 @@ parts-joined (dss ∷ dsss) (vss ∷ vsss) e =
     ∙ sym (owned-append dss (joined dsss) vss (joined vsss) (ap (λ w. get_or w 0 0) e))
 
 -- how many shares there are
-pub parts-count : (dsss : List (List (List Waveform))) (vsss : List (List (List Held))) → length dsss ≡ length vsss
+pub parts-count : (dsss : List (List (List DriverState))) (vsss : List (List (List Held))) → length dsss ≡ length vsss
     → length (owned_parts dsss vsss) ≡ length dsss
 parts-count [] vsss l = refl
 parts-count (dss ∷ dsss) [] l = absurd (omega (arith, l))
 parts-count (dss ∷ dsss) (vss ∷ vsss) l = ap suc (parts-count dsss vsss (omega (arith, l)))
 
 -- of how many processes each share is
-pub parts-counts : (dsss : List (List (List Waveform))) (vsss : List (List (List Held))) → counts dsss ≡ counts vsss
+pub parts-counts : (dsss : List (List (List DriverState))) (vsss : List (List (List Held))) → counts dsss ≡ counts vsss
     → counts (owned_parts dsss vsss) ≡ counts dsss
 parts-counts [] vsss e = refl
 parts-counts (dss ∷ dsss) [] e = absurd (omega (arith, ap length e))

@@ -9,8 +9,8 @@ use Rattle.sim_logic.specs.Logic.{is_same}
 use Rattle.sim_standard.specs.declared.net_view.NetView.{NetView}
 use Rattle.sim_standard.specs.State.{net_at}
 use Rattle.sim_logic.proofs.SameValues.{same_from_is_same, is_same_from_same}
-use Rattle.sim_store_sets.specs.Numbers.{is_in}
-use Rattle.sim_store_sets.specs.Words.{IsNext, NoneFrom}
+use Rattle.sim_containers.specs.Numbers.{is_in}
+use Rattle.sim_containers.specs.Words.{IsNext, NoneFrom}
 use Rattle.sim_standard.specs.Nets.{changed_to}
 use Rattle.sim_store_state.specs.Changes.{AreTouched, value_at}
 use Rattle.sim_store_state.specs.FlatState.{views_of}
@@ -21,14 +21,14 @@ use Rattle.sim_store_state.proofs.Walks.{not_both}
 use Rattle.sim_store_state.proofs.Views.{length-views_of, past_values, view_here}
 
 -- a net that is not touched has no event
-pub quiet : {values last_values : List Logic} {touched : List Bool} → AreTouched values last_values touched → length values ≡ length last_values → (n : ℕ)
-    → is_in touched n ≡ false → (net_at (views_of values last_values) n).event ≡ false
-quiet {values} {last_values} {touched} i l n other = elim (dec_lt n (length values)) [
+pub quiet : {values values_before : List Logic} {touched : List Bool} → AreTouched values values_before touched → length values ≡ length values_before → (n : ℕ)
+    → is_in touched n ≡ false → (net_at (views_of values values_before) n).event ≡ false
+quiet {values} {values_before} {touched} i l n other = elim (dec_lt n (length values)) [
   | yes h ↦ (
-      ap (λ (v : NetView). v.event) (sym (view_here values last_values n U U h (omega (arith, h, l))))
-      ∙ (ap (λ v. not (is_same (value_at last_values n) v)) (i.still n other)
-      ∙ ap not (is_same_from_same (value_at last_values n) (value_at last_values n) refl)))
-  | no h ↦ ap (λ (v : NetView). v.event) (sym (past_values values last_values n (omega (arith, h))))
+      ap (λ (v : NetView). v.event) (sym (view_here values values_before n U U h (omega (arith, h, l))))
+      ∙ (ap (λ v. not (is_same (value_at values_before n) v)) (i.still n other)
+      ∙ ap not (is_same_from_same (value_at values_before n) (value_at values_before n) refl)))
+  | no h ↦ ap (λ (v : NetView). v.event) (sym (past_values values values_before n (omega (arith, h))))
 ]
 
 -- ---- what is recorded of them
@@ -60,13 +60,14 @@ changes-skip (v ∷ nets) (suc from) (suc n) k j le e q =
 
 -- ---- a walk over the nets that are touched
 
-between : (values last_values : List Logic) (touched : List Bool) (from n : ℕ) → AreTouched values last_values touched → length values ≡ length last_values
-    → IsNext (is_in touched) from n → (m : ℕ) → from ≤ m → m < n → (net_at (views_of values last_values) m).event ≡ false
-between values last_values touched from n i l next m le lt = quiet i l m (next.first m le lt)
+between : (values values_before : List Logic) (touched : List Bool) (from n : ℕ) → AreTouched values values_before touched
+    → length values ≡ length values_before
+    → IsNext (is_in touched) from n → (m : ℕ) → from ≤ m → m < n → (net_at (views_of values values_before) m).event ≡ false
+between values values_before touched from n i l next m le lt = quiet i l m (next.first m le lt)
 
-view-at : (values last_values : List Logic) (n : ℕ) → n < length values → length values ≡ length last_values
-    → net_at (views_of values last_values) n ≡ changed_to (value_at values n) (value_at last_values n)
-view-at values last_values n lt l = sym (view_here values last_values n U U lt (omega (arith, lt, l)))
+view-at : (values values_before : List Logic) (n : ℕ) → n < length values → length values ≡ length values_before
+    → net_at (views_of values values_before) n ≡ changed_to (value_at values n) (value_at values_before n)
+view-at values values_before n lt l = sym (view_here values values_before n U U lt (omega (arith, lt, l)))
 
 -- ---- and what is recorded of it
 
@@ -75,39 +76,39 @@ drop-here [] n lt = absurd (omega arith)
 drop-here (v ∷ nets) zero lt = refl
 drop-here (v ∷ nets) (suc n) lt = drop-here nets n (omega arith)
 
-pub changes-step : {values last_values : List Logic} {touched : List Bool} {from n : ℕ} (old new total : List (ℕ × Logic))
-    → AreTouched values last_values touched
-    → length values ≡ length last_values → IsNext (is_in touched) from n → n < length values
-    → (value_at values n ≢ value_at last_values n → new ≡ old ++ (n, value_at values n) ∷ []) → (value_at values n ≡ value_at last_values n → new ≡ old)
-    → old ++ changes_from from (drop from (views_of values last_values)) ≡ total
-    → new ++ changes_from (n + 1) (drop (n + 1) (views_of values last_values)) ≡ total
-changes-step {values} {last_values} {touched} {from} {n} old new total i l next lt changed same e =
-    ap (λ k. new ++ changes_from (n + 1) (drop k views)) (add-one n) ∙ (go (is_same last value) refl ∙ (sym (ap (λ w. old ++ w) front) ∙ e))
+pub changes-step : {values values_before : List Logic} {touched : List Bool} {from n : ℕ} (old new total : List (ℕ × Logic))
+    → AreTouched values values_before touched
+    → length values ≡ length values_before → IsNext (is_in touched) from n → n < length values
+    → (value_at values n ≢ value_at values_before n → new ≡ old ++ (n, value_at values n) ∷ []) → (value_at values n ≡ value_at values_before n → new ≡ old)
+    → old ++ changes_from from (drop from (views_of values values_before)) ≡ total
+    → new ++ changes_from (n + 1) (drop (n + 1) (views_of values values_before)) ≡ total
+changes-step {values} {values_before} {touched} {from} {n} old new total i l next lt changed same e =
+    ap (λ k. new ++ changes_from (n + 1) (drop k views)) (add-one n) ∙ (go (is_same before value) refl ∙ (sym (ap (λ w. old ++ w) front) ∙ e))
   where
     views : List NetView
-    views = views_of values last_values
+    views = views_of values values_before
 
     value : Logic
     value = value_at values n
 
-    last : Logic
-    last = value_at last_values n
+    before : Logic
+    before = value_at values_before n
 
     rest : List (ℕ × Logic)
     rest = changes_from (n + 1) (drop (suc n) views)
 
-    front : changes_from from (drop from views) ≡ changes_if (not (is_same last value)) (n, value) rest
+    front : changes_from from (drop from views) ≡ changes_if (not (is_same before value)) (n, value) rest
     front =
-        changes-skip views from n from n next.further (omega arith) (between values last_values touched from n i l next)
-        ∙ (ap (changes_from n) (drop-here views n (omega (arith, lt, length-views_of values last_values l)))
-        ∙ (ap (λ v. changes_from n (v ∷ drop (suc n) views)) (view-at values last_values n lt l)
-        ∙ first-change n (changed_to value last) (drop (suc n) views)))
+        changes-skip views from n from n next.further (omega arith) (between values values_before touched from n i l next)
+        ∙ (ap (changes_from n) (drop-here views n (omega (arith, lt, length-views_of values values_before l)))
+        ∙ (ap (λ v. changes_from n (v ∷ drop (suc n) views)) (view-at values values_before n lt l)
+        ∙ first-change n (changed_to value before) (drop (suc n) views)))
 
-    go : (b : Bool) → is_same last value ≡ b → new ++ rest ≡ old ++ changes_if (not (is_same last value)) (n, value) rest
+    go : (b : Bool) → is_same before value ≡ b → new ++ rest ≡ old ++ changes_if (not (is_same before value)) (n, value) rest
     go true f =
-        ap (λ w. w ++ rest) (same (sym (same_from_is_same last value f))) ∙ ap (λ b. old ++ changes_if (not b) (n, value) rest) (sym f)
+        ap (λ w. w ++ rest) (same (sym (same_from_is_same before value f))) ∙ ap (λ b. old ++ changes_if (not b) (n, value) rest) (sym f)
     go false f =
-        let apart : value ≢ last = λ g. not_both (is_same last value) f (is_same_from_same last value (sym g)) in
+        let apart : value ≢ before = λ g. not_both (is_same before value) f (is_same_from_same before value (sym g)) in
         ap (λ w. w ++ rest) (changed apart) ∙ (append_assoc old ((n, value) ∷ []) rest
         ∙ ap (λ b. old ++ changes_if (not b) (n, value) rest) (sym f))
 
@@ -119,11 +120,11 @@ changes-rest (v ∷ nets) zero k q =
     ∙ changes-rest nets zero (k + 1) (λ m f. q (suc m) (omega arith)))
 changes-rest (v ∷ nets) (suc from) k q = changes-rest nets from k (λ m f. q (suc m) (omega arith))
 
-pub changes-end : {values last_values : List Logic} {touched : List Bool} {from : ℕ} (now total : List (ℕ × Logic)) → AreTouched values last_values touched
-    → length values ≡ length last_values → NoneFrom (is_in touched) from → now ++ changes_from from (drop from (views_of values last_values)) ≡ total
+pub changes-end : {values values_before : List Logic} {touched : List Bool} {from : ℕ} (now total : List (ℕ × Logic)) → AreTouched values values_before touched
+    → length values ≡ length values_before → NoneFrom (is_in touched) from → now ++ changes_from from (drop from (views_of values values_before)) ≡ total
     → now ≡ total
-changes-end {values} {last_values} {touched} {from} now total i l none e =
-    sym (ap (λ w. now ++ w) (changes-rest (views_of values last_values) from from (λ m le. quiet i l m (none m le))) ∙ append-nil now) ∙ e
+changes-end {values} {values_before} {touched} {from} now total i l none e =
+    sym (ap (λ w. now ++ w) (changes-rest (views_of values values_before) from from (λ m le. quiet i l m (none m le))) ∙ append-nil now) ∙ e
 
 -- ---- processes sensitive to the recorded nets
 

@@ -7,10 +7,10 @@ use Rattle.std.proofs.lemmas.List.{get_or-set_same, get_or-set_other, get_or_pas
 use Rattle.sim_logic.specs.declared.logic.Logic.{Logic}
 use Rattle.sim_logic.specs.Logic.{is_same}
 use Rattle.sim_logic.proofs.SameValues.{same_from_is_same}
-use Rattle.sim_standard.specs.Drivers.{Waveform, next_time, taken}
-use Rattle.sim_store_sets.specs.Numbers.{is_in}
-use Rattle.sim_store_sets.specs.Words.{IsNext, NoneFrom}
-use Rattle.sim_store_sets.specs.Times.{time_of}
+use Rattle.sim_standard.specs.Drivers.{DriverState, next_time, taken}
+use Rattle.sim_containers.specs.Numbers.{is_in}
+use Rattle.sim_containers.specs.Words.{IsNext, NoneFrom}
+use Rattle.sim_containers.specs.Times.{time_of}
 use Rattle.sim_standard.specs.State.{driver_at, no_driver}
 use Rattle.sim_standard.specs.Orders.{is_among}
 use Rattle.sim_store_state.specs.Changes.{AreReached, AreTimes, AreTold, time_at}
@@ -19,16 +19,16 @@ use Rattle.sim_store_state.proofs.Walks.{Walked, not_both, walk_start, walk_more
 use Rattle.sim_store_state.proofs.Due.{driver-taken}
 
 -- A driver took its transaction of a time, and its nets are touched if it has another value.
-pub record IsTaken (time : ℕ) (old : List Waveform) (fan_out : List (List ℕ)) (now : List Waveform) (touched : List Bool) (d : ℕ) : Type 0 where
+pub record IsTaken (time : ℕ) (old : List DriverState) (fan_out : List (List ℕ)) (now : List DriverState) (touched : List Bool) (d : ℕ) : Type 0 where
   pub driver : driver_at now d ≡ taken time (driver_at old d)
   pub nets : AreReached touched (get_or fan_out d []) (driver_at old d).value (taken time (driver_at old d)).value
 
-pub none-taken : (time : ℕ) (drivers : List Waveform) (fan_out : List (List ℕ)) (touched due : List Bool)
+pub none-taken : (time : ℕ) (drivers : List DriverState) (fan_out : List (List ℕ)) (touched due : List Bool)
     → ((d : ℕ) → is_in due d ≡ false → taken time (driver_at drivers d) ≡ driver_at drivers d)
     → Walked due 0 (IsTaken time drivers fan_out drivers touched)
 none-taken time drivers fan_out touched due others = walk_start due (λ d e. record {
   driver = sym (others d e);
-  nets = λ n lt no_net among. ap (λ (w : Waveform). w.value) (others d e);
+  nets = λ n lt no_net among. ap (λ (w : DriverState). w.value) (others d e);
 })
 
 -- touched nets stay touched
@@ -36,7 +36,7 @@ pub still-reached : (touched touched' : List Bool) (nets : List ℕ) (before now
     → ((n : ℕ) → is_in touched' n ≡ false → is_in touched n ≡ false) → AreReached touched nets before now → AreReached touched' nets before now
 still-reached touched touched' nets before now l kept r n lt e among = r n (omega arith) (kept n e) among
 
-pub taken-more : (time : ℕ) (old : List Waveform) (fan_out : List (List ℕ)) (now now' : List Waveform) (touched touched' due : List Bool) (from k : ℕ)
+pub taken-more : (time : ℕ) (old : List DriverState) (fan_out : List (List ℕ)) (now now' : List DriverState) (touched touched' due : List Bool) (from k : ℕ)
     → Walked due from (IsTaken time old fan_out now touched) → IsNext (is_in due) from k → k < length now → driver_at now k ≡ driver_at old k
     → now' ≡ set now k (taken time (driver_at now k)) → length touched' ≡ length touched
     → ((n : ℕ) → is_in touched' n ≡ false → is_in touched n ≡ false)
@@ -50,22 +50,22 @@ taken-more time old fan_out now now' touched touched' due from k w next lt was e
     })
     (record {
       driver = ap (λ w. driver_at w k) en ∙ (get_or-set_same now k (taken time (driver_at now k)) no_driver lt ∙ ap (taken time) was);
-      nets = subst (λ (d : Waveform). AreReached touched' (get_or fan_out k []) d.value (taken time d).value) was reached;
+      nets = subst (λ (d : DriverState). AreReached touched' (get_or fan_out k []) d.value (taken time d).value) was reached;
     })
 
-pub rest-more : (time : ℕ) (old now now' : List Waveform) (from k : ℕ) → from ≤ k → ((d : ℕ) → from ≤ d → driver_at now d ≡ driver_at old d)
+pub rest-more : (time : ℕ) (old now now' : List DriverState) (from k : ℕ) → from ≤ k → ((d : ℕ) → from ≤ d → driver_at now d ≡ driver_at old d)
     → now' ≡ set now k (taken time (driver_at now k)) → (d : ℕ) → k + 1 ≤ d → driver_at now' d ≡ driver_at old d
 rest-more time old now now' from k le rest en d lt =
     let apart : d ≢ k = omega arith in
     ap (λ w. driver_at w d) en ∙ (get_or-set_other now k d (taken time (driver_at now k)) no_driver apart ∙ rest d (omega arith))
 
 -- If so told, the queue has the times of the due drivers that were passed; the times of the others are as they were.
-pub record IsTold (told : Bool) (due : List Bool) (from : ℕ) (before times : List (Option ℕ)) (now : List Waveform) : Type 0 where
+pub record IsTold (told : Bool) (due : List Bool) (from : ℕ) (before times : List (Option ℕ)) (now : List DriverState) : Type 0 where
   pub sized : length times ≡ length before
   pub current : told ≡ true → (d : ℕ) → d < from → is_in due d ≡ true → time_of times d ≡ time_at now d
   pub others : (d : ℕ) → is_in due d ≡ false → time_of times d ≡ time_of before d
 
-pub none-told : (told : Bool) (due : List Bool) (times : List (Option ℕ)) (now : List Waveform) → IsTold told due 0 times times now
+pub none-told : (told : Bool) (due : List Bool) (times : List (Option ℕ)) (now : List DriverState) → IsTold told due 0 times times now
 none-told told due times now = record { sized = refl; current = λ _ d lt _. absurd (omega (arith, lt)); others = λ d e. refl }
 
 and-both : (a b : Bool) → (a && b) ≡ true → (a ≡ true) × (b ≡ true)
@@ -73,8 +73,8 @@ and-both true true e = (refl, refl)
 and-both true false e = absurd cc
 and-both false b e = absurd cc
 
-pub told-more : {told : Bool} {due : List Bool} {from : ℕ} {before times : List (Option ℕ)} {now : List Waveform} (k : ℕ) (is_told told' : Bool)
-    (times' : List (Option ℕ)) (now' : List Waveform) (new : Waveform) → IsTold told due from before times now → IsNext (is_in due) from k
+pub told-more : {told : Bool} {due : List Bool} {from : ℕ} {before times : List (Option ℕ)} {now : List DriverState} (k : ℕ) (is_told told' : Bool)
+    (times' : List (Option ℕ)) (now' : List DriverState) (new : DriverState) → IsTold told due from before times now → IsNext (is_in due) from k
     → told' ≡ (is_told && told) → now' ≡ set now k new → length times' ≡ length times → (is_told ≡ true → time_of times' k ≡ time_at now' k)
     → ((d : ℕ) → d ≢ k → time_of times' d ≡ time_of times d) → IsTold told' due (k + 1) before times' now'
 told-more {told} {due} {from} {before} {times} {now} k is_told told' times' now' new i next et en l here untold = record {
@@ -93,10 +93,10 @@ told-more {told} {due} {from} {before} {times} {now} k is_told told' times' now'
     at both d lt e false q =
         let apart : d ≢ k = grind (arith, nat_tests) in
         untold d apart ∙ (i.current both.1 d (passed d (omega (arith, lt, apart)) e) e
-        ∙ ap (λ (w : Waveform). next_time (w ∷ [])) (sym (ap (λ w. driver_at w d) en ∙ get_or-set_other now k d new no_driver apart)))
+        ∙ ap (λ (w : DriverState). next_time (w ∷ [])) (sym (ap (λ w. driver_at w d) en ∙ get_or-set_other now k d new no_driver apart)))
 
 -- once no due driver is left
-pub all-told : {told : Bool} {due : List Bool} {from : ℕ} {before times : List (Option ℕ)} {now : List Waveform} → IsTold told due from before times now
+pub all-told : {told : Bool} {due : List Bool} {from : ℕ} {before times : List (Option ℕ)} {now : List DriverState} → IsTold told due from before times now
     → NoneFrom (is_in due) from → AreTold told due before times now
 all-told {due = due} {from} i none = record {
   sized = i.sized;
@@ -105,7 +105,7 @@ all-told {due = due} {from} i none = record {
 }
 
 -- if the queue has all times, no driver need be stale
-pub told-times : {before times : List (Option ℕ)} {due stale : List Bool} {drivers : List Waveform} (told : Bool) → AreTimes before due drivers
+pub told-times : {before times : List (Option ℕ)} {due stale : List Bool} {drivers : List DriverState} (told : Bool) → AreTimes before due drivers
     → AreTold told due before times drivers → length stale ≡ length due → (told ≡ false → stale ≡ due) → AreTimes times stale drivers
 told-times {before} {times} {due} {stale} {drivers} told a t l same = record {
   sized = t.sized ∙ a.sized;
@@ -119,7 +119,7 @@ told-times {before} {times} {due} {stale} {drivers} told a t l same = record {
     go false q d e true f = absurd (not_both (is_in due d) (sym (ap (λ (s : List Bool). is_in s d) (same q)) ∙ e) f)
 
 -- lists of drivers are equal if each driver is
-pub all-same : (now old : List Waveform) (time : ℕ) → length now ≡ length old → ((d : ℕ) → driver_at now d ≡ taken time (driver_at old d))
+pub all-same : (now old : List DriverState) (time : ℕ) → length now ≡ length old → ((d : ℕ) → driver_at now d ≡ taken time (driver_at old d))
     → now ≡ map (taken time) old
 all-same now old time l same =
     same_lists now (map (taken time) old) (l ∙ sym (length-map old (taken time)))
@@ -145,7 +145,7 @@ all-kept touched touched' nets l members n e = elim (dec_lt n (length touched)) 
     go false f h = f
     go true f h = absurd (not_both (is_in touched' n) e (members n h ∙ or_right (is_among nets n) (is_in touched n) f))
 
-pub one-taken : (time : ℕ) (drivers : List Waveform) (k : ℕ) (d new : Waveform) → k < length drivers → new ≡ taken time (get_or drivers k d)
+pub one-taken : (time : ℕ) (drivers : List DriverState) (k : ℕ) (d new : DriverState) → k < length drivers → new ≡ taken time (get_or drivers k d)
     → new ≡ taken time (driver_at drivers k)
 one-taken time drivers k d new lt e = e ∙ ap (taken time) (get_or_default drivers k d no_driver lt)
 
@@ -156,9 +156,9 @@ not-changed a b changed e f = same_from_is_same a b (go (is_same a b) (sym e ∙
     go true g = refl
     go false g = absurd cc
 
-pub one-kept : (time : ℕ) (drivers : List Waveform) (k : ℕ) (d new : Waveform) (changed : Bool) → k < length drivers → new ≡ taken time (get_or drivers k d)
-    → changed ≡ not (is_same (get_or drivers k d).value new.value) → changed ≡ false
+pub one-kept : (time : ℕ) (drivers : List DriverState) (k : ℕ) (d new : DriverState) (changed : Bool) → k < length drivers
+    → new ≡ taken time (get_or drivers k d) → changed ≡ not (is_same (get_or drivers k d).value new.value) → changed ≡ false
     → (taken time (driver_at drivers k)).value ≡ (driver_at drivers k).value
 one-kept time drivers k d new changed lt e f none =
-    ap (λ (w : Waveform). w.value) (sym (one-taken time drivers k d new lt e))
-    ∙ (sym (not-changed (get_or drivers k d).value new.value changed f none) ∙ ap (λ (w : Waveform). w.value) (get_or_default drivers k d no_driver lt))
+    ap (λ (w : DriverState). w.value) (sym (one-taken time drivers k d new lt e))
+    ∙ (sym (not-changed (get_or drivers k d).value new.value changed f none) ∙ ap (λ (w : DriverState). w.value) (get_or_default drivers k d no_driver lt))

@@ -7,8 +7,8 @@ use Rattle.std.specs.List.{All, Contains, reduce}
 use Rattle.std.specs.Prelude.{slice_get}
 use Rattle.std.proofs.lemmas.List.Concat.{flat_map-append}
 use Rattle.std.proofs.lemmas.List.Sums.{fold-append}
-use Rattle.sim_standard.specs.Drivers.{RisesFrom, Transaction, Waveform, next_of, next_time, pending_times, IsNext}
-use Rattle.sim_store_sets.specs.Times.{earlier}
+use Rattle.sim_standard.specs.Drivers.{RisesFrom, Transaction, DriverState, next_of, next_time, pending_times, IsNext}
+use Rattle.sim_containers.specs.Times.{earlier}
 
 abbrev pub times : List Transaction → List ℕ
 times xs = map (λ (x : Transaction). x.0) xs
@@ -47,16 +47,16 @@ unfolding next_time
 none_next = refl
 
 -- a driver alone
-pub only_next : (low : ℕ) (d : Waveform) (xs : List Transaction) → xs ≡ d.pending → RisesFrom low xs → next_time (d ∷ []) ≡ next_of xs
+pub only_next : (low : ℕ) (d : DriverState) (xs : List Transaction) → xs ≡ d.pending → RisesFrom low xs → next_time (d ∷ []) ≡ next_of xs
 unfolding next_time
 only_next low d xs is r =
     ap (λ (l : List ℕ). reduce min l) (append_none (times d.pending)) ∙ (ap (λ l. reduce min (times l)) (sym is) ∙ first_is_least low xs r)
 
 -- the drivers of two lists
-pub next_append : (ds es : List Waveform) → next_time (ds ++ es) ≡ earlier (next_time ds) (next_time es)
+pub next_append : (ds es : List DriverState) → next_time (ds ++ es) ≡ earlier (next_time ds) (next_time es)
 unfolding next_time
 next_append ds es =
-    ap (λ (l : List ℕ). reduce min l) (flat_map-append (λ (w : Waveform). times w.pending) ds es) ∙ reduce_append (pending_times ds) (pending_times es)
+    ap (λ (l : List ℕ). reduce min l) (flat_map-append (λ (w : DriverState). times w.pending) ds es) ∙ reduce_append (pending_times ds) (pending_times es)
 
 -- ---- the function gives what the relation says
 
@@ -85,20 +85,20 @@ is_least : (xs : List ℕ) → MatchOption (reduce min xs) (xs ≡ []) (λ t. Co
 is_least [] = refl
 is_least (x ∷ xs) = (contains_least x xs, λ k d lt. least_each x xs k d lt)
 
-pub next_is_least : (ds : List Waveform) → IsNext ds (next_time ds)
+pub next_is_least : (ds : List DriverState) → IsNext ds (next_time ds)
 unfolding next_time
 next_is_least ds = is_least (pending_times ds)
 
 -- ---- the first pending time
 
-pub none_first : (d : Waveform) (xs : List Transaction) → xs ≡ d.pending → RisesFrom 0 xs → None ≡ slice_get xs 0 → None ≡ next_time (d ∷ [])
+pub none_first : (d : DriverState) (xs : List Transaction) → xs ≡ d.pending → RisesFrom 0 xs → None ≡ slice_get xs 0 → None ≡ next_time (d ∷ [])
 none_first d xs is r e = first_none xs e ∙ sym (only_next 0 d xs is r)
   where
     first_none : (xs : List Transaction) → None ≡ slice_get xs 0 → None ≡ next_of xs
     first_none [] e = refl
     first_none (x ∷ xs) e = absurd cc
 
-pub some_first : (d : Waveform) (xs : List Transaction) (x : Transaction) → xs ≡ d.pending → RisesFrom 0 xs → Some x ≡ slice_get xs 0 → Some x.0 ≡ next_time
+pub some_first : (d : DriverState) (xs : List Transaction) (x : Transaction) → xs ≡ d.pending → RisesFrom 0 xs → Some x ≡ slice_get xs 0 → Some x.0 ≡ next_time
     (d ∷ [])
 some_first d xs x is r e = first_some xs e ∙ sym (only_next 0 d xs is r)
   where

@@ -6,11 +6,11 @@ use Rattle.sim_logic.specs.declared.logic.Logic.{Logic}
 use Rattle.sim_logic.specs.declared.logic.Logic.TheVariants.{U}
 use Rattle.sim_flat_design.specs.declared.held.Held.{Held}
 use Rattle.sim_flat_design.specs.declared.design.Source.{Source}
-use Rattle.sim_standard.specs.Drivers.{Waveform, taken, next_time}
-use Rattle.sim_store_sets.specs.RowArray.{joined}
-use Rattle.sim_store_sets.proofs.Flat.{joined-map}
-use Rattle.sim_store_sets.specs.Numbers.{is_in}
-use Rattle.sim_store_sets.specs.Times.{cleared, those_at}
+use Rattle.sim_standard.specs.Drivers.{DriverState, taken, next_time}
+use Rattle.sim_containers.specs.RowArray.{joined}
+use Rattle.sim_containers.proofs.Flat.{joined-map}
+use Rattle.sim_containers.specs.Numbers.{is_in}
+use Rattle.sim_containers.specs.Times.{cleared, those_at}
 use Rattle.sim_standard.specs.State.{driver_at, driver_values, no_driver}
 use Rattle.sim_store_state.specs.Changes.{AreFanOut, AreReached, IsHeld, first_times, is_source, row_from, row_value, value_at}
 use Rattle.sim_store_state.proofs.Due.{driver-taken, times-taken}
@@ -18,12 +18,13 @@ use Rattle.sim_store_state.proofs.Reaching.{fan_out-there, same_row}
 use Rattle.sim_store_state.proofs.Values.{rows-from, value-here}
 
 -- the nets of each driver that has another value are touched
-abbrev pub AllReached : List Bool → List (List ℕ) → List Waveform → ℕ → Type 0
+abbrev pub AllReached : List Bool → List (List ℕ) → List DriverState → ℕ → Type 0
 AllReached touched fan_out ds time =
     (d : ℕ) → AreReached touched (get_or fan_out d []) (driver_at ds d).value (taken time (driver_at ds d)).value
 
 -- the sources of a net that is not touched have the values that they had
-pub unreached : (sources : List (List Source)) (fan_out : List (List ℕ)) (ds es : List Waveform) (touched : List Bool) (time n : ℕ) → AreFanOut sources fan_out
+pub unreached : (sources : List (List Source)) (fan_out : List (List ℕ)) (ds es : List DriverState) (touched : List Bool) (time n : ℕ)
+    → AreFanOut sources fan_out
     → length fan_out ≡ length ds → length touched ≡ length sources → es ≡ map (taken time) ds → AllReached touched fan_out ds time → is_in touched n ≡ false
     → row_value es (get_or sources n []) ≡ row_value ds (get_or sources n [])
 unreached sources fan_out ds es touched time n driving l long ee reached other = same_row es ds (get_or sources n []) same
@@ -34,21 +35,21 @@ unreached sources fan_out ds es touched time n driving l long ee reached other =
     same : (d : ℕ) → is_source (get_or sources n []) d ≡ true → (driver_at es d).value ≡ (driver_at ds d).value
     same d e = elim (dec_lt d (length fan_out)) [
       | yes h ↦ (let there = fan_out-there sources n d e in
-          ap (λ (w : Waveform). w.value) (after d) ∙ reached d n (omega (arith, there, long)) other (driving n d h ∙ e))
+          ap (λ (w : DriverState). w.value) (after d) ∙ reached d n (omega (arith, there, long)) other (driving n d h ∙ e))
       | no h ↦ (let none : driver_at ds d ≡ no_driver = get_or_past ds d no_driver (omega (arith, h, l)) in
-          ap (λ (w : Waveform). w.value) (after d ∙ ap (taken time) none) ∙ ap (λ (w : Waveform). w.value) (sym none))
+          ap (λ (w : DriverState). w.value) (after d ∙ ap (taken time) none) ∙ ap (λ (w : DriverState). w.value) (sym none))
     ]
 
-pub update-keeps : {values last_values driving : List Logic} {dss : List (List Waveform)} {vss : List (List Held)} {sources : List
+pub update-keeps : {values values_before driving : List Logic} {dss : List (List DriverState)} {vss : List (List Held)} {sources : List
     (List Source)} {fan_out : List (List ℕ)}
-    {times : List (Option ℕ)} {stale touched : List Bool} → IsHeld values last_values driving dss vss sources fan_out times stale touched
-    → (time : ℕ) (values' last_values' driving' : List Logic) (dss' : List (List Waveform)) (times₁ times' : List (Option ℕ))
+    {times : List (Option ℕ)} {stale touched : List Bool} → IsHeld values values_before driving dss vss sources fan_out times stale touched
+    → (time : ℕ) (values' values_before' driving' : List Logic) (dss' : List (List DriverState)) (times₁ times' : List (Option ℕ))
     (stale' touched' : List Bool)
-    → next_time (joined dss) ≡ Some time → times₁ ≡ first_times (joined dss) → last_values' ≡ values → stale' ≡ those_at time times₁
+    → next_time (joined dss) ≡ Some time → times₁ ≡ first_times (joined dss) → values_before' ≡ values → stale' ≡ those_at time times₁
     → times' ≡ cleared time times₁ → dss' ≡ map (map (taken time)) dss → AllReached touched' fan_out (joined dss) time → length touched' ≡ length touched
     → driving' ≡ driver_values (joined dss') → values' ≡ map (row_from driving') sources
-    → IsHeld values' last_values' driving' dss' vss sources fan_out times' stale' touched'
-update-keeps {values} {last_values} {driving} {dss} {vss} {sources} {fan_out} {times} {stale} {touched} i time values' last_values' driving'
+    → IsHeld values' values_before' driving' dss' vss sources fan_out times' stale' touched'
+update-keeps {values} {values_before} {driving} {dss} {vss} {sources} {fan_out} {times} {stale} {touched} i time values' values_before' driving'
     dss' times₁ times' stale'
     touched' en et el
     es ec ed reached lt ew ev =
@@ -75,7 +76,7 @@ update-keeps {values} {last_values} {driving} {dss} {vss} {sources} {fan_out} {t
               value-here values' sources (row_value (joined dss')) n now (omega (arith, h, new))
               ∙ (unreached sources fan_out (joined dss) (joined dss') touched' time n i.fanned i.fan_out_count long eds reached other
               ∙ (sym (value-here values sources (row_value (joined dss)) n i.resolving (omega (arith, h, old))) ∙ ap (λ w. value_at w n) (sym el))))
-          | no h ↦ (get_or_past values' n U (omega (arith, h, new)) ∙ sym (get_or_past last_values' n U (omega (arith, h, old, ap length el))))
+          | no h ↦ (get_or_past values' n U (omega (arith, h, new)) ∙ sym (get_or_past values_before' n U (omega (arith, h, old, ap length el))))
         ];
       };
     }

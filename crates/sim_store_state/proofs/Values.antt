@@ -6,11 +6,11 @@ use Rattle.sim_logic.specs.declared.logic.Logic.TheVariants.{U}
 use Rattle.sim_logic.specs.Resolution.{resolved}
 use Rattle.sim_flat_design.specs.declared.design.Source.{Source}
 use Rattle.sim_flat_design.specs.declared.design.Source.TheVariants as source
-use Rattle.sim_standard.specs.Drivers.{Waveform}
+use Rattle.sim_standard.specs.Drivers.{DriverState}
 use Rattle.sim_standard.specs.Nets.{source_value}
 use Rattle.sim_standard.specs.State.{driver_at, driver_values}
-use Rattle.sim_store_sets.specs.Numbers.{is_in}
-use Rattle.sim_store_sets.specs.Words.{IsNext}
+use Rattle.sim_containers.specs.Numbers.{is_in}
+use Rattle.sim_containers.specs.Words.{IsNext}
 use Rattle.sim_store_state.specs.Changes.{row_from, row_value, value_at, value_from}
 use Rattle.sim_store_state.proofs.Walks.{Walked, walk_more}
 
@@ -38,31 +38,31 @@ walk-each now new v target {set'} {from} {n} w next lt en ev =
 
 -- ---- from the values of drivers
 
-pub value-of : (ds : List Waveform) (d : ℕ) → value_at (driver_values ds) d ≡ (driver_at ds d).value
+pub value-of : (ds : List DriverState) (d : ℕ) → value_at (driver_values ds) d ≡ (driver_at ds d).value
 value-of [] d = refl
 value-of (w ∷ ds) zero = refl
 value-of (w ∷ ds) (suc d) = value-of ds d
 
-source-from : (ds : List Waveform) (s : Source) → value_from (driver_values ds) s ≡ source_value ds s
+source-from : (ds : List DriverState) (s : Source) → value_from (driver_values ds) s ≡ source_value ds s
 source-from ds (source.Driver number) = value-of ds number
 source-from ds (source.Constant value) = refl
 
-sources-from : (ds : List Waveform) (row : List Source) → map (value_from (driver_values ds)) row ≡ map (source_value ds) row
+sources-from : (ds : List DriverState) (row : List Source) → map (value_from (driver_values ds)) row ≡ map (source_value ds) row
 sources-from ds [] = refl
 sources-from ds (s ∷ row) =
     ap (λ v. v ∷ map (value_from (driver_values ds)) row) (source-from ds s) ∙ ap (λ vs. source_value ds s ∷ vs) (sources-from ds row)
 
-pub row-from : (ds : List Waveform) (row : List Source) → row_from (driver_values ds) row ≡ row_value ds row
+pub row-from : (ds : List DriverState) (row : List Source) → row_from (driver_values ds) row ≡ row_value ds row
 row-from ds row = ap resolved (sources-from ds row)
 
-pub rows-from : (ds : List Waveform) (rows : List (List Source)) → map (row_from (driver_values ds)) rows ≡ map (row_value ds) rows
+pub rows-from : (ds : List DriverState) (rows : List (List Source)) → map (row_from (driver_values ds)) rows ≡ map (row_value ds) rows
 rows-from ds [] = refl
 rows-from ds (row ∷ rows) =
     ap (λ v. v ∷ map (row_from (driver_values ds)) rows) (row-from ds row) ∙ ap (λ vs. row_value ds row ∷ vs) (rows-from ds rows)
 
 -- one driver has another value
-pub values-set : (ds : List Waveform) (n : ℕ) (d : Waveform) → driver_values (set ds n d) ≡ set (driver_values ds) n d.value
-values-set ds n d = map-set (λ (w : Waveform). w.value) ds n d
+pub values-set : (ds : List DriverState) (n : ℕ) (d : DriverState) → driver_values (set ds n d) ≡ set (driver_values ds) n d.value
+values-set ds n d = map-set (λ (w : DriverState). w.value) ds n d
 
 -- the value of a net, from a list of all values
 pub value-here : (values : List Logic) (sources : List (List Source)) (f : List Source → Logic) (n : ℕ) → values ≡ map f sources → n < length values

@@ -3,8 +3,8 @@ use Rattle.std.proofs.Common.{ℕ, ◌+◌, ◌<◌, ◌≡◌, ◌≢◌, eqb, 
 use Rattle.std.proofs.Math.Decide.{dec_lt}
 use Rattle.std.proofs.lemmas.Bool.Decides.{nat_tests}
 use Rattle.std.proofs.lemmas.List.{get_or_past}
-use Rattle.sim_store_sets.specs.Numbers.{is_in}
-use Rattle.sim_store_sets.specs.Words.{IsNext, NoneFrom}
+use Rattle.sim_containers.specs.Numbers.{is_in}
+use Rattle.sim_containers.specs.Words.{IsNext, NoneFrom}
 
 -- What holds at each number that is no member, and at each member that the walk has passed.
 pub record Walked (set' : List Bool) (from : ℕ) (P : ℕ → Type 0) : Type 0 where

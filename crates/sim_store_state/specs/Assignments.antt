@@ -1,15 +1,15 @@
 -- What a body that is a single assignment leaves of the drivers of its process.
 use Rattle.std.specs.Prelude.{ℕ, ◌≡◌, List, Result, OnOk, slice_set}
 use Rattle.std.specs.List.{All}
-use Rattle.sim_standard.specs.Drivers.{Waveform, RisesFrom}
+use Rattle.sim_standard.specs.Drivers.{DriverState, RisesFrom}
 use Rattle.sim_standard.specs.State.{driver_at, driver_values}
 use Rattle.sim_standard.specs.declared.net_view.NetView.{NetView}
-use Rattle.sim_exec_code.specs.declared.quick.Quick.{Quick}
+use Rattle.sim_exec_code.specs.declared.quick.SingleAssignment.{SingleAssignment}
 use Rattle.sim_exec_code.specs.Quick.{driven}
 
 -- Where it succeeded, it was carried out. Only its own driver may have changed, and that has the value that it had.
-pub record AreAssigned {E : Type 0} (net : ℕ → NetView) (now : ℕ) (q : Quick) (done : Result Unit E) (old new : List Waveform) : Type 0 where
+pub record AreAssigned {E : Type 0} (net : ℕ → NetView) (now : ℕ) (q : SingleAssignment) (done : Result Unit E) (old new : List DriverState) : Type 0 where
   pub ok : OnOk done (new ≡ driven net now q old)
-  pub pending : All (λ (d : Waveform). RisesFrom now d.pending) new
+  pub pending : All (λ (d : DriverState). RisesFrom now d.pending) new
   pub values : driver_values new ≡ driver_values old
   pub alone : new ≡ slice_set old q.driver (driver_at new q.driver)

@@ -7,10 +7,10 @@ use Rattle.sim_logic.specs.Resolution.{resolved}
 use Rattle.sim_flat_design.specs.declared.held.Held.{Held}
 use Rattle.sim_flat_design.specs.declared.design.Source.{Source}
 use Rattle.sim_flat_design.specs.declared.design.Source.TheVariants as source
-use Rattle.sim_standard.specs.Drivers.{Waveform, next_time}
-use Rattle.sim_store_sets.specs.RowArray.{joined}
-use Rattle.sim_store_sets.specs.Numbers.{is_in}
-use Rattle.sim_store_sets.specs.Times.{time_of}
+use Rattle.sim_standard.specs.Drivers.{DriverState, next_time}
+use Rattle.sim_containers.specs.RowArray.{joined}
+use Rattle.sim_containers.specs.Numbers.{is_in}
+use Rattle.sim_containers.specs.Times.{time_of}
 use Rattle.sim_standard.specs.State.{driver_at, driver_values}
 use Rattle.sim_standard.specs.Nets.{source_value}
 use Rattle.sim_standard.specs.Orders.{is_among}
@@ -19,21 +19,21 @@ use Rattle.sim_store_state.specs.FlatState.{AreLists}
 -- ---- the times of the drivers
 
 -- the first pending time of the driver with a number
-abbrev pub time_at : List Waveform → ℕ → Option ℕ
+abbrev pub time_at : List DriverState → ℕ → Option ℕ
 time_at drivers d = next_time (driver_at drivers d ∷ [])
 
 -- and those of all drivers
-abbrev pub first_times : List Waveform → List (Option ℕ)
-first_times drivers = map (λ (d : Waveform). next_time (d ∷ [])) drivers
+abbrev pub first_times : List DriverState → List (Option ℕ)
+first_times drivers = map (λ (d : DriverState). next_time (d ∷ [])) drivers
 
 -- There is a time for each driver; it is its first pending time, unless the driver is stale.
-pub record AreTimes (times : List (Option ℕ)) (stale : List Bool) (drivers : List Waveform) : Type 0 where
+pub record AreTimes (times : List (Option ℕ)) (stale : List Bool) (drivers : List DriverState) : Type 0 where
   pub sized : length times ≡ length drivers
   pub marked : length stale ≡ length drivers
   pub current : (d : ℕ) → is_in stale d ≡ false → time_of times d ≡ time_at drivers d
 
 -- If so told, the times of the due drivers are their first pending times; those of the others are as they were.
-pub record AreTold (told : Bool) (due : List Bool) (before times : List (Option ℕ)) (drivers : List Waveform) : Type 0 where
+pub record AreTold (told : Bool) (due : List Bool) (before times : List (Option ℕ)) (drivers : List DriverState) : Type 0 where
   pub sized : length times ≡ length before
   pub current : told ≡ true → (d : ℕ) → is_in due d ≡ true → time_of times d ≡ time_at drivers d
   pub others : (d : ℕ) → is_in due d ≡ false → time_of times d ≡ time_of before d
@@ -58,7 +58,7 @@ AreFanOut sources fan_out =
 -- ---- the values of the nets
 
 -- the value of a net with these sources (14.7.3.2, 14.7.3.3)
-abbrev pub row_value : List Waveform → List Source → Logic
+abbrev pub row_value : List DriverState → List Source → Logic
 row_value drivers row = resolved (map (source_value drivers) row)
 
 -- the value at a place
@@ -74,10 +74,10 @@ value_from driving (source.Constant value) = value
 abbrev pub row_from : List Logic → List Source → Logic
 row_from driving row = resolved (map (value_from driving) row)
 
--- A net that is not touched has its last value: it has no event.
-pub record AreTouched (values last_values : List Logic) (touched : List Bool) : Type 0 where
+-- A net that is not touched has the value it had before: it has no event.
+pub record AreTouched (values values_before : List Logic) (touched : List Bool) : Type 0 where
   pub sized : length touched ≡ length values
-  pub still : (n : ℕ) → is_in touched n ≡ false → value_at values n ≡ value_at last_values n
+  pub still : (n : ℕ) → is_in touched n ≡ false → value_at values n ≡ value_at values_before n
 
 -- If the value of a driver is now another one than before, these nets are touched.
 abbrev pub AreReached : List Bool → List ℕ → Logic → Logic → Type 0
@@ -86,12 +86,12 @@ AreReached touched nets before now = (n : ℕ) → n < length touched → is_in 
 -- ---- all of it
 
 -- These lists hold a state: each net has the value of its sources, and what is kept beside the state is right.
-pub record IsHeld (values last_values driving : List Logic) (drivers : List (List Waveform)) (variables : List (List Held)) (sources : List (List Source))
+pub record IsHeld (values values_before driving : List Logic) (drivers : List (List DriverState)) (variables : List (List Held)) (sources : List (List Source))
     (fan_out : List (List ℕ)) (times : List (Option ℕ)) (stale touched : List Bool) : Type 0 where
-  pub lists : AreLists values last_values drivers variables
+  pub lists : AreLists values values_before drivers variables
   pub valued : driving ≡ driver_values (joined drivers)
   pub timed : AreTimes times stale (joined drivers)
   pub fan_out_count : length fan_out ≡ length (joined drivers)
   pub fanned : AreFanOut sources fan_out
   pub resolving : values ≡ map (row_value (joined drivers)) sources
-  pub touching : AreTouched values last_values touched
+  pub touching : AreTouched values values_before touched

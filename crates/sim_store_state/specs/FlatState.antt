@@ -5,7 +5,7 @@ use Rattle.sim_logic.specs.declared.logic.Logic.{Logic}
 use Rattle.sim_flat_design.specs.declared.held.Held.{Held}
 use Rattle.sim_flat_design.specs.declared.design.Source.{Source}
 use Rattle.sim_flat_design.specs.Designs.{Design, Net}
-use Rattle.sim_standard.specs.Drivers.{Waveform}
+use Rattle.sim_standard.specs.Drivers.{DriverState}
 use Rattle.sim_standard.specs.declared.net_view.NetView.{NetView}
 use Rattle.sim_standard.specs.State.{State, Owned}
 use Rattle.sim_standard.specs.Nets.{changed_to}
@@ -23,24 +23,24 @@ pub record FlatState : Type 0 where
 abbrev pub flat_state_of : Design → State → FlatState
 flat_state_of design s = record { sources = sources_of design.nets; nets = s.nets; owned = s.owned }
 
--- each net, by its value and its last value
+-- each net, by its value and the one before the cycle
 abbrev pub views_of : List Logic → List Logic → List NetView
-views_of [] last_values = []
+views_of [] values_before = []
 views_of (value ∷ values) [] = []
-views_of (value ∷ values) (last ∷ last_values) = changed_to value last ∷ views_of values last_values
+views_of (value ∷ values) (before ∷ values_before) = changed_to value before ∷ views_of values values_before
 
 -- what each process owns, by its drivers and its variables
-abbrev pub owned_lists : List (List Waveform) → List (List Held) → List Owned
+abbrev pub owned_lists : List (List DriverState) → List (List Held) → List Owned
 owned_lists [] variables = []
 owned_lists (ds ∷ drivers) [] = []
 owned_lists (ds ∷ drivers) (vs ∷ variables) = record { drivers = ds; variables = vs } ∷ owned_lists drivers variables
 
 -- the state that flat lists hold
-abbrev pub held : List (List Source) → List Logic → List Logic → List (List Waveform) → List (List Held) → FlatState
-held sources values last_values drivers variables =
-    record { sources = sources; nets = views_of values last_values; owned = owned_lists drivers variables }
+abbrev pub held : List (List Source) → List Logic → List Logic → List (List DriverState) → List (List Held) → FlatState
+held sources values values_before drivers variables =
+    record { sources = sources; nets = views_of values values_before; owned = owned_lists drivers variables }
 
 -- The lists of nets have one length, and so have those of processes.
-pub record AreLists (values last_values : List Logic) (drivers : List (List Waveform)) (variables : List (List Held)) : Type 0 where
-  pub nets : length values ≡ length last_values
+pub record AreLists (values values_before : List Logic) (drivers : List (List DriverState)) (variables : List (List Held)) : Type 0 where
+  pub nets : length values ≡ length values_before
   pub owned : length drivers ≡ length variables

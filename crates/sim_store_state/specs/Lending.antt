@@ -1,22 +1,22 @@
 -- A state from which what its processes own is taken away.
 -- Implementation only: what `simulate` promises does not rest on this file.
 use Rattle.std.specs.Prelude.{ℕ, ◌≡◌, ◌+◌, ◌<◌, ◌≤◌, List, [], ◌∷◌, Bool, false, map, length, take, slice_index_or}
-use Rattle.sim_store_sets.specs.Numbers.{is_in}
-use Rattle.sim_store_sets.specs.RowArray.{joined}
+use Rattle.sim_containers.specs.Numbers.{is_in}
+use Rattle.sim_containers.specs.RowArray.{joined}
 use Rattle.sim_flat_design.specs.declared.held.Held.{Held}
-use Rattle.sim_standard.specs.Drivers.{Waveform}
+use Rattle.sim_standard.specs.Drivers.{DriverState}
 use Rattle.sim_standard.specs.State.{Owned, driver_values, owned_at}
 use Rattle.sim_store_state.specs.FlatState.{owned_lists}
 
 -- the drivers and the variables of all
-abbrev pub drivers_of : List Owned → List (List Waveform)
+abbrev pub drivers_of : List Owned → List (List DriverState)
 drivers_of owned = map (λ (o : Owned). o.drivers) owned
 
 abbrev pub variables_of : List Owned → List (List Held)
 variables_of owned = map (λ (o : Owned). o.variables) owned
 
 -- The driver with a number is among those of this process.
-pub record IsOfRow (drivers : List (List Waveform)) (process driver : ℕ) : Type 0 where
+pub record IsOfRow (drivers : List (List DriverState)) (process driver : ℕ) : Type 0 where
   pub from : length (joined (take process drivers)) ≤ driver
   pub below : driver < length (joined (take process drivers)) + length (slice_index_or drivers process [])
 
@@ -33,7 +33,7 @@ abbrev pub counts : {A : Type 0} → List (List A) → List ℕ
 counts xss = map length xss
 
 -- what the processes of each share own, from its lists of drivers and of variables
-abbrev pub owned_parts : List (List (List Waveform)) → List (List (List Held)) → List (List Owned)
+abbrev pub owned_parts : List (List (List DriverState)) → List (List (List Held)) → List (List Owned)
 owned_parts [] variables = []
 owned_parts (dss ∷ drivers) [] = []
 owned_parts (dss ∷ drivers) (vss ∷ variables) = owned_lists dss vss ∷ owned_parts drivers variables

@@ -5,4 +5,4 @@ pub mod Sensitive
 pub mod Changes
 pub mod Log
 pub mod Lending
-pub mod Apart
+pub mod SplitState

@@ -3,15 +3,15 @@
 ghost use Rattle.std.specs.Prelude.{◌≡◌, ◌<◌, ◌≤◌, ◌++◌, [], length, take, drop, slice_range, slice_index_or, slice_set};
 ghost use Rattle.std.specs.List.{All};
 ghost use Rattle.sim_logic.specs.Time.{largest_time};
-ghost use Rattle.sim_standard.specs.Drivers.{RisesFrom, Waveform};
-ghost use Rattle.sim_store_sets.specs.RowArray.{joined};
+ghost use Rattle.sim_standard.specs.Drivers.{RisesFrom, DriverState};
+ghost use Rattle.sim_containers.specs.RowArray.{joined};
 ghost use Rattle.sim_store_state.specs.Changes.{AreTimes};
 ghost use Rattle.sim_store_state.specs.Assignments as spec;
 
 use crate::drivers::{first_time, tell};
+use sim_containers::{DividedRows, NumberSet, RowArray, TimeQueue, bounds, place_of};
 use sim_exec::Nets;
-use sim_exec_code::Quick;
-use sim_store_sets::{DividedRows, NumberSet, RowArray, TimeQueue, bounds, place_of};
+use sim_exec_code::SingleAssignment;
 use sim_wave::Driver;
 use std::alloc::AllocError;
 
@@ -20,7 +20,7 @@ use std::alloc::AllocError;
 fn assign_between<N: Nets>(
     nets: &N,
     now: u64,
-    quick: &Quick,
+    quick: &SingleAssignment,
     drivers: &mut [Driver],
     owned: (usize, usize),
 ) -> Result<(), AllocError>
@@ -39,7 +39,7 @@ fn assign_between<N: Nets>(
 fn assign_in_rows<N: Nets>(
     nets: &N,
     now: u64,
-    quick: &Quick,
+    quick: &SingleAssignment,
     place: usize,
     drivers: &mut RowArray<Driver>,
 ) -> Result<(), AllocError>
@@ -60,7 +60,7 @@ fn assign_in_rows<N: Nets>(
 pub fn assign_in_parts<N: Nets>(
     nets: &N,
     now: u64,
-    quick: &Quick,
+    quick: &SingleAssignment,
     number: usize,
     drivers: &mut DividedRows<Driver>,
 ) -> Result<(), AllocError>
@@ -92,7 +92,7 @@ fn tell_driver(
     requires at { number < length (joined drivers.now) }
     requires queue { length queue.old ≡ length (joined drivers.now) }
     requires stale { length stale.old ≡ length (joined drivers.now) }
-    ensures { (driver : Waveform) → AreTimes queue.old stale.old (slice_set (joined drivers.now) number driver)
+    ensures { (driver : DriverState) → AreTimes queue.old stale.old (slice_set (joined drivers.now) number driver)
         → AreTimes queue.new stale.new (joined drivers.now) }
 {
     tell(queue, stale, number, first_time(drivers.item(number)));
@@ -111,7 +111,7 @@ pub fn tell_assigned(
     requires at { number < length drivers.now }
     requires queue { length queue.old ≡ length (joined drivers.now) }
     requires stale { length stale.old ≡ length (joined drivers.now) }
-    ensures { (driver : Waveform) → AreTimes queue.old stale.old
+    ensures { (driver : DriverState) → AreTimes queue.old stale.old
         (joined (slice_set drivers.now number (slice_set (slice_index_or drivers.now number []) place driver)))
         → AreTimes queue.new stale.new (joined drivers.now) }
 {

@@ -2,17 +2,17 @@
 
 ghost use Rattle.std.specs.Prelude.{ℕ, List, ◌≡◌, ◌≢◌, ◌<◌, ◌≤◌, ◌⊎◌, [], ◌∷◌, true, false, length, map, slice_index_or, slice_set, IfOk, OnOk};
 ghost use Rattle.std.specs.Bool.{Decides};
-ghost use Rattle.sim_standard.specs.Drivers.{Waveform, taken};
-ghost use Rattle.sim_store_sets.specs.RowArray.{joined};
-ghost use Rattle.sim_store_sets.specs.Numbers.{is_in};
+ghost use Rattle.sim_standard.specs.Drivers.{DriverState, taken};
+ghost use Rattle.sim_containers.specs.RowArray.{joined};
+ghost use Rattle.sim_containers.specs.Numbers.{is_in};
 ghost use Rattle.sim_standard.specs.State.{driver_at, driver_values};
-ghost use Rattle.sim_store_sets.specs.Times.{time_of};
+ghost use Rattle.sim_containers.specs.Times.{time_of};
 ghost use Rattle.sim_store_state.specs.Changes.{AreReached, AreTimes, AreTold, first_times, time_at, value_at};
 ghost use Rattle.sim_standard.specs.Drivers as spec;
 
 use crate::sets::{insert_each, insert_range};
+use sim_containers::{DividedRows, NumberSet, RowArray, TimeQueue, item_place};
 use sim_logic::Logic;
-use sim_store_sets::{DividedRows, NumberSet, RowArray, TimeQueue, item_place};
 use sim_wave::Driver;
 use std::alloc::{AllocError, Global};
 
@@ -99,7 +99,7 @@ fn tell_row(
     requires at { number < length drivers.now }
     requires queue { length queue.old ≡ length (joined drivers.now) }
     requires stale { length stale.old ≡ length (joined drivers.now) }
-    ensures { (row : List Waveform) → length row ≡ length (slice_index_or drivers.now number [])
+    ensures { (row : List DriverState) → length row ≡ length (slice_index_or drivers.now number [])
         → AreTimes queue.old stale.old (joined (slice_set drivers.now number row)) → AreTimes queue.new stale.new (joined drivers.now) }
 {
     let (start, end) = drivers.row_bounds(number);
@@ -117,7 +117,7 @@ pub fn tell_changed(
     requires at { number < length drivers.now }
     requires queue { length queue.old ≡ length (joined drivers.now) }
     requires stale { length stale.old ≡ length (joined drivers.now) }
-    ensures { (row : List Waveform) → length row ≡ length (slice_index_or drivers.now number [])
+    ensures { (row : List DriverState) → length row ≡ length (slice_index_or drivers.now number [])
         → (changed ≡ false → row ≡ slice_index_or drivers.now number [])
         → AreTimes queue.old stale.old (joined (slice_set drivers.now number row)) → AreTimes queue.new stale.new (joined drivers.now) }
 {
@@ -308,7 +308,7 @@ pub fn mark_stale(stale: &mut NumberSet, drivers: &DividedRows<Driver>, number: 
     requires at { number < length drivers.now }
     requires stale { length stale.old ≡ length (joined drivers.now) }
     ensures sized { length stale.new ≡ length stale.old }
-    ensures others { (row : List Waveform) (d : ℕ) → length row ≡ length (slice_index_or drivers.now number []) → is_in stale.new d ≡ false
+    ensures others { (row : List DriverState) (d : ℕ) → length row ≡ length (slice_index_or drivers.now number []) → is_in stale.new d ≡ false
         → (is_in stale.old d ≡ false) × (driver_at (joined (slice_set drivers.now number row)) d ≡ driver_at (joined drivers.now) d) }
 {
     let (start, end) = drivers.row_bounds(number);

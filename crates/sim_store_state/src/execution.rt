@@ -8,10 +8,10 @@ ghost use Rattle.sim_exec_code.specs.Codes as code;
 ghost use Rattle.sim_standard.specs.State.{driver_values};
 ghost use Rattle.sim_standard.specs.Statements.{executed};
 
+use sim_containers::{DividedRows, RowArray, bounds, place_of};
 use sim_exec::Nets;
 use sim_exec_code::{Codes, Frame};
 use sim_flat_design::{Body, Held};
-use sim_store_sets::{DividedRows, RowArray, bounds, place_of};
 use sim_wave::Driver;
 use std::alloc::{AllocError, Global};
 
@@ -216,7 +216,7 @@ pub fn may_have_changed(done: &Result<bool, AllocError>) -> bool
 
 /// Only whether an execution failed.
 pub fn as_done(done: Result<bool, AllocError>) -> Result<(), AllocError>
-    ensures { result ≡ spec.outcome_of done }
+    ensures { result ≡ spec.without_value done }
 {
     match done {
         Ok(_) => Ok(()),

@@ -8,7 +8,7 @@ ghost use Rattle.sim_logic.specs.Time.{largest_time};
 ghost use Rattle.sim_flat_design.specs.Bodies.{Body as body_value};
 ghost use Rattle.sim_flat_design.specs.Designs.{Design as design_value};
 ghost use Rattle.sim_flat_design.specs.Processes.{Process as process_value};
-ghost use Rattle.sim_store_sets.specs.Numbers.{is_in};
+ghost use Rattle.sim_containers.specs.Numbers.{is_in};
 ghost use Rattle.sim_exec.specs.Jobs.{IsReady};
 ghost use Rattle.sim_exec_code.specs.Codes as code;
 ghost use Rattle.sim_exec_code.specs.Quick.{quick_executed};
@@ -33,22 +33,23 @@ use crate::execution::{as_done, execute_in_parts, may_have_changed};
 use crate::log::Log;
 use crate::nets::{ByNumber, Seen, SeenBy, are_views, resolve_touched, settle, views_at};
 use crate::start::{connections, first_contents, nothing_pending};
+use sim_containers::{DividedRows, NumberSet, RowArray, TimeQueue};
 use sim_exec::NetView;
-use sim_exec_code::{Codes, Frame, Quick};
+use sim_exec_code::{Codes, Frame, SingleAssignment};
 use sim_flat_design::{Design, Held, Process, Source};
 use sim_logic::Logic;
-use sim_store_sets::{DividedRows, NumberSet, RowArray, TimeQueue};
 use sim_wave::Driver;
 use std::alloc::{AllocError, Global};
 use std::marker::Model;
 
-/// The nets of a design and what its processes own, in flat lists: values and last values by net,
-/// drivers and variables by process and place, in parts of a range of processes each. It also keeps
-/// what a cycle has to look at, so that a cycle costs nothing for what stays the same: a net that
-/// is not touched has no event, and the queue has the time of each driver that is not stale.
+/// The nets of a design and what its processes own, in flat lists: values and values before the
+/// cycle by net, drivers and variables by process and place, in parts of a range of processes each.
+/// It also keeps what a cycle has to look at, so that a cycle costs nothing for what stays the
+/// same: a net that is not touched has no event, and the queue has the time of each driver that is
+/// not stale.
 pub struct FlatState {
     values: Vec<Logic>,
-    last_values: Vec<Logic>,
+    values_before: Vec<Logic>,
     /// The value of each driver, so that resolving nets needs no look at the drivers.
     driving: Vec<Logic>,
     drivers: DividedRows<Driver>,
@@ -69,7 +70,7 @@ impl Drop for FlatState {
     fn drop(self) {
         let FlatState {
             values,
-            last_values,
+            values_before,
             driving,
             drivers,
             variables,
@@ -80,7 +81,7 @@ impl Drop for FlatState {
             touched,
         } = self;
         drop(values);
-        drop(last_values);
+        drop(values_before);
         drop(driving);
         drop(drivers);
         drop(variables);
@@ -98,16 +99,16 @@ impl Model for FlatState {
 
     ghost Value = { FlatState };
 
-    ghost view = { λ s. held s.sources s.values.items s.last_values.items s.drivers s.variables };
+    ghost view = { λ s. held s.sources s.values.items s.values_before.items s.drivers s.variables };
 
-    ghost invariant = { λ s. IsHeld s.values.items s.last_values.items s.driving.items s.drivers s.variables s.sources s.fan_out s.queue s.stale s.touched };
+    ghost invariant = { λ s. IsHeld s.values.items s.values_before.items s.driving.items s.drivers s.variables s.sources s.fan_out s.queue s.stale s.touched };
 }
 
 /// The lists of a state, by themselves, so that a part of one can be given away and put back.
 #[derive(Drop)]
 pub struct Lists {
     pub values: Vec<Logic>,
-    pub last_values: Vec<Logic>,
+    pub values_before: Vec<Logic>,
     pub driving: Vec<Logic>,
     pub drivers: DividedRows<Driver>,
     pub variables: DividedRows<Held>,
@@ -160,7 +161,7 @@ impl FlatState {
         let (queue, stale, touched) = nothing_pending(alloc, count, first.values.len())?;
         Ok(FlatState {
             values: first.values,
-            last_values: first.last_values,
+            values_before: first.values_before,
             driving: first.driving,
             drivers: first.drivers,
             variables: first.variables,
@@ -174,13 +175,13 @@ impl FlatState {
 
     /// The lists that hold it.
     pub fn into_lists(self) -> Lists
-        ensures held { IsHeld result.values.items result.last_values.items result.driving.items result.drivers result.variables result.sources
+        ensures held { IsHeld result.values.items result.values_before.items result.driving.items result.drivers result.variables result.sources
             result.fan_out result.queue result.stale result.touched }
-        ensures state { self ≡ held result.sources result.values.items result.last_values.items result.drivers result.variables }
+        ensures state { self ≡ held result.sources result.values.items result.values_before.items result.drivers result.variables }
     {
         let FlatState {
             values,
-            last_values,
+            values_before,
             driving,
             drivers,
             variables,
@@ -192,7 +193,7 @@ impl FlatState {
         } = self;
         Lists {
             values,
-            last_values,
+            values_before,
             driving,
             drivers,
             variables,
@@ -206,13 +207,13 @@ impl FlatState {
 
     /// The state that these lists hold.
     pub fn of_lists(lists: Lists) -> FlatState
-        requires { IsHeld lists.values.items lists.last_values.items lists.driving.items lists.drivers lists.variables lists.sources
+        requires { IsHeld lists.values.items lists.values_before.items lists.driving.items lists.drivers lists.variables lists.sources
             lists.fan_out lists.queue lists.stale lists.touched }
-        ensures { result ≡ held lists.sources lists.values.items lists.last_values.items lists.drivers lists.variables }
+        ensures { result ≡ held lists.sources lists.values.items lists.values_before.items lists.drivers lists.variables }
     {
         let Lists {
             values,
-            last_values,
+            values_before,
             driving,
             drivers,
             variables,
@@ -224,7 +225,7 @@ impl FlatState {
         } = lists;
         FlatState {
             values,
-            last_values,
+            values_before,
             driving,
             drivers,
             variables,
@@ -243,7 +244,7 @@ impl FlatState {
     {
         let FlatState {
             values,
-            last_values,
+            values_before,
             driving,
             drivers,
             variables,
@@ -256,7 +257,7 @@ impl FlatState {
         let (drivers, variables) = divided(alloc, drivers, variables, parts)?;
         Ok(FlatState {
             values,
-            last_values,
+            values_before,
             driving,
             drivers,
             variables,
@@ -289,7 +290,7 @@ impl FlatState {
         let views = views_at(
             alloc,
             self.values.as_slice(),
-            self.last_values.as_slice(),
+            self.values_before.as_slice(),
             reads,
         )?;
         let drivers = copied(alloc, self.drivers.row(number))?;
@@ -317,7 +318,7 @@ impl FlatState {
     {
         if !are_views(
             self.values.as_slice(),
-            self.last_values.as_slice(),
+            self.values_before.as_slice(),
             reads,
             views,
         ) {
@@ -350,8 +351,8 @@ impl FlatState {
     /// call.
     pub fn next(&mut self) -> Result<Option<u64>, AllocError>
         ensures same { self.new ≡ self.old }
-        ensures value { IfOk result (λ next. next ≡ spec.next_time (states.waves self.old.owned)) }
-        ensures least { IfOk result (λ next. spec.IsNext (states.waves self.old.owned) next) }
+        ensures value { IfOk result (λ next. next ≡ spec.next_time (states.all_drivers self.old.owned)) }
+        ensures least { IfOk result (λ next. spec.IsNext (states.all_drivers self.old.owned) next) }
     {
         bring_up_to_date(&mut self.queue, &self.stale, &self.drivers)?;
         self.stale.clear();
@@ -363,15 +364,15 @@ impl FlatState {
     /// transaction, and at the nets of those whose value changes. If allocation fails, nothing
     /// changes.
     pub fn update(&mut self, time: u64) -> Result<(), AllocError>
-        requires next { spec.next_time (states.waves self.old.owned) ≡ Some time }
+        requires next { spec.next_time (states.all_drivers self.old.owned) ≡ Some time }
         ensures ok { OnOk result ((design : design_value) (s : State) → self.old ≡ flat_state_of design s
             → self.new ≡ flat_state_of design (updated design s time)) }
         ensures err { OnErr result (self.new ≡ self.old) }
     {
         bring_up_to_date(&mut self.queue, &self.stale, &self.drivers)?;
-        // The values before this cycle become the last values.
+        // The present values become the values before this cycle.
         settle(
-            self.last_values.as_mut_slice(),
+            self.values_before.as_mut_slice(),
             self.values.as_slice(),
             &self.touched,
         );
@@ -424,16 +425,16 @@ impl FlatState {
         ensures ready { IsReady process.now.body time (owned_at self.new.owned number) }
     {
         let values = self.values.as_slice();
-        let last_values = self.last_values.as_slice();
+        let values_before = self.values_before.as_slice();
         let seen = SeenBy {
             process,
             values,
-            last_values,
+            values_before,
         };
         let gathered = Seen {
             object_nets: codes.nets(number),
             values,
-            last_values,
+            values_before,
         };
         let done = execute_in_parts(
             alloc,
@@ -461,7 +462,12 @@ impl FlatState {
     /// Carries out the assignment of the process with a number, whose body is that alone, even if
     /// its edge is missing. If allocation fails, nothing changes.
     #[inline(always)]
-    fn assign(&mut self, number: usize, quick: &Quick, time: u64) -> Result<(), AllocError>
+    fn assign(
+        &mut self,
+        number: usize,
+        quick: &SingleAssignment,
+        time: u64,
+    ) -> Result<(), AllocError>
         requires at { number < length self.old.owned }
         requires time { time ≤ largest_time }
         requires pending { All (λ d. RisesFrom time d.pending) (owned_at self.old.owned number).drivers }
@@ -472,7 +478,7 @@ impl FlatState {
     {
         let seen = ByNumber {
             values: self.values.as_slice(),
-            last_values: self.last_values.as_slice(),
+            values_before: self.values_before.as_slice(),
         };
         let done = assign_in_parts(&seen, time, quick, number, &mut self.drivers);
         tell_assigned(
@@ -488,7 +494,12 @@ impl FlatState {
     /// Executes the process with a number, whose body is this assignment, in place, unless its edge
     /// is missing. If allocation fails, nothing changes.
     #[inline(always)]
-    fn resume_quick(&mut self, number: usize, quick: &Quick, time: u64) -> Result<(), AllocError>
+    fn execute_quick_unless_idle(
+        &mut self,
+        number: usize,
+        quick: &SingleAssignment,
+        time: u64,
+    ) -> Result<(), AllocError>
         requires at { number < length self.old.owned }
         requires time { time ≤ largest_time }
         requires pending { All (λ d. RisesFrom time d.pending) (owned_at self.old.owned number).drivers }
@@ -499,7 +510,7 @@ impl FlatState {
     {
         let seen = ByNumber {
             values: self.values.as_slice(),
-            last_values: self.last_values.as_slice(),
+            values_before: self.values_before.as_slice(),
         };
         if quick.is_idle(&seen) {
             return Ok(());
@@ -511,7 +522,7 @@ impl FlatState {
     /// does nothing. If allocation fails, it may have been executed in part, and must not be
     /// executed again.
     #[inline(always)]
-    pub fn resume(
+    pub fn execute_unless_idle(
         &mut self,
         alloc: Global,
         number: usize,
@@ -535,11 +546,11 @@ impl FlatState {
         ensures ready { IsReady process.now.body time (owned_at self.new.owned number) }
     {
         if let Some(quick) = codes.quick(number) {
-            return self.resume_quick(number, quick, time);
+            return self.execute_quick_unless_idle(number, quick, time);
         }
         let seen = ByNumber {
             values: self.values.as_slice(),
-            last_values: self.last_values.as_slice(),
+            values_before: self.values_before.as_slice(),
         };
         if codes.is_idle(&seen, number) {
             return Ok(());
@@ -558,7 +569,7 @@ impl FlatState {
             time,
             delta,
             self.values.as_slice(),
-            self.last_values.as_slice(),
+            self.values_before.as_slice(),
             &self.touched,
         );
     }

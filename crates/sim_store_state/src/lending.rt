@@ -2,24 +2,24 @@
 
 ghost use Rattle.std.specs.Prelude.{ℕ, ◌≡◌, ◌<◌, ◌^◌, List, true, false, length, IfOk};
 ghost use Rattle.sim_standard.specs.State.{Owned};
-ghost use Rattle.sim_store_sets.specs.Numbers.{is_in};
-ghost use Rattle.sim_store_sets.specs.RowArray.{joined};
-ghost use Rattle.sim_store_state.specs.Apart.{AreApart};
+ghost use Rattle.sim_containers.specs.Numbers.{is_in};
+ghost use Rattle.sim_containers.specs.RowArray.{joined};
+ghost use Rattle.sim_store_state.specs.SplitState.{IsSplit};
 ghost use Rattle.sim_store_state.specs.FlatState.{views_of};
 ghost use Rattle.sim_store_state.specs.Lending.{AreShares, HaveValues, IsOfRow, counts};
 
 use crate::flat_state::{FlatState, Lists};
 use crate::sets::insert_range;
 use crate::shares::Shares;
+use sim_containers::{DividedRows, NumberSet, RowArray, TimeQueue};
 use sim_flat_design::Source;
 use sim_logic::Logic;
-use sim_store_sets::{DividedRows, NumberSet, RowArray, TimeQueue};
 use sim_wave::Driver;
 use std::alloc::{AllocError, Global};
 
 /// What remains of a state while what its processes own and the values of its nets are elsewhere.
 #[derive(Drop)]
-pub struct Remains {
+pub struct UpdateLists {
     pub driving: Vec<Logic>,
     pub sources: RowArray<Source>,
     pub fan_out: RowArray<usize>,
@@ -32,11 +32,11 @@ pub struct Remains {
 
 /// A state taken apart.
 #[derive(Drop)]
-pub struct Apart {
+pub struct SplitState {
     pub values: Vec<Logic>,
-    pub last_values: Vec<Logic>,
+    pub values_before: Vec<Logic>,
     pub shares: Shares,
-    pub remains: Remains,
+    pub update_lists: UpdateLists,
 }
 
 /// Makes the drivers of the process with a number stale.
@@ -68,17 +68,17 @@ fn mark_rows(stale: &mut NumberSet, drivers: &DividedRows<Driver>, processes: &N
 }
 
 /// Takes a state apart. If allocation fails, it is lost.
-pub fn take_apart(alloc: Global, state: FlatState) -> Result<Apart, AllocError>
+pub fn take_apart(alloc: Global, state: FlatState) -> Result<SplitState, AllocError>
     requires { length state.owned < 2 ^ 64 }
     ensures owned { IfOk result (λ r. joined r.shares ≡ state.owned) }
-    ensures shares { IfOk result (λ r. AreShares r.remains.each (counts r.shares)) }
-    ensures nets { IfOk result (λ r. views_of r.values.items r.last_values.items ≡ state.nets) }
-    ensures sources { IfOk result (λ r. r.remains.sources ≡ state.sources) }
-    ensures held { IfOk result (λ r. AreApart r.values.items r.last_values.items state.owned r.remains) }
+    ensures shares { IfOk result (λ r. AreShares r.update_lists.each (counts r.shares)) }
+    ensures nets { IfOk result (λ r. views_of r.values.items r.values_before.items ≡ state.nets) }
+    ensures sources { IfOk result (λ r. r.update_lists.sources ≡ state.sources) }
+    ensures held { IfOk result (λ r. IsSplit r.values.items r.values_before.items state.owned r.update_lists) }
 {
     let Lists {
         values,
-        last_values,
+        values_before,
         driving,
         drivers,
         variables,
@@ -91,11 +91,11 @@ pub fn take_apart(alloc: Global, state: FlatState) -> Result<Apart, AllocError>
     let (drivers, each) = drivers.into_parts();
     let (variables, variables_each) = variables.into_parts();
     let shares = Shares::of(alloc, drivers, variables, variables_each)?;
-    Ok(Apart {
+    Ok(SplitState {
         values,
-        last_values,
+        values_before,
         shares,
-        remains: Remains {
+        update_lists: UpdateLists {
             driving,
             sources,
             fan_out,
@@ -110,23 +110,23 @@ pub fn take_apart(alloc: Global, state: FlatState) -> Result<Apart, AllocError>
 /// Puts a state together again, with its processes in the shares that they were in. Those of a set
 /// may own something else now, except that their drivers have the values that they had. The drivers
 /// of that set are stale.
-pub fn put_together(apart: Apart, changed: &NumberSet) -> FlatState
-    requires shares { AreShares apart.remains.each (counts apart.shares) }
-    requires owned { (before : List Owned) × AreApart apart.values.items apart.last_values.items before apart.remains
-        × HaveValues changed.now (joined apart.shares) before }
+pub fn put_together(split: SplitState, changed: &NumberSet) -> FlatState
+    requires shares { AreShares split.update_lists.each (counts split.shares) }
+    requires owned { (before : List Owned) × IsSplit split.values.items split.values_before.items before split.update_lists
+        × HaveValues changed.now (joined split.shares) before }
     ensures { result ≡ record {
-      sources = apart.remains.sources;
-      nets = views_of apart.values.items apart.last_values.items;
-      owned = joined apart.shares;
+      sources = split.update_lists.sources;
+      nets = views_of split.values.items split.values_before.items;
+      owned = joined split.shares;
     } }
 {
-    let Apart {
+    let SplitState {
         values,
-        last_values,
+        values_before,
         shares,
-        remains,
-    } = apart;
-    let Remains {
+        update_lists,
+    } = split;
+    let UpdateLists {
         driving,
         sources,
         fan_out,
@@ -134,7 +134,7 @@ pub fn put_together(apart: Apart, changed: &NumberSet) -> FlatState
         stale,
         touched,
         each,
-    } = remains;
+    } = update_lists;
     let (drivers, variables) = shares.into_parts();
     let drivers = DividedRows::of_parts(drivers, each);
     let variables = DividedRows::of_parts(variables, each);
@@ -142,7 +142,7 @@ pub fn put_together(apart: Apart, changed: &NumberSet) -> FlatState
     mark_rows(&mut stale, &drivers, changed);
     FlatState::of_lists(Lists {
         values,
-        last_values,
+        values_before,
         driving,
         drivers,
         variables,

@@ -18,7 +18,7 @@ mod start;
 
 pub use execution::execute_at;
 pub use flat_state::{FlatState, Lists, Part};
-pub use lending::{Apart, Remains, put_together, take_apart};
+pub use lending::{SplitState, UpdateLists, put_together, take_apart};
 pub use log::{Log, Mark};
 pub use resumption::{find_resumed, sensitive};
 pub use share::Share;

@@ -4,7 +4,7 @@ ghost use Rattle.std.specs.Prelude.{ℕ, ◌≡◌, ◌<◌, ◌||◌, ◌&&◌,
 ghost use Rattle.std.specs.List.{All};
 ghost use Rattle.sim_standard.specs.Orders.{is_among};
 
-use sim_store_sets::RowArray;
+use sim_containers::RowArray;
 use sqlite_items::Items;
 use std::alloc::{AllocError, Global};
 

@@ -7,8 +7,8 @@ ghost use Rattle.sim_store_state.specs.FlatState.{views_of};
 ghost use Rattle.sim_standard.specs.Records.{all_changes, changes_from};
 ghost use Rattle.sim_store_state.specs.Log.{end_mark, record_at};
 
+use sim_containers::NumberSet;
 use sim_logic::Logic;
-use sim_store_sets::NumberSet;
 use std::alloc::{AllocError, Global};
 use std::marker::Model;
 
@@ -21,15 +21,15 @@ pub struct Mark {
 }
 
 /// Appends the change of a net, if it has changed.
-fn append_change(changes: &mut Vec<(u32, Logic)>, number: usize, value: Logic, last: Logic)
+fn append_change(changes: &mut Vec<(u32, Logic)>, number: usize, value: Logic, before: Logic)
     requires few { number < 2 ^ 32 }
     requires room { vec_len changes.old < vec_capacity changes.old }
-    ensures changed { value ≢ last → changes.new.items ≡ changes.old.items ++ (number, value) ∷ [] }
-    ensures same { value ≡ last → changes.new.items ≡ changes.old.items }
+    ensures changed { value ≢ before → changes.new.items ≡ changes.old.items ++ (number, value) ∷ [] }
+    ensures same { value ≡ before → changes.new.items ≡ changes.old.items }
     ensures capacity { vec_capacity changes.new ≡ vec_capacity changes.old }
     ensures longer { vec_len changes.new ≤ vec_len changes.old + 1 }
 {
-    if last != value {
+    if before != value {
         changes.push_reserved((number as u32, value));
     }
 }
@@ -38,19 +38,19 @@ fn append_change(changes: &mut Vec<(u32, Logic)>, number: usize, value: Logic, l
 fn append_changes(
     changes: &mut Vec<(u32, Logic)>,
     values: &[Logic],
-    last_values: &[Logic],
+    values_before: &[Logic],
     touched: &NumberSet,
 )
-    requires same { length last_values.now ≡ length values.now }
-    requires touched { AreTouched values.now last_values.now touched.now }
+    requires same { length values_before.now ≡ length values.now }
+    requires touched { AreTouched values.now values_before.now touched.now }
     requires few { length values.now < 2 ^ 32 }
     requires room { vec_len changes.old + length values.now ≤ vec_capacity changes.old }
-    ensures { changes.new.items ≡ changes.old.items ++ changes_from 0 (views_of values.now last_values.now) }
+    ensures { changes.new.items ≡ changes.old.items ++ changes_from 0 (views_of values.now values_before.now) }
 {
     let mut place = 0;
     let mut from = 0;
     while let Some(number) = touched.next_at(place, from) {
-        append_change(changes, number, values[number], last_values[number]);
+        append_change(changes, number, values[number], values_before[number]);
         place = place.wrapping_add(1);
         from = number + 1;
     }
@@ -180,11 +180,11 @@ impl Log {
         time: u64,
         delta: u64,
         values: &[Logic],
-        last_values: &[Logic],
+        values_before: &[Logic],
         touched: &NumberSet,
     )
-        requires same { length last_values.now ≡ length values.now }
-        requires touched { AreTouched values.now last_values.now touched.now }
+        requires same { length values_before.now ≡ length values.now }
+        requires touched { AreTouched values.now values_before.now touched.now }
         requires few { length values.now < 2 ^ 32 }
         requires mark { 0 < self.old.marks_room }
         requires changes { length values.now ≤ self.old.changes_room }
@@ -192,11 +192,11 @@ impl Log {
           time = time;
           delta = delta;
           changes = changes_from 0
-              (views_of values.now last_values.now);
+              (views_of values.now values_before.now);
         } ∷ [] }
     {
         let start = self.changes.len();
-        append_changes(&mut self.changes, values, last_values, touched);
+        append_changes(&mut self.changes, values, values_before, touched);
         self.marks.push_reserved(Mark { time, delta, start });
     }
 

@@ -4,15 +4,15 @@ ghost use Rattle.std.specs.Prelude.{ℕ, [], ◌≡◌, ◌<◌, false, length, 
 ghost use Rattle.sim_logic.specs.declared.logic.Logic as logic;
 ghost use Rattle.sim_logic.specs.Tables.{resolution_table};
 ghost use Rattle.sim_standard.specs.State.{net_at};
-ghost use Rattle.sim_store_sets.specs.Numbers.{is_in};
+ghost use Rattle.sim_containers.specs.Numbers.{is_in};
 ghost use Rattle.sim_store_state.specs.Changes.{AreTouched, row_from, value_at, value_from};
 ghost use Rattle.sim_standard.specs.Nets as spec;
 ghost use Rattle.sim_store_state.specs.FlatState.{views_of};
 
+use sim_containers::{NumberSet, RowArray};
 use sim_exec::{NetView, Nets};
 use sim_flat_design::{Process, Source};
 use sim_logic::{Logic, resolve_two};
-use sim_store_sets::{NumberSet, RowArray};
 use std::alloc::{AllocError, Global};
 
 /// The value of the driver with a number.
@@ -57,16 +57,17 @@ pub fn net_value(sources: &[Source], driving: &[Logic]) -> Logic
     }
 }
 
-/// The last values of touched nets become their values; those of other nets are already equal.
-pub fn settle(last_values: &mut [Logic], values: &[Logic], touched: &NumberSet)
-    requires sized { length last_values.old ≡ length values.now }
-    requires touched { AreTouched values.now last_values.old touched.now }
-    ensures { last_values.new ≡ values.now }
+/// The values before the cycle of touched nets become their values; those of other nets are already
+/// equal.
+pub fn settle(values_before: &mut [Logic], values: &[Logic], touched: &NumberSet)
+    requires sized { length values_before.old ≡ length values.now }
+    requires touched { AreTouched values.now values_before.old touched.now }
+    ensures { values_before.new ≡ values.now }
 {
     let mut place = 0;
     let mut from = 0;
     while let Some(net) = touched.next_at(place, from) {
-        last_values[net] = values[net];
+        values_before[net] = values[net];
         place = place.wrapping_add(1);
         from = net + 1;
     }
@@ -94,43 +95,43 @@ pub fn resolve_touched(
     }
 }
 
-/// A net with this value and this last value.
-fn changed_to(value: Logic, last: Logic) -> NetView
-    ensures { result ≡ spec.changed_to value last }
+/// A net with this value, and this value before the cycle.
+fn changed_to(value: Logic, before: Logic) -> NetView
+    ensures { result ≡ spec.changed_to value before }
 {
     NetView {
         value,
-        event: last != value,
-        last,
+        event: before != value,
+        before,
     }
 }
 
 /// What is seen of the net with a number.
-fn view_at(values: &[Logic], last_values: &[Logic], number: usize) -> NetView
-    ensures { result ≡ net_at (views_of values.now last_values.now) number }
+fn view_at(values: &[Logic], values_before: &[Logic], number: usize) -> NetView
+    ensures { result ≡ net_at (views_of values.now values_before.now) number }
 {
-    if number >= values.len() || number >= last_values.len() {
+    if number >= values.len() || number >= values_before.len() {
         return NetView {
             value: Logic::U,
             event: false,
-            last: Logic::U,
+            before: Logic::U,
         };
     }
-    changed_to(values[number], last_values[number])
+    changed_to(values[number], values_before[number])
 }
 
 /// What is seen of the nets with these numbers.
 pub fn views_at(
     alloc: Global,
     values: &[Logic],
-    last_values: &[Logic],
+    values_before: &[Logic],
     numbers: &[usize],
 ) -> Result<Vec<NetView>, AllocError>
-    ensures { IfOk result (λ v. v.items ≡ map (net_at (views_of values.now last_values.now)) numbers.now) }
+    ensures { IfOk result (λ v. v.items ≡ map (net_at (views_of values.now values_before.now)) numbers.now) }
 {
     numbers
         .iter()
-        .map(|number| view_at(values, last_values, *number))
+        .map(|number| view_at(values, values_before, *number))
         .collect(alloc)
 }
 
@@ -139,7 +140,7 @@ pub fn views_at(
 pub struct Seen<'a> {
     pub object_nets: &'a [usize],
     pub values: &'a [Logic],
-    pub last_values: &'a [Logic],
+    pub values_before: &'a [Logic],
 }
 
 /// What a process sees of its ports and signals.
@@ -147,22 +148,22 @@ pub struct Seen<'a> {
 pub struct SeenBy<'a> {
     pub process: &'a Process,
     pub values: &'a [Logic],
-    pub last_values: &'a [Logic],
+    pub values_before: &'a [Logic],
 }
 
 /// What is seen of nets, by number.
 #[derive(Clone, Copy)]
 pub struct ByNumber<'a> {
     pub values: &'a [Logic],
-    pub last_values: &'a [Logic],
+    pub values_before: &'a [Logic],
 }
 
 impl<'a> Nets for ByNumber<'a> {
-    ghost look = { λ s number. net_at (views_of s.values.now s.last_values.now) number };
+    ghost look = { λ s number. net_at (views_of s.values.now s.values_before.now) number };
 
     #[inline(always)]
     fn view(&self, number: usize) -> NetView {
-        view_at(self.values, self.last_values, number)
+        view_at(self.values, self.values_before, number)
     }
 }
 
@@ -177,24 +178,24 @@ fn object_net(object_nets: &[usize], object: usize) -> usize
 }
 
 impl<'a> Nets for Seen<'a> {
-    ghost look = { λ s object. net_at (views_of s.values.now s.last_values.now) (slice_index_or s.object_nets.now object 0) };
+    ghost look = { λ s object. net_at (views_of s.values.now s.values_before.now) (slice_index_or s.object_nets.now object 0) };
 
     fn view(&self, object: usize) -> NetView {
         view_at(
             self.values,
-            self.last_values,
+            self.values_before,
             object_net(self.object_nets, object),
         )
     }
 }
 
 impl<'a> Nets for SeenBy<'a> {
-    ghost look = { λ s object. net_at (views_of s.values.now s.last_values.now) (slice_index_or s.process.now.nets object 0) };
+    ghost look = { λ s object. net_at (views_of s.values.now s.values_before.now) (slice_index_or s.process.now.nets object 0) };
 
     fn view(&self, object: usize) -> NetView {
         view_at(
             self.values,
-            self.last_values,
+            self.values_before,
             object_net(self.process.nets(), object),
         )
     }
@@ -204,30 +205,30 @@ impl<'a> Nets for SeenBy<'a> {
 fn are_one(view: NetView, other: NetView) -> bool
     ensures { IsTrue result ↔ (view ≡ other) }
 {
-    view.value == other.value && view.event == other.event && view.last == other.last
+    view.value == other.value && view.event == other.event && view.before == other.before
 }
 
 /// Whether this is what is seen of the net with a number.
-fn is_seen(values: &[Logic], last_values: &[Logic], number: usize, view: NetView) -> bool
-    ensures { IsTrue result ↔ (view ≡ net_at (views_of values.now last_values.now) number) }
+fn is_seen(values: &[Logic], values_before: &[Logic], number: usize, view: NetView) -> bool
+    ensures { IsTrue result ↔ (view ≡ net_at (views_of values.now values_before.now) number) }
 {
-    are_one(view, view_at(values, last_values, number))
+    are_one(view, view_at(values, values_before, number))
 }
 
 /// Whether these are what is seen of the nets with these numbers.
 pub fn are_views(
     values: &[Logic],
-    last_values: &[Logic],
+    values_before: &[Logic],
     numbers: &[usize],
     views: &[NetView],
 ) -> bool
-    ensures { IsTrue result ↔ (views.now ≡ map (net_at (views_of values.now last_values.now)) numbers.now) }
+    ensures { IsTrue result ↔ (views.now ≡ map (net_at (views_of values.now values_before.now)) numbers.now) }
 {
     if views.len() != numbers.len() {
         return false;
     }
     for i in 0..views.len() {
-        if !is_seen(values, last_values, numbers[i], views[i]) {
+        if !is_seen(values, values_before, numbers[i], views[i]) {
             return false;
         }
     }

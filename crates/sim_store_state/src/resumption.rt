@@ -6,15 +6,15 @@ ghost use Rattle.sim_standard.specs.declared.net_view.NetView.{NetView};
 ghost use Rattle.sim_standard.specs.Records.{changes_from};
 ghost use Rattle.sim_standard.specs.Cycle.{has_event_in};
 ghost use Rattle.sim_standard.specs.Processes.{process_at};
-ghost use Rattle.sim_store_sets.specs.Numbers.{is_in};
+ghost use Rattle.sim_containers.specs.Numbers.{is_in};
 ghost use Rattle.sim_store_state.specs.Sensitive.{AreSensitive, is_told};
 ghost use Rattle.sim_standard.specs.Orders.{is_among};
 
 use crate::lists::{add, empty_lists, in_rows};
 use crate::sets::insert_each;
+use sim_containers::{NumberSet, RowArray};
 use sim_flat_design::{Design, Process};
 use sim_logic::Logic;
-use sim_store_sets::{NumberSet, RowArray};
 use sqlite_items::Items;
 use std::alloc::{AllocError, Global};
 

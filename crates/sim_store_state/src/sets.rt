@@ -1,10 +1,10 @@
 //! Insertion of several members into a set.
 
 ghost use Rattle.std.specs.Prelude.{ℕ, ◌≡◌, ◌<◌, ◌≤◌, ◌⊎◌, ◌||◌, ◌==◌, false, length};
-ghost use Rattle.sim_store_sets.specs.Numbers.{is_in};
+ghost use Rattle.sim_containers.specs.Numbers.{is_in};
 ghost use Rattle.sim_standard.specs.Orders.{is_among};
 
-use sim_store_sets::NumberSet;
+use sim_containers::NumberSet;
 
 /// Inserts a number, if it is below the bound.
 fn insert_below(set: &mut NumberSet, number: usize)

@@ -11,10 +11,10 @@ ghost use Rattle.sim_store_state.specs.FlatState.{owned_lists, views_of};
 
 use crate::execution::{as_done, execute_at};
 use crate::nets::{ByNumber, Seen, SeenBy};
+use sim_containers::RowArray;
 use sim_exec_code::{Codes, Frame};
 use sim_flat_design::{Held, Process};
 use sim_logic::Logic;
-use sim_store_sets::RowArray;
 use sim_wave::Driver;
 use std::alloc::{AllocError, Global};
 use std::marker::Model;
@@ -75,7 +75,7 @@ impl Share {
     /// nets, unless the edge is missing without which it does nothing. If allocation fails, it may
     /// have been executed in part, and must not be executed again.
     #[inline(always)]
-    pub fn resume(
+    pub fn execute_unless_idle(
         &mut self,
         alloc: Global,
         number: usize,
@@ -85,7 +85,7 @@ impl Share {
         codes: &Codes,
         frame: &mut Frame,
         values: &[Logic],
-        last_values: &[Logic],
+        values_before: &[Logic],
     ) -> Result<(), AllocError>
         requires at { place < length self.old }
         requires time { time ≤ largest_time }
@@ -96,13 +96,13 @@ impl Share {
         ensures frame { frame.new ≡ frame.old }
         ensures alone { self.new ≡ slice_set self.old place (owned_at self.new place) }
         ensures ok { OnOk result (self.new ≡ slice_set self.old place
-            (executed (λ object. net_at (views_of values.now last_values.now) (object_net process.now object)) time
+            (executed (λ object. net_at (views_of values.now values_before.now) (object_net process.now object)) time
             process.now.body.statements (owned_at self.old place))) }
         ensures ready { IsReady process.now.body time (owned_at self.new place) }
     {
         let seen = ByNumber {
             values,
-            last_values,
+            values_before,
         };
         if codes.is_idle(&seen, number) {
             return Ok(());
@@ -116,7 +116,7 @@ impl Share {
             codes,
             frame,
             values,
-            last_values,
+            values_before,
         )
     }
 
@@ -131,7 +131,7 @@ impl Share {
         codes: &Codes,
         frame: &mut Frame,
         values: &[Logic],
-        last_values: &[Logic],
+        values_before: &[Logic],
     ) -> Result<(), AllocError>
         requires at { place < length self.old }
         requires time { time ≤ largest_time }
@@ -142,19 +142,19 @@ impl Share {
         ensures frame { frame.new ≡ frame.old }
         ensures alone { self.new ≡ slice_set self.old place (owned_at self.new place) }
         ensures ok { OnOk result (self.new ≡ slice_set self.old place
-            (executed (λ object. net_at (views_of values.now last_values.now) (object_net process.now object)) time
+            (executed (λ object. net_at (views_of values.now values_before.now) (object_net process.now object)) time
             process.now.body.statements (owned_at self.old place))) }
         ensures ready { IsReady process.now.body time (owned_at self.new place) }
     {
         let seen = SeenBy {
             process,
             values,
-            last_values,
+            values_before,
         };
         let gathered = Seen {
             object_nets: codes.nets(number),
             values,
-            last_values,
+            values_before,
         };
         let done = execute_at(
             alloc,

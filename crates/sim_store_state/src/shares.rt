@@ -1,14 +1,14 @@
 //! What all processes own, in shares.
 
 ghost use Rattle.std.specs.Prelude.{◌≡◌, ◌+◌, ◌^◌, ◌<◌, ◌≤◌, ◌++◌, ◌∷◌, [], true, length, take, drop, MatchOption, OnOk, IfOk};
-ghost use Rattle.sim_store_sets.specs.DividedRows.{AreParts};
-ghost use Rattle.sim_store_sets.specs.RowArray.{joined};
+ghost use Rattle.sim_containers.specs.DividedRows.{AreParts};
+ghost use Rattle.sim_containers.specs.RowArray.{joined};
 ghost use Rattle.sim_store_state.specs.Lending.{counts};
 ghost use Rattle.sim_store_state.specs.FlatState.{owned_lists};
 
 use crate::share::Share;
+use sim_containers::{DividedRows, RowArray};
 use sim_flat_design::Held;
-use sim_store_sets::{DividedRows, RowArray};
 use sim_wave::Driver;
 use std::alloc::{AllocError, Global};
 use std::marker::Model;

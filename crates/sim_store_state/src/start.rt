@@ -8,13 +8,13 @@ ghost use Rattle.sim_standard.specs.State.{driver_values};
 ghost use Rattle.sim_store_state.specs.Changes.{AreFanOut, is_source, is_driver, row_from};
 ghost use Rattle.sim_store_state.specs.FlatState.{sources_of};
 ghost use Rattle.sim_standard.specs.Orders.{is_among};
-ghost use Rattle.sim_store_sets.specs.RowArray.{joined};
+ghost use Rattle.sim_containers.specs.RowArray.{joined};
 
 use crate::lists::{add, empty_lists, in_rows};
 use crate::nets::net_value;
+use sim_containers::{DividedRows, NumberSet, RowArray, TimeQueue};
 use sim_flat_design::{Design, DriverOf, Held, Net, Process, Source};
 use sim_logic::Logic;
-use sim_store_sets::{DividedRows, NumberSet, RowArray, TimeQueue};
 use sim_wave::Driver;
 use sqlite_items::Items;
 use std::alloc::{AllocError, Global};
@@ -108,18 +108,18 @@ fn values(alloc: Global, nets: &[Net], driving: &[Logic]) -> Result<Vec<Logic>, 
     Ok(values)
 }
 
-/// The value of each net, and its last value, which is the same.
+/// The value of each net, which is also its value before.
 fn first_values(
     alloc: Global,
     nets: &[Net],
     driving: &[Logic],
 ) -> Result<(Vec<Logic>, Vec<Logic>), AllocError>
     ensures values { IfOk result (λ r. r.0.items ≡ map (row_from driving.now) (sources_of nets.now)) }
-    ensures last_values { IfOk result (λ r. r.1.items ≡ r.0.items) }
+    ensures values_before { IfOk result (λ r. r.1.items ≡ r.0.items) }
 {
     let values = values(alloc, nets, driving)?;
-    let last_values = Vec::from_slice(alloc, values.as_slice())?;
-    Ok((values, last_values))
+    let values_before = Vec::from_slice(alloc, values.as_slice())?;
+    Ok((values, values_before))
 }
 
 /// The initial drivers and variables of each process, in one part, and the value of each driver.
@@ -158,7 +158,7 @@ pub struct FirstContents {
     pub variables: DividedRows<Held>,
     pub driving: Vec<Logic>,
     pub values: Vec<Logic>,
-    pub last_values: Vec<Logic>,
+    pub values_before: Vec<Logic>,
 }
 
 /// The initial contents for a design.
@@ -167,16 +167,16 @@ pub fn first_contents(alloc: Global, design: &Design) -> Result<FirstContents, A
     ensures variables { IfOk result (λ r. r.variables ≡ map (λ p. p.body.variables) design.now.processes) }
     ensures driving { IfOk result (λ r. r.driving.items ≡ driver_values (joined r.drivers)) }
     ensures values { IfOk result (λ r. r.values.items ≡ map (row_from r.driving.items) (sources_of design.now.nets)) }
-    ensures last_values { IfOk result (λ r. r.last_values.items ≡ r.values.items) }
+    ensures values_before { IfOk result (λ r. r.values_before.items ≡ r.values.items) }
 {
     let (drivers, variables, driving) = first_parts(alloc, design)?;
-    let (values, last_values) = first_values(alloc, design.nets(), driving.as_slice())?;
+    let (values, values_before) = first_values(alloc, design.nets(), driving.as_slice())?;
     Ok(FirstContents {
         drivers,
         variables,
         driving,
         values,
-        last_values,
+        values_before,
     })
 }
 

@@ -116,7 +116,7 @@ fn first_other_process(alloc: Global) -> Result<Option<usize>, AllocError> {
 }
 
 #[test]
-fn processes_are_the_same_whatever_stands_around(rt: HostRuntime) -> Result<(), Fail> {
+fn processes_are_equal_whatever_surrounds_them(rt: HostRuntime) -> Result<(), Fail> {
     assert_eq!(rt; first_other_process(rt.alloc())?, None);
     Ok(())
 }

@@ -72,11 +72,11 @@ pub fn like(alloc: Global, design: &Design, own: &Job, place: usize, value: Logi
 }
 
 /// A net that this cycle changed to a value.
-pub fn changed(last: Logic, value: Logic) -> NetView {
+pub fn changed(before: Logic, value: Logic) -> NetView {
     NetView {
         value,
         event: true,
-        last,
+        before,
     }
 }
 
@@ -85,7 +85,7 @@ pub fn steady(value: Logic) -> NetView {
     NetView {
         value,
         event: false,
-        last: value,
+        before: value,
     }
 }
 

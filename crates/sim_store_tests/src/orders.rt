@@ -8,7 +8,7 @@ use crate::scripts::put_answers;
 use crate::texts::{EXCHANGE, POSTPONED, flat, go_on};
 use sim_flat_design::Design;
 use sim_logic::LATEST;
-use sim_store::{Answer, HandOutError, Naming, Order, Rest, WaveStore};
+use sim_store::{Answer, DesignType, HandOutError, HandedOutStore, Order, WaveStore};
 use std::alloc::{AllocError, Global};
 use std::marker::Brand;
 use std::test::Fail;
@@ -64,10 +64,10 @@ fn begun(alloc: Global, design: &Design, phases: usize) -> Option<WaveStore>
 }
 
 /// The answers to orders, in their order.
-fn answers_to<J: Naming>(
+fn answers_to<D: DesignType>(
     alloc: Global,
-    orders: Vec<Order<J>>,
-) -> Result<Vec<Answer<J>>, AllocError> {
+    orders: Vec<Order<D>>,
+) -> Result<Vec<Answer<D>>, AllocError> {
     let mut answers = Vec::new(alloc);
     for order in orders {
         let answer = order.execute(alloc)?;
@@ -77,7 +77,7 @@ fn answers_to<J: Naming>(
 }
 
 /// Exchanges the first two answers, or removes the last one.
-fn change<J: Naming>(given: Given, answers: Vec<Answer<J>>) -> Vec<Answer<J>> {
+fn change<D: DesignType>(given: Given, answers: Vec<Answer<D>>) -> Vec<Answer<D>> {
     let mut answers = answers;
     match given {
         Given::Exchanged if answers.len() > 1 => answers.as_mut_slice().swap(0, 1),
@@ -90,12 +90,12 @@ fn change<J: Naming>(given: Given, answers: Vec<Answer<J>>) -> Vec<Answer<J>> {
 }
 
 /// The answers that are given back, and the orders that still exist.
-fn answers_given<J: Naming>(
+fn answers_given<D: DesignType>(
     alloc: Global,
     given: Given,
-    own: Vec<Order<J>>,
-    others: Vec<Order<J>>,
-) -> Result<(Vec<Answer<J>>, Vec<Order<J>>), AllocError> {
+    own: Vec<Order<D>>,
+    others: Vec<Order<D>>,
+) -> Result<(Vec<Answer<D>>, Vec<Order<D>>), AllocError> {
     let (executed, left) = match given {
         Given::OfOther => (others, Vec::new(alloc)),
         Given::OfOtherOwnLeft => (others, own),
@@ -114,13 +114,13 @@ fn put_next(line: &mut Line, alloc: Global, store: WaveStore) {
 }
 
 /// Takes a phase back, and appends the result.
-fn put_taken_back<J: Naming>(
+fn put_taken_back<D: DesignType>(
     line: &mut Line,
     alloc: Global,
-    rest: Rest<J>,
-    answers: Vec<Answer<J>>,
+    handed_out: HandedOutStore<D>,
+    answers: Vec<Answer<D>>,
 ) {
-    match rest.take_back(alloc, answers) {
+    match handed_out.take_back(alloc, answers) {
         Ok(store) => put_next(line, alloc, store),
         Err(HandOutError::Stranger) => line.put("Stranger"),
         Err(HandOutError::OrderLeft) => line.put("OrderLeft"),
@@ -128,44 +128,47 @@ fn put_taken_back<J: Naming>(
     }
 }
 
-/// The rest of a store of which a phase is handed out, and the orders; `None` if memory runs out.
-fn handed<J: Naming>(alloc: Global, store: WaveStore) -> Option<(Rest<J>, Vec<Order<J>>)>
-    requires { store.simulation.design ≡ J.design }
+/// A store of which a phase is handed out, and the orders; `None` if memory runs out.
+fn handed<D: DesignType>(
+    alloc: Global,
+    store: WaveStore,
+) -> Option<(HandedOutStore<D>, Vec<Order<D>>)>
+    requires { store.simulation.design ≡ D.design }
 {
     if !store.is_untouched() {
         return None;
     }
-    store.hand_out::<J>(alloc).ok()
+    store.hand_out::<D>(alloc).ok()
 }
 
 /// The orders alone.
-fn orders_of<J: Naming>(alloc: Global, store: WaveStore) -> Option<Vec<Order<J>>>
-    requires { store.simulation.design ≡ J.design }
+fn orders_of<D: DesignType>(alloc: Global, store: WaveStore) -> Option<Vec<Order<D>>>
+    requires { store.simulation.design ≡ D.design }
 {
-    let (_rest, orders) = handed::<J>(alloc, store)?;
+    let (_handed_out, orders) = handed::<D>(alloc, store)?;
     Some(orders)
 }
 
 /// Hands out a phase of a store and one of another, and appends the result of the answers.
-fn put_handed<J: Naming>(
+fn put_handed<D: DesignType>(
     line: &mut Line,
     alloc: Global,
     own: WaveStore,
     other: WaveStore,
     given: Given,
 )
-    requires own { own.simulation.design ≡ J.design }
-    requires other { other.simulation.design ≡ J.design }
+    requires own { own.simulation.design ≡ D.design }
+    requires other { other.simulation.design ≡ D.design }
 {
-    let Some(others) = orders_of::<J>(alloc, other) else {
+    let Some(others) = orders_of::<D>(alloc, other) else {
         return line.put("no orders of the other");
     };
-    let Some((rest, orders)) = handed::<J>(alloc, own) else {
+    let Some((handed_out, orders)) = handed::<D>(alloc, own) else {
         return line.put("no orders");
     };
     match answers_given(alloc, given, orders, others) {
         Err(_refused) => line.put("no memory"),
-        Ok((answers, _left)) => put_taken_back(line, alloc, rest, answers),
+        Ok((answers, _left)) => put_taken_back(line, alloc, handed_out, answers),
     }
 }
 

@@ -84,7 +84,7 @@ fn is_idle(done: Done, clock: NetView) -> bool {
 }
 
 #[test]
-fn an_edge_from_the_unknown_is_none(rt: HostRuntime) -> Result<(), Fail> {
+fn a_change_from_unknown_is_no_edge(rt: HostRuntime) -> Result<(), Fail> {
     let clock = changed(Logic::X, Logic::One);
     let done = toggled_by(rt.alloc(), clock)?;
     assert!(rt; done.is_some_and(|done| is_idle(done, clock)));

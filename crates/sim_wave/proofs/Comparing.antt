@@ -3,7 +3,7 @@ use Rattle.std.proofs.Common.{◌≡◌, ◌↔◌, Bool, true, false, ◌&&◌,
 use Rattle.std.proofs.lemmas.Bool.Decides.{nat_tests}
 use denote.Enum.Bare.{sameb, same_true, true_same}
 use Rattle.sim_logic.specs.contracts.logic.Logic.{the_type}
-use Rattle.sim_standard.specs.Drivers.{Transaction, Waveform}
+use Rattle.sim_standard.specs.Drivers.{Transaction, DriverState}
 
 both-true : (a b : Bool) → (a && b) ≡ true → (a ≡ true) × (b ≡ true)
 both-true true b e = (refl, e)
@@ -34,7 +34,7 @@ are_same-Decides x y = (there, back)
         from-both (eqb x.0 y.0) (sameb the_type x.1 y.1) first (true_same the_type x.1 y.1 (ap (λ (t : Transaction). t.1) e))
 
 -- drivers of equal value are equal if their transactions are
-pub same-pending : (a b : Waveform) (r : Bool) (xs ys : List Transaction) → xs ≡ a.pending → ys ≡ b.pending → a.value ≡ b.value → Decides r (xs ≡ ys)
+pub same-pending : (a b : DriverState) (r : Bool) (xs ys : List Transaction) → xs ≡ a.pending → ys ≡ b.pending → a.value ≡ b.value → Decides r (xs ≡ ys)
     → IsTrue r ↔ (a ≡ b)
 same-pending a b r xs ys p q values d = (there, back)
   where
@@ -44,4 +44,4 @@ same-pending a b r xs ys p q values d = (there, back)
         λ i. record { value = values i; pending = pendings i }
 
     back : a ≡ b → IsTrue r
-    back e = d.1 (p ∙ (ap (λ (w : Waveform). w.pending) e ∙ sym q))
+    back e = d.1 (p ∙ (ap (λ (w : DriverState). w.pending) e ∙ sym q))

@@ -39,9 +39,9 @@ impl Drop for Driver {
 }
 
 impl Model for Driver {
-    ghost use Rattle.sim_standard.specs.Drivers.{Waveform, RisesFrom};
+    ghost use Rattle.sim_standard.specs.Drivers.{DriverState, RisesFrom};
 
-    ghost Value = { Waveform };
+    ghost Value = { DriverState };
 
     ghost use Rattle.sim_wave.specs.Pending.{transactions_of};
 

@@ -13,7 +13,7 @@ const NOW: u64 = 5_000_000;
 const RISING: NetView = NetView {
     value: One,
     event: true,
-    last: Zero,
+    before: Zero,
 };
 
 /// A list of one item.

@@ -11,12 +11,12 @@ use crate::calls::stores::{
     tells_its_end,
 };
 use anyhow::{Result, bail};
+use sim_containers::TimeQueue;
 use sim_exec_code::Code;
 use sim_flat_design::Process;
 use sim_logic::Logic::{One, Zero};
 use sim_run::{Design, Options, RunError, elaborate};
 use sim_run_claims::{ClaimSeat, Claims};
-use sim_store_sets::TimeQueue;
 use sim_text_tokens::{Kind, TextError, Token, tokens};
 use sim_wave::{Delay, Driver, Transaction};
 use std::alloc::{AllocError, Global};
@@ -304,6 +304,6 @@ pub fn work_each<R: AllocGlobal + Print>(rt: &R, options: &Options) -> Result<()
             bail!("{name}");
         }
     }
-    println!(rt; "{} rows as they are to be", ROWS.len())?;
+    println!(rt; "{} rows as expected", ROWS.len())?;
     Ok(())
 }

@@ -1,18 +1,18 @@
 use Rattle.std.proofs.Common.{ap, arith}
 use Rattle.std.proofs.lemmas.Grind.{common_steps}
 use Rattle.std.proofs.Math.Seq.{map-set_same}
-use Rattle.sim_standard.specs.Drivers.{Waveform}
+use Rattle.sim_standard.specs.Drivers.{DriverState}
 use Rattle.sim_exec.proofs.Fits.{driver_within}
 use Rattle.sim_exec.proofs.assignments.assign_signal.Goals as goal
 
 pub returns-in-len1-clause-values : goal.returns-in-len1-clause-values
 returns-in-len1-clause-values g c =
-    map-set_same (λ (d : Waveform). d.value) c.args.drivers.now c.args.assignment.now.driver c.edit.new.self c.index-drivers-assignment.result
-    (ap (λ (d : Waveform). d.value) c.in_ok-edit.ensures.ok)
+    map-set_same (λ (d : DriverState). d.value) c.args.drivers.now c.args.assignment.now.driver c.edit.new.self c.index-drivers-assignment.result
+    (ap (λ (d : DriverState). d.value) c.in_ok-edit.ensures.ok)
 
 pub returns-clause-values : goal.returns-clause-values
 returns-clause-values g c =
-    map-set_same (λ (d : Waveform). d.value) c.args.drivers.now c.args.assignment.now.driver c.assign.new.driver c.index-drivers-assignment.result
+    map-set_same (λ (d : DriverState). d.value) c.args.drivers.now c.args.assignment.now.driver c.assign.new.driver c.index-drivers-assignment.result
     c.assign.ensures.value
 
 pub way_copy_out-elements : goal.way_copy_out-elements

@@ -2,10 +2,10 @@ use Rattle.std.proofs.Common.{ℕ, rules, ◌≡◌, ◌+◌, ◌-◌, ◌++◌,
 use Rattle.std.proofs.lemmas.List.{length-append, reverse-append}
 use Rattle.std.specs.Arc.{arc_value}
 use Rattle.sim_standard.specs.State.{Owned}
-use Rattle.sim_store_sets.specs.RowArray.{joined}
-use Rattle.sim_store_sets.proofs.Flat.{joined-push, written_back}
+use Rattle.sim_containers.specs.RowArray.{joined}
+use Rattle.sim_containers.proofs.Flat.{joined-push, written_back}
 use Rattle.sim_store_state.specs.Lending.{counts}
-use Rattle.sim_store.specs.Handing.{AreInOrder, AreParts, IsRange, Range, front_of, lengths}
+use Rattle.sim_store.specs.Handing.{AreInOrder, AreParts, IsRange, Range, at_input, lengths}
 use Rattle.sim_store_simulation.specs.Simulation.{reached}
 use Rattle.sim_store.proofs.Orders.{all-handed, more-handed}
 use Rattle.sim_store.proofs.Returning.{range-back, range-front}
@@ -21,7 +21,7 @@ overflow_sub-to g c =
 
 pub order_of-requires : goal.order_of-requires
 order_of-requires g c =
-    let h = front_of g.J.Naming.design (arc_value c.args.front.now) in
+    let h = at_input g.D.DesignType.design (arc_value c.args.input.now) in
     let rest = c.in-Some.rest in
     let share = c.in-Some.share in
     let i = c.loop-turn.invariant in
@@ -33,8 +33,8 @@ order_of-requires g c =
 
 pub loop-turn-preserved : goal.loop-turn-preserved
 loop-turn-preserved g c =
-    let f = arc_value c.args.front.now in
-    let h = front_of g.J.Naming.design f in
+    let f = arc_value c.args.input.now in
+    let h = at_input g.D.DesignType.design f in
     let rest = c.in-Some.rest in
     let share = c.in-Some.share in
     let i = c.loop-turn.invariant in
@@ -65,7 +65,7 @@ loop-turn-preserved g c =
 
 pub returns : goal.returns
 returns g c =
-    let f = arc_value c.args.front.now in
+    let f = arc_value c.args.input.now in
     let os = c.loop-turn.orders.items in
     let i = c.loop-turn.invariant in
     let none : length c.loop-turn.shares ≡ 0 = omega (arith, i.left, c.loop-turn-test.false, c.count-count.ensures) in

@@ -2,18 +2,18 @@ use Rattle.std.proofs.Common.{ℕ, rules, tests, ◌≡◌, ◌+◌, ◌<◌, �
 use Rattle.std.specs.Vec.Iter.{into_iter_items}
 use Rattle.std.proofs.lemmas.List.{length-append, take_all}
 use Rattle.sim_standard.specs.State.{Owned}
-use Rattle.sim_store_sets.specs.RowArray.{joined}
-use Rattle.sim_store_sets.proofs.Flat.{joined-push}
+use Rattle.sim_containers.specs.RowArray.{joined}
+use Rattle.sim_containers.proofs.Flat.{joined-push}
 use Rattle.sim_store_state.specs.Lending.{counts}
 use Rattle.sim_store_state.proofs.Walks.{not_both}
-use Rattle.sim_store.specs.Handing.{AreInOrder, IsRange, Range, completed, front_of, lengths}
+use Rattle.sim_store.specs.Handing.{AreInOrder, IsRange, Range, completed, at_input, lengths}
 use Rattle.sim_store.proofs.Orders.{AreLeft, first-left, none-left, range-none, taken-more}
 use Rattle.sim_store.proofs.Returning.{range-both, range-of}
 use Rattle.sim_store.proofs.handing.shares_of.Goals as goal
 
 pub loop-answer-init : goal.loop-answer-init
 loop-answer-init g c =
-    let f = c.args.front.now in
+    let f = c.args.input.now in
     let parts = c.args.parts.now in
     let none : c.in_ok-shares.shares ≡ [] = c.in_ok-shares.ensures in
     let gives = c.into_iter-answer-iterator.ensures.into_iter_gives in
@@ -35,9 +35,9 @@ loop-answer-init g c =
 
 pub loop-answer-preserved : goal.loop-answer-preserved
 loop-answer-preserved g c =
-    let d = g.J.Naming.design in
-    let f = c.args.front.now in
-    let h = front_of d f in
+    let d = g.D.DesignType.design in
+    let f = c.args.input.now in
+    let h = at_input d f in
     let parts = c.args.parts.now in
     let answer = c.in-Some.answer in
     let is : c.is_next.result ≡ true = search (rules, tests) in
@@ -84,7 +84,7 @@ returns-then-not-is_next-clause-err g c = λ e all.
 pub returns-then-count-parts-clause-err : goal.returns-then-count-parts-clause-err
 returns-then-count-parts-clause-err g c = λ e all.
     let i = c.loop-answer.invariant in
-    let f = c.args.front.now in
+    let f = c.args.input.now in
     let items = into_iter_items c.loop-answer.answer-iterator in
     let none : length items ≡ 0 = omega (arith, i.6, c.in-None.ensures.steps.0) in
     absurd (omega (arith, none-left c.args.parts.now _ _ items none (i.7 all), i.4, c.count.ensures, c.if-count-parts.true))

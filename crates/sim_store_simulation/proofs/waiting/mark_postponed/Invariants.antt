@@ -1,6 +1,6 @@
 use Rattle.std.proofs.Common.{ℕ, ◌≡◌, ◌<◌, length}
 use Rattle.sim_standard.specs.Processes.{process_at}
-use Rattle.sim_store_sets.specs.Numbers.{is_in}
+use Rattle.sim_containers.specs.Numbers.{is_in}
 use Rattle.sim_store_simulation.proofs.waiting.mark_postponed.Given as goal
 
 -- those so far are marked

@@ -1,5 +1,5 @@
 use Rattle.std.proofs.Common.{ℕ, ◌≡◌, ◌<◌, ◌≤◌, ◌-◌, ◌&&◌, ◌||◌, not, length}
-use Rattle.sim_store_sets.specs.Numbers.{is_in}
+use Rattle.sim_containers.specs.Numbers.{is_in}
 use Rattle.sim_store_simulation.proofs.waiting.set_aside.Given as goal
 
 -- those so far are divided, and the others are as they were

@@ -1,6 +1,6 @@
 use Rattle.std.proofs.Common.{ap, sym, refl, ◌∙◌, subst, length}
 use Rattle.std.specs.List.{All}
-use Rattle.sim_standard.specs.Drivers.{Waveform, RisesFrom}
+use Rattle.sim_standard.specs.Drivers.{DriverState, RisesFrom}
 use Rattle.sim_store_state.proofs.Assigned.{assigned_as}
 use Rattle.sim_store_state.proofs.Placed.{row-old, row-put}
 use Rattle.sim_store_state.proofs.Putting.{values-count}
@@ -9,7 +9,7 @@ use Rattle.sim_store_state.proofs.assignment.assign_in_parts.Goals as goal
 pub assign_in_rows-requires-clause-pending : goal.assign_in_rows-requires-clause-pending
 assign_in_rows-requires-clause-pending g c =
     let owned = row-old c.place_of-owned.ensures c.as_slice.ensures.value c.drivers.view_is c.as_mut_slice.ensures.value c.index-as_mut_slice-owned.result in
-    subst (All (λ (d : Waveform). RisesFrom c.args.now d.pending)) (sym owned) c.requires.pending
+    subst (All (λ (d : DriverState). RisesFrom c.args.now d.pending)) (sym owned) c.requires.pending
 
 pub invariant_of-drivers : goal.invariant_of-drivers
 invariant_of-drivers g c =

@@ -1,5 +1,5 @@
 use Rattle.std.proofs.Common.{ap, sym, refl, length, arith}
-use Rattle.sim_store_sets.proofs.Flat.{count, places_read, lent_back, viewed_again, put_there, put_alone}
+use Rattle.sim_containers.proofs.Flat.{count, places_read, lent_back, viewed_again, put_there, put_alone}
 use Rattle.sim_store_state.proofs.Assigned.{assigned_as}
 use Rattle.sim_store_state.proofs.assignment.assign_in_rows.Goals as goal
 

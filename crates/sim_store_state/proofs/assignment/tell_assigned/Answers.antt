@@ -1,7 +1,7 @@
 use Rattle.std.proofs.Common.{◌<◌, length, List, [], arith, subst, refl, get_or}
-use Rattle.sim_standard.specs.Drivers.{Waveform}
-use Rattle.sim_store_sets.specs.RowArray.{joined}
-use Rattle.sim_store_sets.proofs.Flat.{within as row_within}
+use Rattle.sim_standard.specs.Drivers.{DriverState}
+use Rattle.sim_containers.specs.RowArray.{joined}
+use Rattle.sim_containers.proofs.Flat.{within as row_within}
 use Rattle.sim_store_state.specs.Changes.{AreTimes}
 use Rattle.sim_store_state.proofs.Assigned.{joined_put, none_put}
 use Rattle.sim_store_state.proofs.assignment.tell_assigned.Goals as goal
@@ -31,5 +31,5 @@ pub returns-else-place-end : goal.returns-else-place-end
 returns-else-place-end c = λ driver times.
     let dss = c.args.drivers.now in
     let e = c.row_bounds-start in
-    subst (λ (ess : List (List Waveform)). AreTimes c.args.queue.now c.args.stale.now (joined ess))
+    subst (λ (ess : List (List DriverState)). AreTimes c.args.queue.now c.args.stale.now (joined ess))
     (none_put dss c.args.number c.args.place driver (omega (arith, e.ensures.end, c.if-place-end.false))) times

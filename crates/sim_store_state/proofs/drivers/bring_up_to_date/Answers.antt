@@ -1,8 +1,8 @@
 use Rattle.std.proofs.Common.{◌∷◌, [], ◌≡◌, ap, length, arith, ◌∙◌}
 use Rattle.std.proofs.lemmas.List.{get_or_default, length-set}
-use Rattle.sim_standard.specs.Drivers.{Waveform, next_time}
-use Rattle.sim_store_sets.specs.RowArray.{joined}
-use Rattle.sim_store_sets.specs.Times.{time_of}
+use Rattle.sim_standard.specs.Drivers.{DriverState, next_time}
+use Rattle.sim_containers.specs.RowArray.{joined}
+use Rattle.sim_containers.specs.Times.{time_of}
 use Rattle.sim_standard.specs.State.{driver_at, no_driver}
 use Rattle.sim_store_state.proofs.Walks.{member_within, walk_start, walk_done, walk_others}
 use Rattle.sim_store_state.proofs.Due.{all-times, times-more}
@@ -38,7 +38,7 @@ loop-number-preserved c =
       within = omega (arith, within, c.requires.marked);
       walked = times-more c.loop-number.queue c.put.new.self ds c.first_time.result c.loop-number.invariant.walked c.in-Some.ensures
           (omega (arith, within, c.requires.marked, c.loop-number.invariant.sized)) c.in_ok-put.ensures.ok
-          (c.first_time.ensures ∙ ap (λ (w : Waveform). next_time (w ∷ [])) here);
+          (c.first_time.ensures ∙ ap (λ (w : DriverState). next_time (w ∷ [])) here);
     }
 
 pub returns-in_err-put-clause-times : goal.returns-in_err-put-clause-times

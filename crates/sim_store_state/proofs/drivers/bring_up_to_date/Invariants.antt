@@ -1,6 +1,6 @@
 use Rattle.std.proofs.Common.{ℕ, ◌≡◌, ◌≤◌, ◌-◌, length}
-use Rattle.sim_store_sets.specs.RowArray.{joined}
-use Rattle.sim_store_sets.specs.Times.{time_of}
+use Rattle.sim_containers.specs.RowArray.{joined}
+use Rattle.sim_containers.specs.Times.{time_of}
 use Rattle.sim_store_state.specs.Changes.{time_at}
 use Rattle.sim_store_state.proofs.Walks.{Walked}
 use Rattle.sim_store_state.proofs.drivers.bring_up_to_date.Given as goal

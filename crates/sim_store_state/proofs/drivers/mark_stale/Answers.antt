@@ -1,5 +1,5 @@
 use Rattle.std.proofs.Common.{arith}
-use Rattle.sim_store_sets.proofs.Flat.{within}
+use Rattle.sim_containers.proofs.Flat.{within}
 use Rattle.sim_store_state.proofs.Putting.{set-outside}
 use Rattle.sim_store_state.proofs.drivers.mark_stale.Goals as goal
 

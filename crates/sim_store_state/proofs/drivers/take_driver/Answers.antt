@@ -1,7 +1,7 @@
 use Rattle.std.proofs.Common.{set, ap, [], ◌∷◌, ◌∙◌}
-use Rattle.sim_standard.specs.Drivers.{Waveform, next_time, taken}
+use Rattle.sim_standard.specs.Drivers.{DriverState, next_time, taken}
 use Rattle.sim_standard.specs.State.{no_driver}
-use Rattle.sim_store_sets.specs.RowArray.{joined}
+use Rattle.sim_containers.specs.RowArray.{joined}
 use Rattle.sim_store_state.proofs.Items.{item-in, item-read}
 use Rattle.sim_store_state.proofs.drivers.take_driver.Goals as goal
 
@@ -24,15 +24,15 @@ returns-clause-drivers c =
     let it = item-in c.drivers.invariant c.drivers.view_is c.item_place-part.ensures c.as_slice.ensures.value c.as_mut_slice.ensures.value
     c.drivers.inside.parts.len _ _ c.take_at.new.parts c.take_at.ensures.parts c.take_at.ensures.rows c.take_at.ensures.drivers
     c.drivers.inside.parts.ok.0 in
-    it.items ∙ ap (λ (w : Waveform). set (joined c.args.drivers.now) c.args.number (taken c.args.time w))
+    it.items ∙ ap (λ (w : DriverState). set (joined c.args.drivers.now) c.args.number (taken c.args.time w))
     (item-read c.drivers.view_is c.item_place-part.ensures c.as_slice.ensures.value c.as_mut_slice.ensures.value no_driver)
 
 pub returns-clause-next : goal.returns-clause-next
 returns-clause-next c =
-    c.take_at.ensures.next ∙ ap (λ (w : Waveform). next_time (taken c.args.time w ∷ []))
+    c.take_at.ensures.next ∙ ap (λ (w : DriverState). next_time (taken c.args.time w ∷ []))
     (item-read c.drivers.view_is c.item_place-part.ensures c.as_slice.ensures.value c.as_mut_slice.ensures.value no_driver)
 
 pub returns-clause-value : goal.returns-clause-value
 returns-clause-value c =
-    c.take_at.ensures.value ∙ ap (λ (w : Waveform). (taken c.args.time w).value)
+    c.take_at.ensures.value ∙ ap (λ (w : DriverState). (taken c.args.time w).value)
     (item-read c.drivers.view_is c.item_place-part.ensures c.as_slice.ensures.value c.as_mut_slice.ensures.value no_driver)

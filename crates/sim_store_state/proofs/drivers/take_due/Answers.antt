@@ -2,7 +2,7 @@ use Rattle.std.proofs.Common.{arith, refl, ap, sym, true, length, ◌∙◌}
 use Rattle.std.proofs.lemmas.List.{length-set}
 use Rattle.sim_standard.specs.Drivers.{taken}
 use Rattle.sim_standard.specs.State.{driver_at}
-use Rattle.sim_store_sets.specs.RowArray.{joined}
+use Rattle.sim_containers.specs.RowArray.{joined}
 use Rattle.sim_store_state.proofs.Walks.{member_within, walk_done}
 use Rattle.sim_store_state.proofs.Taking.{all-told, none-taken, none-told, taken-more, told-more, rest-more, all-same}
 use Rattle.sim_store_state.proofs.Items.{each-item}

@@ -1,5 +1,5 @@
 use Rattle.std.proofs.Common.{ℕ, ◌≡◌, ◌≤◌, ◌-◌, length, map}
-use Rattle.sim_store_sets.specs.RowArray.{joined}
+use Rattle.sim_containers.specs.RowArray.{joined}
 use Rattle.sim_standard.specs.State.{driver_at, driver_values}
 use Rattle.sim_store_state.proofs.Walks.{Walked}
 use Rattle.sim_store_state.proofs.Taking.{IsTaken, IsTold}

@@ -1,8 +1,8 @@
 use Rattle.std.proofs.Common.{◌≡◌, List, length, map, set, ap, ◌∙◌}
-use Rattle.sim_standard.specs.Drivers.{Waveform, taken}
+use Rattle.sim_standard.specs.Drivers.{DriverState, taken}
 use Rattle.sim_standard.specs.State.{driver_at}
-use Rattle.sim_store_sets.specs.RowArray.{joined}
-use Rattle.sim_store_sets.proofs.Flat.{rows-flat, viewed_again}
+use Rattle.sim_containers.specs.RowArray.{joined}
+use Rattle.sim_containers.proofs.Flat.{rows-flat, viewed_again}
 use Rattle.sim_store_state.proofs.Items.{item-back}
 use Rattle.sim_store_state.proofs.drivers.take_in.Goals as goal
 
@@ -24,5 +24,5 @@ returns-clause-drivers c =
     c.as_mut_slice.ensures.value c.take_among.ensures.drivers c.requires c.drivers.inside.flat.ok.0 in
     let flat : c.as_mut_slice.result.now ≡ joined c.args.drivers.now =
     c.as_mut_slice.ensures.value ∙ (c.drivers.invariant.holding ∙ ap joined c.drivers.view_is) in
-    ap joined (rows-flat it.held) ∙ (it.items ∙ ap (λ (ws : List Waveform). set (joined c.args.drivers.now) c.args.place
+    ap joined (rows-flat it.held) ∙ (it.items ∙ ap (λ (ws : List DriverState). set (joined c.args.drivers.now) c.args.place
     (taken c.args.time (driver_at ws c.args.place))) flat)

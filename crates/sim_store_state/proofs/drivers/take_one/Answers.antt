@@ -1,9 +1,9 @@
 use Rattle.std.proofs.Common.{List, [], ◌∷◌, set, ap, sym, ◌∙◌}
 use Rattle.std.proofs.lemmas.List.{get_or-set_same}
 use Rattle.sim_logic.specs.declared.logic.Logic.{Logic}
-use Rattle.sim_standard.specs.Drivers.{Waveform, next_time, taken}
+use Rattle.sim_standard.specs.Drivers.{DriverState, next_time, taken}
 use Rattle.sim_standard.specs.State.{driver_at, driver_values, no_driver}
-use Rattle.sim_store_sets.specs.RowArray.{joined}
+use Rattle.sim_containers.specs.RowArray.{joined}
 use Rattle.sim_store_state.proofs.Values.{values-set}
 use Rattle.sim_store_state.proofs.drivers.take_one.Goals as goal
 
@@ -22,5 +22,5 @@ returns-clause-told c is =
     let n = c.args.number in
     let e = c.take_driver-value.ensures in
     let d = taken c.args.time (driver_at old n) in
-    c.is_told.ensures.here is ∙ (e.next ∙ ap (λ (w : Waveform). next_time (w ∷ []))
-    (sym (ap (λ (ws : List Waveform). driver_at ws n) e.drivers ∙ get_or-set_same old n d no_driver c.requires.at)))
+    c.is_told.ensures.here is ∙ (e.next ∙ ap (λ (w : DriverState). next_time (w ∷ []))
+    (sym (ap (λ (ws : List DriverState). driver_at ws n) e.drivers ∙ get_or-set_same old n d no_driver c.requires.at)))

@@ -1,7 +1,7 @@
 use Rattle.std.proofs.Common.{◌∷◌, [], ◌≡◌, ap, arith, ◌∙◌}
 use Rattle.std.proofs.lemmas.List.{get_or_default}
-use Rattle.sim_standard.specs.Drivers.{Waveform, next_time}
-use Rattle.sim_store_sets.specs.RowArray.{joined}
+use Rattle.sim_standard.specs.Drivers.{DriverState, next_time}
+use Rattle.sim_containers.specs.RowArray.{joined}
 use Rattle.sim_standard.specs.State.{driver_at, no_driver}
 use Rattle.sim_store_state.proofs.Ranges.{range-end}
 use Rattle.sim_store_state.proofs.Telling.{told-more, others-kept}
@@ -19,7 +19,7 @@ loop-number-preserved c =
       queue = e.queue ∙ i.queue;
       stale = e.stale ∙ i.stale;
       here = told-more c.loop-number.queue c.tell.new.queue c.loop-number.stale c.tell.new.stale ds c.args.start k i.here
-          (λ fresh. e.here fresh ∙ (c.first_time.ensures ∙ ap (λ (w : Waveform). next_time (w ∷ [])) at)) e.others;
+          (λ fresh. e.here fresh ∙ (c.first_time.ensures ∙ ap (λ (w : DriverState). next_time (w ∷ [])) at)) e.others;
       others = others-kept c.args.queue.now c.loop-number.queue c.tell.new.queue c.args.stale.now c.loop-number.stale c.tell.new.stale c.args.start k
           c.loop-number.auto.number i.others e.others;
     }

@@ -1,7 +1,7 @@
 use Rattle.std.proofs.Common.{ℕ, ◌≡◌, ◌<◌, ◌≤◌, ◌⊎◌, false, length}
-use Rattle.sim_store_sets.specs.Numbers.{is_in}
-use Rattle.sim_store_sets.specs.RowArray.{joined}
-use Rattle.sim_store_sets.specs.Times.{time_of}
+use Rattle.sim_containers.specs.Numbers.{is_in}
+use Rattle.sim_containers.specs.RowArray.{joined}
+use Rattle.sim_containers.specs.Times.{time_of}
 use Rattle.sim_store_state.specs.Changes.{time_at}
 use Rattle.sim_store_state.proofs.drivers.tell_range.Given as goal
 

@@ -1,6 +1,6 @@
 use Rattle.std.proofs.Common.{refl, arith, ◌∙◌}
-use Rattle.sim_store_sets.specs.RowArray.{joined}
-use Rattle.sim_store_sets.proofs.Flat.{within}
+use Rattle.sim_containers.specs.RowArray.{joined}
+use Rattle.sim_containers.proofs.Flat.{within}
 use Rattle.sim_store_state.proofs.Telling.{row-told}
 use Rattle.sim_store_state.proofs.drivers.tell_row.Goals as goal
 

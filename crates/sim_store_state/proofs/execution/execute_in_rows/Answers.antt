@@ -4,7 +4,7 @@ use Rattle.std.proofs.lemmas.Result.{IfOk-weaker}
 use Rattle.sim_exec.specs.Jobs.{IsReady}
 use Rattle.sim_standard.specs.State.{Owned, driver_values}
 use Rattle.sim_standard.specs.Statements.{executed}
-use Rattle.sim_store_sets.proofs.Flat.{count, places_read, lent_back, viewed_again, put_there, put_alone}
+use Rattle.sim_containers.proofs.Flat.{count, places_read, lent_back, viewed_again, put_there, put_alone}
 use Rattle.sim_store_state.proofs.Contents.{as_owned, same_owned}
 use Rattle.sim_store_state.proofs.execution.execute_in_rows.Goals as goal
 

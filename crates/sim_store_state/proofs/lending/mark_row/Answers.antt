@@ -1,5 +1,5 @@
 use Rattle.std.proofs.Common.{ℕ, ◌<◌, ◌≤◌, ◌⊎◌, inl, inr, arith}
-use Rattle.sim_store_sets.proofs.Flat.{within}
+use Rattle.sim_containers.proofs.Flat.{within}
 use Rattle.sim_store_state.proofs.lending.mark_row.Goals as goal
 
 beyond : (a b d : ℕ) → (d < a) ⊎ (b ≤ d) → a ≤ d → d < b → ⊥

@@ -1,5 +1,5 @@
 use Rattle.std.proofs.Common.{ℕ, ◌≡◌, ◌≤◌, ◌-◌, true, false, length}
-use Rattle.sim_store_sets.specs.Numbers.{is_in}
+use Rattle.sim_containers.specs.Numbers.{is_in}
 use Rattle.sim_store_state.specs.Lending.{IsOfRow}
 use Rattle.sim_store_state.proofs.Walks.{Walked}
 use Rattle.sim_store_state.proofs.lending.mark_rows.Given as goal

@@ -1,9 +1,9 @@
 use Rattle.std.proofs.Common.{◌≡◌, List, length, ap, ◌∙◌, sym, subst, arith}
-use Rattle.sim_store_sets.specs.RowArray.{joined}
+use Rattle.sim_containers.specs.RowArray.{joined}
 use Rattle.sim_store_state.specs.FlatState.{FlatState, owned_lists}
 use Rattle.sim_store_state.specs.Lending.{AreShares, drivers_of, variables_of}
 use Rattle.sim_store_state.proofs.Contents.{length-owned}
-use Rattle.sim_store_state.proofs.Lent.{drivers-of, held-apart, variables-of}
+use Rattle.sim_store_state.proofs.Lent.{drivers-of, held-split, variables-of}
 use Rattle.sim_store_state.proofs.Sharing.{shares-are}
 use Rattle.sim_store_state.proofs.lending.take_apart.Goals as goal
 
@@ -36,7 +36,7 @@ returns-clause-held c =
     let vs : length (joined (variables_of (owned_lists lists.drivers lists.variables))) ≡ length (joined lists.variables) =
     ap (λ w. length (joined w)) (variables-of lists.drivers lists.variables held.lists.owned) in
     rw e (record {
-      held = held-apart held;
+      held = held-split held;
       few_drivers = omega (arith, ds, ap (λ w. length (joined w)) c.into_parts-drivers.ensures.lists, c.into_parts-drivers.ensures.parts.few);
       few_variables = omega (arith, vs, ap (λ w. length (joined w)) c.into_parts-variables.ensures.lists, c.into_parts-variables.ensures.parts.few);
     })

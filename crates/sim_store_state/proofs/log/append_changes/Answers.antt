@@ -11,8 +11,8 @@ loop-number-init c = record { within = omega arith; room = omega (arith, c.requi
 pub bounds-values-number : goal.bounds-values-number
 bounds-values-number c = omega (arith, member_within c.args.touched.now c.in-Some.number c.in-Some.ensures.passes, c.requires.touched.sized)
 
-pub bounds-last_values-number : goal.bounds-last_values-number
-bounds-last_values-number c =
+pub bounds-values_before-number : goal.bounds-values_before-number
+bounds-values_before-number c =
     omega (arith, member_within c.args.touched.now c.in-Some.number c.in-Some.ensures.passes, c.requires.touched.sized, c.requires.same)
 
 pub append_change-requires : goal.append_change-requires
@@ -26,7 +26,7 @@ append_change-requires c =
 pub loop-number-preserved : goal.loop-number-preserved
 loop-number-preserved c =
     let within = member_within c.args.touched.now c.in-Some.number c.in-Some.ensures.passes in
-    let views = views_of c.args.values.now c.args.last_values.now in
+    let views = views_of c.args.values.now c.args.values_before.now in
     record {
       within = omega (arith, within, c.requires.touched.sized);
       room = omega (
@@ -45,5 +45,5 @@ loop-number-preserved c =
 
 pub returns : goal.returns
 returns c =
-    changes-end c.loop-number.changes.items (c.args.changes.now.items ++ changes_from 0 (views_of c.args.values.now c.args.last_values.now)) c.requires.touched
-    (sym c.requires.same) c.in_default.ensures c.loop-number.invariant.done
+    changes-end c.loop-number.changes.items (c.args.changes.now.items ++ changes_from 0 (views_of c.args.values.now c.args.values_before.now))
+    c.requires.touched (sym c.requires.same) c.in_default.ensures c.loop-number.invariant.done

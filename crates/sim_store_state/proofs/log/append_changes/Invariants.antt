@@ -8,8 +8,8 @@ abbrev pub invariant-loop-number : goal.invariant-loop-number
 invariant-loop-number l = record {
   within : l.from ≤ length l.values;
   room : vec_len l.changes + (length l.values - l.from) ≤ vec_capacity l.changes;
-  done : l.changes.items ++ changes_from l.from (drop l.from (views_of l.values l.last_values)) ≡ l.initial.changes.items ++ changes_from 0
-      (views_of l.values l.last_values);
+  done : l.changes.items ++ changes_from l.from (drop l.from (views_of l.values l.values_before)) ≡ l.initial.changes.items ++ changes_from 0
+      (views_of l.values l.values_before);
 }
 
 abbrev pub decreases-loop-number : goal.decreases-loop-number

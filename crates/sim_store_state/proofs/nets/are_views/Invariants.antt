@@ -5,4 +5,4 @@ use Rattle.sim_store_state.proofs.nets.are_views.Given as goal
 
 -- the views up to here are right
 abbrev pub invariant-loop-i : goal.invariant-loop-i
-invariant-loop-i l = take l.i l.views ≡ map (net_at (views_of l.values l.last_values)) (take l.i l.numbers)
+invariant-loop-i l = take l.i l.views ≡ map (net_at (views_of l.values l.values_before)) (take l.i l.numbers)

@@ -15,8 +15,8 @@ loop-net-init c = record {
 pub bounds-values-net : goal.bounds-values-net
 bounds-values-net c = omega (arith, member_within c.args.touched.now c.in-Some.net c.in-Some.ensures.passes, c.requires.touched.sized)
 
-pub bounds-last_values-net : goal.bounds-last_values-net
-bounds-last_values-net c =
+pub bounds-values_before-net : goal.bounds-values_before-net
+bounds-values_before-net c =
     omega (arith, member_within c.args.touched.now c.in-Some.net c.in-Some.ensures.passes, c.requires.touched.sized, c.loop-net.invariant.long)
 
 pub loop-net-preserved : goal.loop-net-preserved
@@ -25,13 +25,13 @@ loop-net-preserved c =
     let values = c.args.values.now in
     let within = member_within c.args.touched.now n c.in-Some.ensures.passes in
     record {
-      long = length-set c.loop-net.last_values n (value_at values n) ∙ c.loop-net.invariant.long;
+      long = length-set c.loop-net.values_before n (value_at values n) ∙ c.loop-net.invariant.long;
       within = omega (arith, within, c.requires.touched.sized);
-      walked = walk-each c.loop-net.last_values (set c.loop-net.last_values n (value_at values n)) (value_at values n)
+      walked = walk-each c.loop-net.values_before (set c.loop-net.values_before n (value_at values n)) (value_at values n)
           (value_at values) c.loop-net.invariant.walked
           c.in-Some.ensures (omega (arith, within, c.requires.touched.sized, c.loop-net.invariant.long)) refl refl;
     }
 
 pub returns : goal.returns
-returns c = same-everywhere c.loop-net.last_values c.args.values.now c.loop-net.invariant.long
+returns c = same-everywhere c.loop-net.values_before c.args.values.now c.loop-net.invariant.long
     (λ n _. walk_done c.loop-net.invariant.walked c.in_default.ensures n)

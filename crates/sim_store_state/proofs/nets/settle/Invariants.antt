@@ -5,9 +5,9 @@ use Rattle.sim_store_state.proofs.nets.settle.Given as goal
 
 abbrev pub invariant-loop-net : goal.invariant-loop-net
 invariant-loop-net l = record {
-  long : length l.last_values ≡ length l.values;
+  long : length l.values_before ≡ length l.values;
   within : l.from ≤ length l.values;
-  walked : Walked l.touched l.from (λ (n : ℕ). value_at l.last_values n ≡ value_at l.values n);
+  walked : Walked l.touched l.from (λ (n : ℕ). value_at l.values_before n ≡ value_at l.values n);
 }
 
 abbrev pub decreases-loop-net : goal.decreases-loop-net

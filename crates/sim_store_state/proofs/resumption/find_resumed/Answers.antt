@@ -1,6 +1,6 @@
 use Rattle.std.proofs.Common.{◌≡◌, ◌||◌, ◌∙◌, ap, length, arith, false}
 use Rattle.std.proofs.lemmas.List.{get_or-replicate, length-replicate}
-use Rattle.sim_store_sets.specs.Numbers.{is_in}
+use Rattle.sim_containers.specs.Numbers.{is_in}
 use Rattle.sim_store_state.specs.Sensitive.{is_told}
 use Rattle.sim_store_state.proofs.Sensitivity.{or_false, sensitive-event}
 use Rattle.sim_store_state.proofs.Skips.{told-changes}

@@ -1,5 +1,5 @@
 use Rattle.std.proofs.Common.{arith, ◌∙◌}
-use Rattle.sim_store_sets.specs.Numbers.{is_in}
+use Rattle.sim_containers.specs.Numbers.{is_in}
 use Rattle.sim_store_state.proofs.Sensitivity.{told-more}
 use Rattle.sim_store_state.proofs.resumption.resume_sensitive.Goals as goal
 

@@ -1,5 +1,5 @@
 use Rattle.std.proofs.Common.{refl, arith, ◌∙◌}
-use Rattle.sim_store_sets.specs.Numbers.{is_in}
+use Rattle.sim_containers.specs.Numbers.{is_in}
 use Rattle.sim_store_state.proofs.Sensitivity.{resumed-more}
 use Rattle.sim_store_state.proofs.sets.insert_each.Goals as goal
 

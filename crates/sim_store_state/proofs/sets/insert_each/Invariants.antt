@@ -1,5 +1,5 @@
 use Rattle.std.proofs.Common.{ℕ, ◌≡◌, ◌<◌, ◌||◌, length, take}
-use Rattle.sim_store_sets.specs.Numbers.{is_in}
+use Rattle.sim_containers.specs.Numbers.{is_in}
 use Rattle.sim_standard.specs.Orders.{is_among}
 use Rattle.sim_store_state.proofs.sets.insert_each.Given as goal
 

@@ -1,5 +1,5 @@
 use Rattle.std.proofs.Common.{ℕ, ◌≡◌, ◌<◌, ◌≤◌, ◌⊎◌, false, length}
-use Rattle.sim_store_sets.specs.Numbers.{is_in}
+use Rattle.sim_containers.specs.Numbers.{is_in}
 use Rattle.sim_store_state.proofs.sets.insert_range.Given as goal
 
 abbrev pub invariant-loop-number : goal.invariant-loop-number

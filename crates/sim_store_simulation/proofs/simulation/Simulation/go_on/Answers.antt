@@ -1,7 +1,7 @@
 use Rattle.std.proofs.Common.{ℕ, suc, ◌+◌, ◌-◌, ◌<◌, ◌≡◌, ◌&&◌, ◌||◌, not, Bool, ◌++◌, [], ◌∷◌, List, length, get_or, ap, sym, ◌∙◌, subst, arith}
 use Rattle.std.proofs.lemmas.List.{length-append}
 use Rattle.std.specs.List.{filter}
-use Rattle.sim_store_sets.proofs.Flat.{written_back}
+use Rattle.sim_containers.proofs.Flat.{written_back}
 use Rattle.sim_standard.specs.declared.record.Record.{Record}
 use Rattle.sim_store_state.specs.Log.{record_at}
 use Rattle.sim_standard.specs.Records.{changes_from}

@@ -1,7 +1,7 @@
 use Rattle.std.proofs.Common.{ℕ, Bool, List, ◌≡◌, IsTrue, length, false, ap, ◌∙◌, refl, subst}
 use Rattle.std.specs.Prelude.{◌↔◌}
-use Rattle.sim_store_sets.specs.Numbers.{is_in}
-use Rattle.sim_store_sets.proofs.Sets.{all_same}
+use Rattle.sim_containers.specs.Numbers.{is_in}
+use Rattle.sim_containers.proofs.Sets.{all_same}
 use Rattle.sim_store_simulation.specs.Waiting.{Waiting}
 use Rattle.sim_store_simulation.proofs.Members.{none-replicated}
 use Rattle.sim_store_simulation.proofs.waiting.Waiting.is_empty.Goals as goal

@@ -1,10 +1,10 @@
 use Rattle.std.proofs.Common.{ℕ, List, [], ◌≡◌, ap, sym, ◌∙◌, subst, arith, get_or, length, set}
 use Rattle.std.specs.List.{All}
 use Rattle.std.proofs.lemmas.List.{length-set, set-get_or}
-use Rattle.sim_standard.specs.Drivers.{Waveform, RisesFrom}
+use Rattle.sim_standard.specs.Drivers.{DriverState, RisesFrom}
 use Rattle.sim_standard.specs.State.{Owned, driver_at, net_at}
 use Rattle.sim_logic.specs.declared.logic.Logic.{Logic}
-use Rattle.sim_store_sets.specs.RowArray.{joined}
+use Rattle.sim_containers.specs.RowArray.{joined}
 use Rattle.sim_store_state.specs.Changes.{AreTimes}
 use Rattle.sim_store_state.specs.FlatState.{FlatState, views_of}
 use Rattle.sim_store_state.proofs.Assigned.{assigned_as, row_back}
@@ -20,7 +20,7 @@ pub assign_in_parts-done-requires : goal.assign_in_parts-done-requires
 assign_in_parts-done-requires c = record {
   now = c.requires.time;
   drivers = omega (arith, c.requires.at, owned-count c.self.view_is c.self.invariant.lists);
-  pending = subst (λ (o : Owned). All (λ (d : Waveform). RisesFrom c.args.time d.pending) o.drivers)
+  pending = subst (λ (o : Owned). All (λ (d : DriverState). RisesFrom c.args.time d.pending) o.drivers)
       (owned-by c.self.view_is c.self.invariant.lists c.args.number) c.requires.pending;
 }
 
@@ -48,7 +48,7 @@ invariant_of-self c =
     own-keeps c.self.invariant n row (get_or vss n []) e.new.drivers vss c.tell_assigned.new.queue c.tell_assigned.new.stale
     e.ensures.drivers (sym (set-get_or vss n [])) e.ensures.assigned.values
     (c.tell_assigned.ensures (driver_at (get_or old n []) k)
-    (subst (λ (dss : List (List Waveform)). AreTimes c.self.inside.queue c.self.inside.stale (joined dss))
+    (subst (λ (dss : List (List DriverState)). AreTimes c.self.inside.queue c.self.inside.stale (joined dss))
     (sym (row_back old e.new.drivers n k c.driver.result e.ensures.drivers e.ensures.assigned.alone c.driver.ensures)) c.self.invariant.timed))
 
 pub returns : goal.returns
@@ -62,7 +62,7 @@ returns c =
     let kept = sym (set-get_or s.variables n []) in
     let was = owned-by c.self.view_is c.self.invariant.lists n in
     let is = owned-now c.self.invariant.lists n row vs e.new.drivers s.variables e.ensures.drivers kept in
-    let net : views_of s.values.items s.last_values.items ≡ h.nets = ap (λ (f : FlatState). f.nets) c.self.view_is in
+    let net : views_of s.values.items s.values_before.items ≡ h.nets = ap (λ (f : FlatState). f.nets) c.self.view_is in
     let seen : views_of c.as_slice.result.now c.as_slice-2.result.now ≡ h.nets =
     ap (λ (vs : List Logic). views_of vs c.as_slice-2.result.now) c.as_slice.ensures.value
     ∙ (ap (views_of s.values.items) c.as_slice-2.ensures.value ∙ net) in

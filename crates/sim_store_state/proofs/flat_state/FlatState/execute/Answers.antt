@@ -8,11 +8,11 @@ use Rattle.sim_exec.specs.Jobs.{IsReady}
 use Rattle.sim_exec_code.specs.Codes.{IsCodeOf, code_at}
 use Rattle.sim_standard.specs.State.{Owned, nothing_owned}
 use Rattle.sim_standard.specs.Statements.{executed}
-use Rattle.sim_store_state.specs.Executions.{outcome_of}
+use Rattle.sim_store_state.specs.Executions.{without_value}
 use Rattle.sim_store_state.specs.FlatState.{FlatState, views_of, owned_lists}
 use Rattle.sim_store_state.proofs.Contents.{as_owned, gathered_placed, owned-by, owned-count, owned-now, held-set, seen, sees}
-use Rattle.sim_standard.specs.Drivers.{Waveform}
-use Rattle.sim_store_sets.specs.RowArray.{joined}
+use Rattle.sim_standard.specs.Drivers.{DriverState}
+use Rattle.sim_containers.specs.RowArray.{joined}
 use Rattle.sim_store_state.specs.Changes.{AreTimes}
 use Rattle.sim_store_state.proofs.Putting.{own-keeps, values-count, values-kept}
 use Rattle.sim_store_state.proofs.Telling.{put-back}
@@ -23,19 +23,19 @@ abbrev with_own : FlatState → ℕ → Owned → FlatState
 with_own h n own = record { sources = h.sources; nets = h.nets; owned = set h.owned n own }
 
 -- nothing was done, if it says so
-if_unchanged : {E : Type 0} {ds es : List Waveform} (r : Result Bool E) → r ≡ Ok false → IfOk r (λ (done : Bool). done ≡ false → ds ≡ es) → ds ≡ es
+if_unchanged : {E : Type 0} {ds es : List DriverState} (r : Result Bool E) → r ≡ Ok false → IfOk r (λ (done : Bool). done ≡ false → ds ≡ es) → ds ≡ es
 if_unchanged {ds = ds} {es = es} r e h = subst (λ (s : Result Bool _). IfOk s (λ (done : Bool). done ≡ false → ds ≡ es)) e h refl
 
 -- what holds of an execution that did not fail
-on_outcome : {E : Type 0} (P : Type 0) (r : Result Bool E) (s : Result Unit E) → s ≡ outcome_of r → OnOk r P → OnOk s P
-on_outcome P (Ok done) s e h = subst (λ (t : Result Unit _). OnOk t P) (sym e) h
-on_outcome P (Err x) s e h = subst (λ (t : Result Unit _). OnOk t P) (sym e) h
+on_ok_without_value : {E : Type 0} (P : Type 0) (r : Result Bool E) (s : Result Unit E) → s ≡ without_value r → OnOk r P → OnOk s P
+on_ok_without_value P (Ok done) s e h = subst (λ (t : Result Unit _). OnOk t P) (sym e) h
+on_ok_without_value P (Err x) s e h = subst (λ (t : Result Unit _). OnOk t P) (sym e) h
 
 pub execute_in_parts-done-requires : goal.execute_in_parts-done-requires
 execute_in_parts-done-requires c = record {
   now = c.requires.time;
   code = subst (λ (b : Body). IsCodeOf b (code_at c.args.codes.now.codes c.args.number)) (sym c.body.ensures) c.requires.code;
-  placed = gathered_placed c.args.process.now.nets c.as_slice-values.result.now c.as_slice-last_values.result.now
+  placed = gathered_placed c.args.process.now.nets c.as_slice-values.result.now c.as_slice-values_before.result.now
       c.nets.result.now (code_at c.args.codes.now.codes c.args.number) (c.nets.ensures ∙ c.requires.nets);
   frame = c.requires.frame;
   drivers = omega (arith, c.requires.at, owned-count c.self.view_is c.self.invariant.lists);
@@ -68,7 +68,7 @@ invariant_of-self c =
     e.ensures.drivers e.ensures.variables e.ensures.values
     (c.tell_changed.ensures (get_or old n []) (sym (values-count row (get_or old n []) e.ensures.values))
     (λ unchanged. sym (if_unchanged e.result (c.may_have_changed-changed.ensures unchanged) e.ensures.idle))
-    (subst (λ (dss : List (List Waveform)). AreTimes c.self.inside.queue c.self.inside.stale (joined dss)) (sym (put-back old e.new.drivers n row
+    (subst (λ (dss : List (List DriverState)). AreTimes c.self.inside.queue c.self.inside.stale (joined dss)) (sym (put-back old e.new.drivers n row
     e.ensures.drivers)) c.self.invariant.timed))
 
 pub returns : goal.returns
@@ -79,11 +79,11 @@ returns c =
     let was = owned-by c.self.view_is c.self.invariant.lists n in
     let is = owned-now c.self.invariant.lists n _ _ e.new.drivers e.new.variables e.ensures.drivers e.ensures.variables in
     let now = get_or (owned_lists e.new.drivers e.new.variables) n nothing_owned in
-    let net : views_of s.values.items s.last_values.items ≡ c.args.self.now.nets = ap (λ (h : FlatState). h.nets) c.self.view_is in
+    let net : views_of s.values.items s.values_before.items ≡ c.args.self.now.nets = ap (λ (h : FlatState). h.nets) c.self.view_is in
     let nets = c.args.process.now.nets in
-    let look = sees c.args.self.now.nets s.values.items s.last_values.items c.as_slice-values.result.now c.as_slice-last_values.result.now nets nets
+    let look = sees c.args.self.now.nets s.values.items s.values_before.items c.as_slice-values.result.now c.as_slice-values_before.result.now nets nets
     net
-    c.as_slice-values.ensures.value c.as_slice-last_values.ensures.value refl in
+    c.as_slice-values.ensures.value c.as_slice-values_before.ensures.value refl in
     let left = as_owned (get_or s.drivers n []) (get_or s.variables n []) in
     let process = c.args.process.now in
     let done = executed (seen c.args.self.now.nets process.nets) c.args.time process.body.statements (get_or c.args.self.now.owned n nothing_owned) in
@@ -101,7 +101,7 @@ returns c =
     record {
       frame = e.ensures.frame;
       alone = alone;
-      ok = on_outcome _ e.result c.as_done.result c.as_done.ensures
+      ok = on_ok_without_value _ e.result c.as_done.result c.as_done.ensures
           (on_ok_weaker e.result (λ (is_done : now ≡ done). alone ∙ ap (with_own h n) is_done) ok);
       ready = subst (IsReady process.body c.args.time) (sym is)
           (subst (λ (b : Body). IsReady b c.args.time (as_owned (get_or e.new.drivers n []) (get_or e.new.variables n []))) c.body.ensures e.ensures.ready);

@@ -1,9 +1,9 @@
 use Rattle.std.proofs.Common.{◌≡◌, false, length, ap, ◌∙◌, sym, subst}
 use Rattle.std.proofs.lemmas.List.{length-replicate}
 use Rattle.sim_standard.specs.Drivers.{next_time, IsNext}
-use Rattle.sim_store_sets.specs.RowArray.{joined}
-use Rattle.sim_store_sets.specs.Times.{earliest}
-use Rattle.sim_standard.specs.State.{waves}
+use Rattle.sim_containers.specs.RowArray.{joined}
+use Rattle.sim_containers.specs.Times.{earliest}
+use Rattle.sim_standard.specs.State.{all_drivers}
 use Rattle.sim_store_state.proofs.Times.{next_is_least}
 use Rattle.sim_store_state.proofs.Contents.{drivers-by}
 use Rattle.sim_store_state.proofs.Due.{earliest-next, up-to-date}
@@ -22,11 +22,11 @@ invariant_of-self-2 c =
 pub returns : goal.returns
 returns c =
     let ds = joined c.self.inside.drivers in
-    let is : c.least.result ≡ next_time (waves c.args.self.now.owned) =
+    let is : c.least.result ≡ next_time (all_drivers c.args.self.now.owned) =
     c.least.ensures ∙ (ap earliest c.in_ok-bring_up_to_date.ensures.ok ∙ (earliest-next ds
     ∙ ap next_time (sym (drivers-by c.self.view_is c.self.invariant.lists)))) in
     record {
       same = c.self.view_is;
       value = is;
-      least = subst (IsNext (waves c.args.self.now.owned)) (sym is) (next_is_least (waves c.args.self.now.owned));
+      least = subst (IsNext (all_drivers c.args.self.now.owned)) (sym is) (next_is_least (all_drivers c.args.self.now.owned));
     }

@@ -22,5 +22,5 @@ returns c =
     let s = c.self.inside in
     let as_record = λ (changes : List (ℕ × Logic)). c.args.log.now.records ++ record { time = c.args.time; delta = c.args.delta; changes = changes } ∷ [] in
     c.append_all.ensures ∙ (ap (λ v. as_record (enumerate_from 0 v)) c.as_slice.ensures.value
-    ∙ (ap as_record (sym (all_values 0 s.values.items s.last_values.items c.self.invariant.lists.nets)) ∙ ap
+    ∙ (ap as_record (sym (all_values 0 s.values.items s.values_before.items c.self.invariant.lists.nets)) ∙ ap
     (λ (h : FlatState). as_record (values_of h.nets)) c.self.view_is))

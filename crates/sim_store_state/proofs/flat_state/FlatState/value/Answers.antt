@@ -11,9 +11,9 @@ pub returns-then-net-len : goal.returns-then-net-len
 returns-then-net-len c =
     let s = c.self.inside in
     let here : c.args.net < length s.values.items = omega (arith, c.len.ensures, c.if-net-len.true) in
-    let last : c.args.net < length s.last_values.items = omega (arith, here, c.self.invariant.lists.nets) in (
+    let before : c.args.net < length s.values_before.items = omega (arith, here, c.self.invariant.lists.nets) in (
       omega (arith, here, net-count c.self.view_is c.self.invariant.lists),
-      c.index.ensures ∙ (ap (λ (v : NetView). v.value) (view_here s.values.items s.last_values.items c.args.net _ U here last)
+      c.index.ensures ∙ (ap (λ (v : NetView). v.value) (view_here s.values.items s.values_before.items c.args.net _ U here before)
           ∙ ap (λ (g : FlatState). (net_at g.nets c.args.net).value) c.self.view_is),
     )
 

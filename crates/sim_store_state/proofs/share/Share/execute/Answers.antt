@@ -9,14 +9,14 @@ use Rattle.sim_standard.specs.Statements.{executed}
 use Rattle.sim_store_state.specs.FlatState.{views_of, owned_lists}
 use Rattle.sim_store_state.proofs.Contents.{as_owned, gathered_placed, seen}
 use Rattle.sim_store_state.proofs.Sharing.{share-at, share-count, share-long, share-now, share-set}
-use Rattle.sim_store_state.proofs.Outcomes.{on_outcome}
+use Rattle.sim_store_state.proofs.WithoutValue.{on_ok_without_value}
 use Rattle.sim_store_state.proofs.share.Share.execute.Goals as goal
 
 pub execute_at-done-requires : goal.execute_at-done-requires
 execute_at-done-requires c = record {
   now = c.requires.time;
   code = subst (λ (b : Body). IsCodeOf b (code_at c.args.codes.now.codes c.args.number)) (sym c.body.ensures) c.requires.code;
-  placed = gathered_placed c.args.process.now.nets c.args.values.now c.args.last_values.now
+  placed = gathered_placed c.args.process.now.nets c.args.values.now c.args.values_before.now
       c.nets.result.now (code_at c.args.codes.now.codes c.args.number) (c.nets.ensures ∙ c.requires.nets);
   frame = c.requires.frame;
   drivers = omega (arith, c.requires.at, share-count c.self.inside.drivers c.self.inside.variables c.self.view_is c.self.invariant);
@@ -43,7 +43,7 @@ returns c =
     e.ensures.drivers e.ensures.variables in
     let now = get_or (owned_lists e.new.drivers e.new.variables) p nothing_owned in
     let process = c.args.process.now in
-    let look = seen (views_of c.args.values.now c.args.last_values.now) process.nets in
+    let look = seen (views_of c.args.values.now c.args.values_before.now) process.nets in
     let left = as_owned (get_or s.drivers p []) (get_or s.variables p []) in
     let own = get_or c.args.self.now p nothing_owned in
     let done = executed look c.args.time process.body.statements own in
@@ -59,7 +59,7 @@ returns c =
     record {
       frame = e.ensures.frame;
       alone = alone;
-      ok = on_outcome _ e.result c.as_done.result c.as_done.ensures
+      ok = on_ok_without_value _ e.result c.as_done.result c.as_done.ensures
           (on_ok_weaker e.result (λ (is_done : now ≡ done). alone ∙ ap (set c.args.self.now p) is_done) ok);
       ready = subst (IsReady process.body c.args.time) (sym is)
           (subst (λ (b : Body). IsReady b c.args.time (as_owned (get_or e.new.drivers p []) (get_or e.new.variables p []))) c.body.ensures e.ensures.ready);

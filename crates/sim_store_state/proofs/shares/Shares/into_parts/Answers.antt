@@ -1,6 +1,6 @@
 use Rattle.std.proofs.Common.{List, ap, sym, ◌∙◌}
 use Rattle.sim_standard.specs.State.{Owned}
-use Rattle.sim_store_sets.specs.RowArray.{joined}
+use Rattle.sim_containers.specs.RowArray.{joined}
 use Rattle.sim_store_state.specs.Lending.{counts}
 use Rattle.sim_store_state.proofs.Sharing.{counts-joined, parts-counts, parts-joined}
 use Rattle.sim_store_state.proofs.shares.Shares.into_parts.Goals as goal

@@ -1,7 +1,7 @@
 use Rattle.std.proofs.Common.{◌≡◌, ◌++◌, [], ◌∷◌, List, ap, sym, ◌∙◌, arith}
 use Rattle.std.proofs.lemmas.Grind.{common_steps}
 use Rattle.sim_flat_design.specs.declared.held.Held.{Held}
-use Rattle.sim_standard.specs.Drivers.{Waveform}
+use Rattle.sim_standard.specs.Drivers.{DriverState}
 use Rattle.sim_standard.specs.State.{Owned}
 use Rattle.sim_store_state.specs.FlatState.{owned_lists}
 use Rattle.sim_store_state.specs.Lending.{counts, owned_parts}
@@ -17,7 +17,7 @@ returns c =
     let ed : c.self.inside.drivers.items ≡ ds ++ rows ∷ [] = c.in_ok-rows.ensures.items in
     let ev : c.self.inside.variables.items ≡ vs ++ held ∷ [] = c.in_ok-held.ensures.items in
     let same : counts (ds ++ rows ∷ []) ≡ counts (vs ++ held ∷ []) =
-    ap (λ (w : List (List (List Waveform))). counts w) (sym ed) ∙ (c.self.invariant ∙ ap (λ (w : List (List (List Held))). counts w) ev) in
+    ap (λ (w : List (List (List DriverState))). counts w) (sym ed) ∙ (c.self.invariant ∙ ap (λ (w : List (List (List Held))). counts w) ev) in
     let less = counts-less ds vs rows held same in
     let both : owned_parts c.self.inside.drivers.items c.self.inside.variables.items ≡ owned_parts ds vs ++ owned_lists rows held ∷ [] =
     rw (ed, ev) (parts-more ds vs (counts-long ds vs less.0) rows held) in

@@ -1,5 +1,0 @@
-use Rattle.sim_flat.proofs.NamesAtPlaces.{names_at_places}
-use Rattle.sim_flat.proofs.laws.names_stand_at_their_places.Goals as goal
-
-pub returns : goal.returns
-returns c = λ l a name place h. names_at_places l a name place h

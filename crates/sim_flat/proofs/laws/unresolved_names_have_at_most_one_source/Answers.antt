@@ -1,5 +1,0 @@
-use Rattle.sim_flat.proofs.NestedNets.{names_allowed}
-use Rattle.sim_flat.proofs.laws.unresolved_names_have_at_most_one_source.Goals as goal
-
-pub returns : goal.returns
-returns c = λ blocks top design f. names_allowed blocks top design f

@@ -1,5 +1,0 @@
-use Rattle.sim_logic.proofs.SourceLaws.{resolved-flat_sources}
-use Rattle.sim_logic.proofs.laws.flat_sources_resolve_as_the_nested_names.Goals as goal
-
-pub returns : goal.returns
-returns c driving tree resolvable = resolved-flat_sources driving tree resolvable

@@ -1,5 +1,0 @@
-use Rattle.sim_standard.specs.Drivers.{RisesFrom}
-use Rattle.sim_run_bench.proofs.drivers.filled.Given as goal
-
-abbrev pub invariant-loop-place : goal.invariant-loop-place
-invariant-loop-place l = RisesFrom 0 l.driver.pending

@@ -1,5 +1,0 @@
-use Rattle.sim_standard.proofs.Together.{in_any_order}
-use Rattle.sim_standard.proofs.cycle.any_order_is_together.Goals as goal
-
-pub returns : goal.returns
-returns c = in_any_order

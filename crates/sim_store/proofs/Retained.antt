@@ -1,0 +1,178 @@
+-- A simulation is taken apart, and put together again.
+use Rattle.std.proofs.Common.{ℕ, ◌+◌, ◌-◌, ◌<◌, ◌≡◌, Bool, true, false, List}
+use Rattle.std.proofs.Common.{length, refl, ap, sym, ◌∙◌, subst, arith}
+use Rattle.std.specs.List.{All}
+use Rattle.std.proofs.lemmas.List.{length-map}
+use Rattle.std.proofs.lemmas.List.Elements.{All-get_or}
+use Rattle.sim_logic.specs.declared.logic.Logic.{Logic}
+use Rattle.sim_flat_design.specs.declared.design.Source.{Source}
+use Rattle.sim_flat_design.specs.Bodies.{Body}
+use Rattle.sim_flat_design.specs.Designs.{Design}
+use Rattle.sim_flat_design.specs.Processes.{IsProcess}
+use Rattle.sim_exec.specs.Jobs.{IsReady, holds_bit}
+use Rattle.sim_exec_code.specs.Codes.{Coded, AreCodesOf}
+use Rattle.sim_standard.specs.declared.net_view.NetView.{NetView}
+use Rattle.sim_standard.specs.State.{Owned, driver_values, net_at, owned_at}
+use Rattle.sim_standard.specs.Processes.{no_process, object_net, process_at}
+use Rattle.sim_standard.proofs.Frame.{same_owned_after}
+use Rattle.sim_standard.proofs.ValuesKept.{values_kept}
+use Rattle.sim_standard.specs.declared.record.Record.{Record}
+use Rattle.sim_store_state.specs.FlatState.{FlatState, views_of}
+use Rattle.sim_store_state.specs.Lending.{HaveValues}
+use Rattle.sim_store_simulation.specs.Simulation.{Simulation, IsComplete, IsSimulation, IsStateOf, is_due}
+use Rattle.sim_store_simulation.specs.Simulation.{reached, those_in, with_marks}
+use Rattle.sim_store_simulation.specs.declared.phase.Phase.{Phase}
+use Rattle.sim_store.specs.Handing.{PhaseInput, IsPhaseInput, IsRange, at_phase, completed, at_input, result_in}
+use Rattle.sim_store.specs.declared.retained.RetainedContents.{RetainedContents}
+use Rattle.sim_store.specs.Retained.{IsRetained, retained_of}
+use Rattle.sim_store_simulation.proofs.Going.{cycle-count, reached-all}
+use Rattle.sim_store.proofs.Handed.{completed-due, completed-other}
+use Rattle.sim_store.proofs.Returning.{back-complete, back-keeps, fresh-input, fresh-owned, fresh-range}
+
+-- ---- taken apart
+
+module _ {h : Simulation} {time delta : ℕ} {held : FlatState} {records : List Record} {due waiting : List Bool}
+    (i : IsStateOf h time delta held records due waiting) (fresh : (p : ℕ) → those_in h.deposited p ≡ false) where
+  -- what is read is that of the phase, of the design that is named
+  pub first-input : (d : Design) (n : ℕ) → h.design ≡ d → n ≡ h.cycles → (codes : Coded) (values values_before : List Logic)
+      → AreCodesOf h.design.processes codes → views_of values values_before ≡ held.nets
+      → IsPhaseInput d h.design (record {
+        cycles = n;
+        phase = h.phase;
+        time = time;
+        codes = codes;
+        values = values;
+        values_before = values_before;
+        due = due;
+      })
+  first-input d n ed en codes values values_before are nets =
+      subst (λ (k : ℕ). IsPhaseInput d h.design (record {
+        cycles = k;
+        phase = h.phase;
+        time = time;
+        codes = codes;
+        values = values;
+        values_before = values_before;
+        due = due;
+      })) (sym en)
+      (subst (λ (e : Design). IsPhaseInput e h.design (record {
+        cycles = h.cycles;
+        phase = h.phase;
+        time = time;
+        codes = codes;
+        values = values;
+        values_before = values_before;
+        due = due;
+      })) ed (fresh-input i fresh codes values values_before are nets))
+
+  -- and all that is owned is a range of that
+  pub first-range : (d : Design) (n : ℕ) → h.design ≡ d → n ≡ h.cycles → (owned : List Owned) → owned ≡ held.owned
+      → IsRange (at_phase d n h.phase) (reached (at_phase d n h.phase)).owned 0 owned
+  first-range d n ed en owned eo =
+      subst (λ (k : ℕ). IsRange (at_phase d k h.phase) (reached (at_phase d k h.phase)).owned 0 owned) (sym en)
+      (subst (λ (e : Design). IsRange (at_phase e h.cycles h.phase) (reached (at_phase e h.cycles h.phase)).owned 0 owned) ed
+      (subst (λ (w : List Owned). IsRange (at_phase h.design h.cycles h.phase) (reached (at_phase h.design h.cycles h.phase)).owned 0 w) (sym eo)
+      (fresh-range i fresh)))
+
+  -- the state by its parts
+  pub first-state : (sources : List (List Source)) (nets : List NetView) → sources ≡ held.sources → nets ≡ held.nets
+      → IsStateOf h time delta (record { sources = sources; nets = nets; owned = (reached h).owned }) records due waiting
+  first-state sources nets es en =
+      let e : held ≡ record { sources = sources; nets = nets; owned = (reached h).owned } =
+      ap (λ (w : List (List Source)). record { sources = w; nets = held.nets; owned = held.owned }) (sym es)
+      ∙ (ap (λ (w : List NetView). record { sources = sources; nets = w; owned = held.owned }) (sym en)
+      ∙ ap (λ (w : List Owned). record { sources = sources; nets = nets; owned = w }) (fresh-owned i fresh)) in
+      subst (λ (w : FlatState). IsStateOf h time delta w records due waiting) e i
+
+-- of the design that is named, and after so many cycles
+pub named-retained : (d own : Design) (f : PhaseInput) (k : RetainedContents) (n : ℕ) → own ≡ d → n ≡ f.cycles → IsRetained own f k
+    → IsRetained d (record f { cycles = n }) k
+named-retained d own f k n eo en is =
+    subst (λ (m : ℕ). IsRetained d (record f { cycles = m }) k) (sym en) (subst (λ (e : Design). IsRetained e f k) eo is)
+
+-- a simulation by its records
+abbrev pub simulation_by : Design → List Record → Phase → List Bool → Simulation
+simulation_by design records phase marks = record { design = design; cycles = length records - 1; phase = phase; deposited = marks }
+
+-- ---- put together again
+
+-- what fits a body has as many variables
+ready-long : {body : Body} {time : ℕ} {own : Owned} → IsReady body time own → length own.variables ≡ length body.variables
+ready-long {body} {time} {own} r = sym (length-map own.variables holds_bit) ∙ (ap length r.variables ∙ length-map body.variables holds_bit)
+
+-- an execution leaves the values of drivers
+result-values : (h : Simulation) (p : ℕ) → All IsProcess h.design.processes → p < length h.design.processes
+    → driver_values (result_in h p).drivers ≡ driver_values (owned_at (reached h).owned p).drivers
+result-values h p all lt =
+    let q = process_at h.design.processes p in
+    let is : IsProcess q = All-get_or IsProcess h.design.processes p no_process lt all in
+    let own = owned_at (reached h).owned p in
+    let look = λ (object : ℕ). net_at (reached h).nets (object_net q object) in
+    ap (λ (w : Owned). driver_values w.drivers) (sym (same_owned_after q p (reached h) is)) ∙ values_kept look (reached h).time q.body.statements own
+
+module _ (d : Design) (f : PhaseInput) (k : RetainedContents) (is : IsRetained d f k) (owned' : List Owned)
+    (range : IsRange (at_input d f) (completed (at_input d f)).owned 0 owned') (all : length owned' ≡ length d.processes) where
+  i : IsStateOf (retained_of d f k) f.time k.delta
+      (record { sources = k.update_lists.sources; nets = views_of f.values f.values_before; owned = (reached (retained_of d f k)).owned }) k.log.records f.due
+      k.waiting.waiting
+  i = is.holds.state
+
+  -- no driver has another value
+  same-values : (p : ℕ) → p < length (reached (retained_of d f k)).owned → (b : Bool) → is_due (retained_of d f k) p ≡ b
+      → driver_values (owned_at owned' p).drivers ≡ driver_values (owned_at (reached (retained_of d f k)).owned p).drivers
+  same-values p lt b e =
+      let z : 0 + p ≡ p = omega arith in
+      let same : owned_at owned' p ≡ owned_at (completed (at_input d f)).owned p =
+      range.owned_are p (omega (arith, lt, all, reached-all i)) ∙ ap (owned_at (completed (at_input d f)).owned) z in
+      ap (λ (w : Owned). driver_values w.drivers) same ∙ go b e
+    where
+      go : (b : Bool) → is_due (retained_of d f k) p ≡ b
+          → driver_values (owned_at (completed (at_input d f)).owned p).drivers ≡ driver_values (owned_at (reached (retained_of d f k)).owned p).drivers
+      go true t =
+          ap (λ (w : Owned). driver_values w.drivers) (completed-due (at_input d f) p t lt)
+          ∙ result-values (at_input d f) p i.processes (omega (arith, lt, reached-all i))
+      go false t = ap (λ (w : Owned). driver_values w.drivers) (completed-other (at_input d f) p t)
+
+  pub whole-values : (marks : List Bool) → length marks ≡ length k.deposited → ((p : ℕ) → those_in marks p ≡ those_in f.due p)
+      → HaveValues marks owned' (reached (retained_of d f k)).owned
+  whole-values marks sized same = record {
+    count = all ∙ sym (reached-all i);
+    sized = sized ∙ (i.sized ∙ sym (reached-all i));
+    others = λ p lt out.
+        let z : 0 + p ≡ p = omega arith in
+        let is_out : is_due (at_input d f) p ≡ false = sym (i.due_are p (omega (arith, lt, reached-all i))) ∙ (sym (same p) ∙ out) in
+        range.owned_are p (omega (arith, lt, all, reached-all i)) ∙ (ap (owned_at (completed (at_input d f)).owned) z
+        ∙ completed-other (at_input d f) p is_out);
+    values = λ p lt. same-values p lt (is_due (retained_of d f k) p) refl;
+    variables = λ p lt.
+        let z : 0 + p ≡ p = omega arith in
+        let now = ready-long (range.ready p (omega (arith, lt, all, reached-all i))) in
+        let before = ready-long (i.ready p (omega (arith, lt, reached-all i))) in
+        now ∙ (ap (λ (n : ℕ). length (process_at d.processes n).body.variables) z ∙ sym before);
+  }
+
+  -- the number of cycles, by the records
+  pub whole-cycles : length k.log.records - 1 ≡ f.cycles
+  whole-cycles = omega (arith, cycle-count i)
+
+  module _ (own : Design) (marks : List Bool) (eo : own ≡ d) (sized : length marks ≡ length k.deposited)
+      (same : (p : ℕ) → those_in marks p ≡ those_in f.due p) where
+    pub whole-same : simulation_by own k.log.records f.phase marks ≡ with_marks (retained_of d f k) marks
+    whole-same = rw (eo, whole-cycles) refl
+
+    pub whole-complete : IsComplete (simulation_by own k.log.records f.phase marks)
+    whole-complete = subst IsComplete (sym whole-same) (back-complete i is.fresh owned' marks range all sized same)
+
+    pub whole-holds : (state : FlatState) → state ≡ record { sources = k.update_lists.sources; nets = views_of f.values f.values_before; owned = owned' }
+        → IsSimulation (simulation_by own k.log.records f.phase marks) k.sensitive f.codes k.frame f.time k.delta state k.log.records f.due
+        k.waiting.postponed k.waiting.waiting k.totals.items
+    whole-holds state es =
+        subst (λ (g : Simulation). IsSimulation g k.sensitive f.codes k.frame f.time k.delta state k.log.records f.due k.waiting.postponed
+        k.waiting.waiting k.totals.items) (sym whole-same)
+        (subst (λ (w : FlatState). IsSimulation (with_marks (retained_of d f k) marks) k.sensitive f.codes k.frame f.time k.delta w k.log.records f.due
+        k.waiting.postponed k.waiting.waiting k.totals.items) (sym es) (record {
+          compiled = is.holds.compiled;
+          marked = is.holds.marked;
+          state = back-keeps i is.fresh owned' marks range all sized same;
+          counts = is.holds.counts;
+        }))

@@ -1,8 +1,0 @@
-use Rattle.std.proofs.Common.{◌∙◌, ap, List, Bool, set, false}
-use Rattle.sim_store_sets.proofs.Stamped.{unmarked}
-use Rattle.sim_store_sets.proofs.stamps.Stamps.remove.Goals as goal
-
-pub returns : goal.returns
-returns c =
-    unmarked c.self.inside.stamp c.self.inside.stamps.items c.args.number c.self.invariant.begun
-    ∙ ap (λ (xs : List Bool). set xs c.args.number false) c.self.view_is

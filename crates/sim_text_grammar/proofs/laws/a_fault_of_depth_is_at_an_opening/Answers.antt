@@ -1,5 +1,0 @@
-use Rattle.sim_text_grammar.proofs.WholeFiles.{deep_opening}
-use Rattle.sim_text_grammar.proofs.laws.a_fault_of_depth_is_at_an_opening.Goals as goal
-
-pub returns : goal.returns
-returns c = λ tokens n e. deep_opening tokens n e

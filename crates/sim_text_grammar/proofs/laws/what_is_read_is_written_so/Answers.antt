@@ -1,5 +1,0 @@
-use Rattle.sim_text_grammar.proofs.WholeFiles.{is_found}
-use Rattle.sim_text_grammar.proofs.laws.what_is_read_is_written_so.Goals as goal
-
-pub returns : goal.returns
-returns c = λ tokens rest file e. is_found tokens rest file e

@@ -1,5 +1,0 @@
-use Rattle.sim_text_grammar.proofs.WholeFiles.{is_refused}
-use Rattle.sim_text_grammar.proofs.laws.what_is_refused_is_no_file.Goals as goal
-
-pub returns : goal.returns
-returns c = λ tokens file e f h. is_refused tokens e file f h

@@ -1,5 +1,0 @@
-use Rattle.sim_text_grammar.proofs.UnitsComplete.{file_again}
-use Rattle.sim_text_grammar.proofs.laws.what_is_written_is_read.Goals as goal
-
-pub returns : goal.returns
-returns c = λ tokens file h. file_again file tokens h
