@@ -1,4 +1,4 @@
-//! Tests of `sim_run` that need readers, writers or gates of their own, or look inside a run:
+//! Tests of command lines and listings, and of runs that need readers, writers or gates of their own:
 //! streams that fail midway, give single bytes or never end; runs by several threads, whose
 //! processes are executed at the same time, each once; and threads that look at a store, or run it
 //! as well. They are one crate because each program over a run proves and links all that it drops.
@@ -9,6 +9,8 @@
 mod blocks;
 #[cfg(test)]
 mod gates;
+#[cfg(test)]
+mod lines;
 #[cfg(test)]
 mod listings;
 #[cfg(test)]
@@ -29,3 +31,5 @@ mod streams;
 mod texts;
 #[cfg(test)]
 mod watching;
+#[cfg(test)]
+mod words;

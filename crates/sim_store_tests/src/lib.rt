@@ -21,6 +21,8 @@ mod processes;
 #[cfg(test)]
 mod readers;
 #[cfg(test)]
+mod reference;
+#[cfg(test)]
 mod rows;
 #[cfg(test)]
 mod scripts;

@@ -2,11 +2,11 @@
 //! and process in each cycle.
 
 use crate::line::Line;
+use crate::reference::{Snapshot, snapshots};
 use crate::scripts::Call::Records;
 use crate::scripts::follow;
 use crate::texts::{CHOICE, EXCHANGE, ONCE, PULSES, SETTLED, TOGGLE, TWO_DRIVERS, flat};
 use sim_logic::LATEST;
-use sim_store_reference::{Snapshot, snapshots};
 use std::alloc::Global;
 use std::test::Fail;
 

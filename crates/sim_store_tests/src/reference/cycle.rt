@@ -1,7 +1,7 @@
 //! The cycle (IEEE 1076-2008, 14.7.5).
 
-use crate::nets::{values_in, values_of, views_of};
-use crate::process::{executed, is_resumed, put};
+use super::nets::{values_in, values_of, views_of};
+use super::process::{executed, is_resumed, put};
 use sim_exec::{Done, NetView};
 use sim_flat_design::{Design, Held, Process};
 use sim_logic::Logic;

@@ -1,5 +1,5 @@
 use Rattle.sim_standard.specs.Drivers.{RisesFrom}
-use Rattle.sim_logic_tests.proofs.drivers.assigned_each_time.Given as goal
+use Rattle.sim_wave_tests.proofs.drivers.assigned_each_time.Given as goal
 
 abbrev pub invariant-loop-now : goal.invariant-loop-now
 invariant-loop-now l = RisesFrom l.now l.driver.pending
