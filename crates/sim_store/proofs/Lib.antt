@@ -1,6 +1,6 @@
 pub mod Stores
 pub mod Handed
 pub mod Returning
-pub mod Retained
+pub mod Retaining
 pub mod Crossing
 pub mod Orders

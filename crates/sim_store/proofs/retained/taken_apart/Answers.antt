@@ -7,7 +7,7 @@ use Rattle.sim_store.specs.declared.retained.RetainedContents.{RetainedContents}
 use Rattle.sim_store.specs.Handing.{PhaseInput}
 use Rattle.sim_store.specs.Retained.{IsRetained}
 use Rattle.sim_store_simulation.proofs.Going.{cycle-count, held-count}
-use Rattle.sim_store.proofs.Retained.{first-input, first-range, first-state, named-retained}
+use Rattle.sim_store.proofs.Retaining.{first-input, first-range, first-state, named-retained}
 use Rattle.sim_store.proofs.Returning.{fresh-owned}
 use Rattle.sim_store.proofs.retained.taken_apart.Goals as goal
 
