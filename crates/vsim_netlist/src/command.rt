@@ -1,10 +1,10 @@
-//! The command line, as `clap` has it.
+//! The command line, read by `clap`.
 
 use clap::error::ErrorKind;
 use clap::{Arg, ArgAction, ArgMatches, Command};
 use std::alloc::{AllocError, Global};
 
-/// What the program does.
+/// The purpose of the program.
 const ABOUT: &str = "Makes a text for vsim of a netlist that Yosys wrote by write_json.";
 
 /// The part of the help after the options.
@@ -34,7 +34,7 @@ Example:
   vsim --top uart --limit 1000000 < uart.vhd > uart.listing
   vsim_waves --map uart.map < uart.listing > gates.vcd";
 
-/// What is asked for; words that are not given are empty.
+/// The options. Those that are not given are empty.
 #[derive(Drop)]
 pub(crate) struct Options {
     pub(crate) top: String,
@@ -45,7 +45,7 @@ pub(crate) struct Options {
     pub(crate) map: String,
 }
 
-/// What the words ask for.
+/// What the arguments ask for.
 pub(crate) enum Words {
     Options(Options),
     Version,
@@ -54,7 +54,7 @@ pub(crate) enum Words {
     Memory,
 }
 
-/// A word that is given, if it is.
+/// The value of an option; `None` if it is empty.
 fn given(word: &String) -> Option<&str> {
     if word.is_empty() {
         None
@@ -64,7 +64,7 @@ fn given(word: &String) -> Option<&str> {
 }
 
 impl Options {
-    /// The module that is simulated.
+    /// The module to simulate.
     pub(crate) fn top(&self) -> Option<&str> {
         given(&self.top)
     }
@@ -108,7 +108,7 @@ fn version<'a>(alloc: Global) -> Arg<'a> {
         .help("Print version")
 }
 
-/// Adds the options that say what is simulated.
+/// Adds the options about what to simulate.
 fn with_design<'a>(alloc: Global, command: Command<'a>) -> Result<Command<'a>, AllocError> {
     let top = valued(
         alloc,
@@ -131,7 +131,7 @@ fn with_design<'a>(alloc: Global, command: Command<'a>) -> Result<Command<'a>, A
     command.arg(top)?.arg(stimuli)?.arg(scope)
 }
 
-/// Adds the options that say how it is written.
+/// Adds the options about how to write it.
 fn with_times<'a>(alloc: Global, command: Command<'a>) -> Result<Command<'a>, AllocError> {
     let delays = valued(
         alloc,
@@ -149,7 +149,7 @@ fn with_times<'a>(alloc: Global, command: Command<'a>) -> Result<Command<'a>, Al
     command.arg(delays)?.arg(hold)?.arg(map)
 }
 
-/// The command line of the program, whose words come without its name.
+/// The command line of the program, without its name.
 fn command_line<'a>(alloc: Global) -> Result<Command<'a>, AllocError> {
     let command = Command::new(alloc, "vsim_netlist")
         .about(ABOUT)
@@ -175,7 +175,7 @@ fn values(
     Ok((first, value(alloc, matches, second)?))
 }
 
-/// The options that words have.
+/// The options in the arguments.
 fn make_options(alloc: Global, matches: &ArgMatches<'_>) -> Result<Options, AllocError> {
     let (top, stimuli) = values(alloc, matches, ["top", "stimuli"])?;
     let (scope, delays) = values(alloc, matches, ["scope", "delays"])?;
@@ -190,7 +190,7 @@ fn make_options(alloc: Global, matches: &ArgMatches<'_>) -> Result<Options, Allo
     })
 }
 
-/// What words say that were understood.
+/// The meaning of valid arguments.
 fn understood(alloc: Global, matches: &ArgMatches<'_>) -> Words {
     if matches.get_flag("version") {
         return Words::Version;
@@ -201,7 +201,7 @@ fn understood(alloc: Global, matches: &ArgMatches<'_>) -> Words {
     }
 }
 
-/// What is said of words that are not understood.
+/// The answer to invalid arguments, or to a request for help.
 fn fault(alloc: Global, error: clap::Error) -> Words {
     let kind = error.kind();
     let Ok(text) = error.to_string(alloc) else {
@@ -214,7 +214,7 @@ fn fault(alloc: Global, error: clap::Error) -> Words {
     }
 }
 
-/// Reads the words after the program's name.
+/// Reads the arguments after the program's name.
 pub(crate) fn read_words(alloc: Global, words: &[String]) -> Words {
     let Ok(command) = command_line(alloc) else {
         return Words::Memory;

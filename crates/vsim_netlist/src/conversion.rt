@@ -19,7 +19,7 @@ fn inputs(alloc: Global, netlist: &Netlist) -> Result<Vec<Input>, AllocError> {
     Ok(inputs)
 }
 
-/// The stimuli of a netlist, if there is a text of them.
+/// The stimuli of a netlist, if there are any.
 fn stimuli(
     alloc: Global,
     options: &Options,
@@ -35,7 +35,7 @@ fn stimuli(
     Ok(Some(stimuli.context(format_args!("{path}"))?))
 }
 
-/// The netlist that is asked for.
+/// The requested netlist.
 fn netlist(alloc: Global, options: &Options, text: String) -> Result<Netlist> {
     read_netlist(alloc, text.as_str(), options.top()).context("the netlist")
 }

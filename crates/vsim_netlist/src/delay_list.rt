@@ -1,18 +1,18 @@
-//! The delays that `--delays` gives.
+//! The delays in `--delays`.
 
 use anyhow::{Context, Result, anyhow, bail};
 use std::alloc::Global;
 use vsim_netlist_expressions::{Delay, NamedDelay};
 use vsim_netlist_stimuli::{LATEST, read_time};
 
-/// What may have a delay.
+/// The names that may have a delay.
 const NAMES: [&str; 24] = [
     "buf", "not", "and", "nand", "or", "nor", "xor", "xnor", "andnot", "ornot", "mux", "nmux",
     "mux4", "mux8", "mux16", "aoi3", "oai3", "aoi4", "oai4", "lut", "tbuf", "dff", "latch",
     "others",
 ];
 
-/// A time of the command line.
+/// A time in the arguments.
 fn time(text: &str) -> Result<u64> {
     let time = read_time(text).ok_or_else(|| anyhow!("'{text}' is no time, as 40ps is"))?;
     if time > LATEST / 4 {
@@ -21,7 +21,7 @@ fn time(text: &str) -> Result<u64> {
     Ok(time)
 }
 
-/// A delay: a time, or one to rise and one to fall.
+/// A delay: one time, or one to rise and one to fall.
 fn delay(text: &str) -> Result<Delay> {
     let (rise, fall) = text.split_once('/').unwrap_or((text, text));
     Ok(Delay {
@@ -30,7 +30,7 @@ fn delay(text: &str) -> Result<Delay> {
     })
 }
 
-/// A delay with the name of what has it.
+/// A name with its delay.
 fn named(alloc: Global, text: &str) -> Result<NamedDelay> {
     let (name, times) = text
         .split_once('=')
@@ -43,7 +43,7 @@ fn named(alloc: Global, text: &str) -> Result<NamedDelay> {
     Ok(NamedDelay { name, delay })
 }
 
-/// Reads the delays, which may be none.
+/// Reads the delays, if any.
 pub(crate) fn read_delays(alloc: Global, text: &str) -> Result<Vec<NamedDelay>> {
     let mut delays = Vec::new(alloc);
     for part in text.split(',').filter(|part| !part.is_empty()) {
@@ -52,7 +52,7 @@ pub(crate) fn read_delays(alloc: Global, text: &str) -> Result<Vec<NamedDelay>> 
     Ok(delays)
 }
 
-/// Reads the hold time, which may be none.
+/// Reads the hold time, if there is one.
 pub(crate) fn read_hold(text: &str) -> Result<u64> {
     if text.is_empty() {
         return Ok(0);

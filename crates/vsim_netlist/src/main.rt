@@ -1,5 +1,6 @@
-//! Makes a text for vsim of a netlist of Yosys: `vsim_netlist [--stimuli FILE] .. < NETLIST.json`,
-//! with stimuli and delays, and a map by which `vsim_waves` finds the names of the source again.
+//! Makes a text for vsim from a netlist of Yosys: `vsim_netlist [--stimuli FILE] .. <
+//! NETLIST.json`, with stimuli and delays, and a map from which `vsim_waves` takes the names of the
+//! source.
 #![tactic(auto)]
 
 mod command;
@@ -14,11 +15,11 @@ use std::process::ExitCode;
 use std::{env, fs};
 use vsim_netlist_text::Written;
 
-/// What `--version` says. The script `build` writes into its copy of this line what it builds of.
+/// The output of `--version`. In the copy that is built, the script `build` fills in this line.
 const VERSION: &str = "vsim_netlist 1.0.0, sources unknown, toolchain unknown
 ";
 
-/// What is said of clocks that gates or registers make.
+/// The note about clocks that gates or registers drive.
 const DERIVED: &str = "vsim_netlist: gates or registers make clocks. Without delays what they clock
 may see new data: give --delays dff=.. and --hold.
 ";
@@ -28,7 +29,7 @@ fn read_file(rt: &HostRuntime, path: &str) -> Result<String> {
     fs::read_to_string(rt, path).context(format_args!("{path}"))
 }
 
-/// Writes a map, if it is asked for.
+/// Writes the map, if requested.
 fn write_map(rt: &HostRuntime, path: Option<&str>, map: &str) -> Result<()> {
     match path {
         Some(path) => fs::write(rt, path, map).context(format_args!("{path}")),
@@ -43,7 +44,7 @@ fn write_text(rt: &HostRuntime, text: &str) -> Result<()> {
     out.flush().context("writing")
 }
 
-/// Writes what was made.
+/// Writes the text and the map.
 fn write_all(rt: &HostRuntime, options: &Options, written: &Written) -> Result<()> {
     write_map(rt, options.map(), written.map.as_str())?;
     if written.derived_clocks > 0 && !options.is_timed() {
@@ -63,19 +64,19 @@ fn answer_netlist(rt: &HostRuntime, options: &Options) -> Result<()> {
     write_all(rt, options, &written)
 }
 
-/// Writes a text that is asked for.
+/// Writes the help or the version.
 fn tell(rt: &HostRuntime, text: &str) -> Result<u8> {
     rt.print(text)?;
     Ok(0)
 }
 
-/// Says that the words are refused.
+/// Reports invalid arguments.
 fn refuse(rt: &HostRuntime, text: &str) -> Result<u8> {
     rt.eprint(text)?;
     Ok(2)
 }
 
-/// Answers what the words ask for, and gives the exit status.
+/// Carries out a request and returns the exit status.
 fn answer_words(rt: &HostRuntime, words: Words) -> Result<u8> {
     match words {
         Words::Version => tell(rt, VERSION),
@@ -89,7 +90,7 @@ fn answer_words(rt: &HostRuntime, words: Words) -> Result<u8> {
     }
 }
 
-/// Answers the words, and gives the exit status.
+/// Carries out the arguments and returns the exit status.
 fn answer(rt: &HostRuntime) -> Result<u8> {
     let words: Vec<String> = env::args(rt)?.skip(1).collect(rt.alloc())?;
     answer_words(rt, read_words(rt.alloc(), words.as_slice()))

@@ -1,8 +1,8 @@
-//! The bits that pins and ports are connected with.
+//! The bits that pins and ports are connected to.
 
 pub use vsim_netlist_document::Level;
 
-/// What a pin is connected with: a net by its place among the nets, or a constant.
+/// The connection of a pin: a net, by its index among the nets, or a constant.
 #[derive(Clone, Copy, PartialEq, Eq)]
 pub enum Bit {
     Net(usize),

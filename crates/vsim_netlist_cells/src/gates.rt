@@ -1,4 +1,4 @@
-//! The gates of Yosys' library, which have an output of what stands at their inputs.
+//! The gates of Yosys' library: their output depends on their inputs alone.
 
 use crate::bits::Bit;
 
@@ -28,9 +28,8 @@ pub enum Gate {
     Tristate,
 }
 
-/// A gate, with what its inputs are connected with, in the order of `pins`, and the net of its
-/// output. Of a look-up table the inputs come lowest first, and its bits stand in `table`, the
-/// highest first.
+/// A gate: the connections of its inputs, in the order of `pins`, and the net of its output. The
+/// inputs of a look-up table come lowest first, and its bits are in `table`, highest first.
 #[derive(Drop)]
 pub struct GateCell {
     pub gate: Gate,
@@ -40,7 +39,7 @@ pub struct GateCell {
 }
 
 impl Gate {
-    /// The gate of a type, as `$_AND_` has it between its dashes.
+    /// The gate of a type, given by its name without `$_` and `_`, as in `AND`.
     pub(crate) fn from_name(name: &str) -> Option<Gate> {
         Some(match name {
             "BUF" => Gate::Buf,
@@ -57,7 +56,7 @@ impl Gate {
         })
     }
 
-    /// The same, of more than two inputs.
+    /// The same, for gates of more than two inputs.
     fn larger_from_name(name: &str) -> Option<Gate> {
         Some(match name {
             "MUX" => Gate::Mux,
@@ -74,7 +73,8 @@ impl Gate {
         })
     }
 
-    /// The names of the gate's inputs, a letter each: those of a multiplexer's data first.
+    /// The names of the gate's inputs, one letter each; the data inputs of a multiplexer come
+    /// first.
     pub(crate) fn pins(self) -> &'static str {
         match self {
             Gate::Buf | Gate::Not | Gate::Lut => "A",
@@ -89,7 +89,7 @@ impl Gate {
         }
     }
 
-    /// The name by which `--delays` knows the gate.
+    /// The name of the gate in `--delays`.
     pub fn name(self) -> &'static str {
         match self {
             Gate::Buf => "buf",
@@ -106,7 +106,7 @@ impl Gate {
         }
     }
 
-    /// The same, of more than two inputs.
+    /// The same, for gates of more than two inputs.
     fn larger_name(self) -> &'static str {
         match self {
             Gate::Mux => "mux",

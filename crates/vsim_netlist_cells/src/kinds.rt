@@ -1,4 +1,4 @@
-//! What the cells of a module are, by their types.
+//! The cells of a module, by their types.
 
 use crate::bits::Bit;
 use crate::gates::{Gate, GateCell};
@@ -15,11 +15,11 @@ pub enum Cell {
     Register(Register),
 }
 
-/// The most inputs of a look-up table.
+/// The maximum number of inputs of a look-up table.
 const MOST_INPUTS: usize = 6;
 
-/// What a type of cells is: a gate, a register with the letters of its type, a note that does
-/// nothing in a simulation, or none of these.
+/// The kind of a cell type: a gate, a register with the letters of its type, a note without effect
+/// in a simulation, or none of these.
 enum Kind<'a> {
     Gate(Gate),
     Register(&'a str, &'static str, Style),
@@ -27,12 +27,12 @@ enum Kind<'a> {
     Other,
 }
 
-/// What stands between the dashes of a type of Yosys' gates.
+/// The name of a gate type of Yosys without `$_` and `_`.
 fn inner(kind: &str) -> Option<&str> {
     kind.strip_prefix("$_")?.strip_suffix("_")
 }
 
-/// The kind of a type of Yosys' gates, by what stands between its dashes.
+/// The kind of a gate type of Yosys, by its name without `$_` and `_`.
 fn kind_of_inner(inner: &str) -> Kind<'_> {
     if let Some(gate) = Gate::from_name(inner) {
         return Kind::Gate(gate);
@@ -46,7 +46,7 @@ fn kind_of_inner(inner: &str) -> Kind<'_> {
     }
 }
 
-/// The kind of a type.
+/// The kind of a cell type.
 fn kind_of(kind: &str) -> Kind<'_> {
     match kind {
         "$lut" => Kind::Gate(Gate::Lut),
@@ -58,7 +58,7 @@ fn kind_of(kind: &str) -> Kind<'_> {
     }
 }
 
-/// What to do about a type that is none of Yosys' gates.
+/// Advice on a type that is not a gate of Yosys' library.
 fn advice(kind: &str) -> &'static str {
     if kind.starts_with("$_") {
         "a gate that this program does not know"
@@ -69,7 +69,7 @@ fn advice(kind: &str) -> &'static str {
     }
 }
 
-/// What a pin is connected with.
+/// The connection of a pin.
 fn pins<'a>(cell: &'a WrittenCell, name: &str) -> Option<&'a [WrittenBit]> {
     for (key, bits) in cell.connections.entries.iter() {
         if key.as_str() == name {
@@ -79,7 +79,7 @@ fn pins<'a>(cell: &'a WrittenCell, name: &str) -> Option<&'a [WrittenBit]> {
     None
 }
 
-/// What a pin of one bit is connected with.
+/// The connection of a pin of one bit.
 fn pin(cell: &WrittenCell, nets: &mut Nets, name: &str) -> Result<Bit> {
     match pins(cell, name) {
         Some([bit]) => Ok(nets.bit(*bit)?),
@@ -87,7 +87,7 @@ fn pin(cell: &WrittenCell, nets: &mut Nets, name: &str) -> Result<Bit> {
     }
 }
 
-/// The net that an output is.
+/// The net of an output.
 fn output(cell: &WrittenCell, nets: &mut Nets, name: &str) -> Result<usize> {
     match pin(cell, nets, name)? {
         Bit::Net(place) => Ok(place),
@@ -95,7 +95,7 @@ fn output(cell: &WrittenCell, nets: &mut Nets, name: &str) -> Result<usize> {
     }
 }
 
-/// What the inputs of a gate are connected with.
+/// The connections of a gate's inputs.
 fn inputs(alloc: Global, cell: &WrittenCell, nets: &mut Nets, names: &str) -> Result<Vec<Bit>> {
     let mut bits = Vec::new(alloc);
     for (start, letter) in names.char_indices() {
@@ -106,7 +106,7 @@ fn inputs(alloc: Global, cell: &WrittenCell, nets: &mut Nets, names: &str) -> Re
     Ok(bits)
 }
 
-/// A gate but a look-up table.
+/// Reads a gate other than a look-up table.
 fn gate(alloc: Global, cell: &WrittenCell, nets: &mut Nets, gate: Gate) -> Result<Cell> {
     let output = output(cell, nets, "Y")?;
     let inputs = inputs(alloc, cell, nets, gate.pins())?;
@@ -118,7 +118,7 @@ fn gate(alloc: Global, cell: &WrittenCell, nets: &mut Nets, gate: Gate) -> Resul
     }))
 }
 
-/// The table of a look-up table.
+/// The bits of a look-up table.
 fn table(cell: &WrittenCell) -> Option<&String> {
     match &cell.parameters {
         None => None,
@@ -129,14 +129,14 @@ fn table(cell: &WrittenCell) -> Option<&String> {
     }
 }
 
-/// Whether a table has a bit for each of the values of so many inputs.
+/// Whether a table has one bit for each combination of this number of inputs.
 fn is_table(table: &str, inputs: usize) -> bool {
     inputs <= MOST_INPUTS
         && table.len() == (1usize << inputs)
         && table.bytes().all(|bit| bit == b'0' || bit == b'1')
 }
 
-/// A look-up table.
+/// Reads a look-up table.
 fn lookup(alloc: Global, cell: &WrittenCell, nets: &mut Nets) -> Result<Cell> {
     let output = output(cell, nets, "Y")?;
     let written = pins(cell, "A").context("its pin A is not connected")?;
@@ -147,7 +147,7 @@ fn lookup(alloc: Global, cell: &WrittenCell, nets: &mut Nets) -> Result<Cell> {
     lookup_of(alloc, nets, written, table, output)
 }
 
-/// The look-up table of a table.
+/// The look-up table with these bits.
 fn lookup_of(
     alloc: Global,
     nets: &mut Nets,
@@ -165,7 +165,7 @@ fn lookup_of(
     }))
 }
 
-/// The name of the pin with a letter.
+/// The name of the pin for a letter.
 fn pin_name(letter: u8) -> &'static str {
     match letter {
         b'C' => "C",
@@ -176,8 +176,8 @@ fn pin_name(letter: u8) -> &'static str {
     }
 }
 
-/// Connects a pin of a register by a letter and the one that its type has for it: `P` or `N`, and
-/// for the value of a reset `1` or `0`.
+/// Connects a pin of a register, given its letter and the letter in the type for it: `P` or `N`, or
+/// `1` or `0` for the reset value.
 fn connect(
     cell: &WrittenCell,
     nets: &mut Nets,
@@ -200,7 +200,7 @@ fn connect(
     Ok(())
 }
 
-/// Connects what a register stores.
+/// Connects the data input and the output of a register.
 fn connect_data(cell: &WrittenCell, nets: &mut Nets, register: &mut Register) -> Result<()> {
     if register.style == Style::Bare {
         return Ok(());
@@ -212,7 +212,7 @@ fn connect_data(cell: &WrittenCell, nets: &mut Nets, register: &mut Register) ->
     Ok(())
 }
 
-/// A register, by the letters of its pins and those that its type has for them.
+/// Reads a register, given the letters of its pins and those in its type.
 fn register(
     cell: &WrittenCell,
     nets: &mut Nets,
@@ -228,7 +228,7 @@ fn register(
     Ok(Cell::Register(register))
 }
 
-/// The cell that is written, if it does anything in a simulation.
+/// Reads a cell; `None` if it has no effect in a simulation.
 pub(crate) fn make_cell(
     alloc: Global,
     cell: &WrittenCell,

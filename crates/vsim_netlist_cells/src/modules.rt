@@ -1,4 +1,4 @@
-//! The module of a netlist that is simulated.
+//! The simulated module of a netlist.
 
 use crate::bits::Bit;
 use crate::kinds::{Cell, make_cell};
@@ -10,7 +10,7 @@ use vsim_netlist_document::{
     Attributes, Document, Members, Module, WrittenCell, WrittenName, WrittenPort,
 };
 
-/// A port of the module, with its bits, the lowest index first.
+/// A port of the module, with its bits, lowest index first.
 #[derive(Drop)]
 pub struct Port {
     pub name: String,
@@ -28,7 +28,7 @@ pub struct Netlist {
     pub nets: Vec<Net>,
 }
 
-/// The text of an attribute, as chosen by a function.
+/// The text of the attribute that a function selects.
 fn text_of(attributes: &Option<Attributes>, is_src: bool) -> Option<&str> {
     let Some(attributes) = attributes else {
         return None;
@@ -55,7 +55,7 @@ fn is_top(module: &Module) -> bool {
     }
 }
 
-/// Whether a module is the one that is asked for: by its name, by its mark, or as the only one.
+/// Whether a module is the requested one: by its name, by its mark, or as the only one.
 fn is_wanted(name: &str, module: &Module, top: Option<&str>, is_only: bool) -> bool {
     match top {
         Some(top) => name == top,
@@ -63,7 +63,7 @@ fn is_wanted(name: &str, module: &Module, top: Option<&str>, is_only: bool) -> b
     }
 }
 
-/// The module that is asked for.
+/// The requested module.
 fn wanted(document: Document, top: Option<&str>) -> Result<(String, Module)> {
     let is_only = document.modules.entries.len() == 1;
     for (name, module) in document.modules.entries {
@@ -77,7 +77,7 @@ fn wanted(document: Document, top: Option<&str>) -> Result<(String, Module)> {
     }
 }
 
-/// Refuses a name that was there before.
+/// Refuses a duplicate name.
 fn note(names: &mut IndexSet<String>, name: &String) -> Result<()> {
     if !names.insert(name.clone()?)? {
         bail!("{name} is there twice");
@@ -85,7 +85,7 @@ fn note(names: &mut IndexSet<String>, name: &String) -> Result<()> {
     Ok(())
 }
 
-/// A port as it is written.
+/// Reads a port.
 fn make_port(alloc: Global, nets: &mut Nets, name: String, written: &WrittenPort) -> Result<Port> {
     let is_input = match written.direction.as_str() {
         "input" | "inout" => true,
@@ -111,7 +111,7 @@ fn ports(alloc: Global, nets: &mut Nets, written: Members<WrittenPort>) -> Resul
     Ok(ports)
 }
 
-/// A cell, or where the source has one that is refused.
+/// Reads a cell. The error names its place in the source.
 fn placed_cell(
     alloc: Global,
     nets: &mut Nets,
@@ -140,7 +140,7 @@ fn cells(alloc: Global, nets: &mut Nets, written: Members<WrittenCell>) -> Resul
     Ok(cells)
 }
 
-/// The names that the source has for nets.
+/// The source's names of nets.
 fn variables(
     alloc: Global,
     nets: &mut Nets,
@@ -155,7 +155,7 @@ fn variables(
     Ok(variables)
 }
 
-/// The netlist of a module.
+/// Reads the netlist of a module.
 fn make_netlist(alloc: Global, name: String, module: Module) -> Result<Netlist> {
     let mut nets = Nets::new(alloc);
     let ports = ports(alloc, &mut nets, module.ports)?;
@@ -170,7 +170,7 @@ fn make_netlist(alloc: Global, name: String, module: Module) -> Result<Netlist> 
     })
 }
 
-/// Reads the netlist of the module with a name, or of the one that is marked as the top.
+/// Reads the netlist of the module with this name, or of the one marked as the top.
 pub fn read_netlist(alloc: Global, text: &str, top: Option<&str>) -> Result<Netlist> {
     let document = serde_json::from_str::<Document>(alloc, text).context(
         "no netlist that Yosys' write_json writes",

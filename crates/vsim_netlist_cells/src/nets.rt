@@ -6,14 +6,14 @@ use indexmap::IndexSet;
 use std::alloc::{AllocError, Global};
 use vsim_netlist_document::{WrittenBit, WrittenName};
 
-/// A net: what it begins with, and whether the source has a name for it.
+/// A net: its initial level, and whether the source has a name for it.
 #[derive(Clone, Copy)]
 pub struct Net {
     pub initial: Option<Level>,
     pub is_named: bool,
 }
 
-/// A name of the source, with its bits, the lowest index first.
+/// A name in the source, with its bits, lowest index first.
 #[derive(Drop)]
 pub struct Variable {
     pub name: String,
@@ -22,7 +22,7 @@ pub struct Variable {
     pub is_up: bool,
 }
 
-/// The nets by the numbers that the netlist gives them.
+/// The nets, by their numbers in the netlist.
 #[derive(Drop)]
 pub(crate) struct Nets {
     numbers: IndexSet<u64>,
@@ -30,7 +30,7 @@ pub(crate) struct Nets {
 }
 
 impl Nets {
-    /// No net.
+    /// No nets.
     pub(crate) fn new(alloc: Global) -> Nets {
         Nets {
             numbers: IndexSet::new(alloc),
@@ -38,7 +38,7 @@ impl Nets {
         }
     }
 
-    /// The place of the net with a number, which is added where it is not there.
+    /// The index of the net with a number, which is added if it is new.
     fn place(&mut self, number: u64) -> Result<usize, AllocError> {
         let (place, is_new) = self.numbers.insert_full(number)?;
         if is_new {
@@ -50,7 +50,7 @@ impl Nets {
         Ok(place)
     }
 
-    /// A bit, whose net is added where it is not there.
+    /// Reads a bit. A new net is added.
     pub(crate) fn bit(&mut self, written: WrittenBit) -> Result<Bit, AllocError> {
         match written {
             WrittenBit::Constant(level) => Ok(Bit::Constant(level)),
@@ -58,7 +58,7 @@ impl Nets {
         }
     }
 
-    /// These bits.
+    /// Reads bits.
     pub(crate) fn bits(
         &mut self,
         alloc: Global,
@@ -71,7 +71,7 @@ impl Nets {
         Ok(bits)
     }
 
-    /// The net at a place has a name.
+    /// Notes that the net at an index has a name.
     fn name(&mut self, bit: Bit) {
         if let Bit::Net(place) = bit {
             if let Some(net) = self.nets.get_mut(place) {
@@ -80,7 +80,7 @@ impl Nets {
         }
     }
 
-    /// A net begins with the level that a letter is, if that is 0 or 1.
+    /// Sets the initial level of a net, if the letter is 0 or 1.
     fn begin(&mut self, bit: Bit, letter: u8) {
         let level = match Level::from_byte(letter) {
             Some(Level::Zero) => Level::Zero,
@@ -94,21 +94,21 @@ impl Nets {
         }
     }
 
-    /// These nets begin with the levels of a text, which has the highest first.
+    /// Sets the initial levels of nets. The text has the highest first.
     fn begin_all(&mut self, bits: &[Bit], levels: &str) {
         for (bit, letter) in bits.iter().zip(levels.bytes().rev()) {
             self.begin(*bit, letter);
         }
     }
 
-    /// These nets have a name in the source.
+    /// Notes that the source has a name for these nets.
     fn name_all(&mut self, bits: &[Bit]) {
         for bit in bits {
             self.name(*bit);
         }
     }
 
-    /// Takes a name: what it says of its nets, and where the source has it, the variable.
+    /// Takes a name: the initial levels of its nets and, if it is from the source, the variable.
     pub(crate) fn take_name(
         &mut self,
         alloc: Global,
@@ -132,7 +132,7 @@ impl Nets {
     }
 }
 
-/// What a name says that its nets begin with.
+/// The initial levels that a name gives to its nets.
 fn initial(written: &WrittenName) -> Option<&str> {
     match &written.attributes {
         None => None,

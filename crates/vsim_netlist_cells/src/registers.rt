@@ -2,7 +2,7 @@
 
 use crate::bits::{Bit, Level};
 
-/// How a register is set, by kinds of Yosys' library.
+/// The kinds of registers in Yosys' library, by how they are set.
 #[derive(Clone, Copy, PartialEq, Eq)]
 pub enum Style {
     /// `$_DFF_` and `$_DFFE_`, without a reset.
@@ -23,14 +23,14 @@ pub enum Style {
     Bare,
 }
 
-/// A pin that controls: what it is connected with, and whether it acts by `1` or by `0`.
+/// A control pin: its connection, and whether it is active at `1` or at `0`.
 #[derive(Clone, Copy, PartialEq, Eq)]
 pub struct Control {
     pub bit: Bit,
     pub is_high: bool,
 }
 
-/// A register or latch, with the pins that it has.
+/// A register or latch, with its pins.
 #[derive(Clone, Copy)]
 pub struct Register {
     pub style: Style,
@@ -41,13 +41,13 @@ pub struct Register {
     pub load: Option<Control>,
     pub data: Option<Bit>,
     pub loaded: Option<Bit>,
-    /// What the reset sets.
+    /// The reset value.
     pub value: Level,
     pub output: usize,
 }
 
-/// The letters that a type has behind a name, as `CE` for `$_DFFE_PN_`, by how many they are: a pin
-/// each, but `v`, which is the value of a reset.
+/// The letters of a register's pins, in the order of those in its type, as `CE` for `$_DFFE_PN_`;
+/// `v` stands for the reset value.
 pub(crate) fn letters(name: &str, count: usize) -> Option<(&'static str, Style)> {
     Some(match name {
         "DFF" if count == 1 => ("C", Style::Plain),
@@ -70,7 +70,7 @@ pub(crate) fn letters(name: &str, count: usize) -> Option<(&'static str, Style)>
 }
 
 impl Register {
-    /// A register that nothing is connected with yet.
+    /// A register without connections.
     pub(crate) fn new(style: Style, output: usize) -> Register {
         Register {
             style,

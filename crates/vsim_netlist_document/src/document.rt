@@ -4,7 +4,7 @@ use crate::level::Level;
 use serde::{Deserialize, Deserializer, Format, Kind};
 use std::alloc::Global;
 
-/// The members of an object, in their order.
+/// The members of an object, in order.
 #[derive(Drop)]
 pub struct Members<T> {
     pub entries: Vec<(String, T)>,
@@ -40,14 +40,14 @@ impl<'de, T: Deserialize<'de>> Deserialize<'de> for Members<T> {
     }
 }
 
-/// A bit as the JSON has it: the number of a net, or a constant.
+/// A bit in the JSON: the number of a net, or a constant.
 #[derive(Clone, Copy)]
 pub enum WrittenBit {
     Number(u64),
     Constant(Level),
 }
 
-/// The constant that a text is.
+/// Reads a constant.
 fn constant(text: &str) -> Option<WrittenBit> {
     match text.as_bytes() {
         [byte] => Some(WrittenBit::Constant(Level::from_byte(*byte)?)),
@@ -71,7 +71,7 @@ impl<'de> Deserialize<'de> for WrittenBit {
     }
 }
 
-/// The text of an attribute, if it is one.
+/// The text of an attribute; `None` if it is not a text.
 #[derive(Drop)]
 pub struct Text(pub Option<String>);
 
@@ -88,7 +88,7 @@ impl<'de> Deserialize<'de> for Text {
     }
 }
 
-/// The attributes that say something here.
+/// The attributes that matter here.
 #[derive(Drop, Deserialize)]
 pub struct Attributes {
     pub src: Option<Text>,
@@ -96,7 +96,7 @@ pub struct Attributes {
     pub init: Option<Text>,
 }
 
-/// The parameters that say something here.
+/// The parameters that matter here.
 #[derive(Drop, Deserialize)]
 pub struct Parameters {
     #[serde(rename = "LUT")]
@@ -120,7 +120,7 @@ pub struct WrittenCell {
     pub connections: Members<Vec<WrittenBit>>,
 }
 
-/// A name of nets.
+/// A name and the bits that it stands for.
 #[derive(Drop, Deserialize)]
 pub struct WrittenName {
     pub hide_name: Option<u64>,

@@ -10,7 +10,7 @@ pub enum Level {
 }
 
 impl Level {
-    /// The level that a letter of a netlist or of a VCD is, in any case.
+    /// The level that a letter stands for in a netlist or a VCD, in upper or lower case.
     pub fn from_byte(byte: u8) -> Option<Level> {
         Some(match byte {
             b'0' | b'l' | b'L' => Level::Zero,

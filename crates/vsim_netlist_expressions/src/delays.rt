@@ -7,14 +7,14 @@ use std::fmt::Write;
 use vsim_netlist_cells::Level;
 use vsim_netlist_stimuli::Time;
 
-/// How long a gate takes, in femtoseconds, to rise and to fall.
+/// The time that a gate takes to rise and to fall, in femtoseconds.
 #[derive(Clone, Copy)]
 pub struct Delay {
     pub rise: u64,
     pub fall: u64,
 }
 
-/// A gate's name and its delay.
+/// The name of a gate and its delay.
 #[derive(Drop)]
 pub struct NamedDelay {
     pub name: String,
@@ -24,7 +24,7 @@ pub struct NamedDelay {
 /// No delay: a delta cycle.
 const NONE: Delay = Delay { rise: 0, fall: 0 };
 
-/// The delay of gates with a name: that of `others` where there is none.
+/// The delay of the gates with a name, by default that of `others`.
 pub fn delay_of(delays: &[NamedDelay], name: &str) -> Delay {
     let mut others = NONE;
     for each in delays {
@@ -38,7 +38,7 @@ pub fn delay_of(delays: &[NamedDelay], name: &str) -> Delay {
     others
 }
 
-/// A delay behind a value, which is not written where it is 0.
+/// The delay after a value; it is omitted if it is 0.
 #[derive(Clone, Copy)]
 pub struct After(pub u64);
 
@@ -61,17 +61,17 @@ pub fn push_all(text: &mut String, parts: &[&str]) -> Result<(), AllocError> {
 }
 
 impl Delay {
-    /// The longer of both.
+    /// The longer of the two.
     pub fn longest(self) -> u64 {
         self.rise.max(self.fall)
     }
 
-    /// Whether an expression rises in another time than it falls; a constant never does.
+    /// Whether an expression has different times to rise and to fall. A constant has not.
     fn differs(self, value: &Expression) -> bool {
         self.rise != self.fall && !value.text.as_str().starts_with("'")
     }
 
-    /// How long it takes to come to a level.
+    /// The time to reach a level.
     pub fn to(self, level: Level) -> u64 {
         match level {
             Level::Zero => self.fall,
@@ -81,7 +81,7 @@ impl Delay {
     }
 }
 
-/// Adds the concurrent assignment of an expression that rises in another time than it falls.
+/// Adds the concurrent assignment of an expression with different times to rise and to fall.
 fn push_choices(
     alloc: Global,
     text: &mut String,
@@ -145,7 +145,7 @@ pub fn push_stored(
     )
 }
 
-/// Adds a buffer that drives only where a net enables it.
+/// Adds a buffer that drives only while a net enables it.
 pub fn push_tristate(
     text: &mut String,
     target: &str,

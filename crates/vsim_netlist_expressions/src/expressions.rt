@@ -3,10 +3,10 @@
 use std::alloc::{AllocError, Global};
 use std::fmt::Write;
 
-/// What an expression is at its outside.
+/// The outermost form of an expression.
 #[derive(Clone, Copy, PartialEq, Eq)]
 pub enum Outside {
-    /// A name, a literal or what stands in parentheses.
+    /// A name, a literal or an expression in parentheses.
     Primary,
     Not,
     And,
@@ -17,7 +17,7 @@ pub enum Outside {
     Xnor,
 }
 
-/// An expression: its text, what it is at its outside, and how deep its parentheses are.
+/// An expression: its text, its outermost form, and the depth of its parentheses.
 #[derive(Drop)]
 pub struct Expression {
     pub text: String,
@@ -26,7 +26,7 @@ pub struct Expression {
 }
 
 impl Outside {
-    /// The word of an operator.
+    /// The reserved word of an operator.
     fn word(self) -> &'static str {
         match self {
             Outside::Primary | Outside::Not => "not",
@@ -39,7 +39,7 @@ impl Outside {
         }
     }
 
-    /// Whether an expression may be an operand of an operator as it stands.
+    /// Whether an expression can be an operand of an operator without parentheses.
     fn fits(self, operator: Outside) -> bool {
         match self {
             Outside::Primary => true,
@@ -59,7 +59,7 @@ pub fn primary(alloc: Global, text: &str) -> Result<Expression, AllocError> {
     })
 }
 
-/// Adds an operand of an operator, in parentheses where it wants them.
+/// Adds an operand of an operator, in parentheses if needed.
 fn push_operand(
     text: &mut String,
     operand: &Expression,
@@ -74,7 +74,7 @@ fn push_operand(
     Ok(operand.depth.saturating_add(1))
 }
 
-/// Adds a part, with a blank before it where it would be read as one word with what stands there.
+/// Adds a part, after a space if it would otherwise join the word before it.
 fn push_apart(text: &mut String, part: &str) -> Result<(), AllocError> {
     let is_word = |byte: Option<u8>| byte.is_some_and(|it| it.is_ascii_alphanumeric());
     if is_word(text.bytes().last()) && is_word(part.bytes().next()) {
@@ -94,7 +94,7 @@ pub fn negation(alloc: Global, operand: &Expression) -> Result<Expression, Alloc
     })
 }
 
-/// Two expressions under an operator of two operands.
+/// A binary operation.
 pub fn binary(
     alloc: Global,
     left: &Expression,

@@ -1,11 +1,11 @@
-//! What the gates of Yosys' library are as expressions.
+//! The gates of Yosys' library as expressions.
 
 use crate::expressions::{Expression, Outside, binary, negation, primary};
 use std::alloc::{AllocError, Global};
 use vsim_netlist_cells::Gate;
 
-/// One of two expressions, as a third selects: the second by `1`. Where both agree, it is their
-/// value also for an unknown selection, as in Verilog.
+/// Selects one of two expressions, the second by `1`. If both agree, the value is theirs even for
+/// an unknown selection, as in Verilog.
 fn selected(
     alloc: Global,
     low: &Expression,
@@ -18,7 +18,7 @@ fn selected(
     binary(alloc, &by_one, Outside::Or, &by_zero)
 }
 
-/// An expression where a selection is `0`, and `0` where it is `1`.
+/// An expression if a selection is `0`, and otherwise `0`.
 fn kept_by_zero(
     alloc: Global,
     low: &Expression,
@@ -42,7 +42,7 @@ fn copy(expression: &Expression) -> Result<Expression, AllocError> {
     })
 }
 
-/// The same as `selected` of two parts of a table, which are often literals.
+/// Like `selected`, for two parts of a table, which are often literals.
 fn looked_up(
     alloc: Global,
     low: &Expression,
@@ -68,13 +68,13 @@ fn looked_up(
     }
 }
 
-/// An expression where a selection is `1`, and `1` where it is `0`.
+/// An expression if a selection is `1`, and otherwise `1`.
 fn opened(alloc: Global, high: &Expression, select: &Expression) -> Result<Expression, AllocError> {
     let refused = negation(alloc, select)?;
     binary(alloc, &refused, Outside::Or, high)
 }
 
-/// Half as many expressions: of each two the one that is selected.
+/// Selects one of each two expressions.
 fn halved(
     alloc: Global,
     items: &[Expression],
@@ -95,7 +95,7 @@ fn halved(
     Ok(half)
 }
 
-/// Of these expressions the one that is selected: by the first selection between neighbours.
+/// Selects one of these expressions. The first selection is between neighbours.
 fn chosen(
     alloc: Global,
     items: Vec<Expression>,
@@ -112,7 +112,7 @@ fn chosen(
     }
 }
 
-/// The first expressions, and the others.
+/// Divides expressions into the first ones and the others.
 fn split(
     alloc: Global,
     operands: Vec<Expression>,
@@ -129,7 +129,7 @@ fn split(
     Ok((items, selects))
 }
 
-/// A multiplexer of so many data.
+/// A multiplexer of this number of data inputs.
 fn multiplexer(
     alloc: Global,
     operands: Vec<Expression>,
@@ -139,7 +139,7 @@ fn multiplexer(
     chosen(alloc, items, selects.as_slice(), false)
 }
 
-/// The literals of a table, the lowest first.
+/// The literals of a table, lowest first.
 fn literals(alloc: Global, table: &str) -> Result<Vec<Expression>, AllocError> {
     let mut items = Vec::new(alloc);
     for bit in table.bytes().rev() {
@@ -148,7 +148,7 @@ fn literals(alloc: Global, table: &str) -> Result<Vec<Expression>, AllocError> {
     Ok(items)
 }
 
-/// Two pairs, each under an operator, and both under another one.
+/// Two binary operations, joined by a third operator.
 fn pairs(
     alloc: Global,
     operands: &[Expression],
@@ -168,7 +168,7 @@ fn pairs(
     }
 }
 
-/// Two operands under an operator.
+/// An operation on two operands.
 fn two(
     alloc: Global,
     operands: &[Expression],
@@ -180,7 +180,7 @@ fn two(
     }
 }
 
-/// An operand and the negation of another one under an operator.
+/// An operation on an operand and the negation of another.
 fn with_negation(
     alloc: Global,
     operands: &[Expression],
@@ -204,7 +204,7 @@ fn one(alloc: Global, operands: &[Expression], is_not: bool) -> Result<Expressio
     }
 }
 
-/// The expression of a gate with two operands, or more under few operators.
+/// The expression of a gate with two operands, or with few operators.
 fn plain(alloc: Global, gate: Gate, operands: &[Expression]) -> Result<Expression, AllocError> {
     match gate {
         Gate::Buf => one(alloc, operands, false),

@@ -3,7 +3,7 @@
 use indexmap::IndexSet;
 use std::alloc::{AllocError, Global};
 
-/// Names that no signal has: the words that VHDL reserves, and what is declared before a design.
+/// Names that no signal may have: reserved words of VHDL, and predeclared names.
 const RESERVED: [&str; 113] = [
     "abs",
     "access",
@@ -120,7 +120,7 @@ const RESERVED: [&str; 113] = [
     "xor",
 ];
 
-/// The same, of the packages that each design sees.
+/// The names in the packages that each design sees.
 const PREDEFINED: [&str; 35] = [
     "bit",
     "boolean",
@@ -159,7 +159,7 @@ const PREDEFINED: [&str; 35] = [
     "ux01",
 ];
 
-/// The names that are taken, and which short one is next.
+/// The names in use, and the number of the next short one.
 #[derive(Drop)]
 pub struct Names {
     alloc: Global,
@@ -167,7 +167,7 @@ pub struct Names {
     next: u64,
 }
 
-/// Adds words to those that are taken.
+/// Adds names to those in use.
 fn reserve(alloc: Global, taken: &mut IndexSet<String>, words: &[&str]) -> Result<(), AllocError> {
     for word in words {
         taken.insert(String::from_str(alloc, word)?)?;
@@ -185,7 +185,7 @@ fn digit(number: u64) -> char {
     }
 }
 
-/// The short name with a number: a letter, and then letters and digits.
+/// The short name with a number: a letter, then letters and digits.
 fn short(alloc: Global, number: u64) -> Result<String, AllocError> {
     let mut name = String::new(alloc);
     name.push(digit(number % 26))?;
@@ -200,7 +200,7 @@ fn short(alloc: Global, number: u64) -> Result<String, AllocError> {
     Ok(name)
 }
 
-/// A name of the source as VHDL may have it: letters and digits, with an underscore for all else.
+/// A name of the source in VHDL: letters and digits, with an underscore for any other character.
 pub fn plain_name(alloc: Global, source: &str) -> Result<String, AllocError> {
     let mut name = String::from_str(alloc, if starts_plain(source) { "" } else { "s" })?;
     let mut has_gap = false;
@@ -227,7 +227,7 @@ fn starts_plain(source: &str) -> bool {
 }
 
 impl Names {
-    /// Only what is reserved is taken.
+    /// Only reserved names are in use.
     pub fn new(alloc: Global) -> Result<Names, AllocError> {
         let mut taken = IndexSet::new(alloc);
         reserve(alloc, &mut taken, &RESERVED)?;
@@ -239,12 +239,12 @@ impl Names {
         })
     }
 
-    /// Takes a name; `false` where it was taken.
+    /// Reserves a name. Returns `false` if it is in use.
     fn take(&mut self, name: &String) -> Result<bool, AllocError> {
         Ok(self.taken.insert(name.clone()?)?)
     }
 
-    /// A short name that was not taken.
+    /// A new short name.
     pub fn fresh(&mut self) -> Result<String, AllocError> {
         for _ in 0..u64::MAX {
             let name = short(self.alloc, self.next)?;
@@ -256,7 +256,7 @@ impl Names {
         Ok(String::new(self.alloc))
     }
 
-    /// A name as near as may be to one of the source.
+    /// A new name, as near as possible to one of the source.
     pub fn like(&mut self, source: &str) -> Result<String, AllocError> {
         let name = plain_name(self.alloc, source)?;
         if self.take(&name)? {
@@ -265,7 +265,7 @@ impl Names {
         self.numbered(name)
     }
 
-    /// A name with a number that was not taken.
+    /// A new name that ends in a number.
     fn numbered(&mut self, name: String) -> Result<String, AllocError> {
         for number in 2..u64::MAX {
             let other = format!(in self.alloc; "{name}_{number}")?;

@@ -1,31 +1,31 @@
-//! How the bits of inputs change.
+//! The changes of input bits.
 
 use std::alloc::{AllocError, Global};
 use vsim_netlist_cells::Level;
 
-/// An input, with how many bits it has.
+/// An input and its number of bits.
 #[derive(Drop)]
 pub struct Input {
     pub name: String,
     pub width: usize,
 }
 
-/// A value that a bit has from a time on, in femtoseconds.
+/// A value that a bit has from a time on (in femtoseconds).
 #[derive(Clone, Copy)]
 pub struct Change {
     pub time: u64,
     pub level: Level,
 }
 
-/// How the bits of inputs change: a list for each bit, those of the first input first and of each
-/// the lowest bit first; and when the stimuli end.
+/// The changes of input bits: one list for each bit, with the first input first and the lowest bit
+/// of each first; and the time at which the stimuli end.
 #[derive(Drop)]
 pub struct Stimuli {
     pub bits: Vec<Vec<Change>>,
     pub end: u64,
 }
 
-/// Adds a value to the changes of a bit, if it is another one than the last.
+/// Adds a value to the changes of a bit, if it differs from the last.
 fn add(changes: &mut Vec<Change>, time: u64, level: Level) -> Result<(), AllocError> {
     if let Some(last) = changes.last_mut() {
         if last.level == level {
@@ -40,7 +40,8 @@ fn add(changes: &mut Vec<Change>, time: u64, level: Level) -> Result<(), AllocEr
     Ok(())
 }
 
-/// The letter of a bit of a value, which has the highest first and may be shorter than its input.
+/// The letter of a bit of a value. The value has the highest bit first and may be shorter than the
+/// input.
 fn letter(value: &[u8], bit: usize) -> u8 {
     let from_end = value.len().checked_sub(bit.saturating_add(1));
     match from_end {
@@ -54,7 +55,7 @@ fn letter(value: &[u8], bit: usize) -> u8 {
 }
 
 impl Stimuli {
-    /// No change of any bit of these inputs.
+    /// No changes, for these inputs.
     pub(crate) fn new(alloc: Global, inputs: &[Input]) -> Result<Stimuli, AllocError> {
         let mut bits = Vec::new(alloc);
         for input in inputs {
@@ -65,7 +66,8 @@ impl Stimuli {
         Ok(Stimuli { bits, end: 0 })
     }
 
-    /// The bits from a place on take a value; `false` where a letter of it is none.
+    /// Gives a value to the bits from an index on. Returns `false` if a letter of it is not a
+    /// level.
     pub(crate) fn set(
         &mut self,
         start: usize,
@@ -86,13 +88,13 @@ impl Stimuli {
         Ok(true)
     }
 
-    /// The end is not before a time.
+    /// Moves the end to a time, if that is later.
     pub(crate) fn reach(&mut self, time: u64) {
         self.end = self.end.max(time);
     }
 }
 
-/// The first bits of inputs, among the bits of all.
+/// The index of the first bit of each input among the bits of all.
 pub(crate) fn starts(alloc: Global, inputs: &[Input]) -> Result<Vec<usize>, AllocError> {
     let mut starts = Vec::new(alloc);
     let mut next = 0usize;

@@ -1,10 +1,10 @@
-//! The head of a VCD: its scopes and variables.
+//! The header of a VCD: its scopes and variables.
 
 use crate::times::{femtoseconds, number_and_unit};
 use anyhow::{Context, Result, bail};
 use std::alloc::{AllocError, Global};
 
-/// A variable: the scope that it is in, by its place, its name, how many bits it has, and its code.
+/// A variable: the index of its scope, its name, its number of bits, and its code.
 #[derive(Clone, Copy)]
 pub(crate) struct Variable<'a> {
     pub(crate) scope: usize,
@@ -13,29 +13,29 @@ pub(crate) struct Variable<'a> {
     pub(crate) code: &'a str,
 }
 
-/// A scope: its path, with dots, and how deep it is.
+/// A scope: its path, with dots, and its depth.
 #[derive(Drop)]
 pub(crate) struct Scope {
     pub(crate) path: String,
     pub(crate) depth: usize,
 }
 
-/// What was read of the head of a VCD.
+/// The header of a VCD, as far as it has been read.
 #[derive(Drop)]
 pub(crate) struct Header<'a> {
     alloc: Global,
-    /// The words of the section that was begun.
+    /// The words of the present section.
     words: Vec<&'a str>,
-    /// The scopes that are open, by their places.
+    /// The indices of the open scopes.
     open: Vec<usize>,
     pub(crate) scopes: Vec<Scope>,
     pub(crate) variables: Vec<Variable<'a>>,
-    /// How many femtoseconds a unit of time has.
+    /// The unit of time, in femtoseconds.
     pub(crate) scale: u64,
     pub(crate) is_done: bool,
 }
 
-/// A name without the range that may stand behind it, and without the mark of an escaped one.
+/// A name without a range after it, and without the backslash of an escaped name.
 fn bare(name: &str) -> &str {
     match name.split_once('[') {
         Some((name, _)) if !name.is_empty() => name,
@@ -43,7 +43,7 @@ fn bare(name: &str) -> &str {
     }
 }
 
-/// The femtoseconds of a time scale, of which the unit may be a word of its own.
+/// A time scale in femtoseconds. The unit may be a separate word.
 fn scale(first: &str, second: &str) -> Option<u64> {
     let (number, unit) = number_and_unit(first);
     let unit = if unit.is_empty() { second } else { unit };
@@ -51,7 +51,7 @@ fn scale(first: &str, second: &str) -> Option<u64> {
 }
 
 impl<'a> Header<'a> {
-    /// Nothing was read.
+    /// Nothing has been read.
     pub(crate) fn new(alloc: Global) -> Header<'a> {
         Header {
             alloc,
@@ -64,7 +64,7 @@ impl<'a> Header<'a> {
         }
     }
 
-    /// The path of a scope in the one that is open.
+    /// The path of a scope inside the open one.
     fn path(&self, name: &str) -> Result<String, AllocError> {
         let mut path = String::new(self.alloc);
         if let Some(outer) = self.open.last() {
@@ -105,7 +105,7 @@ impl<'a> Header<'a> {
         Ok(())
     }
 
-    /// The word of the section at a place.
+    /// The word at an index of the section.
     fn word(&self, at: usize) -> &'a str {
         match self.words.get(at) {
             Some(word) => word,
@@ -113,18 +113,18 @@ impl<'a> Header<'a> {
         }
     }
 
-    /// Leaves the scope that is open.
+    /// Leaves the open scope.
     fn leave(&mut self) {
         let _ = self.open.pop();
     }
 
-    /// Takes the time scale.
+    /// Reads the time scale.
     fn take_scale(&mut self) -> Result<()> {
         self.scale = scale(self.word(1), self.word(2)).context("the time scale is none")?;
         Ok(())
     }
 
-    /// Takes a section by its words.
+    /// Reads a section.
     fn close(&mut self) -> Result<()> {
         let (first, third) = (self.word(0), self.word(2));
         let (fourth, fifth) = (self.word(3), self.word(4));
@@ -140,7 +140,7 @@ impl<'a> Header<'a> {
         Ok(())
     }
 
-    /// Takes the next word.
+    /// Reads the next word.
     pub(crate) fn take(&mut self, word: &'a str) -> Result<()> {
         if word == "$end" {
             return self.close();

@@ -1,4 +1,4 @@
-//! The stimuli of a design: how its inputs change, read of a VCD or of lines.
+//! The stimuli of a design: the changes of its inputs, read from a VCD or from lines.
 #![tactic(auto)]
 
 mod changes;

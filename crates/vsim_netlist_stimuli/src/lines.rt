@@ -5,7 +5,7 @@ use crate::times::read_time;
 use anyhow::{Context, Result, anyhow, bail};
 use std::alloc::{AllocError, Global};
 
-/// What was read of lines.
+/// The stimuli of the lines read so far.
 #[derive(Drop)]
 struct Lines<'a> {
     alloc: Global,
@@ -32,7 +32,7 @@ fn nibble(digit: u8) -> &'static str {
     }
 }
 
-/// The four bits of a hexadecimal digit that is a letter.
+/// The four bits of a letter as a hexadecimal digit.
 fn letter_nibble(digit: u8) -> &'static str {
     match digit {
         b'a' | b'A' => "1010",
@@ -54,7 +54,7 @@ fn bits_of_digits(alloc: Global, digits: &str) -> Result<String, AllocError> {
     Ok(bits)
 }
 
-/// The bits of a value, which is written by them or as `0xA5`.
+/// The bits of a value, written as bits or as `0xA5`.
 fn bits(alloc: Global, value: &str) -> Result<String, AllocError> {
     match value.strip_prefix("0x") {
         Some(digits) => bits_of_digits(alloc, digits),
@@ -62,7 +62,7 @@ fn bits(alloc: Global, value: &str) -> Result<String, AllocError> {
     }
 }
 
-/// The place of the input with a name, and how many bits it has.
+/// The index of the input with a name, and its number of bits.
 fn find(inputs: &[Input], name: &str) -> Option<(usize, usize)> {
     for (place, input) in inputs.iter().enumerate() {
         if input.name.as_str() == name {
@@ -73,7 +73,7 @@ fn find(inputs: &[Input], name: &str) -> Option<(usize, usize)> {
 }
 
 impl Lines<'_> {
-    /// Goes on to a time.
+    /// Advances to a time.
     fn go_to(&mut self, text: &str) -> Result<()> {
         let time = read_time(text).context("the first word is no time, as 10ns is")?;
         if time < self.time {
@@ -84,7 +84,7 @@ impl Lines<'_> {
         Ok(())
     }
 
-    /// An input has a value from now on.
+    /// Gives a value to an input from now on.
     fn set(&mut self, name: &str, value: &str) -> Result<()> {
         let (place, width) = find(self.inputs, name).ok_or_else(|| anyhow!(
             "there is no input {name}"
@@ -98,7 +98,7 @@ impl Lines<'_> {
         Ok(())
     }
 
-    /// Takes a line.
+    /// Reads a line.
     fn take(&mut self, line: &str) -> Result<()> {
         let text = line.split_once('#').map_or(line, |(text, _)| text);
         let mut words = text.split_ascii_whitespace();

@@ -1,4 +1,4 @@
-//! The scope of a VCD that has the inputs of a design.
+//! The scope of a VCD with the inputs of a design.
 
 use crate::changes::Input;
 use crate::header::{Header, Scope};
@@ -6,14 +6,14 @@ use anyhow::{Result, anyhow};
 use indexmap::IndexSet;
 use std::alloc::{AllocError, Global};
 
-/// An input, and the variable that it is, each by its place.
+/// An input and its variable, by their indices.
 #[derive(Clone, Copy)]
 pub(crate) struct Match {
     pub(crate) input: usize,
     pub(crate) variable: usize,
 }
 
-/// Of each scope the inputs that it has, with as many bits.
+/// For each scope, the inputs that it has with the right number of bits.
 fn matches(
     alloc: Global,
     header: &Header<'_>,
@@ -42,7 +42,7 @@ fn names(alloc: Global, inputs: &[Input]) -> Result<IndexSet<String>, AllocError
     Ok(names)
 }
 
-/// So many empty lists.
+/// This number of empty lists.
 fn empty(alloc: Global, count: usize) -> Result<Vec<Vec<Match>>, AllocError> {
     let mut lists = Vec::new(alloc);
     for _ in 0..count {
@@ -51,7 +51,7 @@ fn empty(alloc: Global, count: usize) -> Result<Vec<Vec<Match>>, AllocError> {
     Ok(lists)
 }
 
-/// Adds an input to those of a scope, if it is not among them.
+/// Adds an input to those of a scope, unless it is among them.
 fn add(found: &mut Vec<Vec<Match>>, scope: usize, new: Match) -> Result<(), AllocError> {
     let Some(list) = found.get_mut(scope) else {
         return Ok(());
@@ -62,7 +62,7 @@ fn add(found: &mut Vec<Vec<Match>>, scope: usize, new: Match) -> Result<(), Allo
     Ok(())
 }
 
-/// The place of the deepest scope that has so many inputs, the first one of these.
+/// The index of the deepest scope that has this number of inputs; the first, if there are several.
 fn deepest(scopes: &[Scope], found: &[Vec<Match>], count: usize) -> Option<usize> {
     let mut best: Option<(usize, usize)> = None;
     for (place, (scope, list)) in scopes.iter().zip(found.iter()).enumerate() {
@@ -77,7 +77,7 @@ fn deepest(scopes: &[Scope], found: &[Vec<Match>], count: usize) -> Option<usize
     }
 }
 
-/// The place of the scope with a path.
+/// The index of the scope with a path.
 fn at_path(scopes: &[Scope], path: &str) -> Option<usize> {
     for (place, scope) in scopes.iter().enumerate() {
         if scope.path.as_str() == path {
@@ -87,7 +87,7 @@ fn at_path(scopes: &[Scope], path: &str) -> Option<usize> {
     None
 }
 
-/// The first input that is not among some.
+/// The first input that is missing from a list.
 fn missing<'a>(inputs: &'a [Input], list: &[Match]) -> Option<&'a str> {
     for (place, input) in inputs.iter().enumerate() {
         if list.iter().all(|it| it.input != place) {
@@ -97,7 +97,7 @@ fn missing<'a>(inputs: &'a [Input], list: &[Match]) -> Option<&'a str> {
     None
 }
 
-/// The place of the scope that is asked for, or of the deepest one that has all inputs.
+/// The index of the requested scope, or of the deepest one that has all inputs.
 fn place(
     header: &Header<'_>,
     found: &[Vec<Match>],
@@ -114,7 +114,7 @@ fn place(
     }
 }
 
-/// The variables that inputs are: those of a scope.
+/// The variables of inputs, from one scope.
 pub(crate) fn choose(
     alloc: Global,
     header: &Header<'_>,

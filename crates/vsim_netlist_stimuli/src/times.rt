@@ -5,7 +5,7 @@ use std::fmt;
 /// The latest time of a simulation, in femtoseconds.
 pub const LATEST: u64 = 4_611_686_018_427_387_903;
 
-/// How many femtoseconds a unit has.
+/// A unit in femtoseconds.
 pub(crate) fn femtoseconds(unit: &str) -> Option<u64> {
     Some(match unit {
         "fs" => 1,
@@ -18,7 +18,7 @@ pub(crate) fn femtoseconds(unit: &str) -> Option<u64> {
     })
 }
 
-/// The time that a text is, as `40ps`, in femtoseconds: a whole number with its unit, or 0.
+/// Reads a time, as `40ps`, in femtoseconds: a whole number with its unit, or 0.
 pub fn read_time(text: &str) -> Option<u64> {
     let (number, unit) = number_and_unit(text);
     let number = number.parse::<u64>().ok()?;
@@ -29,7 +29,7 @@ pub fn read_time(text: &str) -> Option<u64> {
     if time <= LATEST { Some(time) } else { None }
 }
 
-/// The digits at the head of a text, and what stands behind them.
+/// The digits at the start of a text, and the rest.
 pub(crate) fn number_and_unit(text: &str) -> (&str, &str) {
     match text.find(|letter: char| !letter.is_ascii_digit()) {
         Some(at) => match (text.get(..at), text.get(at..)) {
@@ -40,7 +40,7 @@ pub(crate) fn number_and_unit(text: &str) -> (&str, &str) {
     }
 }
 
-/// The largest unit in which a time is a whole number, and that number.
+/// The largest unit of which a time is a multiple, and the multiple.
 fn in_units(time: u64) -> (u64, &'static str) {
     if time == 0 || time % 1_000 != 0 {
         (time, "fs")
@@ -55,8 +55,7 @@ fn in_units(time: u64) -> (u64, &'static str) {
     }
 }
 
-/// A time in femtoseconds, which is written in the largest unit in which it is a whole number, as
-/// `40ps`.
+/// A time in femtoseconds, displayed in the largest unit of which it is a multiple, as `40ps`.
 #[derive(Clone, Copy)]
 pub struct Time(pub u64);
 

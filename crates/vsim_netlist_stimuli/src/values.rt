@@ -8,21 +8,21 @@ use anyhow::{Context, Result, anyhow, bail};
 use indexmap::IndexSet;
 use std::alloc::{AllocError, Global};
 
-/// The bits that a code of a VCD stands for.
+/// The bits of the variables with one code.
 #[derive(Clone, Copy)]
 struct Bits {
     start: usize,
     width: usize,
 }
 
-/// The values of a VCD, as far as it was read.
+/// The values of a VCD, as far as it has been read.
 #[derive(Drop)]
 pub(crate) struct Values<'a> {
     codes: IndexSet<String>,
     users: Vec<Vec<Bits>>,
     scale: u64,
     time: u64,
-    /// The value of more than one bit whose code comes next.
+    /// A value of several bits whose code comes next.
     value: Option<&'a str>,
     is_comment: bool,
     pub(crate) stimuli: Stimuli,
@@ -47,7 +47,7 @@ fn add(
     Ok(())
 }
 
-/// Adds bits to those of a code that is new.
+/// Adds the bits of a new code.
 fn add_first(alloc: Global, users: &mut Vec<Vec<Bits>>, bits: Bits) -> Result<(), AllocError> {
     let mut list = Vec::new(alloc);
     list.push(bits)?;
@@ -55,14 +55,14 @@ fn add_first(alloc: Global, users: &mut Vec<Vec<Bits>>, bits: Bits) -> Result<()
     Ok(())
 }
 
-/// The first byte of a word, and what stands behind it.
+/// The first byte of a word, and the rest.
 fn split_first(word: &str) -> (u8, &str) {
     let first = word.bytes().next().unwrap_or(b' ');
     (first, word.get(1..).unwrap_or(""))
 }
 
 impl<'a> Values<'a> {
-    /// No values yet of these inputs, which are variables of a head.
+    /// No values yet, for inputs that are variables of a header.
     pub(crate) fn new(
         alloc: Global,
         header: &Header<'_>,
@@ -95,7 +95,7 @@ impl<'a> Values<'a> {
         })
     }
 
-    /// A code has a value from now on.
+    /// Gives a value to the bits of a code from now on.
     fn set(&mut self, code: &str, value: &str) -> Result<()> {
         let Some(place) = self.codes.get_index_of(code) else {
             return Ok(());
@@ -112,7 +112,7 @@ impl<'a> Values<'a> {
         Ok(())
     }
 
-    /// Goes on to a time.
+    /// Advances to a time.
     fn go_to(&mut self, text: &str) -> Result<()> {
         let time = text.parse::<u64>().ok();
         let time = time.and_then(|it| it.checked_mul(self.scale));
@@ -125,7 +125,7 @@ impl<'a> Values<'a> {
         Ok(())
     }
 
-    /// Takes a word that is no code behind a value.
+    /// Reads a word other than the code after a value.
     fn begin(&mut self, word: &'a str) -> Result<()> {
         let (first, rest) = split_first(word);
         match first {
@@ -161,7 +161,7 @@ impl<'a> Values<'a> {
         }
     }
 
-    /// Takes the next word.
+    /// Reads the next word.
     pub(crate) fn take(&mut self, word: &'a str) -> Result<()> {
         if self.is_comment {
             self.is_comment = word != "$end";
@@ -176,7 +176,7 @@ impl<'a> Values<'a> {
         }
     }
 
-    /// Whether a word is missing behind the last one.
+    /// Whether a word is missing after the last one.
     pub(crate) fn is_cut(&self) -> bool {
         self.is_comment || self.value.is_some()
     }

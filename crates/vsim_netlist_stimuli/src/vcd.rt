@@ -1,4 +1,4 @@
-//! Stimuli as a text has them.
+//! Reading stimuli.
 
 use crate::changes::{Input, Stimuli};
 use crate::header::Header;
@@ -8,7 +8,7 @@ use crate::values::Values;
 use anyhow::{Context, Result, anyhow, bail};
 use std::alloc::Global;
 
-/// The values behind the head of a VCD.
+/// Reads the values after the header of a VCD.
 fn values<'a>(
     alloc: Global,
     header: &Header<'a>,
@@ -19,7 +19,7 @@ fn values<'a>(
     Ok(Values::new(alloc, header, inputs, matches.as_slice())?)
 }
 
-/// Reads a VCD: its head, and then its values.
+/// Reads a VCD: its header, then its values.
 fn read_vcd(alloc: Global, text: &str, inputs: &[Input], scope: Option<&str>) -> Result<Stimuli> {
     let mut header = Header::new(alloc);
     let mut found: Option<Values<'_>> = None;
@@ -38,7 +38,7 @@ fn read_vcd(alloc: Global, text: &str, inputs: &[Input], scope: Option<&str>) ->
     }
 }
 
-/// Refuses an input that has no value.
+/// Refuses an input without a value.
 fn demand_all(stimuli: &Stimuli, inputs: &[Input]) -> Result<()> {
     let mut start = 0usize;
     for input in inputs {
@@ -53,7 +53,7 @@ fn demand_all(stimuli: &Stimuli, inputs: &[Input]) -> Result<()> {
     Ok(())
 }
 
-/// Reads the stimuli of these inputs: a VCD, of which the variables of a scope are taken, or lines.
+/// Reads the stimuli of these inputs: from the variables of one scope of a VCD, or from lines.
 pub fn read_stimuli(
     alloc: Global,
     text: &str,

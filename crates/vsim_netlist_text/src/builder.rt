@@ -11,10 +11,10 @@ use vsim_netlist_expressions::{
 };
 use vsim_netlist_uses::{Uses, longest_within, writing_order};
 
-/// How deep the parentheses of a gate may be that stands within another one.
+/// The maximum depth of parentheses in a nested gate.
 const DEEPEST: usize = 30;
 
-/// What was written of a netlist.
+/// The text of a netlist, as far as it has been written.
 #[derive(Drop)]
 pub(crate) struct Builder<'a> {
     pub(crate) alloc: Global,
@@ -23,7 +23,7 @@ pub(crate) struct Builder<'a> {
     uses: &'a Uses,
     within: &'a [bool],
     pub(crate) signals: Signals,
-    /// The expressions of the nets whose gates stand within others.
+    /// The expressions of nets whose gates are nested.
     expressions: Vec<Option<Expression>>,
     keys: IndexSet<String>,
     groups: Vec<Process>,
@@ -32,7 +32,7 @@ pub(crate) struct Builder<'a> {
     pub(crate) drivers: usize,
 }
 
-/// So many nets without an expression.
+/// This number of nets without an expression.
 fn no_expressions(alloc: Global, count: usize) -> Result<Vec<Option<Expression>>, AllocError> {
     let mut expressions = Vec::new(alloc);
     for _ in 0..count {
@@ -42,7 +42,7 @@ fn no_expressions(alloc: Global, count: usize) -> Result<Vec<Option<Expression>>
 }
 
 impl<'a> Builder<'a> {
-    /// Nothing was written; the signals have the names that they are to have.
+    /// Nothing has been written. The signals have their names.
     pub(crate) fn new(
         alloc: Global,
         netlist: &'a Netlist,
@@ -68,13 +68,13 @@ impl<'a> Builder<'a> {
         })
     }
 
-    /// A process more, which drives a signal.
+    /// Counts a process that drives one signal.
     pub(crate) fn count(&mut self) {
         self.processes = self.processes.saturating_add(1);
         self.drivers = self.drivers.saturating_add(1);
     }
 
-    /// The expression of a net whose gate stands within the cell that reads it.
+    /// The expression of a net whose gate is nested in the cell that reads it.
     fn take_expression(&mut self, place: usize) -> Option<Expression> {
         match self.expressions.get_mut(place) {
             Some(expression) => expression.take(),
@@ -82,7 +82,7 @@ impl<'a> Builder<'a> {
         }
     }
 
-    /// What a bit is in an expression.
+    /// A bit as an expression.
     fn operand(&mut self, bit: Bit) -> Result<Expression, AllocError> {
         match bit {
             Bit::Constant(level) => primary(self.alloc, level.literal()),
@@ -99,7 +99,7 @@ impl<'a> Builder<'a> {
         primary(self.alloc, self.signals.name(place).unwrap_or(""))
     }
 
-    /// What the inputs of a gate are in its expression.
+    /// The inputs of a gate as expressions.
     fn operands(&mut self, bits: &[Bit]) -> Result<Vec<Expression>, AllocError> {
         let mut operands = Vec::new(self.alloc);
         for bit in bits {
@@ -108,8 +108,8 @@ impl<'a> Builder<'a> {
         Ok(operands)
     }
 
-    /// How long the text of the gate of a net may be to stand within the cell that reads it: 0 where
-    /// it may not.
+    /// The maximum length, in bytes, at which the gate of a net is nested in the cell that reads
+    /// it; 0 if it may not be nested.
     fn room_within(&self, place: usize) -> usize {
         if self.within.get(place).copied() != Some(true) || self.signals.name(place).is_some() {
             return 0;
@@ -168,7 +168,7 @@ impl<'a> Builder<'a> {
         self.push_tristate(gate.output, &value, enable.as_str(), delay)
     }
 
-    /// The same of its parts.
+    /// The same, by its parts.
     fn push_tristate(
         &mut self,
         output: usize,
@@ -181,7 +181,7 @@ impl<'a> Builder<'a> {
         push_tristate(&mut self.body, target.as_str(), value, enable, delay)
     }
 
-    /// Takes a gate.
+    /// Adds a gate.
     fn take_gate(&mut self, gate: &GateCell) -> Result<(), AllocError> {
         let delay = delay_of(self.delays, gate.gate.name());
         if gate.gate == Gate::Tristate {
@@ -193,7 +193,7 @@ impl<'a> Builder<'a> {
         self.put(gate.output, expression, delay)
     }
 
-    /// The condition that a control acts; none where there is no control.
+    /// The condition under which a control is active; empty if there is none.
     fn condition(&mut self, control: Option<Control>) -> Result<String, AllocError> {
         let Some(control) = control else {
             return Ok(String::new(self.alloc));
@@ -227,7 +227,7 @@ impl<'a> Builder<'a> {
         })
     }
 
-    /// The conditions of a register that act at any time.
+    /// The asynchronous conditions of a register.
     fn resets(&mut self, register: &Register) -> Result<[String; 3], AllocError> {
         let reset = self.condition(register.reset)?;
         let set = self.condition(register.set)?;
@@ -235,7 +235,7 @@ impl<'a> Builder<'a> {
         Ok([reset, set, load])
     }
 
-    /// The names that a register with a reset at any time, or without one, is sensitive to.
+    /// The sensitivity list of a register with an asynchronous reset, or without one.
     fn sensitivity(&mut self, register: &Register) -> Result<String, AllocError> {
         let controls = match register.style {
             Style::Plain | Style::Synchronous | Style::SynchronousEnabled => [None, None],
@@ -245,7 +245,7 @@ impl<'a> Builder<'a> {
         self.listed(register.clock, controls)
     }
 
-    /// The names of a clock and of other controls, each once.
+    /// The names of a clock and of other control signals, each once.
     fn listed(
         &mut self,
         clock: Option<Control>,
@@ -261,7 +261,7 @@ impl<'a> Builder<'a> {
         self.joined(&names)
     }
 
-    /// Names with commas between them.
+    /// Names, separated by commas.
     fn joined(&self, names: &IndexSet<String>) -> Result<String, AllocError> {
         let mut list = String::new(self.alloc);
         for name in names.iter() {
@@ -271,7 +271,7 @@ impl<'a> Builder<'a> {
         Ok(list)
     }
 
-    /// An empty process of the registers that are like one.
+    /// An empty process for the registers like this one.
     fn process(
         &mut self,
         register: &Register,
@@ -290,7 +290,7 @@ impl<'a> Builder<'a> {
         })
     }
 
-    /// The place of the process of the registers that are like one.
+    /// The index of the process for the registers like this one.
     fn group(&mut self, register: &Register) -> Result<usize, AllocError> {
         let conditions = self.conditions(register)?;
         let key = key_of(self.alloc, register.style, &conditions)?;
@@ -301,7 +301,7 @@ impl<'a> Builder<'a> {
         Ok(place)
     }
 
-    /// Adds a process, and answers its place.
+    /// Adds a process and returns its index.
     fn add_group(
         &mut self,
         register: &Register,
@@ -314,7 +314,7 @@ impl<'a> Builder<'a> {
         Ok(place)
     }
 
-    /// What a bit that a register stores is, if it is connected.
+    /// The expression of a register's data, if it is connected.
     fn stored(&mut self, bit: Option<Bit>) -> Result<Option<Expression>, AllocError> {
         match bit {
             Some(bit) => Ok(Some(self.operand(bit)?)),
@@ -322,7 +322,7 @@ impl<'a> Builder<'a> {
         }
     }
 
-    /// Takes a register.
+    /// Adds a register.
     fn take_register(&mut self, register: &Register) -> Result<(), AllocError> {
         let is_latch = register.clock.is_none();
         let delay = delay_of(self.delays, if is_latch { "latch" } else { "dff" });
@@ -331,7 +331,7 @@ impl<'a> Builder<'a> {
         self.put_register(register, target.as_str(), delay)
     }
 
-    /// Adds a register to the process of those that are like it.
+    /// Adds a register to the process of those like it.
     fn put_register(
         &mut self,
         register: &Register,
@@ -347,7 +347,7 @@ impl<'a> Builder<'a> {
         }
     }
 
-    /// Takes the cell at a place.
+    /// Adds the cell at an index.
     fn take_cell(&mut self, place: usize) -> Result<(), AllocError> {
         match self.netlist.cells.get(place) {
             Some(Cell::Gate(gate)) => self.take_gate(gate),
@@ -356,7 +356,7 @@ impl<'a> Builder<'a> {
         }
     }
 
-    /// Takes all cells, in an order in which those that stand within others come before these.
+    /// Adds all cells, nested ones first.
     pub(crate) fn take_cells(&mut self) -> Result<(), AllocError> {
         let order = writing_order(self.alloc, self.netlist, self.uses, self.within)?;
         for place in order.iter() {
@@ -374,7 +374,7 @@ impl<'a> Builder<'a> {
     }
 }
 
-/// What the registers have in common that one process has.
+/// What the registers of one process have in common.
 fn key_of(alloc: Global, style: Style, conditions: &Conditions) -> Result<String, AllocError> {
     let style = style as u8;
     let (edge, enable) = (conditions.edge.as_str(), conditions.enable.as_str());
@@ -383,7 +383,7 @@ fn key_of(alloc: Global, style: Style, conditions: &Conditions) -> Result<String
     format!(in alloc; "{style}{edge};{enable};{reset};{set};{load}")
 }
 
-/// Adds what a register does to its process.
+/// Adds the assignments of a register to its process.
 fn fill(
     alloc: Global,
     process: &mut Process,
@@ -403,7 +403,7 @@ fn fill(
     Ok(())
 }
 
-/// Adds the levels that a register is set and reset to.
+/// Adds the set and reset of a register.
 fn fill_levels(
     process: &mut Process,
     register: &Register,

@@ -6,7 +6,7 @@ use std::fmt::Write;
 use vsim_netlist_cells::{Bit, Netlist, Variable};
 use vsim_netlist_expressions::push_all;
 
-/// Adds a bit of a variable: the name of its signal, a literal, or a dash where there is no signal.
+/// Adds a bit of a variable: the name of its signal, a literal, or a dash if there is no signal.
 fn push_bit(text: &mut String, signals: &Signals, bit: Bit) -> Result<(), AllocError> {
     let name = match bit {
         Bit::Constant(level) => level.literal(),
@@ -15,7 +15,7 @@ fn push_bit(text: &mut String, signals: &Signals, bit: Bit) -> Result<(), AllocE
     push_all(text, &[" ", name])
 }
 
-/// Adds a variable: its name, its lowest index, `to` or `downto`, and its bits, the lowest first.
+/// Adds a variable: its name, its lowest index, `to` or `downto`, and its bits, lowest first.
 fn push_variable(
     text: &mut String,
     signals: &Signals,

@@ -1,10 +1,10 @@
-//! Registers as processes: one for all that have the same clock, enable and reset.
+//! Registers as processes: one process for all with the same clock, enable and reset.
 
 use std::alloc::{AllocError, Global};
 use vsim_netlist_cells::Style;
 use vsim_netlist_expressions::push_all;
 
-/// The conditions of a process; those that it has not are empty.
+/// The conditions of a process. Missing ones are empty.
 #[derive(Drop)]
 pub(crate) struct Conditions {
     pub(crate) edge: String,
@@ -14,8 +14,8 @@ pub(crate) struct Conditions {
     pub(crate) load: String,
 }
 
-/// The registers of a process: the names that it is sensitive to, its conditions, and what it
-/// assigns under them.
+/// The registers of a process: its sensitivity list, its conditions, and its assignments under
+/// each.
 #[derive(Drop)]
 pub(crate) struct Process {
     pub(crate) style: Style,
@@ -27,7 +27,7 @@ pub(crate) struct Process {
     pub(crate) data: String,
 }
 
-/// A branch of an `if`: its condition, which is empty for `else`, and what it assigns.
+/// A branch of an `if`: its condition, empty for `else`, and its assignments.
 #[derive(Clone, Copy)]
 struct Branch<'a> {
     condition: &'a str,
@@ -43,7 +43,7 @@ fn push_head(text: &mut String, condition: &str, is_first: bool) -> Result<(), A
     push_all(text, &[word, condition, "then "])
 }
 
-/// Adds an `if` of these branches; those that assign nothing are left out.
+/// Adds an `if` with these branches, without the empty ones.
 fn push_if(text: &mut String, branches: &[Branch<'_>]) -> Result<(), AllocError> {
     let mut is_first = true;
     for branch in branches {
@@ -57,7 +57,7 @@ fn push_if(text: &mut String, branches: &[Branch<'_>]) -> Result<(), AllocError>
     text.push_str("end if;")
 }
 
-/// Two conditions of which both have to hold; one of them where the other is empty.
+/// The conjunction of two conditions, each of which may be empty.
 fn both(alloc: Global, first: &str, second: &str) -> Result<String, AllocError> {
     let mut text = String::from_str(alloc, first)?;
     if !first.is_empty() && !second.is_empty() {
@@ -68,7 +68,7 @@ fn both(alloc: Global, first: &str, second: &str) -> Result<String, AllocError> 
 }
 
 impl Process {
-    /// The conditions and assignments that act at any time, before that of the edge.
+    /// The asynchronous conditions and assignments, before those at the edge.
     fn at_any_time(&self) -> [Branch<'_>; 3] {
         let conditions = &self.conditions;
         [
@@ -87,7 +87,7 @@ impl Process {
         ]
     }
 
-    /// Adds the statements of a process whose reset acts at any time, or which has none.
+    /// Adds the statements of a process with an asynchronous reset, or without one.
     fn push_at_any_time(&self, alloc: Global, text: &mut String) -> Result<(), AllocError> {
         let edge = self.conditions.edge.as_str();
         let condition = both(alloc, edge, self.conditions.enable.as_str())?;
@@ -99,7 +99,7 @@ impl Process {
         push_if(text, &[reset, set, load, data])
     }
 
-    /// Adds the statements of a process whose reset is taken at the edge.
+    /// Adds the statements of a process with a synchronous reset.
     fn push_at_edge(&self, alloc: Global, text: &mut String) -> Result<(), AllocError> {
         let enable = self.conditions.enable.as_str();
         let (outer, inner) = if self.style == Style::SynchronousEnabled {

@@ -5,21 +5,21 @@ use vsim_netlist_cells::{Bit, Level, Netlist, Port};
 use vsim_netlist_expressions::{Names, push_all};
 use vsim_netlist_uses::Uses;
 
-/// A signal: its name, once it has one, and what it begins with.
+/// A signal: its name, once it has one, and its initial value.
 #[derive(Drop)]
 struct Signal {
     name: Option<String>,
     initial: Option<Level>,
 }
 
-/// A constant that is a signal, since it stands where no literal may.
+/// A constant as a signal, for places where a literal is not allowed.
 #[derive(Clone, Copy)]
 struct Constant {
     level: Level,
     place: usize,
 }
 
-/// The signals of a text: one for each net of a netlist, by its place, and more behind them.
+/// The signals of a text: one for each net of a netlist, by its index, then further ones.
 #[derive(Drop)]
 pub(crate) struct Signals {
     alloc: Global,
@@ -28,7 +28,7 @@ pub(crate) struct Signals {
     constants: Vec<Constant>,
 }
 
-/// The initial values for which signals are declared together.
+/// The initial values by which signals are declared together.
 const INITIALS: [(Option<Level>, &str); 5] = [
     (None, ""),
     (Some(Level::Zero), ":='0'"),
@@ -38,7 +38,7 @@ const INITIALS: [(Option<Level>, &str); 5] = [
 ];
 
 impl Signals {
-    /// A signal without a name for each net of a netlist.
+    /// A nameless signal for each net of a netlist.
     pub(crate) fn new(alloc: Global, netlist: &Netlist) -> Result<Signals, AllocError> {
         let mut signals = Vec::new(alloc);
         for net in netlist.nets.iter() {
@@ -67,12 +67,12 @@ impl Signals {
         }
     }
 
-    /// How many signals have names.
+    /// The number of signals with names.
     pub(crate) fn count(&self) -> usize {
         self.signals.iter().filter(|it| it.name.is_some()).count()
     }
 
-    /// Gives a name to a signal that has none.
+    /// Gives a name to a signal without one.
     fn put_name(&mut self, place: usize, name: String) {
         if let Some(signal) = self.signals.get_mut(place) {
             if signal.name.is_none() {
@@ -81,7 +81,7 @@ impl Signals {
         }
     }
 
-    /// Gives a short name to a signal that has none.
+    /// Gives a short name to a signal without one.
     pub(crate) fn ensure(&mut self, place: usize) -> Result<(), AllocError> {
         if self.name(place).is_none() {
             let name = self.names.fresh()?;
@@ -90,20 +90,20 @@ impl Signals {
         Ok(())
     }
 
-    /// A copy of the name of a signal, which is given one where it has none.
+    /// A copy of the name of a signal. A signal without a name gets one.
     pub(crate) fn named(&mut self, place: usize) -> Result<String, AllocError> {
         self.ensure(place)?;
         String::from_str(self.alloc, self.name(place).unwrap_or(""))
     }
 
-    /// A signal begins with a level.
+    /// Sets the initial value of a signal.
     pub(crate) fn begin(&mut self, place: usize, level: Level) {
         if let Some(signal) = self.signals.get_mut(place) {
             signal.initial = Some(level);
         }
     }
 
-    /// A signal more.
+    /// Adds a signal.
     pub(crate) fn add(&mut self, initial: Option<Level>) -> Result<usize, AllocError> {
         let place = self.signals.len();
         let name = Some(self.names.fresh()?);
@@ -111,7 +111,7 @@ impl Signals {
         Ok(place)
     }
 
-    /// The signal that has a level for ever.
+    /// The signal that always has a level.
     pub(crate) fn constant(&mut self, level: Level) -> Result<usize, AllocError> {
         for each in self.constants.iter() {
             if each.level == level {
@@ -123,7 +123,7 @@ impl Signals {
         Ok(place)
     }
 
-    /// A copy of the name of the signal that a bit is.
+    /// A copy of the name of a bit's signal.
     pub(crate) fn of_bit(&mut self, bit: Bit) -> Result<String, AllocError> {
         let place = match bit {
             Bit::Net(place) => place,
@@ -132,7 +132,7 @@ impl Signals {
         self.named(place)
     }
 
-    /// Gives the bits of a port names as the source has them.
+    /// Names the bits of a port as in the source.
     fn name_port(&mut self, port: &Port) -> Result<(), AllocError> {
         let is_vector = port.bits.len() > 1;
         for (index, bit) in port.bits.iter().enumerate() {
@@ -161,7 +161,7 @@ impl Signals {
         self.names.like(indexed.as_str())
     }
 
-    /// Gives the bits of all ports names.
+    /// Names the bits of all ports.
     pub(crate) fn name_ports(&mut self, netlist: &Netlist) -> Result<(), AllocError> {
         for port in netlist.ports.iter() {
             self.name_port(port)?;
@@ -169,7 +169,7 @@ impl Signals {
         Ok(())
     }
 
-    /// Gives names to the nets that are to have them, the shortest to those that are read most.
+    /// Names the nets that need names; the most read ones get the shortest.
     pub(crate) fn name_nets(&mut self, wanted: Vec<(usize, usize)>) -> Result<(), AllocError> {
         let mut wanted = wanted;
         wanted.sort()?;
@@ -179,7 +179,7 @@ impl Signals {
         Ok(())
     }
 
-    /// Adds the declaration of the signals that begin with a level.
+    /// Adds the declaration of the signals with one initial value.
     fn push_declaration(
         &self,
         text: &mut String,
@@ -211,7 +211,7 @@ impl Signals {
     }
 }
 
-/// The nets that have to have names, each behind a number that is the less, the more it is read.
+/// The nets that need names, each with a number that is smaller the more it is read.
 pub(crate) fn wanted(
     alloc: Global,
     uses: &Uses,

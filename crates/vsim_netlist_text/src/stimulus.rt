@@ -8,13 +8,13 @@ use vsim_netlist_expressions::push_all;
 use vsim_netlist_stimuli::{Change, Stimuli, Time};
 use vsim_netlist_uses::Clocks;
 
-/// How many elements a waveform has at the most.
+/// The maximum number of elements of a waveform.
 const ELEMENTS: usize = 16;
 
-/// How many changes a clock has at the least.
+/// The minimum number of changes of a clock.
 const CLOCK_CHANGES: usize = 6;
 
-/// A net that an input drives, and its changes.
+/// A net of an input, and its changes.
 #[derive(Clone, Copy)]
 struct Driven<'a> {
     place: usize,
@@ -23,7 +23,7 @@ struct Driven<'a> {
     half: Option<u64>,
 }
 
-/// Whether a change of a clock is the one with a number.
+/// Whether a change is the one with this number of a clock.
 fn is_edge(change: &Change, first: Level, half: u64, number: usize) -> bool {
     let level = match (first, number % 2) {
         (Level::Zero, 0) | (Level::One, 1) => Level::Zero,
@@ -32,7 +32,7 @@ fn is_edge(change: &Change, first: Level, half: u64, number: usize) -> bool {
     change.level == level && Some(change.time) == half.checked_mul(number as u64)
 }
 
-/// Half the period of a clock, if these are the changes of one that begins at time 0.
+/// Half the period, if these are the changes of a clock that begins at time 0.
 fn half_period(changes: &[Change]) -> Option<u64> {
     let [first, second, ..] = changes else {
         return None;
@@ -51,7 +51,7 @@ fn half_period(changes: &[Change]) -> Option<u64> {
     Some(half)
 }
 
-/// The nets of the inputs, in the order of the bits of stimuli.
+/// The nets of the inputs, in the order of the stimulus bits.
 fn driven_nets<'a>(
     alloc: Global,
     netlist: &Netlist,
@@ -81,7 +81,7 @@ fn one(place: usize, changes: &[Change]) -> Driven<'_> {
     }
 }
 
-/// When the last change of a net is.
+/// The time of the last change of a net.
 fn last(net: &Driven<'_>) -> u64 {
     match net.changes.last() {
         Some(change) => change.time,
@@ -89,7 +89,7 @@ fn last(net: &Driven<'_>) -> u64 {
     }
 }
 
-/// When the last change of any clock is.
+/// The time of the last change of any clock.
 fn last_edge(nets: &[Driven<'_>]) -> u64 {
     let mut latest = 0;
     for net in nets {
@@ -100,7 +100,7 @@ fn last_edge(nets: &[Driven<'_>]) -> u64 {
     latest
 }
 
-/// Takes from the clocks those that end before others do.
+/// Clocks that end before others are not written as clocks.
 fn leave_whole_clocks(nets: &mut Vec<Driven<'_>>, end: u64) {
     for net in nets.iter_mut() {
         if let Some(half) = net.half {
@@ -118,12 +118,11 @@ fn leave_whole_clocks(nets: &mut Vec<Driven<'_>>, end: u64) {
 /// How stimuli are written.
 #[derive(Clone, Copy)]
 pub(crate) struct Manner {
-    /// By how much the inputs that are no clocks change later.
+    /// The hold time of inputs other than clocks, in femtoseconds.
     pub(crate) hold: u64,
 }
 
-/// What is written of stimuli: statements of their own, and those of the process that is executed
-/// once.
+/// The statements of the process that is executed once.
 #[derive(Drop)]
 struct Parts {
     once: String,
@@ -171,7 +170,8 @@ fn push_changes(
     Ok(())
 }
 
-/// A net begins with its first change, if that is at time 0; the changes after it.
+/// The first change of a net is its initial value, if it is at time 0. Returns the changes after
+/// it.
 fn begin<'a>(builder: &mut Builder<'_>, net: &Driven<'a>) -> &'a [Change] {
     match net.changes {
         [first, rest @ ..] if first.time == 0 => {
@@ -182,7 +182,7 @@ fn begin<'a>(builder: &mut Builder<'_>, net: &Driven<'a>) -> &'a [Change] {
     }
 }
 
-/// Writes a clock, which stops where a signal falls.
+/// Writes a clock that stops when a signal falls.
 fn put_clock(
     builder: &mut Builder<'_>,
     net: &Driven<'_>,
@@ -200,14 +200,14 @@ fn put_clock(
     )
 }
 
-/// Writes that a net is another one, a delta cycle later.
+/// Writes that a net follows another one delta cycle later.
 fn put_copy(builder: &mut Builder<'_>, from: &str, place: usize) -> Result<(), AllocError> {
     let to = builder.signals.named(place)?;
     builder.count();
     write!(&mut builder.body, "{to}<={from};\n")
 }
 
-/// The signal that drives a net a delta cycle later.
+/// The signal that a net follows one delta cycle later.
 fn put_relay(builder: &mut Builder<'_>, net: &Driven<'_>) -> Result<String, AllocError> {
     let initial = match net.changes.first() {
         Some(first) if first.time == 0 => Some(first.level),
@@ -219,7 +219,7 @@ fn put_relay(builder: &mut Builder<'_>, net: &Driven<'_>) -> Result<String, Allo
     Ok(from)
 }
 
-/// Writes the changes of an input that is no clock of constant period.
+/// Writes the changes of an input other than a clock of constant period.
 fn put_changes(
     builder: &mut Builder<'_>,
     parts: &mut Parts,
@@ -242,7 +242,7 @@ fn put_changes(
     push_changes(&mut parts.once, target.as_str(), rest, later)
 }
 
-/// Writes what drives the inputs, each as it changes.
+/// Writes the drivers of the inputs.
 fn put_nets(
     builder: &mut Builder<'_>,
     parts: &mut Parts,
@@ -282,7 +282,7 @@ fn put_once(builder: &mut Builder<'_>, parts: &Parts) -> Result<(), AllocError> 
     )
 }
 
-/// Lets the clocks run until a time.
+/// The signal that stops the clocks at a time.
 fn put_run(builder: &mut Builder<'_>, parts: &mut Parts, end: u64) -> Result<usize, AllocError> {
     let running = builder.signals.add(Some(Level::One))?;
     let name = builder.signals.named(running)?;
@@ -310,7 +310,7 @@ pub(crate) fn put_stimuli(
     put_driven(builder, nets.as_slice(), clocks, manner, end)
 }
 
-/// Writes what drives the inputs.
+/// Writes the drivers of the inputs, and the clocks.
 fn put_driven(
     builder: &mut Builder<'_>,
     nets: &[Driven<'_>],

@@ -11,23 +11,23 @@ use vsim_netlist_expressions::{NamedDelay, plain_name, push_all};
 use vsim_netlist_stimuli::Stimuli;
 use vsim_netlist_uses::{Clocks, Uses, all_within, refuse_loops};
 
-/// How many bytes a text of vsim has at the most.
+/// The maximum size of a text of vsim, in bytes.
 const MOST_BYTES: usize = 1_048_576;
 
-/// How many nets, processes and drivers a design of vsim has at the most, each.
+/// The maximum number of nets, of processes and of drivers in a design of vsim.
 const MOST: usize = 65_536;
 
-/// What is to be written.
+/// What to write.
 #[derive(Drop)]
 pub struct Request<'a> {
     pub netlist: &'a Netlist,
     pub stimuli: Option<&'a Stimuli>,
     pub delays: &'a [NamedDelay],
-    /// By how much the inputs that are no clocks change later, in femtoseconds.
+    /// The hold time of inputs other than clocks, in femtoseconds.
     pub hold: u64,
 }
 
-/// A text, its map, and how many clocks come out of gates or registers.
+/// A text, its map, and the number of clocks that gates or registers drive.
 #[derive(Drop)]
 pub struct Written {
     pub text: String,
@@ -35,7 +35,7 @@ pub struct Written {
     pub derived_clocks: usize,
 }
 
-/// Refuses more of something than vsim takes.
+/// Refuses a number above a limit of vsim.
 fn demand(count: usize, most: usize, what: &str, advice: &str) -> Result<()> {
     if most < count {
         bail!("{count} {what}, of which vsim takes {most}: {advice}");
@@ -43,7 +43,7 @@ fn demand(count: usize, most: usize, what: &str, advice: &str) -> Result<()> {
     Ok(())
 }
 
-/// Refuses what is more than vsim takes.
+/// Refuses a text that exceeds a limit of vsim.
 fn demand_limits(builder: &Builder<'_>, bytes: usize) -> Result<()> {
     let smaller = "a smaller part of the design helps";
     demand(
@@ -67,7 +67,7 @@ fn entity_name(alloc: Global, signals: &mut Signals, source: &str) -> Result<Str
     signals.names.like(name.as_str())
 }
 
-/// Adds what stands before the statements.
+/// Adds the part before the statements.
 fn push_head(text: &mut String, name: &str, signals: &Signals) -> Result<(), AllocError> {
     let head = "library ieee;\nuse ieee.std_logic_1164.all;\nentity ";
     let middle = " is end;\narchitecture netlist of ";
@@ -76,7 +76,7 @@ fn push_head(text: &mut String, name: &str, signals: &Signals) -> Result<(), All
     text.push_str("begin\n")
 }
 
-/// The whole text of what was built.
+/// The whole text.
 fn whole(builder: &Builder<'_>, name: &str) -> Result<String, AllocError> {
     let mut text = String::new(builder.alloc);
     push_head(&mut text, name, &builder.signals)?;
@@ -84,7 +84,7 @@ fn whole(builder: &Builder<'_>, name: &str) -> Result<String, AllocError> {
     Ok(text)
 }
 
-/// Gives ports and these nets their names.
+/// Names the ports and these nets.
 fn name_all(
     signals: &mut Signals,
     netlist: &Netlist,
@@ -94,7 +94,7 @@ fn name_all(
     signals.name_nets(wanted)
 }
 
-/// The signals of a netlist, with names for those that are to have one, and the entity's.
+/// The signals of a netlist, with names for those that need one, and the name of the entity.
 fn signals(
     alloc: Global,
     netlist: &Netlist,
@@ -121,7 +121,7 @@ fn build(
     }
 }
 
-/// What was built, in whole.
+/// The finished text and map.
 fn limited(
     builder: &Builder<'_>,
     request: &Request<'_>,
@@ -139,15 +139,14 @@ fn limited(
     })
 }
 
-/// How the nets are used, of a netlist without a loop of wires.
+/// The uses of the nets of a netlist without a loop of wires.
 fn checked_uses(alloc: Global, netlist: &Netlist) -> Result<Uses> {
     let uses = Uses::of(alloc, netlist, false)?;
     refuse_loops(alloc, netlist, &uses)?;
     Ok(uses)
 }
 
-/// How the nets are used, and the clocks; registers may have gates within them where no clock comes
-/// late.
+/// The uses of the nets, and the clocks. Gates may be nested in registers if no clock comes late.
 fn uses(alloc: Global, request: &Request<'_>) -> Result<(Uses, Clocks)> {
     let first = checked_uses(alloc, request.netlist)?;
     let clocks = Clocks::of(alloc, request.netlist, &first)?;
@@ -165,7 +164,7 @@ pub fn write_text(alloc: Global, request: &Request<'_>) -> Result<Written> {
     write_with(alloc, request, &uses, &clocks, within.as_slice())
 }
 
-/// The same, once it is known how the nets are used.
+/// The same, given the uses of the nets.
 fn write_with(
     alloc: Global,
     request: &Request<'_>,
@@ -179,7 +178,7 @@ fn write_with(
     write_built(builder, request, name.as_str(), clocks)
 }
 
-/// The same, once the signals have their names.
+/// The same, given the names of the signals.
 fn write_built(
     builder: Builder<'_>,
     request: &Request<'_>,

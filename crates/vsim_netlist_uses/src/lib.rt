@@ -1,4 +1,4 @@
-//! Which cells of a netlist read and drive its nets: what may stand within what, loops, and clocks.
+//! Which cells of a netlist read and drive its nets: which gates may be nested, loops, and clocks.
 #![tactic(auto)]
 
 mod loops;

@@ -1,11 +1,11 @@
-//! Loops of wires, and the clocks that gates make.
+//! Loops of wires, and clocks driven by gates.
 
 use crate::uses::Uses;
 use anyhow::{Result, anyhow};
 use std::alloc::{AllocError, Global};
 use vsim_netlist_cells::{Bit, Cell, Gate, Netlist, Variable};
 
-/// The net that a buffer passes on to another one.
+/// The net at the input of a buffer.
 fn source(netlist: &Netlist, uses: &Uses, place: usize) -> Option<usize> {
     let net = uses.nets.get(place)?;
     if net.drivers != 1 {
@@ -20,8 +20,8 @@ fn source(netlist: &Netlist, uses: &Uses, place: usize) -> Option<usize> {
     }
 }
 
-/// Whether the buffers before a net lead back to it. Each net that is met is marked, by the number
-/// of the walk that met it first.
+/// Whether the buffers before a net lead back to it. Each net on the way is marked by the number of
+/// the walk that reached it first.
 fn leads_back(netlist: &Netlist, uses: &Uses, marks: &mut Vec<usize>, start: usize) -> bool {
     let walk = start.saturating_add(1);
     let mut at = Some(start);
@@ -46,7 +46,7 @@ fn has(variable: &Variable, place: usize) -> bool {
     variable.bits.iter().any(|bit| *bit == Bit::Net(place))
 }
 
-/// What a loop of wires is refused by.
+/// The refusal of a loop of wires.
 fn refusal(netlist: &Netlist, place: usize) -> anyhow::Error {
     for variable in netlist.variables.iter() {
         if has(variable, place) {
@@ -68,17 +68,17 @@ pub fn refuse_loops(alloc: Global, netlist: &Netlist, uses: &Uses) -> Result<()>
     Ok(())
 }
 
-/// The nets from which clocks come: those of clocks, and those that gates make clocks of.
+/// The nets that clocks depend on: those of clocks, and those from which gates derive clocks.
 #[derive(Drop)]
 pub struct Clocks {
     pub is_before: Vec<bool>,
     left: Vec<usize>,
-    /// How many clocks come out of gates or registers.
+    /// The number of clocks that gates or registers drive.
     pub derived: usize,
 }
 
 impl Clocks {
-    /// A bit is a clock, or before one.
+    /// Notes that a clock depends on a bit.
     fn mark(&mut self, bit: Bit) -> Result<(), AllocError> {
         let Bit::Net(place) = bit else {
             return Ok(());
@@ -93,7 +93,7 @@ impl Clocks {
         Ok(())
     }
 
-    /// These bits are before a clock.
+    /// Notes that a clock depends on these bits.
     fn mark_all(&mut self, bits: &[Bit]) -> Result<(), AllocError> {
         for bit in bits {
             self.mark(*bit)?;
@@ -113,7 +113,7 @@ impl Clocks {
         Ok(())
     }
 
-    /// What is before the clocks, gate by gate.
+    /// Finds what clocks depend on, gate by gate.
     fn mark_gates(&mut self, netlist: &Netlist, uses: &Uses) -> Result<(), AllocError> {
         for _ in 0..uses.nets.len() {
             let Some(place) = self.left.pop() else {

@@ -1,10 +1,10 @@
-//! The order in which gates are written: those that stand within others before these.
+//! The order in which gates are written: nested ones first.
 
 use crate::uses::{Uses, longest_within, may_stand_within};
 use std::alloc::{AllocError, Global};
 use vsim_netlist_cells::{Cell, Netlist};
 
-/// Whether the gate that drives a net may stand within the cell that reads it.
+/// Whether the gate that drives a net may be nested in the cell that reads it.
 fn is_within(netlist: &Netlist, uses: &Uses, place: usize) -> bool {
     let Some(net) = uses.nets.get(place) else {
         return false;
@@ -20,8 +20,7 @@ fn is_within(netlist: &Netlist, uses: &Uses, place: usize) -> bool {
     }
 }
 
-/// Of each net whether its gate may stand within the cell that reads it; none where gates have
-/// delays.
+/// For each net, whether its gate may be nested in the cell that reads it. With delays, none may.
 pub fn all_within(
     alloc: Global,
     netlist: &Netlist,
@@ -35,7 +34,7 @@ pub fn all_within(
     Ok(within)
 }
 
-/// What is left to be written before each cell.
+/// The number of gates to be written before each cell.
 #[derive(Drop)]
 struct Pending {
     counts: Vec<usize>,
@@ -45,7 +44,7 @@ struct Pending {
 }
 
 impl Pending {
-    /// Nothing, for so many cells.
+    /// Nothing, for this number of cells.
     fn new(alloc: Global, cells: usize) -> Result<Pending, AllocError> {
         Ok(Pending {
             counts: vec![in alloc; 0usize; cells]?,
@@ -55,14 +54,14 @@ impl Pending {
         })
     }
 
-    /// A cell waits for one gate more.
+    /// Makes a cell wait for one more gate.
     fn wait(&mut self, cell: usize) {
         if let Some(count) = self.counts.get_mut(cell) {
             *count = count.saturating_add(1);
         }
     }
 
-    /// A cell waits for one gate less, and may be ready.
+    /// A cell waits for one gate fewer, and may become ready.
     fn release(&mut self, cell: usize) -> Result<(), AllocError> {
         let Some(count) = self.counts.get_mut(cell) else {
             return Ok(());
@@ -74,7 +73,7 @@ impl Pending {
         Ok(())
     }
 
-    /// A cell is written next.
+    /// Writes a cell next.
     fn place(&mut self, cell: usize) -> Result<(), AllocError> {
         if let Some(is_placed) = self.is_placed.get_mut(cell) {
             if *is_placed {
@@ -87,7 +86,7 @@ impl Pending {
     }
 }
 
-/// Counts for each cell the gates that may stand within it.
+/// Counts for each cell the gates nested in it.
 fn count(pending: &mut Pending, uses: &Uses, within: &[bool]) {
     for (net, is_within) in uses.nets.iter().zip(within.iter()) {
         if *is_within {
@@ -96,7 +95,7 @@ fn count(pending: &mut Pending, uses: &Uses, within: &[bool]) {
     }
 }
 
-/// Finds the gates that wait for none.
+/// Finds the gates that wait for no other.
 fn find_ready(pending: &mut Pending, netlist: &Netlist) -> Result<(), AllocError> {
     for place in (0..netlist.cells.len()).rev() {
         let is_gate = match netlist.cells.get(place) {
@@ -110,7 +109,7 @@ fn find_ready(pending: &mut Pending, netlist: &Netlist) -> Result<(), AllocError
     Ok(())
 }
 
-/// The cell that waits for a gate.
+/// The cell in which a gate is nested.
 fn waiting(netlist: &Netlist, uses: &Uses, within: &[bool], cell: usize) -> Option<usize> {
     let Some(Cell::Gate(gate)) = netlist.cells.get(cell) else {
         return None;
@@ -125,7 +124,7 @@ fn waiting(netlist: &Netlist, uses: &Uses, within: &[bool], cell: usize) -> Opti
     }
 }
 
-/// Places the gates that are ready, and those that become so.
+/// Places the gates that are ready, and those that become ready.
 fn place_ready(
     pending: &mut Pending,
     netlist: &Netlist,
@@ -144,7 +143,7 @@ fn place_ready(
     Ok(())
 }
 
-/// Places what is left: gates in a loop, and registers.
+/// Places the rest: gates in a loop, and registers.
 fn place_others(pending: &mut Pending, netlist: &Netlist) -> Result<(), AllocError> {
     for cell in 0..netlist.cells.len() {
         pending.place(cell)?;
@@ -152,7 +151,7 @@ fn place_others(pending: &mut Pending, netlist: &Netlist) -> Result<(), AllocErr
     Ok(())
 }
 
-/// What is left before each cell at first.
+/// The number of gates before each cell at first.
 fn first_pending(
     alloc: Global,
     netlist: &Netlist,
@@ -165,7 +164,7 @@ fn first_pending(
     Ok(pending)
 }
 
-/// The order in which cells are written.
+/// The order of the cells.
 pub fn writing_order(
     alloc: Global,
     netlist: &Netlist,

@@ -3,7 +3,7 @@
 use std::alloc::{AllocError, Global};
 use vsim_netlist_cells::{Bit, Cell, Control, Gate, GateCell, Netlist, Register, Style};
 
-/// The cells that read and drive a net: how many, and the last one of each.
+/// The cells that read and drive a net: their number, and the last of each.
 #[derive(Clone, Copy)]
 pub struct Use {
     pub readers: usize,
@@ -11,11 +11,11 @@ pub struct Use {
     pub pin: usize,
     pub drivers: usize,
     pub driver: usize,
-    /// Whether the net has to have a name.
+    /// Whether the net needs a name.
     pub is_kept: bool,
 }
 
-/// A net that nothing reads or drives.
+/// A net that no cell reads or drives.
 const UNUSED: Use = Use {
     readers: 0,
     reader: 0,
@@ -25,10 +25,10 @@ const UNUSED: Use = Use {
     is_kept: false,
 };
 
-/// The longest text of a gate that stands within another one.
+/// The maximum length of a nested gate, in bytes.
 const LONGEST: usize = 160;
 
-/// The same, where it stands there twice.
+/// The same, if it is written twice there.
 const LONGEST_TWICE: usize = 20;
 
 /// How a cell reads its nets.
@@ -38,7 +38,7 @@ pub struct Uses {
 }
 
 impl Uses {
-    /// A pin of a cell reads a bit.
+    /// Notes that a pin of a cell reads a bit.
     fn read(&mut self, bit: Bit, cell: usize, pin: usize) {
         if let Bit::Net(place) = bit {
             if let Some(net) = self.nets.get_mut(place) {
@@ -49,7 +49,7 @@ impl Uses {
         }
     }
 
-    /// A cell drives a net.
+    /// Notes that a cell drives a net.
     fn drive(&mut self, place: usize, cell: usize) {
         if let Some(net) = self.nets.get_mut(place) {
             net.drivers = net.drivers.saturating_add(1);
@@ -57,7 +57,7 @@ impl Uses {
         }
     }
 
-    /// A bit has to have a name, if it is a net.
+    /// Notes that a bit needs a name, if it is a net.
     fn keep(&mut self, bit: Bit) {
         if let Bit::Net(place) = bit {
             if let Some(net) = self.nets.get_mut(place) {
@@ -66,14 +66,14 @@ impl Uses {
         }
     }
 
-    /// These bits have to have names.
+    /// Notes that these bits need names.
     fn keep_all(&mut self, bits: &[Bit]) {
         for bit in bits {
             self.keep(*bit);
         }
     }
 
-    /// A cell is this gate.
+    /// Notes a gate.
     fn take_gate(&mut self, gate: &GateCell, cell: usize) {
         for (pin, bit) in gate.inputs.iter().enumerate() {
             self.read(*bit, cell, pin);
@@ -81,7 +81,7 @@ impl Uses {
         self.drive(gate.output, cell);
     }
 
-    /// A cell is controlled.
+    /// Notes the control of a cell.
     fn take_control(&mut self, control: Option<Control>, cell: usize) {
         if let Some(control) = control {
             self.read(control.bit, cell, 0);
@@ -89,7 +89,7 @@ impl Uses {
         }
     }
 
-    /// A cell stores a bit, which may be that of a gate within it.
+    /// Notes that a cell stores a bit, whose gate may be nested in it.
     fn take_data(&mut self, data: Option<Bit>, cell: usize, may_nest: bool) {
         if let Some(bit) = data {
             self.read(bit, cell, 0);
@@ -99,7 +99,7 @@ impl Uses {
         }
     }
 
-    /// A cell is this register; whether what it stores may stand within it.
+    /// Notes a register, and whether its data may be nested in it.
     fn take_register(&mut self, register: &Register, cell: usize, may_nest: bool) {
         for control in [
             register.clock,
@@ -117,7 +117,7 @@ impl Uses {
         self.keep(Bit::Net(register.output));
     }
 
-    /// The cells of a netlist.
+    /// Notes the cells of a netlist.
     fn take_cells(&mut self, netlist: &Netlist, may_nest: bool) {
         for (place, cell) in netlist.cells.iter().enumerate() {
             match cell {
@@ -127,14 +127,14 @@ impl Uses {
         }
     }
 
-    /// The ports of a netlist.
+    /// Notes the ports of a netlist.
     fn take_ports(&mut self, netlist: &Netlist) {
         for port in netlist.ports.iter() {
             self.keep_all(port.bits.as_slice());
         }
     }
 
-    /// How the nets of a netlist are used; whether what registers store may stand within them.
+    /// The uses of a netlist's nets. The flag says whether data of registers may be nested in them.
     pub fn of(alloc: Global, netlist: &Netlist, may_nest: bool) -> Result<Uses, AllocError> {
         let mut uses = Uses {
             nets: Vec::new(alloc),
@@ -149,7 +149,7 @@ impl Uses {
     }
 }
 
-/// How long the text of a gate may be that stands within another cell, at a pin of it.
+/// The maximum length of a gate nested at a pin of another cell, in bytes.
 pub fn longest_within(cell: &Cell, pin: usize) -> usize {
     let Cell::Gate(gate) = cell else {
         return LONGEST;
@@ -162,7 +162,7 @@ pub fn longest_within(cell: &Cell, pin: usize) -> usize {
     }
 }
 
-/// Whether a cell is a gate that may stand within another one.
+/// Whether a cell is a gate that may be nested.
 pub fn may_stand_within(cell: &Cell) -> bool {
     match cell {
         Cell::Gate(gate) => gate.gate != Gate::Tristate,
