@@ -35,6 +35,7 @@ DESIGNS = {
     "registers": (FOLDER, "hierarchy -top {0}", "cp", []),
     "counter": (FOLDER, SYNTH, "clk", []),
     "sharing": (FOLDER, SHARED, "clk", []),
+    "operands": (FOLDER, SYNTH, "clk", []),
     "uart": (f"{FOLDER}/designs", SYNTH, "clk", []),
     "mul32": (f"{FOLDER}/designs", SYNTH, "clk", []),
     "odd": (f"{FOLDER}/designs", SHARED, "clk", ["--delays", "dff=4ps,latch=2ps,others=1ps", "--hold", "2ps"]),

@@ -22,7 +22,9 @@ import tempfile
 
 TOP = os.path.dirname(os.path.dirname(os.path.realpath(__file__)))
 FOLDER = f"{TOP}/tests/netlists"
-NAMES = ["gates", "tables", "registers", "counter", "sharing"]
+NAMES = ["gates", "tables", "registers", "counter", "sharing", "operands"]
+# the most bytes of a text for each change of an input, where inputs change with the clock
+BYTES = 16
 # how many netlists with another byte are tried
 MUTATED = 100
 SECONDS = 2
@@ -139,6 +141,20 @@ def is_same(programs, name, folder, *words):
     compare(ours, theirs, times)
 
 
+def are_short(program):
+    """Demands that changes of inputs with the clock take few bytes."""
+    given, vcd = read(f"{FOLDER}/operands.json"), f"{FOLDER}/operands.vcd"
+    (_, alone, _), (_, text, _) = (run([program, *words], given) for words in ([], ["--stimuli", vcd]))
+    waves = Waves(read(vcd), "tb.dut")
+    inputs, before, count = {waves.variables[name][0]: waves.variables[name][1] for name in "abc"}, {}, 0
+    for _, code, value in waves.changes:
+        if code in inputs:
+            value = wide(value, inputs[code])
+            count += sum(one != other for one, other in zip(value, before.get(code, value)))
+            before[code] = value
+    demand(len(text) - len(alone) <= BYTES * count, f"{len(text) - len(alone)} bytes for {count} changes")
+
+
 def cell(kind, pins, **more):
     return {"type": kind, "connections": pins, **more}
 
@@ -241,6 +257,7 @@ def main():
         tests = [(f"{name} {' '.join(words)}", lambda name=name, words=words: is_same(programs, name, folder, *words))
                  for name in NAMES for words in ((), ("--delays", "others=10ps"), ("--delays", "others=10ps/20ps,dff=30ps", "--hold", "40ps"))]
         tests += [(row[3], lambda row=row: is_refused(programs[1], folder, *row)) for row in REFUSED]
+        tests.append(("bytes of stimuli", lambda: are_short(programs[1])))
         tests.append(("mutated netlists", lambda: are_mutated_read(programs, 1)))
         sys.exit(tally(tests) != 0)
 

@@ -6,6 +6,8 @@ mod map;
 mod processes;
 mod signals;
 mod stimulus;
+mod table;
+mod tables;
 mod text;
 
 pub use text::{Request, Written, write_text};

@@ -1,6 +1,7 @@
 //! Stimuli as statements.
 
 use crate::builder::Builder;
+use crate::tables::{Clock, Tables, later_changes};
 use std::alloc::{AllocError, Global};
 use std::fmt::Write;
 use vsim_netlist_cells::{Bit, Level, Netlist};
@@ -173,13 +174,12 @@ fn push_changes(
 /// The first change of a net is its initial value, if it is at time 0. Returns the changes after
 /// it.
 fn begin<'a>(builder: &mut Builder<'_>, net: &Driven<'a>) -> &'a [Change] {
-    match net.changes {
-        [first, rest @ ..] if first.time == 0 => {
+    if let Some(first) = net.changes.first() {
+        if first.time == 0 {
             builder.signals.begin(net.place, first.level);
-            rest
         }
-        _ => net.changes,
     }
+    later_changes(net.changes)
 }
 
 /// Writes a clock that stops when a signal falls.
@@ -242,7 +242,69 @@ fn put_changes(
     push_changes(&mut parts.once, target.as_str(), rest, later)
 }
 
-/// Writes the drivers of the inputs.
+/// The clock of the tables: the first one.
+fn first_clock(nets: &[Driven<'_>], end: u64) -> Option<Clock> {
+    for net in nets {
+        if let (Some(half), Some(first)) = (net.half, net.changes.first()) {
+            return Some(Clock {
+                net: net.place,
+                first: first.level,
+                half,
+                end,
+            });
+        }
+    }
+    None
+}
+
+/// Whether a clock depends on a net.
+fn is_clock(clocks: &Clocks, net: &Driven<'_>) -> bool {
+    clocks.is_before.get(net.place).copied() == Some(true)
+}
+
+/// The inputs that may be in a table: those on which no clock depends.
+fn table_inputs<'a>(
+    alloc: Global,
+    nets: &[Driven<'a>],
+    clocks: &Clocks,
+) -> Result<Vec<(usize, &'a [Change])>, AllocError> {
+    let mut inputs = Vec::new(alloc);
+    for net in nets {
+        if net.half.is_none() && !is_clock(clocks, net) {
+            inputs.push((net.place, net.changes))?;
+        }
+    }
+    Ok(inputs)
+}
+
+/// The tables of the inputs that change with the first clock, one delta cycle after its edges;
+/// none if inputs change later.
+fn tables(
+    builder: &Builder<'_>,
+    nets: &[Driven<'_>],
+    clocks: &Clocks,
+    manner: Manner,
+    end: u64,
+) -> Result<Option<Tables>, AllocError> {
+    let Some(clock) = first_clock(nets, end) else {
+        return Ok(None);
+    };
+    if manner.hold != 0 {
+        return Ok(None);
+    }
+    let inputs = table_inputs(builder.alloc, nets, clocks)?;
+    let tables = Tables::of(builder.alloc, clock, inputs.as_slice())?;
+    Ok(Some(tables))
+}
+
+/// Prepares an input whose changes are in a table.
+fn put_in_table(builder: &mut Builder<'_>, net: &Driven<'_>) -> Result<(), AllocError> {
+    let _ = begin(builder, net);
+    builder.drivers = builder.drivers.saturating_add(1);
+    builder.signals.ensure(net.place)
+}
+
+/// Writes the drivers of the inputs that are not in tables.
 fn put_nets(
     builder: &mut Builder<'_>,
     parts: &mut Parts,
@@ -250,15 +312,37 @@ fn put_nets(
     clocks: &Clocks,
     manner: Manner,
     running: Option<usize>,
+    tables: &Option<Tables>,
 ) -> Result<(), AllocError> {
     for net in nets {
-        let is_clock = clocks.is_before.get(net.place).copied() == Some(true);
-        match (net.half, running) {
-            (Some(half), Some(running)) => put_clock(builder, net, half, running)?,
+        let is_clock = is_clock(clocks, net);
+        match (net.half, running, tables) {
+            (Some(half), Some(running), _) => put_clock(builder, net, half, running)?,
+            (_, _, Some(tables)) if !is_clock && tables.has(net.changes) => {
+                put_in_table(builder, net)?;
+            }
             _ => put_changes(builder, parts, net, is_clock, manner)?,
         }
     }
     Ok(())
+}
+
+/// Writes the drivers of the inputs.
+fn put_inputs(
+    builder: &mut Builder<'_>,
+    parts: &mut Parts,
+    nets: &[Driven<'_>],
+    clocks: &Clocks,
+    manner: Manner,
+    running: Option<usize>,
+    end: u64,
+) -> Result<(), AllocError> {
+    let tables = tables(builder, nets, clocks, manner, end)?;
+    put_nets(builder, parts, nets, clocks, manner, running, &tables)?;
+    match &tables {
+        Some(tables) => tables.put(builder),
+        None => Ok(()),
+    }
 }
 
 /// Writes the process that is executed once.
@@ -326,6 +410,6 @@ fn put_driven(
     } else {
         None
     };
-    put_nets(builder, &mut parts, nets, clocks, manner, running)?;
+    put_inputs(builder, &mut parts, nets, clocks, manner, running, end)?;
     put_once(builder, &parts)
 }

@@ -1,0 +1,340 @@
+//! Inputs that change at the edges of a clock, as a process that counts these edges.
+
+ghost use Rattle.std.specs.Prelude.{◌≤◌, length};
+
+use crate::builder::Builder;
+use crate::signals::Signals;
+use std::alloc::{AllocError, Global};
+use std::fmt::Write;
+use vsim_netlist_cells::Level;
+use vsim_netlist_expressions::{Names, push_all};
+
+/// The changes of inputs at the edges of a clock in one direction, by the number of the edge, from
+/// 0.
+#[derive(Drop)]
+pub(crate) struct Table {
+    /// For each change, the number of its edge and its index in `changes`.
+    order: Vec<(usize, usize)>,
+    /// The index of the net that changes, and its value.
+    changes: Vec<(usize, Level)>,
+}
+
+/// A bit of the counter of edges: its variable, and what it stands for.
+#[derive(Drop)]
+struct CounterBit {
+    name: String,
+    weight: usize,
+}
+
+impl Table {
+    /// An empty table.
+    pub(crate) fn new(alloc: Global) -> Table {
+        Table {
+            order: Vec::new(alloc),
+            changes: Vec::new(alloc),
+        }
+    }
+
+    /// Adds a change at the edge with a number.
+    pub(crate) fn push(&mut self, edge: usize, net: usize, level: Level) -> Result<(), AllocError> {
+        self.order.push((edge, self.changes.len()))?;
+        self.changes.push((net, level))?;
+        Ok(())
+    }
+
+    /// Sorts the changes by their edges.
+    pub(crate) fn sort(&mut self) -> Result<(), AllocError> {
+        self.order.sort()?;
+        Ok(())
+    }
+
+    /// Whether a process takes fewer bytes than waveforms: an edge takes some 25, and a change 8
+    /// instead of 18.
+    pub(crate) fn pays(&self) -> bool {
+        let edges = edge_count(self.order.as_slice());
+        !self.order.is_empty() && self.changes.len() >= edges.saturating_mul(3)
+    }
+}
+
+/// The number of different edges in changes that are sorted.
+fn edge_count(order: &[(usize, usize)]) -> usize {
+    let mut count = 0usize;
+    let mut before = None;
+    for (edge, _) in order {
+        if before != Some(*edge) {
+            count = count.saturating_add(1);
+        }
+        before = Some(*edge);
+    }
+    count
+}
+
+/// A counter of this number of edges, highest bit first.
+fn counter(alloc: Global, names: &mut Names, edges: usize) -> Result<Vec<CounterBit>, AllocError> {
+    let mut bits = Vec::new(alloc);
+    let mut weight = highest(edges);
+    for _ in 0..usize::BITS {
+        if weight == 0 {
+            break;
+        }
+        let name = names.fresh()?;
+        bits.push(CounterBit { name, weight })?;
+        weight /= 2;
+    }
+    Ok(bits)
+}
+
+/// The highest power of two that is at most a number; 0 for 0.
+fn highest(number: usize) -> usize {
+    let mut power = 0;
+    let mut left = number;
+    for _ in 0..usize::BITS {
+        if left == 0 {
+            break;
+        }
+        power = if power == 0 {
+            1usize
+        } else {
+            power.saturating_mul(2)
+        };
+        left /= 2;
+    }
+    power
+}
+
+/// Whether a bit is set in a number.
+fn is_set(bit: &CounterBit, number: usize) -> bool {
+    number & bit.weight != 0
+}
+
+/// The number of bits, from the highest, in which two numbers are equal.
+fn equal_bits(bits: &[CounterBit], number: usize, other: usize) -> usize {
+    for (place, bit) in bits.iter().enumerate() {
+        if is_set(bit, number) != is_set(bit, other) {
+            return place;
+        }
+    }
+    bits.len()
+}
+
+/// Adds the condition that a bit is as in a number.
+fn push_test(
+    text: &mut String,
+    word: &str,
+    bit: &CounterBit,
+    number: usize,
+) -> Result<(), AllocError> {
+    let literal = if is_set(bit, number) { "='1'" } else { "='0'" };
+    push_all(text, &[word, bit.name.as_str(), literal])
+}
+
+/// Begins an `if` for each bit of a range.
+fn push_ifs(
+    text: &mut String,
+    bits: &[CounterBit],
+    number: usize,
+    from: usize,
+    to: usize,
+) -> Result<(), AllocError> {
+    for (place, bit) in bits.iter().enumerate() {
+        if from <= place && place < to {
+            push_test(text, "if ", bit, number)?;
+            text.push_str("then ")?;
+        }
+    }
+    Ok(())
+}
+
+/// Begins one `if` for all bits from an index on.
+fn push_last_if(
+    text: &mut String,
+    bits: &[CounterBit],
+    number: usize,
+    from: usize,
+) -> Result<(), AllocError> {
+    let mut word = "if ";
+    for (place, bit) in bits.iter().enumerate() {
+        if from <= place {
+            push_test(text, word, bit, number)?;
+            word = "and ";
+        }
+    }
+    text.push_str("then ")
+}
+
+/// Ends this number of `if` statements.
+fn push_ends(text: &mut String, count: usize) -> Result<(), AllocError> {
+    for _ in 0..count {
+        text.push_str("end if;")?;
+    }
+    Ok(())
+}
+
+/// Adds the assignment of a level.
+fn push_assignment(text: &mut String, name: &str, level: Level) -> Result<(), AllocError> {
+    let value = level.literal();
+    write!(text, "{name}<={value};")
+}
+
+/// Adds the assignments of changes.
+fn push_assignments(
+    text: &mut String,
+    signals: &Signals,
+    table: &Table,
+    order: &[(usize, usize)],
+) -> Result<(), AllocError> {
+    for (_, at) in order {
+        if let Some((net, level)) = table.changes.get(*at) {
+            push_assignment(text, signals.name(*net).unwrap_or(""), *level)?;
+        }
+    }
+    text.push_str("\n")
+}
+
+/// The end of the changes at the same edge as the first of a list.
+fn end_of_edge(order: &[(usize, usize)], edge: usize) -> usize
+    ensures { result ≤ length order.now }
+{
+    for (place, (other, _)) in order.iter().enumerate() {
+        if *other != edge {
+            return place;
+        }
+    }
+    order.len()
+}
+
+/// Adds changes under one `if` for all bits from an index on.
+fn push_tested(
+    text: &mut String,
+    bits: &[CounterBit],
+    signals: &Signals,
+    table: &Table,
+    changes: &[(usize, usize)],
+    number: usize,
+    tested: usize,
+) -> Result<(), AllocError> {
+    if tested >= bits.len() {
+        return push_assignments(text, signals, table, changes);
+    }
+    push_last_if(text, bits, number, tested)?;
+    push_assignments(text, signals, table, changes)?;
+    push_ends(text, 1)
+}
+
+/// Adds the changes at one edge, which is `number`, under the tests of those bits that are not
+/// tested yet. `from` bits have been tested, and `to` are tested for the next edge as well.
+fn push_edge(
+    text: &mut String,
+    bits: &[CounterBit],
+    signals: &Signals,
+    table: &Table,
+    changes: &[(usize, usize)],
+    number: usize,
+    from: usize,
+    to: usize,
+) -> Result<(), AllocError> {
+    push_ifs(text, bits, number, from, to)?;
+    let tested = from.max(to);
+    push_tested(text, bits, signals, table, changes, number, tested)?;
+    push_ends(text, from.saturating_sub(to))
+}
+
+/// Adds the changes of a table, edge by edge. The bits in which an edge is equal to the next one
+/// are tested once for both.
+fn push_edges(
+    text: &mut String,
+    bits: &[CounterBit],
+    signals: &Signals,
+    table: &Table,
+) -> Result<(), AllocError> {
+    let mut rest = table.order.as_slice();
+    let mut from = 0;
+    for _ in 0..table.order.len() {
+        let Some((number, _)) = rest.first() else {
+            break;
+        };
+        let (changes, others) = rest.split_at(end_of_edge(rest, *number));
+        let to = shared(bits, *number, others);
+        if from > 0 {
+            text.push_str("else ")?;
+        }
+        push_edge(text, bits, signals, table, changes, *number, from, to)?;
+        from = to;
+        rest = others;
+    }
+    Ok(())
+}
+
+/// The number of bits to be tested for an edge and the next one together: those in which they are
+/// equal, and the first in which they differ. 0 for the last edge.
+fn shared(bits: &[CounterBit], number: usize, others: &[(usize, usize)]) -> usize {
+    match others.first() {
+        Some((next, _)) => equal_bits(bits, number, *next).saturating_add(1),
+        None => 0,
+    }
+}
+
+/// Adds one to the counter.
+fn push_increment(text: &mut String, bits: &[CounterBit]) -> Result<(), AllocError> {
+    for bit in bits.iter().rev() {
+        let name = bit.name.as_str();
+        push_all(
+            text,
+            &[
+                "if ",
+                name,
+                "='0'then ",
+                name,
+                ":='1';else ",
+                name,
+                ":='0';",
+            ],
+        )?;
+    }
+    push_ends(text, bits.len())
+}
+
+/// Adds the declaration of the counter.
+fn push_declaration(text: &mut String, bits: &[CounterBit]) -> Result<(), AllocError> {
+    let mut before = "variable ";
+    for bit in bits {
+        push_all(text, &[before, bit.name.as_str()])?;
+        before = ",";
+    }
+    text.push_str(":std_logic:='0';")
+}
+
+/// Adds the part of the process before the changes.
+fn push_head(
+    text: &mut String,
+    clock: &str,
+    condition: &str,
+    bits: &[CounterBit],
+) -> Result<(), AllocError> {
+    push_all(text, &["process(", clock, ")"])?;
+    push_declaration(text, bits)?;
+    push_all(text, &["begin if ", condition, "(", clock, ")then\n"])
+}
+
+/// Adds the part of the process after the changes.
+fn push_tail(text: &mut String, bits: &[CounterBit]) -> Result<(), AllocError> {
+    push_increment(text, bits)?;
+    text.push_str("end if;end process;\n")
+}
+
+/// Writes the process of a table. It counts the edges of a clock for which `condition` holds, of
+/// which there are at most `edges`.
+pub(crate) fn put_table(
+    builder: &mut Builder<'_>,
+    table: &Table,
+    clock: &str,
+    condition: &str,
+    edges: usize,
+) -> Result<(), AllocError> {
+    let bits = counter(builder.alloc, &mut builder.signals.names, edges)?;
+    builder.processes = builder.processes.saturating_add(1);
+    let text = &mut builder.body;
+    push_head(text, clock, condition, bits.as_slice())?;
+    push_edges(text, bits.as_slice(), &builder.signals, table)?;
+    push_tail(text, bits.as_slice())
+}
