@@ -5,6 +5,7 @@ use Rattle.sim_run_session.proofs.team.execute_in_shares.Goals as goal
 
 pub returns-in-Ok-clause-same : goal.returns-in-Ok-clause-same
 returns-in-Ok-clause-same g c =
-    let whole : c.in_ok-rest.rest.store ≡ c.args.run =
-    ok_holds c.hand_out.result (λ r. r.0.store ≡ c.args.run) (c.in_ok-rest.rest, c.in_ok-rest.shares) c.in_ok-rest.ensures.value c.hand_out.ensures.store in
+    let whole : c.in_ok-handed_out.handed_out.store ≡ c.args.run =
+    ok_holds c.hand_out.result (λ r. r.0.store ≡ c.args.run) (c.in_ok-handed_out.handed_out, c.in_ok-handed_out.shares)
+    c.in_ok-handed_out.ensures.value c.hand_out.ensures.store in
     c.in-Ok.ensures.same ∙ ap (λ (w : WaveStore). with_deposited w c.in-Ok.run'.simulation.deposited) whole
