@@ -1,5 +1,5 @@
 //! Bytes for a writer, buffered in blocks.
-ghost use Rattle.std.specs.Prelude.{◌≡◌, ◌<◌, ◌≤◌, ◌+◌, ◌++◌, [], ◌==◌, length, true, OnOk, OnErr, flat_map};
+ghost use Rattle.std.specs.Prelude.{◌≡◌, ◌<◌, ◌≤◌, ◌+◌, ◌++◌, [], length, true, OnOk, OnErr, flat_map};
 ghost use Rattle.std.specs.Io.KnownBytes.{Appends};
 ghost use Rattle.sim_run_listing.specs.Listing.{joined, pieces_of};
 ghost use Rattle.sim_run_listing.specs.Writing.{AppendsPart, Gathers};

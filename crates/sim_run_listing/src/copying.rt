@@ -1,10 +1,11 @@
 //! Short texts that are copied without a call.
 ghost use Rattle.std.specs.Prelude.{◌≡◌, ◌+◌, ◌<◌, ◌≤◌, ◌++◌, length, take, drop};
 
-/// The number of bytes that may be written at a place, whatever the text is.
+/// The number of bytes that may be written from a place on, if the text has at most so many. Copies
+/// into a slice of a fixed length need no test when they run.
 pub const WINDOW: usize = 16;
 
-/// Copies the first `N` bytes of a text.
+/// Copies the first `N` bytes of a text, as one array: `copy_from_slice` would compare addresses.
 #[inline(always)]
 pub fn put_chunk<const N: usize>(to: &mut [u8], from: &[u8])
     requires least { N ≤ length from.now }
@@ -54,7 +55,7 @@ pub fn copy_to(to: &mut [u8], start: usize, from: &[u8])
         }
     } else if from.len() <= 8 {
         copy_ends::<4>(&mut to[start..start + WINDOW], from);
-    } else if from.len() <= 16 {
+    } else if from.len() <= WINDOW {
         copy_ends::<8>(&mut to[start..start + WINDOW], from);
     } else {
         to[start..start + from.len()].copy_from_slice(from);

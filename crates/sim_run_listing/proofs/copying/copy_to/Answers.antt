@@ -8,5 +8,5 @@ returns-then-not-is_empty c = in_window c.args.start _ c.args.to.now _ _ (omega 
 pub returns-then-from-le8 : goal.returns-then-from-le8
 returns-then-from-le8 c = in_window c.args.start _ c.args.to.now _ _ (omega arith) c.copy_ends.ensures
 
-pub returns-then-from-le16 : goal.returns-then-from-le16
-returns-then-from-le16 c = in_window c.args.start _ c.args.to.now _ _ (omega arith) c.copy_ends-then-from-le16.ensures
+pub returns-then-from-le-WINDOW : goal.returns-then-from-le-WINDOW
+returns-then-from-le-WINDOW c = in_window c.args.start _ c.args.to.now _ _ (omega arith) c.copy_ends-then-from-le-WINDOW.ensures
