@@ -1,2 +1,4 @@
+pub mod Copies
 pub mod Divided
 pub mod Gathering
+pub mod Heads

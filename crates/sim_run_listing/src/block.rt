@@ -1,20 +1,107 @@
 //! Bytes for a writer, buffered in blocks.
-ghost use Rattle.std.specs.Prelude.{◌≡◌, ◌<◌, ◌++◌, [], OnOk, OnErr, flat_map};
+ghost use Rattle.std.specs.Prelude.{◌≡◌, ◌<◌, ◌≤◌, ◌+◌, ◌++◌, [], length, true, OnOk, OnErr, flat_map};
 ghost use Rattle.std.specs.Io.KnownBytes.{Appends};
-ghost use Rattle.arrayvec.specs.ArrayVec.{array_vec_len};
-ghost use Rattle.sim_run_listing.specs.Listing.{joined};
+ghost use Rattle.sim_run_listing.specs.Listing.{joined, pieces_of};
 ghost use Rattle.sim_run_listing.specs.Writing.{AppendsPart, Gathers};
 
+use crate::copying::{WINDOW, copy_to};
 use crate::error::WriteError;
-use arrayvec::ArrayVec;
+use crate::head::{Head, WIDTH};
 use sim_flat_design::PathPiece;
+use sim_logic::Logic;
 use std::io::Write;
+use std::marker::Model;
 
 /// The number of bytes of a full block.
 pub const SIZE: usize = 8192;
 
 /// The bytes that are buffered for a writer.
-pub type Block = ArrayVec<u8, SIZE>;
+#[derive(Drop)]
+pub struct Block {
+    bytes: [u8; SIZE],
+    len: usize,
+}
+
+impl Model for Block {
+    ghost use Rattle.std.specs.Prelude.{ℕ, List, ◌≤◌, take};
+
+    ghost Value = { List ℕ };
+
+    ghost view = { λ s. take s.len s.bytes };
+
+    ghost invariant = { λ s. s.len ≤ 8192 };
+}
+
+impl Block {
+    /// No bytes.
+    pub fn new() -> Block
+        ensures { result ≡ [] }
+    {
+        Block {
+            bytes: [0; SIZE],
+            len: 0,
+        }
+    }
+
+    /// The bytes.
+    fn as_slice(&self) -> &[u8]
+        ensures { result.now ≡ self.now }
+    {
+        &self.bytes[..self.len]
+    }
+
+    /// How many more bytes it takes.
+    fn room(&self) -> usize
+        ensures { result + length self.now ≡ SIZE }
+    {
+        SIZE - self.len
+    }
+
+    /// Removes the bytes.
+    fn clear(&mut self)
+        ensures { self.new ≡ [] }
+    {
+        self.len = 0;
+    }
+
+    /// Appends bytes that it has room for.
+    fn extend(&mut self, more: &[u8])
+        requires { length self.old + length more.now ≤ SIZE }
+        ensures { self.new ≡ self.old ++ more.now }
+    {
+        let end = self.len + more.len();
+        self.bytes[self.len..end].copy_from_slice(more);
+        self.len = end;
+    }
+
+    /// Whether `gather_line` may write a line with this name.
+    #[inline(always)]
+    pub fn has_room(&self, path: &[u8], simple_name: &[u8]) -> bool
+        ensures { result ≡ true → length self.now + WIDTH + length path.now + length simple_name.now + WINDOW ≤ SIZE }
+    {
+        let beside = WIDTH + path.len() + WINDOW;
+        let room = SIZE - self.len;
+        beside <= room && simple_name.len() <= room - beside
+    }
+
+    /// Buffers a line, without a call for short names.
+    #[inline(always)]
+    pub fn gather_line(&mut self, head: &Head, path: &[u8], simple_name: &[u8], value: Logic)
+        requires { length self.old + WIDTH + length path.now + length simple_name.now + WINDOW ≤ SIZE }
+        ensures { self.new ≡ self.old ++ pieces_of head.now.text (path.now ++ simple_name.now) value }
+    {
+        let at = self.len;
+        let named = at + head.len();
+        head.copy_to(&mut self.bytes, at);
+        copy_to(&mut self.bytes, named, path);
+        copy_to(&mut self.bytes, named + path.len(), simple_name);
+        let end = named + path.len() + simple_name.len();
+        self.bytes[end] = b' ';
+        self.bytes[end + 1] = value.to_byte();
+        self.bytes[end + 2] = b'\n';
+        self.len = end + 3;
+    }
+}
 
 /// Writes all of the bytes, by as many calls as it takes. It stops at a call that fails or writes
 /// nothing.
@@ -33,10 +120,11 @@ pub fn write_whole<W: Write>(out: &mut W, bytes: &[u8]) -> Result<(), WriteError
 }
 
 /// Writes the buffered bytes.
+#[inline(never)]
 pub fn write_out<W: Write>(out: &mut W, block: &mut Block) -> Result<(), WriteError>
-    ensures ok { OnOk result (Appends (W.contents out.old) (W.contents out.new) block.old.items) }
-    ensures empty { OnOk result (block.new.items ≡ []) }
-    ensures part { OnErr result (AppendsPart (W.contents out.old) (W.contents out.new) block.old.items) }
+    ensures ok { OnOk result (Appends (W.contents out.old) (W.contents out.new) block.old) }
+    ensures empty { OnOk result (block.new ≡ []) }
+    ensures part { OnErr result (AppendsPart (W.contents out.old) (W.contents out.new) block.old) }
 {
     write_whole(out, block.as_slice())?;
     block.clear();
@@ -45,11 +133,11 @@ pub fn write_out<W: Write>(out: &mut W, block: &mut Block) -> Result<(), WriteEr
 
 /// Writes a block if it is full, so that there is room in it.
 fn make_room<W: Write>(out: &mut W, block: &mut Block) -> Result<(), WriteError>
-    ensures ok { OnOk result (Gathers (W.contents out.old) block.old.items (W.contents out.new) block.new.items []) }
-    ensures room { OnOk result (array_vec_len block.new < SIZE) }
-    ensures part { OnErr result (AppendsPart (W.contents out.old) (W.contents out.new) block.old.items) }
+    ensures ok { OnOk result (Gathers (W.contents out.old) block.old (W.contents out.new) block.new []) }
+    ensures room { OnOk result (length block.new < SIZE) }
+    ensures part { OnErr result (AppendsPart (W.contents out.old) (W.contents out.new) block.old) }
 {
-    if block.is_full() {
+    if block.room() == 0 {
         write_out(out, block)?;
     }
     Ok(())
@@ -57,14 +145,14 @@ fn make_room<W: Write>(out: &mut W, block: &mut Block) -> Result<(), WriteError>
 
 /// Buffers the bytes, and writes each full block.
 pub fn put<W: Write>(out: &mut W, block: &mut Block, bytes: &[u8]) -> Result<(), WriteError>
-    ensures ok { OnOk result (Gathers (W.contents out.old) block.old.items (W.contents out.new) block.new.items bytes.now) }
-    ensures part { OnErr result (AppendsPart (W.contents out.old) (W.contents out.new) (block.old.items ++ bytes.now)) }
+    ensures ok { OnOk result (Gathers (W.contents out.old) block.old (W.contents out.new) block.new bytes.now) }
+    ensures part { OnErr result (AppendsPart (W.contents out.old) (W.contents out.new) (block.old ++ bytes.now)) }
 {
     let mut rest = bytes;
     while !rest.is_empty() {
         make_room(out, block)?;
-        let (front, back) = rest.split_at(rest.len().min(block.remaining_capacity()));
-        block.try_extend_from_slice(front).unwrap();
+        let (front, back) = rest.split_at(rest.len().min(block.room()));
+        block.extend(front);
         rest = back;
     }
     Ok(())
@@ -72,8 +160,8 @@ pub fn put<W: Write>(out: &mut W, block: &mut Block, bytes: &[u8]) -> Result<(),
 
 /// Buffers the pieces, one after another.
 pub fn put_all<W: Write>(out: &mut W, block: &mut Block, pieces: &[&[u8]]) -> Result<(), WriteError>
-    ensures ok { OnOk result (Gathers (W.contents out.old) block.old.items (W.contents out.new) block.new.items (flat_map (λ p. p.now) pieces.now)) }
-    ensures part { OnErr result (AppendsPart (W.contents out.old) (W.contents out.new) (block.old.items ++ flat_map (λ p. p.now) pieces.now)) }
+    ensures ok { OnOk result (Gathers (W.contents out.old) block.old (W.contents out.new) block.new (flat_map (λ p. p.now) pieces.now)) }
+    ensures part { OnErr result (AppendsPart (W.contents out.old) (W.contents out.new) (block.old ++ flat_map (λ p. p.now) pieces.now)) }
 {
     for piece in pieces {
         put(out, block, piece)?;
@@ -87,8 +175,8 @@ pub fn put_path<W: Write>(
     block: &mut Block,
     pieces: &[PathPiece],
 ) -> Result<(), WriteError>
-    ensures ok { OnOk result (Gathers (W.contents out.old) block.old.items (W.contents out.new) block.new.items (joined pieces.now)) }
-    ensures part { OnErr result (AppendsPart (W.contents out.old) (W.contents out.new) (block.old.items ++ joined pieces.now)) }
+    ensures ok { OnOk result (Gathers (W.contents out.old) block.old (W.contents out.new) block.new (joined pieces.now)) }
+    ensures part { OnErr result (AppendsPart (W.contents out.old) (W.contents out.new) (block.old ++ joined pieces.now)) }
 {
     for piece in pieces {
         put(out, block, piece.as_str().as_bytes())?;

@@ -2,7 +2,9 @@
 #![tactic(auto)]
 
 mod block;
+mod copying;
 mod error;
+mod head;
 mod history;
 mod listing;
 mod named;

@@ -1,67 +1,22 @@
 //! The listing of a run.
-ghost use Rattle.std.specs.Prelude.{◌≡◌, ◌++◌, ◌<◌, ◌≤◌, ◌+◌, length, true, IfSome, OnOk, OnErr, All, map, flat_map, decimal, codes, ℕ};
+ghost use Rattle.std.specs.Prelude.{◌≡◌, ◌++◌, ◌<◌, length, IfSome, OnOk, OnErr, All, map, flat_map, ℕ};
 ghost use Rattle.std.specs.List.{concat};
 ghost use Rattle.std.specs.Io.KnownBytes.{Appends};
-ghost use Rattle.arrayvec.specs.ArrayVec.{array_vec_len};
 ghost use Rattle.sim_logic.specs.declared.logic.Logic as logic;
 ghost use Rattle.sim_store_state.specs.Log.{record_at};
 ghost use Rattle.sim_standard.specs.Histories.{IsHistory, IsNamed, event_count};
 ghost use Rattle.sim_run_listing.specs.Listing.{line_of, pieces_of, lines_of, end_of, listing};
 ghost use Rattle.sim_run_listing.specs.Writing.{AppendsPart, Gathers};
 
-use crate::block::{Block, SIZE, put, put_all, put_path, write_out};
+use crate::block::{Block, put, put_all, put_path, write_out};
 use crate::error::WriteError;
+use crate::head::Head;
 use crate::history::{Change, Records};
 use crate::named::Named;
-use arrayvec::ArrayVec;
 use itoa::Buffer;
 use sim_flat_design::PathPiece;
 use sim_logic::Logic;
 use std::io::Write;
-
-/// The start of each line of a cycle: two numbers.
-type Head = ArrayVec<u8, 96>;
-
-/// The number of bytes of a line after the name.
-const TAIL: usize = 3;
-
-/// `TIME DELTA `.
-fn head_at(time: u64, delta: u64) -> Head
-    ensures { result.items ≡ decimal time ++ codes " " ++ decimal delta ++ codes " " }
-{
-    let mut time_text = Buffer::new();
-    let mut delta_text = Buffer::new();
-    let mut head = Head::new();
-    head.try_extend_from_slice(time_text.format(time).as_bytes())
-        .unwrap();
-    head.push(b' ');
-    head.try_extend_from_slice(delta_text.format(delta).as_bytes())
-        .unwrap();
-    head.push(b' ');
-    head
-}
-
-/// Whether a block has room for a line.
-fn has_room(block: &Block, head: &Head, path: &[u8], simple_name: &[u8]) -> bool
-    ensures { result ≡ true → array_vec_len block.now + array_vec_len head.now + length path.now + length simple_name.now + TAIL ≤ SIZE }
-{
-    let beside = head.len() + path.len() + TAIL;
-    let room = block.remaining_capacity();
-    beside <= room && simple_name.len() <= room - beside
-}
-
-/// Buffers a line in a block that has room for it.
-fn gather_line(block: &mut Block, head: &Head, path: &[u8], simple_name: &[u8], value: Logic)
-    requires { array_vec_len block.old + array_vec_len head.now + length path.now + length simple_name.now + TAIL ≤ SIZE }
-    ensures { block.new.items ≡ block.old.items ++ pieces_of head.now.items (path.now ++ simple_name.now) value }
-{
-    block.try_extend_from_slice(head.as_slice()).unwrap();
-    block.try_extend_from_slice(path).unwrap();
-    block.try_extend_from_slice(simple_name).unwrap();
-    block
-        .try_extend_from_slice(&[b' ', value.to_byte(), b'\n'])
-        .unwrap();
-}
 
 /// Buffers a line, and writes each full block.
 #[inline(never)]
@@ -73,9 +28,9 @@ fn put_pieces<'a, W: Write>(
     simple_name: &'a [u8],
     value: Logic,
 ) -> Result<(), WriteError>
-    ensures ok { OnOk result (Gathers (W.contents out.old) block.old.items (W.contents out.new) block.new.items
+    ensures ok { OnOk result (Gathers (W.contents out.old) block.old (W.contents out.new) block.new
         (pieces_of head.now (path.now ++ simple_name.now) value)) }
-    ensures part { OnErr result (AppendsPart (W.contents out.old) (W.contents out.new) (block.old.items ++
+    ensures part { OnErr result (AppendsPart (W.contents out.old) (W.contents out.new) (block.old ++
         pieces_of head.now (path.now ++ simple_name.now) value)) }
 {
     let tail = [b' ', value.to_byte(), b'\n'];
@@ -91,15 +46,15 @@ fn put_named<W: Write>(
     simple_name: &[u8],
     value: Logic,
 ) -> Result<(), WriteError>
-    ensures ok { OnOk result (Gathers (W.contents out.old) block.old.items (W.contents out.new) block.new.items
-        (pieces_of head.now.items (path.now ++ simple_name.now) value)) }
-    ensures part { OnErr result (AppendsPart (W.contents out.old) (W.contents out.new) (block.old.items ++
-        pieces_of head.now.items (path.now ++ simple_name.now) value)) }
+    ensures ok { OnOk result (Gathers (W.contents out.old) block.old (W.contents out.new) block.new
+        (pieces_of head.now.text (path.now ++ simple_name.now) value)) }
+    ensures part { OnErr result (AppendsPart (W.contents out.old) (W.contents out.new) (block.old ++
+        pieces_of head.now.text (path.now ++ simple_name.now) value)) }
 {
-    if !has_room(block, head, path, simple_name) {
+    if !block.has_room(path, simple_name) {
         return put_pieces(out, block, head.as_slice(), path, simple_name, value);
     }
-    gather_line(block, head, path, simple_name, value);
+    block.gather_line(head, path, simple_name, value);
     Ok(())
 }
 
@@ -123,10 +78,10 @@ fn put_divided<W: Write>(
     simple_name: &[u8],
     value: Logic,
 ) -> Result<(), WriteError>
-    ensures ok { OnOk result (Gathers (W.contents out.old) block.old.items (W.contents out.new) block.new.items
-        (pieces_of head.now.items (concat path.now ++ simple_name.now) value)) }
-    ensures part { OnErr result (AppendsPart (W.contents out.old) (W.contents out.new) (block.old.items ++
-        pieces_of head.now.items (concat path.now ++ simple_name.now) value)) }
+    ensures ok { OnOk result (Gathers (W.contents out.old) block.old (W.contents out.new) block.new
+        (pieces_of head.now.text (concat path.now ++ simple_name.now) value)) }
+    ensures part { OnErr result (AppendsPart (W.contents out.old) (W.contents out.new) (block.old ++
+        pieces_of head.now.text (concat path.now ++ simple_name.now) value)) }
 {
     put(out, block, head.as_slice())?;
     put_path(out, block, path)?;
@@ -143,10 +98,10 @@ fn put_line<N: Named, W: Write>(
     value: Logic,
 ) -> Result<(), WriteError>
     requires { net < length names.now }
-    ensures ok { OnOk result (Gathers (W.contents out.old) block.old.items (W.contents out.new) block.new.items
-        (line_of head.now.items (map N.name_of names.now) (net, value))) }
-    ensures part { OnErr result (AppendsPart (W.contents out.old) (W.contents out.new) (block.old.items ++
-        line_of head.now.items (map N.name_of names.now) (net, value))) }
+    ensures ok { OnOk result (Gathers (W.contents out.old) block.old (W.contents out.new) block.new
+        (line_of head.now.text (map N.name_of names.now) (net, value))) }
+    ensures part { OnErr result (AppendsPart (W.contents out.old) (W.contents out.new) (block.old ++
+        line_of head.now.text (map N.name_of names.now) (net, value))) }
 {
     let (path, simple_name) = names[net].name_pieces();
     match undivided(path) {
@@ -164,10 +119,10 @@ fn put_changes<N: Named, C: Change, W: Write>(
     changes: &[C],
 ) -> Result<(), WriteError>
     requires { All (λ (c : ℕ × logic.Logic). c.0 < length names.now) (map C.change_of changes.now) }
-    ensures ok { OnOk result (Gathers (W.contents out.old) block.old.items (W.contents out.new) block.new.items
-        (flat_map (line_of head.now.items (map N.name_of names.now)) (map C.change_of changes.now))) }
-    ensures part { OnErr result (AppendsPart (W.contents out.old) (W.contents out.new) (block.old.items ++
-        flat_map (line_of head.now.items (map N.name_of names.now)) (map C.change_of changes.now))) }
+    ensures ok { OnOk result (Gathers (W.contents out.old) block.old (W.contents out.new) block.new
+        (flat_map (line_of head.now.text (map N.name_of names.now)) (map C.change_of changes.now))) }
+    ensures part { OnErr result (AppendsPart (W.contents out.old) (W.contents out.new) (block.old ++
+        flat_map (line_of head.now.text (map N.name_of names.now)) (map C.change_of changes.now))) }
 {
     for change in changes {
         let (net, value) = change.to_change();
@@ -181,19 +136,20 @@ fn put_record<N: Named, R: Records, W: Write>(
     out: &mut W,
     block: &mut Block,
     names: &[N],
+    head: &mut Head,
     records: &R,
     number: usize,
 ) -> Result<(), WriteError>
     requires number { number < length (R.contents records.now) }
     requires named { IsNamed (length names.now) (record_at (R.contents records.now) number) }
-    ensures ok { OnOk result (Gathers (W.contents out.old) block.old.items (W.contents out.new) block.new.items
+    ensures ok { OnOk result (Gathers (W.contents out.old) block.old (W.contents out.new) block.new
         (lines_of (map N.name_of names.now) (record_at (R.contents records.now) number))) }
-    ensures part { OnErr result (AppendsPart (W.contents out.old) (W.contents out.new) (block.old.items ++
+    ensures part { OnErr result (AppendsPart (W.contents out.old) (W.contents out.new) (block.old ++
         lines_of (map N.name_of names.now) (record_at (R.contents records.now) number))) }
 {
     let (time, delta) = records.time(number);
-    let head = head_at(time, delta);
-    put_changes(out, block, names, &head, records.changes(number))
+    head.set(time, delta);
+    put_changes(out, block, names, head, records.changes(number))
 }
 
 /// The lines of all cycles.
@@ -204,13 +160,14 @@ fn put_records<N: Named, R: Records, W: Write>(
     records: &R,
 ) -> Result<(), WriteError>
     requires { All (IsNamed (length names.now)) (R.contents records.now) }
-    ensures ok { OnOk result (Gathers (W.contents out.old) block.old.items (W.contents out.new) block.new.items
+    ensures ok { OnOk result (Gathers (W.contents out.old) block.old (W.contents out.new) block.new
         (flat_map (lines_of (map N.name_of names.now)) (R.contents records.now))) }
     ensures part { OnErr result (AppendsPart (W.contents out.old) (W.contents out.new)
-        (block.old.items ++ flat_map (lines_of (map N.name_of names.now)) (R.contents records.now))) }
+        (block.old ++ flat_map (lines_of (map N.name_of names.now)) (R.contents records.now))) }
 {
+    let mut head = Head::new();
     for number in 0..records.len() {
-        put_record(out, block, names, records, number)?;
+        put_record(out, block, names, &mut head, records, number)?;
     }
     Ok(())
 }
@@ -222,8 +179,8 @@ fn put_last<W: Write>(
     cycles: usize,
     events: u64,
 ) -> Result<(), WriteError>
-    ensures ok { OnOk result (Gathers (W.contents out.old) block.old.items (W.contents out.new) block.new.items (end_of cycles events)) }
-    ensures part { OnErr result (AppendsPart (W.contents out.old) (W.contents out.new) (block.old.items ++ end_of cycles events)) }
+    ensures ok { OnOk result (Gathers (W.contents out.old) block.old (W.contents out.new) block.new (end_of cycles events)) }
+    ensures part { OnErr result (AppendsPart (W.contents out.old) (W.contents out.new) (block.old ++ end_of cycles events)) }
 {
     let mut cycles_text = Buffer::new();
     let mut events_text = Buffer::new();

@@ -5,11 +5,11 @@ use Rattle.sim_run_listing.proofs.block.put_all.Goals as goal
 pub returns-in_err-put-clause-part : goal.returns-in_err-put-clause-part
 returns-in_err-put-clause-part g c =
     on_err _ _ (part_fails (λ (p : Bor (List ℕ)). p.now) _ (g.W.Write.contents c.args.out.now) (g.W.Write.contents c.loop-piece.out)
-    (g.W.Write.contents c.put.new.out) c.args.block.now.items c.loop-piece.block.items c.args.pieces.now c.loop-piece.piece-index
+    (g.W.Write.contents c.put.new.out) c.args.block.now c.loop-piece.block c.args.pieces.now c.loop-piece.piece-index
     c.loop-piece-test.true c.loop-piece.invariant c.in_err-put.ensures.part)
 
 pub loop-piece-preserved : goal.loop-piece-preserved
 loop-piece-preserved g c =
     next_part (λ (p : Bor (List ℕ)). p.now) _ (g.W.Write.contents c.args.out.now) (g.W.Write.contents c.loop-piece.out)
-    (g.W.Write.contents c.put.new.out) c.args.block.now.items c.loop-piece.block.items c.put.new.block.items c.args.pieces.now
+    (g.W.Write.contents c.put.new.out) c.args.block.now c.loop-piece.block c.put.new.block c.args.pieces.now
     c.loop-piece.piece-index c.loop-piece-test.true c.loop-piece.invariant c.in_ok-put.ensures.ok
