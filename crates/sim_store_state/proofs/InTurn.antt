@@ -1,13 +1,19 @@
 -- One more process is executed.
-use Rattle.std.proofs.Common.{ℕ, ◌+◌, ◌<◌, ◌≡◌, ◌≢◌, ◌++◌, List, [], ◌∷◌, length, get_or, set, take, refl, ap, sym, ◌∙◌, subst, arith}
+use Rattle.std.proofs.Common.{ℕ, ◌+◌, ◌<◌, ◌≡◌, ◌≢◌, ◌++◌, List, [], ◌∷◌, length, get_or, set, take, ap, sym, ◌∙◌, subst, arith}
 use Rattle.std.proofs.Math.Decide.{dec_lt}
-use Rattle.std.proofs.lemmas.List.{get_or-set_other, length-set}
+use Rattle.std.proofs.lemmas.List.{get_or-set_other, length-set, set-get_or}
+use Rattle.std.specs.Prelude.{Result, IfOk}
+use Rattle.sim_logic.specs.declared.logic.Logic.{Logic}
+use Rattle.sim_flat_design.specs.declared.design.Source.{Source}
 use Rattle.sim_flat_design.specs.Bodies.{Body}
 use Rattle.sim_flat_design.specs.Processes.{Process}
 use Rattle.sim_exec.specs.Jobs.{IsReady}
+use Rattle.sim_flat_design.specs.declared.held.Held.{Held}
+use Rattle.sim_standard.specs.Drivers.{DriverState}
 use Rattle.sim_standard.specs.Processes.{process_at}
 use Rattle.sim_standard.specs.State.{Owned, nothing_owned, owned_at}
-use Rattle.sim_store_state.specs.FlatState.{FlatState}
+use Rattle.sim_store_state.specs.FlatState.{FlatState, held, owned_lists}
+use Rattle.sim_store_state.proofs.Contents.{as_owned, owned-at, owned-set}
 use Rattle.sim_store_state.specs.InTurn.{after_one, AreExecuted, IsOther}
 
 -- after those that have been executed
@@ -51,3 +57,40 @@ pub others-more : (first owned owned' : List Owned) (numbers : List ℕ) (k n : 
 others-more first owned owned' numbers k n own before lt at is p other =
     let apart : p ≢ n = λ e. other k lt (sym at ∙ sym e) in
     ap (λ (w : List Owned). owned_at w p) is ∙ (get_or-set_other owned n p own nothing_owned apart ∙ before p other)
+
+-- ---- what they own, by drivers and variables
+
+-- one process owns other drivers
+pub owned-more : (dss dss' : List (List DriverState)) (vss : List (List Held)) (n : ℕ) → length dss ≡ length vss → dss' ≡ set dss n (get_or dss' n [])
+    → owned_lists dss' vss ≡ set (owned_lists dss vss) n (as_owned (get_or dss' n []) (get_or vss n []))
+owned-more dss dss' vss n long e =
+    ap (λ (w : List (List DriverState)). owned_lists w vss) e
+    ∙ (ap (owned_lists (set dss n (get_or dss' n []))) (sym (set-get_or vss n []))
+    ∙ owned-set dss vss n (get_or dss' n []) (get_or vss n []) long)
+
+pub sized-more : (dss dss' : List (List DriverState)) (n : ℕ) → dss' ≡ set dss n (get_or dss' n []) → length dss' ≡ length dss
+sized-more dss dss' n e = ap length e ∙ length-set dss n (get_or dss' n [])
+
+-- and they still fit its body
+pub fits-more : (time : ℕ) (dss dss' : List (List DriverState)) (vss : List (List Held)) (n : ℕ) → length dss ≡ length vss
+    → dss' ≡ set dss n (get_or dss' n [])
+    → ((body : Body) (vs : List Held) → IsReady body time (as_owned (get_or dss n []) vs) → IsReady body time (as_owned (get_or dss' n []) vs))
+    → (body : Body) → IsReady body time (owned_at (owned_lists dss vss) n) → IsReady body time (owned_at (owned_lists dss' vss) n)
+fits-more time dss dss' vss n long e ready body r =
+    let was : owned_at (owned_lists dss vss) n ≡ as_owned (get_or dss n []) (get_or vss n []) = owned-at dss vss n long in
+    let is : owned_at (owned_lists dss' vss) n ≡ as_owned (get_or dss' n []) (get_or vss n []) =
+    owned-at dss' vss n (sized-more dss dss' n e ∙ long) in
+    subst (IsReady body time) (sym is) (ready body (get_or vss n []) (subst (IsReady body time) was r))
+
+-- the same of the same nets and drivers
+pub executed-as : {E : Type 0} (result : Result ℕ E) (processes : List Process) (time : ℕ) (numbers : List ℕ) (sources : List (List Source))
+    (values values₁ before before₁ : List Logic) (dss dss' : List (List DriverState)) (vss : List (List Held)) (h : FlatState)
+    → values₁ ≡ values → before₁ ≡ before → held sources values before dss vss ≡ h
+    → IfOk result (λ k. AreExecuted processes time (take k numbers) (held sources values₁ before₁ dss vss) (held sources values₁ before₁ dss' vss))
+    → IfOk result (λ k. AreExecuted processes time (take k numbers) h (held sources values before dss' vss))
+executed-as result processes time numbers sources values values₁ before before₁ dss dss' vss h ev eb eh is =
+    subst (λ (g : FlatState). IfOk result (λ k. AreExecuted processes time (take k numbers) g (held sources values before dss' vss))) eh
+    (subst (λ (w : List Logic). IfOk result (λ k. AreExecuted processes time (take k numbers) (held sources values w dss vss)
+    (held sources values w dss' vss))) eb
+    (subst (λ (w : List Logic). IfOk result (λ k. AreExecuted processes time (take k numbers) (held sources w before₁ dss vss)
+    (held sources w before₁ dss' vss))) ev is))

@@ -10,10 +10,12 @@ use Rattle.sim_store_state.specs.FlatState.{FlatState}
 
 -- the state once the process with a number has been executed at a time
 abbrev pub after_one : List Process → ℕ → FlatState → ℕ → FlatState
-after_one processes time h n = record h {
-  owned = slice_set h.owned n
-      (executed (λ (object : ℕ). net_at h.nets (object_net (process_at processes n) object)) time (process_at processes n).body.statements (owned_at h.owned n));
-}
+after_one processes time h n =
+    let process = process_at processes n in
+    record h {
+      owned = slice_set h.owned n
+          (executed (λ (object : ℕ). net_at h.nets (object_net process object)) time process.body.statements (owned_at h.owned n));
+    }
 
 -- The process with a number can be executed at a time, by what it owns.
 pub record IsExecutable (processes : List Process) (time : ℕ) (owned : List Owned) (n : ℕ) : Type 0 where

@@ -119,6 +119,36 @@ pub fn assign_and_tell<N: Nets>(
     now: u64,
     quick: &SingleAssignment,
     number: usize,
+    drivers: &mut RowArray<Driver>,
+    queue: &mut TimeQueue,
+    stale: &mut NumberSet,
+) -> Result<(), AllocError>
+    requires now { now ≤ largest_time }
+    requires at { number < length drivers.old }
+    requires pending { All (λ d. RisesFrom now d.pending) (slice_index_or drivers.old number []) }
+    requires times { AreTimes queue.old stale.old (joined drivers.old) }
+    ensures drivers { drivers.new ≡ slice_set drivers.old number (slice_index_or drivers.new number []) }
+    ensures assigned { spec.AreAssigned (N.look nets.now) now quick.now result (slice_index_or drivers.old number [])
+        (slice_index_or drivers.new number []) }
+    ensures times { AreTimes queue.new stale.new (joined drivers.new) }
+{
+    let (start, end) = drivers.row_bounds(number);
+    let place = quick.driver();
+    if place >= end - start {
+        return Ok(());
+    }
+    let (done, next) = assign_in_rows(nets, now, quick, number, drivers);
+    tell(queue, stale, start + place, next);
+    done
+}
+
+/// The same, with drivers in parts.
+#[inline(always)]
+pub fn assign_in_parts_and_tell<N: Nets>(
+    nets: &N,
+    now: u64,
+    quick: &SingleAssignment,
+    number: usize,
     drivers: &mut DividedRows<Driver>,
     queue: &mut TimeQueue,
     stale: &mut NumberSet,

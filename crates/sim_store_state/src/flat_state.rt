@@ -26,11 +26,12 @@ ghost use Rattle.sim_store_state.specs.Changes.{IsHeld};
 ghost use Rattle.sim_store_state.specs.InTurn.{AreExecuted, IsExecutable, IsOther};
 ghost use Rattle.sim_standard.specs.Records.{changes_from, values_of};
 
-use crate::assignment::assign_and_tell;
+use crate::assignment::assign_in_parts_and_tell;
 use crate::drivers::{
     are_same, bring_up_to_date, copied, forget, mark_stale, take_due, tell_changed,
 };
 use crate::execution::{as_done, execute_in_parts, may_have_changed};
+use crate::in_turn::execute_in_one_part;
 use crate::log::Log;
 use crate::nets::{ByNumber, Seen, SeenBy, are_views, resolve_touched, settle, views_at};
 use crate::start::{connections, first_contents, nothing_pending};
@@ -481,7 +482,7 @@ impl FlatState {
             values: self.values.as_slice(),
             values_before: self.values_before.as_slice(),
         };
-        assign_and_tell(
+        assign_in_parts_and_tell(
             &seen,
             time,
             quick,
@@ -579,14 +580,21 @@ impl FlatState {
         ensures others { (p : ℕ) → IsOther numbers.now p → owned_at self.new.owned p ≡ owned_at self.old.owned p }
         ensures ready { (p : ℕ) (body : body_value) → IsReady body time (owned_at self.old.owned p) → IsReady body time (owned_at self.new.owned p) }
     {
-        for place in 0..numbers.len() {
-            let number = numbers[place];
-            match codes.quick(number) {
-                None => return Ok(place),
-                Some(quick) => self.execute_quick_unless_idle(number, quick, time)?,
-            }
-        }
-        Ok(numbers.len())
+        let seen = ByNumber {
+            values: self.values.as_slice(),
+            values_before: self.values_before.as_slice(),
+        };
+        execute_in_one_part(
+            &seen,
+            processes,
+            numbers,
+            time,
+            codes,
+            &mut self.drivers,
+            &self.variables,
+            &mut self.queue,
+            &mut self.stale,
+        )
     }
 
     /// Appends the changes of the last cycle to a log that has room for them.

@@ -1,4 +1,4 @@
-use Rattle.std.proofs.Common.{ℕ, None, Option, ◌∷◌, [], ◌≡◌, ◌≤◌, length, refl, ap, sym, ◌∙◌, arith}
+use Rattle.std.proofs.Common.{◌∷◌, [], ◌≤◌, length, refl, ap, sym, ◌∙◌, arith}
 use Rattle.std.proofs.lemmas.List.{get_or_past}
 use Rattle.sim_standard.specs.Drivers.{DriverState, next_time}
 use Rattle.sim_standard.specs.State.{no_driver}
