@@ -1,14 +1,15 @@
 -- A body that is a single assignment, and what is known of its driver after it.
 use Rattle.std.proofs.Common.{ℕ, zero, suc, ◌+◌, ◌<◌, ◌≤◌, ◌≡◌, ◌≢◌, eqb, Bool, true, false, List, [], ◌∷◌, length, get_or, set, take, map}
 use Rattle.std.proofs.Common.{if◌then◌else◌, Option, refl, ap, sym, ◌∙◌, subst, arith}
-use Rattle.std.specs.Prelude.{Result, OnOk}
+use Rattle.std.specs.List.{All}
+use Rattle.std.specs.Prelude.{Result, Ok, Err, OnOk}
 use Rattle.std.proofs.Math.Seq.{set_out}
 use Rattle.std.proofs.lemmas.Bool.Decides.{nat_tests}
 use Rattle.std.proofs.lemmas.List.{get_or-set_other, set-get_or}
 use Rattle.std.proofs.lemmas.Result.{on_ok_weaker}
 use Rattle.sim_flat_design.specs.Bodies.{Body}
 use Rattle.sim_exec.specs.Jobs.{IsReady}
-use Rattle.sim_standard.specs.Drivers.{DriverState, next_time}
+use Rattle.sim_standard.specs.Drivers.{DriverState, RisesFrom, next_time}
 use Rattle.sim_standard.specs.State.{Owned, driver_at, no_driver}
 use Rattle.sim_standard.specs.declared.net_view.NetView.{NetView}
 use Rattle.sim_exec_code.specs.declared.quick.SingleAssignment.{SingleAssignment}
@@ -19,7 +20,7 @@ use Rattle.sim_containers.specs.RowArray.{joined}
 use Rattle.sim_containers.specs.Numbers.{is_in}
 use Rattle.sim_containers.specs.Times.{time_of}
 use Rattle.sim_containers.proofs.Divided.{at-set}
-use Rattle.sim_store_state.specs.Assignments.{AreAssigned}
+use Rattle.sim_store_state.specs.Assignments.{AreAssigned, AreAssignedNext}
 use Rattle.sim_store_state.specs.Changes.{AreTimes, time_at}
 use Rattle.sim_store_state.proofs.Telling.{IsAlone, put-back}
 
@@ -29,6 +30,12 @@ pub assigned_as : {E : Type 0} (net net' : ℕ → NetView) (now : ℕ) (q : Sin
 assigned_as net net' now q done old new old' new' en eo ew a =
     subst (λ (f : ℕ → NetView). AreAssigned f now q done old' new') en
     (subst (λ (ds : List DriverState). AreAssigned net now q done ds new') eo (subst (λ (ds : List DriverState). AreAssigned net now q done old ds) ew a))
+
+pub next_as : {E : Type 0} (net : ℕ → NetView) (now : ℕ) (q : SingleAssignment) (done : Result Unit E) (next : Option ℕ) (old new old' new' : List DriverState)
+    → old ≡ old' → new ≡ new' → AreAssignedNext net now q done next old new → AreAssignedNext net now q done next old' new'
+next_as net now q done next old new old' new' eo ew a =
+    subst (λ (ds : List DriverState). AreAssignedNext net now q done next ds new') eo
+    (subst (λ (ds : List DriverState). AreAssignedNext net now q done next old ds) ew a)
 
 -- ---- the time of one driver is put into the queue
 
@@ -56,10 +63,6 @@ pub joined_put : (dss : List (List DriverState)) (n k start number : ℕ) (d : D
     → joined (set dss n (set (get_or dss n []) k d)) ≡ set (joined dss) number d
 joined_put dss n k start number d lt within at is = at-set (record { among = lt; inside = within; counted = omega (arith, at, is) }) d
 
--- if there is no such driver
-pub none_put : (dss : List (List DriverState)) (n k : ℕ) (d : DriverState) → length (get_or dss n []) ≤ k → set dss n (set (get_or dss n []) k d) ≡ dss
-none_put dss n k d le = ap (set dss n) (set_out (get_or dss n []) k d le) ∙ set-get_or dss n []
-
 -- ---- the drivers of one process
 
 set_twice : {A : Type 0} (xs : List A) (n : ℕ) (a b : A) → set (set xs n a) n b ≡ set xs n b
@@ -78,6 +81,20 @@ pub row_back : (dss dss' : List (List DriverState)) (n k place : ℕ) → dss' �
 row_back dss dss' n k place e alone at =
     ap (λ (p : ℕ). set dss' n (set (get_or dss' n []) p (driver_at (get_or dss n []) k))) at
     ∙ (ap (set dss' n) (driver_back (get_or dss n []) (get_or dss' n []) k alone) ∙ put-back dss dss' n (get_or dss' n []) e)
+
+-- if there is no such driver, nothing is done
+pub none_assigned : {E : Type 0} (net : ℕ → NetView) (now : ℕ) (q : SingleAssignment) (done : Result Unit E) (ds : List DriverState) → length ds ≤ q.driver
+    → All (λ (d : DriverState). RisesFrom now d.pending) ds → AreAssigned net now q done ds ds
+none_assigned net now q done ds le rises = record {
+  ok = on_ok done (sym (set_out ds q.driver _ le));
+  pending = rises;
+  values = refl;
+  alone = sym (set_out ds q.driver (driver_at ds q.driver) le);
+}
+  where
+    on_ok : {E : Type 0} {P : Type 0} (r : Result Unit E) → P → OnOk r P
+    on_ok (Ok x) p = p
+    on_ok (Err e) p = tt
 
 -- ---- the process
 

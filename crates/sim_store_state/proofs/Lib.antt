@@ -11,6 +11,7 @@ pub mod Due
 pub mod Putting
 pub mod Telling
 pub mod Assigned
+pub mod InTurn
 pub mod Updating
 pub mod Skips
 pub mod Ranges

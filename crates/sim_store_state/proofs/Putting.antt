@@ -114,6 +114,23 @@ put-keeps {values} {values_before} {driving} {dss} {vss} {sources} {fan_out} {ti
           i.timed.current d m.0 ∙ ap (λ (w : DriverState). next_time (w ∷ [])) (sym m.1 ∙ ap (λ w. driver_at (joined w) d) (sym ed));
     })
 
+-- other drivers with the same values, in as many rows
+pub drivers-keep : {values values_before driving : List Logic} {dss : List (List DriverState)} {vss : List (List Held)}
+    {sources : List (List Source)} {fan_out : List (List ℕ)}
+    {times : List (Option ℕ)} {stale touched : List Bool} → IsHeld values values_before driving dss vss sources fan_out times stale touched
+    → (dss' : List (List DriverState)) (times' : List (Option ℕ)) (stale' : List Bool) → length dss' ≡ length dss
+    → driver_values (joined dss') ≡ driver_values (joined dss) → AreTimes times' stale' (joined dss')
+    → IsHeld values values_before driving dss' vss sources fan_out times' stale' touched
+drivers-keep {dss = dss} {sources = sources} i dss' times' stale' long same timed = record {
+  lists = record { nets = i.lists.nets; owned = long ∙ i.lists.owned };
+  valued = i.valued ∙ sym same;
+  timed = timed;
+  fan_out_count = i.fan_out_count ∙ sym (values-count (joined dss') (joined dss) same);
+  fanned = i.fanned;
+  resolving = i.resolving ∙ same_rows (joined dss) (joined dss') sources (values-each (joined dss) (joined dss') (sym same));
+  touching = i.touching;
+}
+
 -- the queue alone changes, or what is stale
 pub times-keep : {values values_before driving : List Logic} {dss : List (List DriverState)} {vss : List (List Held)} {sources : List (List Source)}
     {fan_out : List (List ℕ)}

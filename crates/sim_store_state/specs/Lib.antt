@@ -6,3 +6,4 @@ pub mod Changes
 pub mod Log
 pub mod Lending
 pub mod SplitState
+pub mod InTurn

@@ -1,9 +1,10 @@
 //! Executes a body that is a single assignment, in place, on its driver in flat lists.
 
-ghost use Rattle.std.specs.Prelude.{◌≡◌, ◌<◌, ◌≤◌, ◌++◌, [], length, take, drop, slice_range, slice_index_or, slice_set};
+ghost use Rattle.std.specs.Prelude.{◌≡◌, ◌<◌, ◌≤◌, ◌++◌, ◌∷◌, [], length, take, drop, slice_range, slice_index_or, slice_set};
 ghost use Rattle.std.specs.List.{All};
 ghost use Rattle.sim_logic.specs.Time.{largest_time};
-ghost use Rattle.sim_standard.specs.Drivers.{RisesFrom, DriverState};
+ghost use Rattle.sim_standard.specs.Drivers.{RisesFrom, next_time};
+ghost use Rattle.sim_standard.specs.State.{driver_at};
 ghost use Rattle.sim_containers.specs.RowArray.{joined};
 ghost use Rattle.sim_store_state.specs.Changes.{AreTimes};
 ghost use Rattle.sim_store_state.specs.Assignments as spec;
@@ -15,7 +16,36 @@ use sim_exec_code::SingleAssignment;
 use sim_wave::Driver;
 use std::alloc::AllocError;
 
-/// Carries out an assignment of a process whose drivers are between these bounds.
+/// The first pending time of the driver at a place, if there is one.
+#[inline(always)]
+fn next_at(drivers: &[Driver], place: usize) -> Option<u64>
+    ensures { result ≡ next_time (driver_at drivers.now place ∷ []) }
+{
+    if place >= drivers.len() {
+        return None;
+    }
+    first_time(&drivers[place])
+}
+
+/// Carries out an assignment on the drivers of its process. Returns also the first pending time of
+/// its driver after that.
+#[inline(always)]
+fn assign_on<N: Nets>(
+    nets: &N,
+    now: u64,
+    quick: &SingleAssignment,
+    drivers: &mut [Driver],
+) -> (Result<(), AllocError>, Option<u64>)
+    requires now { now ≤ largest_time }
+    requires pending { All (λ d. RisesFrom now d.pending) drivers.old }
+    ensures { spec.AreAssignedNext (N.look nets.now) now quick.now result.0 result.1 drivers.old drivers.new }
+{
+    let place = quick.driver();
+    let done = quick.execute(nets, now, drivers);
+    (done, next_at(drivers, place))
+}
+
+/// The same, of a process whose drivers are between these bounds.
 #[inline(always)]
 fn assign_between<N: Nets>(
     nets: &N,
@@ -23,15 +53,15 @@ fn assign_between<N: Nets>(
     quick: &SingleAssignment,
     drivers: &mut [Driver],
     owned: (usize, usize),
-) -> Result<(), AllocError>
+) -> (Result<(), AllocError>, Option<u64>)
     requires now { now ≤ largest_time }
     requires owned { (owned.0 ≤ owned.1) × (owned.1 ≤ length drivers.old) }
     requires pending { All (λ d. RisesFrom now d.pending) (slice_range drivers.old owned.0 owned.1) }
     ensures drivers { drivers.new ≡ take owned.0 drivers.old ++ slice_range drivers.new owned.0 owned.1 ++ drop owned.1 drivers.old }
-    ensures assigned { spec.AreAssigned (N.look nets.now) now quick.now result (slice_range drivers.old owned.0 owned.1)
+    ensures assigned { spec.AreAssignedNext (N.look nets.now) now quick.now result.0 result.1 (slice_range drivers.old owned.0 owned.1)
         (slice_range drivers.new owned.0 owned.1) }
 {
-    quick.execute(nets, now, &mut drivers[owned.0..owned.1])
+    assign_on(nets, now, quick, &mut drivers[owned.0..owned.1])
 }
 
 /// The same, of a process whose drivers are at a place of lists.
@@ -42,12 +72,12 @@ fn assign_in_rows<N: Nets>(
     quick: &SingleAssignment,
     place: usize,
     drivers: &mut RowArray<Driver>,
-) -> Result<(), AllocError>
+) -> (Result<(), AllocError>, Option<u64>)
     requires now { now ≤ largest_time }
     requires drivers { place < length drivers.old }
     requires pending { All (λ d. RisesFrom now d.pending) (slice_index_or drivers.old place []) }
     ensures drivers { drivers.new ≡ slice_set drivers.old place (slice_index_or drivers.new place []) }
-    ensures assigned { spec.AreAssigned (N.look nets.now) now quick.now result (slice_index_or drivers.old place [])
+    ensures assigned { spec.AreAssignedNext (N.look nets.now) now quick.now result.0 result.1 (slice_index_or drivers.old place [])
         (slice_index_or drivers.new place []) }
 {
     let owned = bounds(drivers.starts.as_slice(), place);
@@ -57,18 +87,18 @@ fn assign_in_rows<N: Nets>(
 /// Carries out the assignment of the process with a number. The drivers of each process are at its
 /// number.
 #[inline(always)]
-pub fn assign_in_parts<N: Nets>(
+fn assign_in_parts<N: Nets>(
     nets: &N,
     now: u64,
     quick: &SingleAssignment,
     number: usize,
     drivers: &mut DividedRows<Driver>,
-) -> Result<(), AllocError>
+) -> (Result<(), AllocError>, Option<u64>)
     requires now { now ≤ largest_time }
     requires drivers { number < length drivers.old }
     requires pending { All (λ d. RisesFrom now d.pending) (slice_index_or drivers.old number []) }
     ensures drivers { drivers.new ≡ slice_set drivers.old number (slice_index_or drivers.new number []) }
-    ensures assigned { spec.AreAssigned (N.look nets.now) now quick.now result (slice_index_or drivers.old number [])
+    ensures assigned { spec.AreAssignedNext (N.look nets.now) now quick.now result.0 result.1 (slice_index_or drivers.old number [])
         (slice_index_or drivers.new number []) }
 {
     let owned = place_of(drivers.parts.as_slice(), drivers.each, number);
@@ -81,42 +111,63 @@ pub fn assign_in_parts<N: Nets>(
     )
 }
 
-/// Puts the first pending time of the driver with a number into the queue.
+/// Carries out the assignment of the process with a number, and puts the first pending time of its
+/// driver into the queue. Where the drivers of the process start is looked up once.
 #[inline(always)]
-fn tell_driver(
+pub fn assign_and_tell<N: Nets>(
+    nets: &N,
+    now: u64,
+    quick: &SingleAssignment,
+    number: usize,
+    drivers: &mut RowArray<Driver>,
     queue: &mut TimeQueue,
     stale: &mut NumberSet,
-    drivers: &DividedRows<Driver>,
-    number: usize,
-)
-    requires at { number < length (joined drivers.now) }
-    requires queue { length queue.old ≡ length (joined drivers.now) }
-    requires stale { length stale.old ≡ length (joined drivers.now) }
-    ensures { (driver : DriverState) → AreTimes queue.old stale.old (slice_set (joined drivers.now) number driver)
-        → AreTimes queue.new stale.new (joined drivers.now) }
-{
-    tell(queue, stale, number, first_time(drivers.item(number)));
-}
-
-/// Puts the first pending time of a driver of the process with a number into the queue, in case it
-/// has changed. The times of other drivers stay as they were.
-#[inline(always)]
-pub fn tell_assigned(
-    queue: &mut TimeQueue,
-    stale: &mut NumberSet,
-    drivers: &DividedRows<Driver>,
-    number: usize,
-    place: usize,
-)
-    requires at { number < length drivers.now }
-    requires queue { length queue.old ≡ length (joined drivers.now) }
-    requires stale { length stale.old ≡ length (joined drivers.now) }
-    ensures { (driver : DriverState) → AreTimes queue.old stale.old
-        (joined (slice_set drivers.now number (slice_set (slice_index_or drivers.now number []) place driver)))
-        → AreTimes queue.new stale.new (joined drivers.now) }
+) -> Result<(), AllocError>
+    requires now { now ≤ largest_time }
+    requires at { number < length drivers.old }
+    requires pending { All (λ d. RisesFrom now d.pending) (slice_index_or drivers.old number []) }
+    requires times { AreTimes queue.old stale.old (joined drivers.old) }
+    ensures drivers { drivers.new ≡ slice_set drivers.old number (slice_index_or drivers.new number []) }
+    ensures assigned { spec.AreAssigned (N.look nets.now) now quick.now result (slice_index_or drivers.old number [])
+        (slice_index_or drivers.new number []) }
+    ensures times { AreTimes queue.new stale.new (joined drivers.new) }
 {
     let (start, end) = drivers.row_bounds(number);
-    if place < end - start {
-        tell_driver(queue, stale, drivers, start + place);
+    let place = quick.driver();
+    if place >= end - start {
+        return Ok(());
     }
+    let (done, next) = assign_in_rows(nets, now, quick, number, drivers);
+    tell(queue, stale, start + place, next);
+    done
+}
+
+/// The same, with drivers in parts.
+#[inline(always)]
+pub fn assign_in_parts_and_tell<N: Nets>(
+    nets: &N,
+    now: u64,
+    quick: &SingleAssignment,
+    number: usize,
+    drivers: &mut DividedRows<Driver>,
+    queue: &mut TimeQueue,
+    stale: &mut NumberSet,
+) -> Result<(), AllocError>
+    requires now { now ≤ largest_time }
+    requires at { number < length drivers.old }
+    requires pending { All (λ d. RisesFrom now d.pending) (slice_index_or drivers.old number []) }
+    requires times { AreTimes queue.old stale.old (joined drivers.old) }
+    ensures drivers { drivers.new ≡ slice_set drivers.old number (slice_index_or drivers.new number []) }
+    ensures assigned { spec.AreAssigned (N.look nets.now) now quick.now result (slice_index_or drivers.old number [])
+        (slice_index_or drivers.new number []) }
+    ensures times { AreTimes queue.new stale.new (joined drivers.new) }
+{
+    let (start, end) = drivers.row_bounds(number);
+    let place = quick.driver();
+    if place >= end - start {
+        return Ok(());
+    }
+    let (done, next) = assign_in_parts(nets, now, quick, number, drivers);
+    tell(queue, stale, start + place, next);
+    done
 }

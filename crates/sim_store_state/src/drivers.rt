@@ -49,6 +49,7 @@ pub fn bring_up_to_date(
 }
 
 /// Puts the time of a driver into the queue. If allocation fails, the driver is stale.
+#[inline(always)]
 pub fn tell(queue: &mut TimeQueue, stale: &mut NumberSet, number: usize, time: Option<u64>)
     requires queue { number < length queue.old }
     requires stale { number < length stale.old }

@@ -1,6 +1,6 @@
 //! The state of a design, in flat lists.
 
-ghost use Rattle.std.specs.Prelude.{ℕ, ◌≡◌, ◌↔◌, IsTrue, ◌<◌, ◌≤◌, ◌^◌, ◌++◌, ◌∷◌, [], List, Some, length, map, slice_index_or, slice_set, MatchOption};
+ghost use Rattle.std.specs.Prelude.{ℕ, ◌≡◌, ◌↔◌, IsTrue, ◌<◌, ◌≤◌, ◌^◌, ◌++◌, ◌∷◌, [], List, Some, length, map, take, slice_index_or, slice_set, MatchOption};
 ghost use Rattle.std.specs.Prelude.{IfOk, OnOk, OnErr};
 ghost use Rattle.std.specs.Bool.{Decides};
 ghost use Rattle.std.specs.List.{All};
@@ -23,13 +23,15 @@ ghost use Rattle.sim_standard.specs.Initialization.{first_state};
 ghost use Rattle.sim_standard.specs.Cycle.{updated};
 ghost use Rattle.sim_store_state.specs.FlatState.{flat_state_of, held};
 ghost use Rattle.sim_store_state.specs.Changes.{IsHeld};
+ghost use Rattle.sim_store_state.specs.InTurn.{AreExecuted, IsExecutable, IsOther};
 ghost use Rattle.sim_standard.specs.Records.{changes_from, values_of};
 
-use crate::assignment::{assign_in_parts, tell_assigned};
+use crate::assignment::assign_in_parts_and_tell;
 use crate::drivers::{
     are_same, bring_up_to_date, copied, forget, mark_stale, take_due, tell_changed,
 };
 use crate::execution::{as_done, execute_in_parts, may_have_changed};
+use crate::in_turn::execute_in_one_part;
 use crate::log::Log;
 use crate::nets::{ByNumber, Seen, SeenBy, are_views, resolve_touched, settle, views_at};
 use crate::start::{connections, first_contents, nothing_pending};
@@ -480,15 +482,15 @@ impl FlatState {
             values: self.values.as_slice(),
             values_before: self.values_before.as_slice(),
         };
-        let done = assign_in_parts(&seen, time, quick, number, &mut self.drivers);
-        tell_assigned(
+        assign_in_parts_and_tell(
+            &seen,
+            time,
+            quick,
+            number,
+            &mut self.drivers,
             &mut self.queue,
             &mut self.stale,
-            &self.drivers,
-            number,
-            quick.driver(),
-        );
-        done
+        )
     }
 
     /// Executes the process with a number, whose body is this assignment, in place, unless its edge
@@ -556,6 +558,43 @@ impl FlatState {
             return Ok(());
         }
         self.execute(alloc, number, process, time, codes, frame)
+    }
+
+    /// Executes these processes in order, as long as the body of each is known to be a single
+    /// assignment, and returns how many it has executed. Some may have done nothing, because their
+    /// edge is missing. If allocation fails, an unknown number has been executed, and none must be
+    /// executed again. Only `codes` is read of the processes of the design.
+    pub fn execute_single_assignments(
+        &mut self,
+        processes: &[Process],
+        numbers: &[usize],
+        time: u64,
+        codes: &Codes,
+    ) -> Result<usize, AllocError>
+        requires time { time ≤ largest_time }
+        requires codes { code.AreCodesOf processes.now codes.now }
+        requires each { All (IsExecutable processes.now time self.old.owned) numbers.now }
+        ensures within { IfOk result (λ count. count ≤ length numbers.now) }
+        ensures ok { IfOk result (λ count. AreExecuted processes.now time (take count numbers.now) self.old self.new) }
+        ensures alone { self.new ≡ record self.old { owned = self.new.owned } }
+        ensures others { (p : ℕ) → IsOther numbers.now p → owned_at self.new.owned p ≡ owned_at self.old.owned p }
+        ensures ready { (p : ℕ) (body : body_value) → IsReady body time (owned_at self.old.owned p) → IsReady body time (owned_at self.new.owned p) }
+    {
+        let seen = ByNumber {
+            values: self.values.as_slice(),
+            values_before: self.values_before.as_slice(),
+        };
+        execute_in_one_part(
+            &seen,
+            processes,
+            numbers,
+            time,
+            codes,
+            &mut self.drivers,
+            &self.variables,
+            &mut self.queue,
+            &mut self.stale,
+        )
     }
 
     /// Appends the changes of the last cycle to a log that has room for them.

@@ -5,6 +5,7 @@ mod assignment;
 mod drivers;
 mod execution;
 mod flat_state;
+mod in_turn;
 pub mod laws;
 mod lending;
 mod lists;

@@ -1,7 +1,7 @@
-use Rattle.std.proofs.Common.{ap, sym, refl, ◌∙◌, subst, length}
+use Rattle.std.proofs.Common.{ap, sym, ◌∙◌, subst, length}
 use Rattle.std.specs.List.{All}
 use Rattle.sim_standard.specs.Drivers.{DriverState, RisesFrom}
-use Rattle.sim_store_state.proofs.Assigned.{assigned_as}
+use Rattle.sim_store_state.proofs.Assigned.{next_as}
 use Rattle.sim_store_state.proofs.Placed.{row-old, row-put}
 use Rattle.sim_store_state.proofs.Putting.{values-count}
 use Rattle.sim_store_state.proofs.assignment.assign_in_parts.Goals as goal
@@ -17,7 +17,7 @@ invariant_of-drivers g c =
     let e = c.assign_in_rows.ensures in
     let d = row-put c.drivers.invariant c.drivers.view_is c.place_of-owned.ensures c.as_slice.ensures.value c.as_mut_slice.ensures.value
     c.drivers.inside.parts.len c.index-as_mut_slice-owned.result c.assign_in_rows.new.drivers e.drivers
-    (values-count _ _ e.assigned.values ∙ ap length owned)
+    (values-count _ _ e.assigned.assigned.values ∙ ap length owned)
     c.drivers.inside.parts.ok.0 in
     d.parts
 
@@ -27,7 +27,7 @@ returns-clause-drivers g c =
     let e = c.assign_in_rows.ensures in
     let d = row-put c.drivers.invariant c.drivers.view_is c.place_of-owned.ensures c.as_slice.ensures.value c.as_mut_slice.ensures.value
     c.drivers.inside.parts.len c.index-as_mut_slice-owned.result c.assign_in_rows.new.drivers e.drivers
-    (values-count _ _ e.assigned.values ∙ ap length owned)
+    (values-count _ _ e.assigned.assigned.values ∙ ap length owned)
     c.drivers.inside.parts.ok.0 in
     d.alone
 
@@ -37,7 +37,7 @@ returns-clause-assigned g c =
     let e = c.assign_in_rows.ensures in
     let d = row-put c.drivers.invariant c.drivers.view_is c.place_of-owned.ensures c.as_slice.ensures.value c.as_mut_slice.ensures.value
     c.drivers.inside.parts.len c.index-as_mut_slice-owned.result c.assign_in_rows.new.drivers e.drivers
-    (values-count _ _ e.assigned.values ∙ ap length owned)
+    (values-count _ _ e.assigned.assigned.values ∙ ap length owned)
     c.drivers.inside.parts.ok.0 in
-    let look = g.N.Nets.look c.args.nets.now in
-    assigned_as look look c.args.now c.args.quick.now c.assign_in_rows.result _ _ _ _ refl owned (sym d.there) e.assigned
+    next_as (g.N.Nets.look c.args.nets.now) c.args.now c.args.quick.now c.assign_in_rows.result.0 c.assign_in_rows.result.1 _ _ _ _ owned (sym d.there)
+    e.assigned

@@ -1,6 +1,6 @@
-use Rattle.std.proofs.Common.{ap, sym, refl, length, arith}
+use Rattle.std.proofs.Common.{ap, sym, length, arith}
 use Rattle.sim_containers.proofs.Flat.{count, places_read, lent_back, viewed_again, put_there, put_alone}
-use Rattle.sim_store_state.proofs.Assigned.{assigned_as}
+use Rattle.sim_store_state.proofs.Assigned.{next_as}
 use Rattle.sim_store_state.proofs.assignment.assign_in_rows.Goals as goal
 
 pub bounds-owned-requires : goal.bounds-owned-requires
@@ -34,6 +34,5 @@ returns-clause-assigned g c =
     let i = lent_back c.drivers.invariant c.drivers.view_is c.args.place _ _ c.drivers.inside.flat.len c.assign_between.new.drivers _ _ c.requires.drivers
     c.as_slice.ensures.value c.as_mut_slice.ensures.value
     c.bounds-owned.ensures.start c.bounds-owned.ensures.end c.assign_between.ensures.drivers c.assign_between.auto.drivers c.drivers.inside.flat.ok.0 in
-    let look = g.N.Nets.look c.args.nets.now in
-    assigned_as look look c.args.now c.args.quick.now c.assign_between.result _ _ _ _ refl q.holds
+    next_as (g.N.Nets.look c.args.nets.now) c.args.now c.args.quick.now c.assign_between.result.0 c.assign_between.result.1 _ _ _ _ q.holds
     (sym (put_there c.args.drivers.now c.args.place _ i c.requires.drivers)) c.assign_between.ensures.assigned

@@ -1,62 +1,42 @@
-use Rattle.std.proofs.Common.{ℕ, List, [], ◌≡◌, ap, sym, ◌∙◌, subst, arith, get_or, length, set}
+use Rattle.std.proofs.Common.{ℕ, List, [], ◌≡◌, ap, sym, ◌∙◌, subst, arith, get_or, set}
 use Rattle.std.specs.List.{All}
-use Rattle.std.proofs.lemmas.List.{length-set, set-get_or}
+use Rattle.std.proofs.lemmas.List.{set-get_or}
 use Rattle.sim_standard.specs.Drivers.{DriverState, RisesFrom}
-use Rattle.sim_standard.specs.State.{Owned, driver_at, net_at}
+use Rattle.sim_standard.specs.State.{Owned, net_at}
 use Rattle.sim_logic.specs.declared.logic.Logic.{Logic}
-use Rattle.sim_containers.specs.RowArray.{joined}
-use Rattle.sim_store_state.specs.Changes.{AreTimes}
 use Rattle.sim_store_state.specs.FlatState.{FlatState, views_of}
-use Rattle.sim_store_state.proofs.Assigned.{assigned_as, row_back}
+use Rattle.sim_store_state.proofs.Assigned.{assigned_as}
 use Rattle.sim_store_state.proofs.Contents.{owned-by, owned-count, owned-now, held-set}
-use Rattle.sim_store_state.proofs.Putting.{own-keeps, values-count, values-kept}
+use Rattle.sim_store_state.proofs.Putting.{own-keeps}
 use Rattle.sim_store_state.proofs.flat_state.FlatState.assign.Goals as goal
 
 -- in which one process owns this
 abbrev with_own : FlatState → ℕ → Owned → FlatState
 with_own h n own = record { sources = h.sources; nets = h.nets; owned = set h.owned n own }
 
-pub assign_in_parts-done-requires : goal.assign_in_parts-done-requires
-assign_in_parts-done-requires c = record {
+pub assign_in_parts_and_tell-requires : goal.assign_in_parts_and_tell-requires
+assign_in_parts_and_tell-requires c = record {
   now = c.requires.time;
-  drivers = omega (arith, c.requires.at, owned-count c.self.view_is c.self.invariant.lists);
+  at = omega (arith, c.requires.at, owned-count c.self.view_is c.self.invariant.lists);
   pending = subst (λ (o : Owned). All (λ (d : DriverState). RisesFrom c.args.time d.pending) o.drivers)
       (owned-by c.self.view_is c.self.invariant.lists c.args.number) c.requires.pending;
+  times = c.self.invariant.timed;
 }
-
-pub tell_assigned-requires : goal.tell_assigned-requires
-tell_assigned-requires c =
-    let n = c.args.number in
-    let e = c.assign_in_parts-done in
-    let old = c.self.inside.drivers in
-    let row = get_or e.new.drivers n [] in
-    let count = values-count (joined e.new.drivers) (joined old) (values-kept old e.new.drivers n row e.ensures.drivers e.ensures.assigned.values) in
-    record {
-      at = omega (arith, c.requires.at, owned-count c.self.view_is c.self.invariant.lists, ap length e.ensures.drivers, length-set old n row);
-      queue = c.self.invariant.timed.sized ∙ sym count;
-      stale = c.self.invariant.timed.marked ∙ sym count;
-    }
 
 pub invariant_of-self : goal.invariant_of-self
 invariant_of-self c =
     let n = c.args.number in
-    let e = c.assign_in_parts-done in
-    let old = c.self.inside.drivers in
+    let e = c.assign_in_parts_and_tell in
     let vss = c.self.inside.variables in
-    let k = c.args.quick.now.driver in
-    let row = get_or e.new.drivers n [] in
-    own-keeps c.self.invariant n row (get_or vss n []) e.new.drivers vss c.tell_assigned.new.queue c.tell_assigned.new.stale
-    e.ensures.drivers (sym (set-get_or vss n [])) e.ensures.assigned.values
-    (c.tell_assigned.ensures (driver_at (get_or old n []) k)
-    (subst (λ (dss : List (List DriverState)). AreTimes c.self.inside.queue c.self.inside.stale (joined dss))
-    (sym (row_back old e.new.drivers n k c.driver.result e.ensures.drivers e.ensures.assigned.alone c.driver.ensures)) c.self.invariant.timed))
+    own-keeps c.self.invariant n (get_or e.new.drivers n []) (get_or vss n []) e.new.drivers vss e.new.queue e.new.stale
+    e.ensures.drivers (sym (set-get_or vss n [])) e.ensures.assigned.values e.ensures.times
 
 pub returns : goal.returns
 returns c =
     let n = c.args.number in
     let s = c.self.inside in
     let h = c.args.self.now in
-    let e = c.assign_in_parts-done in
+    let e = c.assign_in_parts_and_tell in
     let row = get_or e.new.drivers n [] in
     let vs = get_or s.variables n [] in
     let kept = sym (set-get_or s.variables n []) in

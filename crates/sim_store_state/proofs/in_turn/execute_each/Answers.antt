@@ -1,0 +1,116 @@
+use Rattle.std.proofs.Common.{ℕ, List, [], ◌<◌, ◌≡◌, length, get_or, set, take, refl, ap, sym, ◌∙◌, subst, arith}
+use Rattle.std.specs.List.{All}
+use Rattle.std.proofs.lemmas.List.{take_more}
+use Rattle.sim_standard.specs.Drivers.{DriverState, RisesFrom}
+use Rattle.sim_standard.specs.Processes.{process_at}
+use Rattle.sim_standard.specs.State.{Owned, net_at, owned_at}
+use Rattle.sim_standard.specs.Statements.{executed}
+use Rattle.sim_exec_code.specs.Quick.{quick_executed}
+use Rattle.sim_store_state.specs.FlatState.{held, owned_lists, views_of}
+use Rattle.sim_store_state.specs.InTurn.{after_one, AreExecuted}
+use Rattle.sim_store_state.proofs.Contents.{as_owned, length-owned, owned-at, seen}
+use Rattle.sim_store_state.proofs.InTurn.{executed-more, fits-more, others-more, owned-more, ready-more, sized-more}
+use Rattle.sim_store_state.proofs.Putting.{values-kept}
+use Rattle.sim_store_state.proofs.in_turn.execute_each.Goals as goal
+
+pub execute_one-requires : goal.execute_one-requires
+execute_one-requires c =
+    let place = c.loop-place.place in
+    let n = get_or c.args.numbers.now place 0 in
+    let i = c.loop-place.invariant in
+    let vss = c.args.variables.now in
+    let lt : place < length c.args.numbers.now = omega (arith, c.loop-place-test.true) in
+    let here = c.requires.each place 0 lt in
+    let long : length c.loop-place.drivers ≡ length vss = i.sized ∙ c.requires.owned in
+    let ready = i.ready n (process_at c.args.processes.now n).body here.ready in
+    record {
+      now = c.requires.now;
+      at = omega (arith, here.owns, length-owned c.args.drivers.now vss c.requires.owned, i.sized);
+      pending = subst (λ (o : Owned). All (λ (d : DriverState). RisesFrom c.args.now d.pending) o.drivers) (owned-at c.loop-place.drivers vss n long)
+          ready.pending;
+      times = i.times;
+    }
+
+pub returns-in_err-execute_one-in-Some-clause-others : goal.returns-in_err-execute_one-in-Some-clause-others
+returns-in_err-execute_one-in-Some-clause-others c =
+    let place = c.loop-place.place in
+    let numbers = c.args.numbers.now in
+    let n = get_or numbers place 0 in
+    let vss = c.args.variables.now in
+    let mid = c.loop-place.drivers in
+    let new = c.execute_one.new.drivers in
+    let i = c.loop-place.invariant in
+    let lt : place < length numbers = omega (arith, c.loop-place-test.true) in
+    others-more (owned_lists c.args.drivers.now vss) (owned_lists mid vss) (owned_lists new vss) numbers place n
+    (as_owned (get_or new n []) (get_or vss n [])) i.others lt refl (owned-more mid new vss n (i.sized ∙ c.requires.owned) c.execute_one.ensures.drivers)
+
+pub returns-in_err-execute_one-in-Some-clause-ready : goal.returns-in_err-execute_one-in-Some-clause-ready
+returns-in_err-execute_one-in-Some-clause-ready c =
+    let n = get_or c.args.numbers.now c.loop-place.place 0 in
+    let vss = c.args.variables.now in
+    let mid = c.loop-place.drivers in
+    let new = c.execute_one.new.drivers in
+    let i = c.loop-place.invariant in
+    let e = c.execute_one.ensures in
+    let long = i.sized ∙ c.requires.owned in
+    ready-more c.args.now (owned_lists c.args.drivers.now vss) (owned_lists mid vss) (owned_lists new vss) n
+    (as_owned (get_or new n []) (get_or vss n [])) i.ready (owned-more mid new vss n long e.drivers)
+    (fits-more c.args.now mid new vss n long e.drivers e.ready)
+
+pub returns-in_err-execute_one-in-Some-clause-values : goal.returns-in_err-execute_one-in-Some-clause-values
+returns-in_err-execute_one-in-Some-clause-values c =
+    let n = get_or c.args.numbers.now c.loop-place.place 0 in
+    let new = c.execute_one.new.drivers in
+    values-kept c.loop-place.drivers new n (get_or new n []) c.execute_one.ensures.drivers c.execute_one.ensures.values ∙ c.loop-place.invariant.values
+
+pub loop-place-preserved : goal.loop-place-preserved
+loop-place-preserved c =
+    let place = c.loop-place.place in
+    let numbers = c.args.numbers.now in
+    let n = get_or numbers place 0 in
+    let time = c.args.now in
+    let processes = c.args.processes.now in
+    let process = process_at processes n in
+    let values = c.args.nets.now.values.now in
+    let before = c.args.nets.now.values_before.now in
+    let views = views_of values before in
+    let vss = c.args.variables.now in
+    let vs = get_or vss n [] in
+    let old = c.args.drivers.now in
+    let mid = c.loop-place.drivers in
+    let new = c.execute_one.new.drivers in
+    let row' = get_or new n [] in
+    let own = as_owned (get_or mid n []) vs in
+    let own' = as_owned row' vs in
+    let i = c.loop-place.invariant in
+    let e = c.execute_one.ensures in
+    let lt : place < length numbers = omega (arith, c.loop-place-test.true) in
+    let here = c.requires.each place 0 lt in
+    let long : length mid ≡ length vss = i.sized ∙ c.requires.owned in
+    let sized = sized-more mid new n e.drivers in
+    let was : owned_at (owned_lists mid vss) n ≡ own = owned-at mid vss n long in
+    let fits = i.ready n process.body here.ready in
+    let owned = owned-more mid new vss n long e.drivers in
+    let known = rw c.in-Some.is at c.quick.ensures in
+    let does = known (net_at views) process.body process.nets time (owned_at (owned_lists mid vss) n) (c.requires.codes.codes_are n)
+    (c.requires.codes.nets_are n here.number) fits.variables in
+    let left : own' ≡ executed (seen views process.nets) time process.body.statements (owned_at (owned_lists mid vss) n) =
+    c.in_ok-execute_one-in-Some.ensures.ok vs
+    ∙ (ap (λ (o : Owned). quick_executed (net_at views) time c.in-Some.quick.now o) (sym was) ∙ sym does) in
+    let stays = ready-more time (owned_lists old vss) (owned_lists mid vss) (owned_lists new vss) n own' i.ready owned
+    (fits-more time mid new vss n long e.drivers e.ready) in
+    record {
+      executed = λ sources.
+          let h = held sources values before mid vss in
+          let h' = held sources values before new vss in
+          let next : h' ≡ after_one processes time h n =
+          ap (λ (os : List Owned). record { sources = sources; nets = views; owned = os }) (owned ∙ ap (set (owned_lists mid vss) n) left) in
+          subst (λ (l : List ℕ). AreExecuted processes time l (held sources values before old vss) h') (sym (take_more numbers place 0 lt))
+          (executed-more processes time (take place numbers) n (held sources values before old vss) h h' (i.executed sources) next
+          (fits-more time mid new vss n long e.drivers e.ready process.body fits));
+      sized = sized ∙ i.sized;
+      others = others-more (owned_lists old vss) (owned_lists mid vss) (owned_lists new vss) numbers place n own' i.others lt refl owned;
+      ready = stays;
+      values = values-kept mid new n row' e.drivers e.values ∙ i.values;
+      times = e.times;
+    }
