@@ -7,4 +7,5 @@ pub mod Readiness
 pub mod Boxes
 pub mod Walks
 pub mod Along
+pub mod Listed
 pub mod Crossing
