@@ -1,10 +1,7 @@
 -- A run of any design, given the design's behaviour.
-use Rattle.std.specs.Prelude.{◌≡◌, ◌⊎◌, ◌+◌, ◌-◌, ◌*◌, ℕ, List, Option, Some, None}
+use Rattle.std.specs.Prelude.{◌≡◌, ◌⊎◌, ℕ, List, Option}
 use Rattle.sim_flat_design.specs.Designs.{Design}
 use Rattle.sim_store.specs.WaveStore.{WaveStore}
-use Rattle.sim_store_simulation.specs.declared.phase.Phase.{Phase}
-use Rattle.sim_store_simulation.specs.declared.phase.Phase.TheVariants as phase
-use Rattle.sim_store.specs.declared.store.Step.{Step}
 use Rattle.std.specs.Io.KnownBytes.{Appends}
 use Rattle.sim_standard.specs.Behaviour.{Behaviour, behaviour_of}
 use Rattle.sim_standard.specs.Histories.{History}
@@ -66,22 +63,3 @@ pub record IsRunOf (design : Design) (options : Options) (run : WaveStore) : Typ
   pub of : run.simulation.design ≡ design
   pub stop : run.stop ≡ options.stop
   pub limit : run.limit ≡ options.limit
-
--- These are stores of runs of the same design with the same options.
-pub record IsSameRun (run other : WaveStore) : Type 0 where
-  pub design : other.simulation.design ≡ run.simulation.design
-  pub stop : other.stop ≡ run.stop
-  pub limit : other.limit ≡ run.limit
-
--- the most phases of a cycle that are left
-abbrev pub phases_left : Phase → ℕ
-phases_left phase.AtOnce = 2
-phases_left phase.Postponed = 1
-
--- the most steps that are left: two phases for each cycle up to the limit
-abbrev pub steps_from : ℕ → ℕ → Phase → Option Step → ℕ
-steps_from limit cycles f None = 2 * (limit - cycles) + phases_left f
-steps_from limit cycles f (Some s) = 0
-
-abbrev pub steps_left : WaveStore → ℕ
-steps_left run = steps_from run.limit run.simulation.cycles run.simulation.phase run.ended

@@ -1,5 +1,5 @@
 //! A whole run of a design: on the calling thread, or by a team of threads.
-ghost use Rattle.std.specs.Prelude.{◌≡◌, ◌≢◌, ◌<◌, ◌≤◌, ◌⊎◌, None, IfOk, IfErr, IfSome, OnOk, OnErr};
+ghost use Rattle.std.specs.Prelude.{◌≡◌, ◌≢◌, ◌≤◌, ◌⊎◌, None, IfOk, IfErr, IfSome, OnOk, OnErr};
 ghost use Rattle.std.specs.Io.KnownBytes.{Appends};
 ghost use Rattle.sim_run_listing.specs.Listing.{listing};
 ghost use Rattle.sim_run_listing.specs.Writing.{AppendsPart};
@@ -7,7 +7,7 @@ ghost use Rattle.sim_logic.specs.Time.{largest_time};
 ghost use Rattle.sim_standard.specs.Behaviour.{behaviour_of};
 ghost use Rattle.sim_store.specs.WaveStore as store;
 ghost use Rattle.sim_run_session.specs.declared.error.RunError.TheVariants as refusal;
-ghost use Rattle.sim_run_session.specs.Run.{Finishes, IsCut, IsRefusalAlone, IsRunOf, IsSameRun, history_of, steps_left};
+ghost use Rattle.sim_run_session.specs.Run.{Finishes, IsCut, IsRefusalAlone, IsRunOf, history_of};
 
 use crate::error::RunError;
 use crate::team::carry_to_end;
@@ -20,22 +20,6 @@ use std::alloc::Global;
 use std::io::Write;
 use std::sync::Wait;
 use std::thread::Threads;
-
-/// Carries out one phase of a cycle: executes all processes that are due, in place and in
-/// ascending order, and goes on.
-fn go_on(alloc: Global, run: WaveStore) -> Result<WaveStore, RunError>
-    requires { store.IsOpen run }
-    ensures bounds { IfOk result (IsSameRun run) }
-    ensures on { IfOk result (λ r. steps_left r < steps_left run) }
-    ensures err { IfErr result (λ e. e ≡ refusal.Memory) }
-{
-    let mut run = run.execute_due(alloc)?;
-    match run.advance(alloc) {
-        Ok(_step) => Ok(run),
-        // All that are due were executed and the run has not ended, so memory ran out.
-        Err(_refusal) => Err(RunError::Memory),
-    }
-}
 
 /// The store of a design at the start of its run.
 pub fn begun_run(alloc: Global, design: Design, options: &Options) -> Result<WaveStore, RunError>
@@ -57,11 +41,12 @@ fn run_in_place(alloc: Global, design: Design, options: &Options) -> Result<Wave
     ensures ok { IfOk result (λ run. IsRunOf design options.now run × (run.ended ≢ None)) }
     ensures err { IfErr result (λ e. e ≡ refusal.Memory) }
 {
-    let mut run = begun_run(alloc, design, options)?;
-    while run.ended().is_none() {
-        run = go_on(alloc, run)?;
+    let run = begun_run(alloc, design, options)?;
+    match run.run_to_end(alloc) {
+        Ok(run) => Ok(run),
+        // It refuses only because memory ran out.
+        Err(_refusal) => Err(RunError::Memory),
     }
-    Ok(run)
 }
 
 /// The store of a run that has ended, if it is finished.

@@ -5,7 +5,7 @@ ghost use Rattle.std.specs.Prelude.{◌≡◌, ◌≢◌, None, IfSome};
 ghost use Rattle.sim_store.specs.Handing as hands;
 ghost use Rattle.sim_store_simulation.specs.Simulation as simulations;
 ghost use Rattle.sim_store.specs.WaveStore as store;
-ghost use Rattle.sim_run_session.specs.Run.{IsSameRun};
+ghost use Rattle.sim_store.specs.WaveStore.{IsSameRun};
 
 use sim_run_team::{Bell, Hints, Team, Work, pair};
 use sim_store::{Answer, DesignType, Order, WaveStore};

@@ -117,6 +117,9 @@ module _ (d : Design) (f : PhaseInput) (k : RetainedContents) (is : IsRetained d
       k.waiting.waiting
   i = is.holds.state
 
+  sized-now : (marks : List Bool) → length marks ≡ length k.deposited → length marks ≡ length (retained_of d f k).deposited
+  sized-now marks sized = sized ∙ (is.holds.marks_sized ∙ sym i.sized)
+
   -- no driver has another value
   same-values : (p : ℕ) → p < length (reached (retained_of d f k)).owned → (b : Bool) → is_due (retained_of d f k) p ≡ b
       → driver_values (owned_at owned' p).drivers ≡ driver_values (owned_at (reached (retained_of d f k)).owned p).drivers
@@ -137,7 +140,7 @@ module _ (d : Design) (f : PhaseInput) (k : RetainedContents) (is : IsRetained d
       → HaveValues marks owned' (reached (retained_of d f k)).owned
   whole-values marks sized same = record {
     count = all ∙ sym (reached-all i);
-    sized = sized ∙ (i.sized ∙ sym (reached-all i));
+    sized = sized ∙ (is.holds.marks_sized ∙ sym (reached-all i));
     others = λ p lt out.
         let z : 0 + p ≡ p = omega arith in
         let is_out : is_due (at_input d f) p ≡ false = sym (i.due_are p (omega (arith, lt, reached-all i))) ∙ (sym (same p) ∙ out) in
@@ -161,18 +164,19 @@ module _ (d : Design) (f : PhaseInput) (k : RetainedContents) (is : IsRetained d
     whole-same = rw (eo, whole-cycles) refl
 
     pub whole-complete : IsComplete (simulation_by own k.log.records f.phase marks)
-    whole-complete = subst IsComplete (sym whole-same) (back-complete i is.fresh owned' marks range all sized same)
+    whole-complete = subst IsComplete (sym whole-same) (back-complete i is.fresh owned' marks range all (sized-now marks sized) same)
 
     pub whole-holds : (state : FlatState) → state ≡ record { sources = k.update_lists.sources; nets = views_of f.values f.values_before; owned = owned' }
-        → IsSimulation (simulation_by own k.log.records f.phase marks) k.sensitive f.codes k.frame f.time k.delta state k.log.records f.due
+        → IsSimulation (simulation_by own k.log.records f.phase marks) k.sensitive f.codes k.frame f.time k.delta state k.log.records f.due marks
         k.waiting.postponed k.waiting.waiting k.totals.items
     whole-holds state es =
-        subst (λ (g : Simulation). IsSimulation g k.sensitive f.codes k.frame f.time k.delta state k.log.records f.due k.waiting.postponed
+        subst (λ (g : Simulation). IsSimulation g k.sensitive f.codes k.frame f.time k.delta state k.log.records f.due marks k.waiting.postponed
         k.waiting.waiting k.totals.items) (sym whole-same)
         (subst (λ (w : FlatState). IsSimulation (with_marks (retained_of d f k) marks) k.sensitive f.codes k.frame f.time k.delta w k.log.records f.due
-        k.waiting.postponed k.waiting.waiting k.totals.items) (sym es) (record {
+        marks k.waiting.postponed k.waiting.waiting k.totals.items) (sym es) (record {
           compiled = is.holds.compiled;
           marked = is.holds.marked;
-          state = back-keeps i is.fresh owned' marks range all sized same;
+          state = back-keeps i is.fresh owned' marks range all (sized-now marks sized) same;
+          marks_sized = sized ∙ is.holds.marks_sized;
           counts = is.holds.counts;
         }))

@@ -1,5 +1,6 @@
 -- What the type of a store keeps, as its run begins and goes on.
-use Rattle.std.proofs.Common.{ℕ, suc, ◌<◌, ◌≤◌, ◌≡◌, ◌≢◌, eqb, Bool, true, false, List, Option, None, Some, MatchOption, refl, ap, sym, subst, arith}
+use Rattle.std.proofs.Common.{ℕ, suc, ◌+◌, ◌-◌, ◌*◌, ◌<◌, ◌≤◌, ◌≡◌, ◌≢◌, eqb, Bool, true, false, List, Option, None, Some, MatchOption}
+use Rattle.std.proofs.Common.{refl, ap, sym, subst, arith}
 use Rattle.std.proofs.lemmas.Bool.Decides.{nat_tests}
 use Rattle.sim_logic.specs.Time.{largest_time}
 use Rattle.sim_standard.specs.Outcome.{GoesOn}
@@ -8,6 +9,8 @@ use Rattle.sim_store.specs.declared.store.Step.{Step}
 use Rattle.sim_store.specs.declared.store.Step.TheVariants as step
 use Rattle.std.specs.Prelude.{is_some}
 use Rattle.sim_store_simulation.specs.Simulation.{Simulation, IsComplete, IsExecuted, after, in_postponed_phase, next_after, reached, with_marks}
+use Rattle.sim_store_simulation.specs.declared.phase.Phase.{Phase}
+use Rattle.sim_store_simulation.specs.declared.phase.Phase.TheVariants as phase
 use Rattle.sim_store.specs.WaveStore.{WaveStore, IsStore, HasEnd}
 
 -- a run that begins
@@ -92,3 +95,18 @@ limit-reached w time is at next before m le = go (eqb m w.simulation.cycles) ref
     go false q =
         let other : m ≢ w.simulation.cycles = grind (arith, nat_tests) in
         is.going m (omega (arith, le, at, other))
+
+-- ---- how many steps a run may take
+
+-- the most phases of a cycle that are left
+abbrev pub phases_left : Phase → ℕ
+phases_left phase.AtOnce = 2
+phases_left phase.Postponed = 1
+
+-- the most steps that are left: two phases for each cycle up to the limit
+abbrev pub steps_from : ℕ → ℕ → Phase → Option Step → ℕ
+steps_from limit cycles f None = 2 * (limit - cycles) + phases_left f
+steps_from limit cycles f (Some s) = 0
+
+abbrev pub steps_left : WaveStore → ℕ
+steps_left run = steps_from run.limit run.simulation.cycles run.simulation.phase run.ended

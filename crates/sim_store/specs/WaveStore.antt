@@ -153,3 +153,9 @@ abbrev pub IsRecordsRefusal : WaveStore → ℕ → StoreError → Type 0
 IsRecordsRefusal w n (error.Behind records) = (records ≡ suc w.simulation.cycles) × (records < n)
 IsRecordsRefusal w n error.Memory = n ≤ suc w.simulation.cycles
 IsRecordsRefusal w n _ = ⊥
+
+-- These are stores of runs of the same design with the same options.
+pub record IsSameRun (run other : WaveStore) : Type 0 where
+  pub design : other.simulation.design ≡ run.simulation.design
+  pub stop : other.stop ≡ run.stop
+  pub limit : other.limit ≡ run.limit

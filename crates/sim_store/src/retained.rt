@@ -28,6 +28,7 @@ pub struct RetainedContents {
     pub log: Log,
     pub waiting: Waiting,
     pub deposited: NumberSet,
+    pub all_executed: bool,
     pub totals: Vec<u64>,
 }
 
@@ -40,7 +41,7 @@ pub fn taken_apart<D: DesignType>(
 ) -> Result<(PhaseInput<D>, Shares, RetainedContents), AllocError>
     requires design { design ≡ D.design }
     requires of { IsOf design contents }
-    requires fresh { (p : ℕ) → simulations.those_in contents.deposited p ≡ false }
+    requires fresh { (p : ℕ) → simulations.those_in (simulation_of design contents).deposited p ≡ false }
     ensures same { IfOk result (λ r. retained_of D.design r.0 r.2 ≡ simulation_of design contents) }
     ensures range { IfOk result (λ r. spec.IsRange (spec.at_input D.design r.0) (simulations.reached (spec.at_input D.design r.0)).owned 0 (joined r.1)) }
     ensures all { IfOk result (λ r. length (joined r.1) ≡ length D.design.processes) }
@@ -81,6 +82,7 @@ pub fn taken_apart<D: DesignType>(
         log: contents.log,
         waiting: contents.waiting,
         deposited: contents.deposited,
+        all_executed: contents.all_executed,
         totals: contents.totals,
     };
     Ok((input, shares, retained))
@@ -97,7 +99,8 @@ pub fn made_whole<D: DesignType>(
     requires all { length (joined shares) ≡ length D.design.processes }
     requires shares { AreShares retained.update_lists.each (counts shares) }
     ensures of { IsOf result.0 result.1 }
-    ensures same { simulation_of result.0 result.1 ≡ simulations.with_marks (retained_of D.design input retained) result.1.deposited }
+    ensures same { simulation_of result.0 result.1
+        ≡ simulations.with_marks (retained_of D.design input retained) (simulation_of result.0 result.1).deposited }
     ensures complete { simulations.IsComplete (simulation_of result.0 result.1) }
 {
     let PhaseInput { fields, of: _ } = input;
@@ -134,6 +137,7 @@ pub fn made_whole<D: DesignType>(
         due,
         waiting: retained.waiting,
         deposited,
+        all_executed: false,
         totals: retained.totals,
     };
     (design, contents)

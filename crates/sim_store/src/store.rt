@@ -1,6 +1,6 @@
 //! The store of a run (IEEE 1076-2008, 14.7.5).
 
-ghost use Rattle.std.specs.Prelude.{◌≡◌, ◌<◌, ◌≤◌, Ok, Err, Some, None, suc, drop, length, true};
+ghost use Rattle.std.specs.Prelude.{◌≡◌, ◌≢◌, ◌<◌, ◌≤◌, Ok, Err, Some, None, suc, drop, length, true};
 ghost use Rattle.std.specs.Prelude.{MatchOption, MatchResult, IfSome, IfOk, IfErr, OnOk, OnErr};
 ghost use Rattle.sim_flat_design.specs.Designs.{most};
 ghost use Rattle.sim_logic.specs.Time.{largest_time};
@@ -188,6 +188,7 @@ impl WaveStore {
     /// Executes all due processes that have not been executed, in place and in rising order of
     /// their numbers, on this thread. If allocation fails, the store is lost: the process that
     /// needed memory may have been executed in part.
+    #[inline(always)]
     pub fn execute_due(self, alloc: Global) -> Result<WaveStore, AllocError>
         ensures same { IfOk result (λ s. s ≡ spec.with_deposited self s.simulation.deposited) }
         ensures complete { IfOk result (λ s. simulations.IsComplete s.simulation) }
@@ -208,6 +209,21 @@ impl WaveStore {
             limit,
             ended,
         })
+    }
+
+    /// Carries the run on to its end, on this thread: in each phase, executes all due processes in
+    /// place and in rising order. If allocation fails, `Memory`, the store is lost.
+    pub fn run_to_end(self, alloc: Global) -> Result<WaveStore, StoreError>
+        ensures same { IfOk result (spec.IsSameRun self) }
+        ensures ended { IfOk result (λ s. s.ended ≢ None) }
+        ensures err { IfErr result (λ e. e ≡ refusal.Memory) }
+    {
+        let mut run = self;
+        while run.ended().is_none() {
+            run = run.execute_due(alloc)?;
+            let _step = run.go_on()?;
+        }
+        Ok(run)
     }
 
     /// The store of a run that has not ended.

@@ -72,7 +72,7 @@ none-of test from (suc count) e k ge lt = go (test from) refl (λ f after. none-
       | no here ↦ (let same : k ≡ from = omega (arith, here, ge) in ap test same ∙ q)
     ]
 
-number-at : (xs : List ℕ) (k : ℕ) → k < length xs → drop k xs ≡ get_or xs k 0 ∷ drop (suc k) xs
+pub number-at : (xs : List ℕ) (k : ℕ) → k < length xs → drop k xs ≡ get_or xs k 0 ∷ drop (suc k) xs
 number-at [] k lt = absurd (omega (arith, lt))
 number-at (x ∷ xs) zero lt = refl
 number-at (x ∷ xs) (suc k) lt = number-at xs k (omega (arith, lt))

@@ -6,7 +6,7 @@ use Rattle.std.specs.List.{All}
 use Rattle.std.proofs.lemmas.Bool.Decides.{nat_tests}
 use Rattle.std.proofs.lemmas.List.{get_or-set_same, get_or-set_other, length-set, length-map, length-append, get_or-map, get_or-replicate, length-replicate}
 use Rattle.std.proofs.lemmas.List.Elements.{All-map, All-weaker}
-use Rattle.std.proofs.lemmas.List.{drop-drop, length-take-le}
+use Rattle.std.proofs.lemmas.List.{drop-drop, ext_get_or, length-take-le}
 use Rattle.sim_standard.specs.Drivers.{RisesFrom, Transaction, DriverState, next_time}
 use Rattle.sim_flat_design.specs.Bodies.{Body}
 use Rattle.sim_flat_design.specs.declared.design.DriverOf.{DriverOf}
@@ -174,9 +174,14 @@ none-in (b ∷ bs) zero = refl
 none-in (b ∷ bs) (suc p) = none-in bs p
 
 -- so no process is in a set that was emptied
-pub none-marked-now : (marks : List Bool) → replicate (length marks) false ≡ cleared marks
+none-marked-now : (marks : List Bool) → replicate (length marks) false ≡ cleared marks
 none-marked-now [] = refl
 none-marked-now (b ∷ bs) = ap (λ w. false ∷ w) (none-marked-now bs)
+
+module _ {h : Simulation} {time delta : ℕ} {held : FlatState} {records : List Record} {due waiting : List Bool}
+    (i : IsStateOf h time delta held records due waiting) where
+  pub none-marked-for : (marks : List Bool) → length marks ≡ length h.design.processes → replicate (length marks) false ≡ cleared h.deposited
+  none-marked-for marks sized = ap (λ (n : ℕ). replicate n false) (sized ∙ sym i.sized) ∙ none-marked-now h.deposited
 
 later-resumed : (d : Design) (k p : ℕ) (s : State) → is_resumed d (suc k) s p ≡ has_event_in s.nets (process_at d.processes p).sensitivity
 later-resumed d k p s = let t : eqb (suc k) 0 ≡ false = grind (arith, nat_tests) in rw t refl
@@ -189,6 +194,12 @@ module _ {h : Simulation} {time delta : ℕ} {held : FlatState} {records : List 
   phase-complete =
       i.owned_are ∙ merged-below (those_in h.deposited) (is_due h) (results h) 0 (reached h).owned
       (λ k a b. both (those_in h.deposited k) (is_due h k) (i.ran k) (all k (omega (arith, b, reached-all i))))
+
+  -- and these are the due ones
+  pub executed-are-due : h.deposited ≡ due
+  executed-are-due = ext_get_or false h.deposited due (i.sized ∙ sym i.due_sized)
+      (λ p lt. let there : p < length h.design.processes = omega (arith, lt, i.sized) in
+      both (those_in h.deposited p) (is_due h p) (i.ran p) (all p there) ∙ sym (i.due_are p there))
 
   pub next-is : next_time (all_drivers held.owned) ≡ next_cycle_time (phase_end h.phase h.design h.cycles (updated_last h))
   next-is = ap (λ (os : List Owned). next_time (all_drivers os)) phase-complete

@@ -7,4 +7,6 @@ pub mod Readiness
 pub mod Boxes
 pub mod Walks
 pub mod Along
+pub mod Listed
+pub mod Assignments
 pub mod Crossing

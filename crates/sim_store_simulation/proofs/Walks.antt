@@ -3,12 +3,13 @@ use Rattle.std.proofs.Common.{ℕ, ◌+◌, ◌<◌, ◌≡◌, ◌≢◌, ◌&&
 use Rattle.std.proofs.Common.{Option, None, Some, MatchOption}
 use Rattle.std.proofs.Math.Decide.{dec_lt}
 use Rattle.std.proofs.lemmas.Bool.Decides.{nat_tests}
+use Rattle.std.proofs.lemmas.List.{get_or-set_other, get_or-set_same}
 use Rattle.sim_containers.specs.Numbers.{is_beside}
 use Rattle.sim_containers.specs.Words.{IsNext, NoneFrom}
 use Rattle.sim_standard.specs.declared.record.Record.{Record}
 use Rattle.sim_store_state.specs.FlatState.{FlatState}
 use Rattle.sim_store_state.proofs.Walks.{member_within, not_both}
-use Rattle.sim_store_simulation.specs.Simulation.{Simulation, IsStateOf, IsComplete, IsLeastMissing, IsMissing, those_in}
+use Rattle.sim_store_simulation.specs.Simulation.{Simulation, IsStateOf, IsComplete, IsLeastMissing, IsMissing, those_in, with_one}
 use Rattle.sim_store_simulation.proofs.Going.{complete-where-none}
 
 pub due-beside : (b c : Bool) → (b && not c) ≡ true → b ≡ true
@@ -70,6 +71,23 @@ module _ {h : Simulation} {time delta : ℕ} {held : FlatState} {records : List 
         };
         least = λ q before m. (none-between 0 n (none-passed h) next).none q before m;
       }
+
+-- one more executed process is no longer missing
+pub one-gone : (h : Simulation) (n : ℕ) → n < length h.deposited → IsMissing (with_one h n) n → ⊥
+one-gone h n lt m = cc (m.fresh, get_or-set_same h.deposited n true false lt)
+
+-- and no other process has become so
+pub one-others : (h : Simulation) (n : ℕ) → n < length h.deposited → (p : ℕ) → IsMissing (with_one h n) p → IsMissing h p
+one-others h n lt p m = go (eqb p n) refl
+  where
+    go : (b : Bool) → eqb p n ≡ b → IsMissing h p
+    go true e = let same : p ≡ n = grind (arith, nat_tests) in absurd (one-gone h n lt (subst (λ (k : ℕ). IsMissing (with_one h n) k) same m))
+    go false e =
+        let apart : p ≢ n = grind (arith, nat_tests) in
+        record {
+          due = record { number = m.due.number; resumed = m.due.resumed };
+          fresh = sym (get_or-set_other h.deposited n p true false apart) ∙ m.fresh;
+        }
 
 -- the walk passes one more that is not missing
 pub one-passed : {h h' : Simulation} (n : ℕ) → Passed h n → ((p : ℕ) → IsMissing h' p → IsMissing h p) → (IsMissing h' n → ⊥) → Passed h' (n + 1)

@@ -192,10 +192,11 @@ pub record IsPrepared (design : Design) (sensitive : List (List ℕ)) (codes : C
 
 -- What a simulation holds: what was compiled, the state, records and marks, and the totals of nets.
 pub record IsSimulation (h : Simulation) (sensitive : List (List ℕ)) (codes : Coded) (frame : ℕ) (time delta : ℕ) (held : FlatState)
-    (records : List Record) (due postponed waiting : List Bool) (totals : List ℕ) : Type 0 where
+    (records : List Record) (due marks postponed waiting : List Bool) (totals : List ℕ) : Type 0 where
   pub compiled : AreCompiled h.design sensitive codes frame
   pub marked : ArePostponed h.design postponed
   pub state : IsStateOf h time delta held records due waiting
+  pub marks_sized : length marks ≡ length h.design.processes
   pub counts : AreTotals (length h.design.nets) records totals
 
 -- The job has the process with its number, and the part of the state that this process sees.

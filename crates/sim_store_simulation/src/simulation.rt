@@ -1,11 +1,13 @@
 //! A simulation of a design, so far (IEEE 1076-2008, 14.7.5).
 
-ghost use Rattle.std.specs.Prelude.{ℕ, suc, ◌≡◌, ◌<◌, ◌≤◌, ◌^◌, ◌+◌, Some, None, Option, true, false, [], ◌∷◌, length, replicate, drop};
+ghost use Rattle.std.specs.Prelude.{ℕ, suc, ◌≡◌, ◌<◌, ◌≤◌, ◌^◌, ◌+◌, Some, None, Option, true, false, [], ◌∷◌, length, replicate, drop, take};
 ghost use Rattle.std.specs.Prelude.{not, ◌==◌, ◌&&◌, slice_set, MatchOption, MatchResult, IfSome, IfOk, IfErr, OnOk, OnErr, ◌↔◌, IsTrue};
 ghost use Rattle.std.specs.List.{All};
 ghost use Rattle.sim_flat_design.specs.Designs.{most};
 ghost use Rattle.sim_flat_design.specs.Processes.{IsProcess};
 ghost use Rattle.sim_standard.specs.Cycle as cycles;
+ghost use Rattle.sim_exec_code.specs.Codes.{AreCodesOf};
+ghost use Rattle.sim_store_state.specs.InTurn as turn;
 ghost use Rattle.sim_standard.specs.Initialization.{first_state};
 ghost use Rattle.sim_store_state.specs.FlatState.{flat_state_of};
 ghost use Rattle.sim_standard.specs.Records.{values_of};
@@ -13,7 +15,7 @@ ghost use Rattle.sim_standard.specs.State.{driver_values, net_at, owned_at};
 ghost use Rattle.sim_logic.specs.Time.{largest_time};
 ghost use Rattle.sim_standard.specs.Agreement.{total_of, value_by};
 ghost use Rattle.sim_standard.specs.Histories.{IsNamed, event_count, records_to};
-ghost use Rattle.sim_store_simulation.specs.Contents.{AreFirst, IsOf, simulation_of};
+ghost use Rattle.sim_store_simulation.specs.Contents.{AreFirst, HasOneMore, IsExecutable, IsOf, IsWith, simulation_of, simulation_with};
 ghost use Rattle.sim_store_simulation.specs.Simulation as spec;
 ghost use Rattle.sim_standard.specs.Cycle.{CycleAt, standard};
 ghost use Rattle.sim_store_simulation.specs.declared.phase.Phase.TheVariants as phase;
@@ -125,6 +127,8 @@ pub struct Contents {
     pub due: Due,
     pub waiting: Waiting,
     pub deposited: NumberSet,
+    /// Whether all due processes have been executed in this phase, even if not in `deposited`.
+    pub all_executed: bool,
     pub totals: Vec<u64>,
 }
 
@@ -213,7 +217,7 @@ fn compile(alloc: Global, design: &Design) -> Result<Compiled, AllocError>
 
 /// All of these together, at time 0.
 fn joined(marks: FirstMarks, compiled: Compiled, start: Start) -> Contents
-    ensures start { (result.time ≡ 0) × (result.delta ≡ 0) × (result.phase ≡ phase.AtOnce) }
+    ensures start { (result.time ≡ 0) × (result.delta ≡ 0) × (result.phase ≡ phase.AtOnce) × (result.all_executed ≡ false) }
     ensures compiled { result.compiled ≡ compiled }
     ensures state { (result.state ≡ start.state) × (result.log ≡ start.log) }
     ensures marks { (result.due ≡ marks.due) × (result.waiting ≡ marks.waiting) }
@@ -229,6 +233,7 @@ fn joined(marks: FirstMarks, compiled: Compiled, start: Start) -> Contents
         due: marks.due,
         waiting: marks.waiting,
         deposited: marks.deposited,
+        all_executed: false,
         totals: marks.totals,
     }
 }
@@ -236,7 +241,7 @@ fn joined(marks: FirstMarks, compiled: Compiled, start: Start) -> Contents
 /// What the simulation of a design holds at first: what is compiled, the first state with its
 /// record, which processes are due, and no events of any net.
 fn prepared(alloc: Global, design: &Design) -> Result<Contents, AllocError>
-    ensures start { IfOk result (λ m. (m.time ≡ 0) × (m.delta ≡ 0) × (m.phase ≡ phase.AtOnce)) }
+    ensures start { IfOk result (λ m. (m.time ≡ 0) × (m.delta ≡ 0) × (m.phase ≡ phase.AtOnce) × (m.all_executed ≡ false)) }
     ensures contents { IfOk result (λ m. AreFirst design.now m) }
 {
     let marks = marks(alloc, design)?;
@@ -247,7 +252,7 @@ fn prepared(alloc: Global, design: &Design) -> Result<Contents, AllocError>
 
 /// The same in a box, so that it stays in place when the simulation is moved.
 fn boxed(alloc: Global, design: &Design) -> Result<Box<Contents>, AllocError>
-    ensures start { IfOk result (λ m. (m.value.time ≡ 0) × (m.value.delta ≡ 0) × (m.value.phase ≡ phase.AtOnce)) }
+    ensures start { IfOk result (λ m. (m.value.time ≡ 0) × (m.value.delta ≡ 0) × (m.value.phase ≡ phase.AtOnce) × (m.value.all_executed ≡ false)) }
     ensures contents { IfOk result (λ m. AreFirst design.now m.value) }
 {
     let contents = prepared(alloc, design)?;
@@ -270,28 +275,34 @@ fn divided(alloc: Global, contents: Contents, shares: usize) -> Result<Contents,
         due: contents.due,
         waiting: contents.waiting,
         deposited: contents.deposited,
+        all_executed: contents.all_executed,
         totals: contents.totals,
     })
 }
 
-/// Executes in place a due process that has not been executed in this phase.
+/// Begins a phase, in which no process has been executed yet.
+fn begin_phase(contents: &mut Contents, phase: Phase)
+    ensures { contents.new ≡ record contents.old {
+      phase = phase;
+      deposited = replicate (length contents.old.deposited) false;
+      all_executed = false;
+    } }
+{
+    contents.phase = phase;
+    contents.deposited.clear();
+    contents.all_executed = false;
+}
+
+/// Executes in place a due process that has not been executed in this phase. It is not marked.
 fn execute(
     alloc: Global,
     design: &Design,
     contents: &mut Contents,
     number: usize,
 ) -> Result<(), AllocError>
-    requires of { IsOf design.now contents.old }
-    requires at { number < length design.now.processes }
-    requires due { spec.those_in contents.old.due number ≡ true }
-    requires fresh { spec.those_in contents.old.deposited number ≡ false }
-    ensures of { OnOk result (IsOf design.now contents.new) }
-    ensures same { OnOk result (simulation_of design.now contents.new ≡ spec.with_marks (simulation_of design.now contents.old) contents.new.deposited) }
-    ensures gone { OnOk result (spec.IsMissing (simulation_of design.now contents.new) number → ⊥) }
-    ensures others { OnOk result ((p : ℕ) → spec.IsMissing (simulation_of design.now contents.new) p
-        → spec.IsMissing (simulation_of design.now contents.old) p) }
-    ensures due { contents.new.due ≡ contents.old.due }
-    ensures marks { OnOk result (contents.new.deposited ≡ slice_set contents.old.deposited number true) }
+    requires { IsExecutable design.now contents.old number }
+    ensures kept { contents.new ≡ record contents.old { compiled = contents.new.compiled; state = contents.new.state } }
+    ensures step { OnOk result (HasOneMore design.now contents.old contents.new number) }
 {
     let process = &design.processes()[number];
     let compiled = &mut contents.compiled;
@@ -304,42 +315,96 @@ fn execute(
         &compiled.codes,
         frame,
     )?;
+    Ok(())
+}
+
+/// Executes due processes in place, from a place in their list on, as long as the body of each is
+/// known to be a single assignment, and returns how many it has executed. None is marked.
+fn execute_assignments(
+    design: &Design,
+    contents: &mut Contents,
+    place: usize,
+) -> Result<usize, AllocError>
+    requires within { place ≤ length (spec.listed contents.old.due) }
+    requires early { contents.old.time ≤ largest_time }
+    requires codes { AreCodesOf design.now.processes contents.old.compiled.codes }
+    requires each { All (turn.IsExecutable design.now.processes contents.old.time contents.old.state.owned) (drop place (spec.listed contents.old.due)) }
+    ensures within { IfOk result (λ count. place + count ≤ length (spec.listed contents.old.due)) }
+    ensures kept { contents.new ≡ record contents.old { state = contents.new.state } }
+    ensures ok { IfOk result (λ count. turn.AreExecuted design.now.processes contents.old.time (take count (drop place (spec.listed contents.old.due)))
+        contents.old.state contents.new.state) }
+{
+    let numbers = &contents.due.numbers()[place..];
+    contents.state.execute_single_assignments(
+        design.processes(),
+        numbers,
+        contents.time,
+        &contents.compiled.codes,
+    )
+}
+
+/// Executes all due processes, none of which has been executed in this phase, in place and in
+/// rising order. None is marked by itself.
+fn execute_listed(alloc: Global, design: &Design, contents: &mut Contents) -> Result<(), AllocError>
+    requires of { IsWith design.now contents.old contents.old.deposited }
+    requires fresh { (p : ℕ) → spec.those_in contents.old.deposited p ≡ false }
+    ensures of { OnOk result (IsOf design.now contents.new) }
+    ensures same { OnOk result (simulation_of design.now contents.new
+        ≡ spec.with_marks (simulation_of design.now contents.old) (simulation_of design.now contents.new).deposited) }
+    ensures complete { OnOk result (spec.IsComplete (simulation_of design.now contents.new)) }
+{
+    let count = contents.due.numbers().len();
+    let mut place = 0;
+    while place < count {
+        place += execute_assignments(design, contents, place)?;
+        if place < count {
+            let number = contents.due.numbers()[place];
+            execute(alloc, design, contents, number)?;
+            place += 1;
+        }
+    }
+    contents.all_executed = true;
+    Ok(())
+}
+
+/// Executes in place a due process that is not marked, and marks it.
+fn execute_marked(
+    alloc: Global,
+    design: &Design,
+    contents: &mut Contents,
+    number: usize,
+) -> Result<(), AllocError>
+    requires of { IsWith design.now contents.old contents.old.deposited }
+    requires at { number < length design.now.processes }
+    requires due { spec.those_in contents.old.due number ≡ true }
+    requires fresh { spec.those_in contents.old.deposited number ≡ false }
+    ensures of { OnOk result (IsWith design.now contents.new contents.new.deposited) }
+    ensures one { OnOk result (simulation_with design.now contents.new contents.new.deposited
+        ≡ spec.with_one (simulation_with design.now contents.old contents.old.deposited) number) }
+    ensures same { contents.new.all_executed ≡ contents.old.all_executed }
+{
+    execute(alloc, design, contents, number)?;
     contents.deposited.insert(number);
     Ok(())
 }
 
-/// Executes all due processes, none of which has been executed in this phase, in place and in
-/// rising order.
-fn execute_listed(alloc: Global, design: &Design, contents: &mut Contents) -> Result<(), AllocError>
-    requires of { IsOf design.now contents.old }
-    requires fresh { (p : ℕ) → spec.those_in contents.old.deposited p ≡ false }
-    ensures of { OnOk result (IsOf design.now contents.new) }
-    ensures same { OnOk result (simulation_of design.now contents.new ≡ spec.with_marks (simulation_of design.now contents.old) contents.new.deposited) }
-    ensures complete { OnOk result (spec.IsComplete (simulation_of design.now contents.new)) }
-{
-    let count = contents.due.numbers().len();
-    for place in 0..count {
-        let number = contents.due.numbers()[place];
-        execute(alloc, design, contents, number)?;
-    }
-    Ok(())
-}
-
 /// Executes all due processes that have not been executed in this phase, in place and in rising
-/// order. Some may have been executed.
+/// order. Some may have been executed, and are marked.
 fn execute_missing(
     alloc: Global,
     design: &Design,
     contents: &mut Contents,
 ) -> Result<(), AllocError>
-    requires { IsOf design.now contents.old }
+    requires of { IsWith design.now contents.old contents.old.deposited }
+    requires marked { contents.old.all_executed ≡ false }
     ensures of { OnOk result (IsOf design.now contents.new) }
-    ensures same { OnOk result (simulation_of design.now contents.new ≡ spec.with_marks (simulation_of design.now contents.old) contents.new.deposited) }
+    ensures same { OnOk result (simulation_of design.now contents.new
+        ≡ spec.with_marks (simulation_of design.now contents.old) (simulation_of design.now contents.new).deposited) }
     ensures complete { OnOk result (spec.IsComplete (simulation_of design.now contents.new)) }
 {
     let mut from = 0;
     while let Some(number) = contents.due.next_beside(&contents.deposited, from) {
-        execute(alloc, design, contents, number)?;
+        execute_marked(alloc, design, contents, number)?;
         from = number + 1;
     }
     Ok(())
@@ -350,9 +415,13 @@ fn execute_missing(
 fn execute_all(alloc: Global, design: &Design, contents: &mut Contents) -> Result<(), AllocError>
     requires { IsOf design.now contents.old }
     ensures of { OnOk result (IsOf design.now contents.new) }
-    ensures same { OnOk result (simulation_of design.now contents.new ≡ spec.with_marks (simulation_of design.now contents.old) contents.new.deposited) }
+    ensures same { OnOk result (simulation_of design.now contents.new
+        ≡ spec.with_marks (simulation_of design.now contents.old) (simulation_of design.now contents.new).deposited) }
     ensures complete { OnOk result (spec.IsComplete (simulation_of design.now contents.new)) }
 {
+    if contents.all_executed {
+        return Ok(());
+    }
     if contents.deposited.is_empty() {
         execute_listed(alloc, design, contents)
     } else {
@@ -468,9 +537,8 @@ impl Simulation {
         ensures { self.new ≡ spec.in_postponed_phase self.old }
     {
         let contents = &mut *self.contents;
-        contents.phase = Phase::Postponed;
         contents.due.take(&contents.waiting);
-        contents.deposited.clear();
+        begin_phase(contents, Phase::Postponed);
     }
 
     /// The number of cycles completed, without the initialization.
@@ -498,7 +566,11 @@ impl Simulation {
     pub fn is_deposited(&self, number: usize) -> bool
         ensures { result ≡ spec.those_in self.now.deposited number }
     {
-        self.contents.deposited.contains(number)
+        let contents = &*self.contents;
+        if contents.all_executed {
+            return contents.due.has(number);
+        }
+        contents.deposited.contains(number)
     }
 
     /// Whether a job matches the one now due for its process, apart from its cycle number. It takes
@@ -565,14 +637,13 @@ impl Simulation {
             .record(&mut contents.log, time, contents.delta);
         count_last(contents.totals.as_mut_slice(), &contents.log);
         leave(&mut contents.waiting, contents.phase);
-        contents.phase = Phase::AtOnce;
         // f.2) Processes sensitive to a net with an event resume.
         contents.due.find(
             &contents.log,
             &contents.compiled.sensitive,
             &mut contents.waiting,
         );
-        contents.deposited.clear();
+        begin_phase(contents, Phase::AtOnce);
         Ok(())
     }
 
@@ -588,12 +659,16 @@ impl Simulation {
         ensures { MatchOption result (spec.IsComplete self.now) (spec.IsLeastMissing self.now) }
     {
         let contents = &*self.contents;
+        if contents.all_executed {
+            return None;
+        }
         contents.due.next_beside(&contents.deposited, 0)
     }
 
     /// Executes all due processes that have not been executed in this phase, in place and in rising
     /// order. If allocation fails, the simulation is lost: the process that needed memory may have
     /// been executed in part.
+    #[inline(always)]
     pub fn execute_due(self, alloc: Global) -> Result<Simulation, AllocError>
         ensures same { IfOk result (λ s. s ≡ spec.with_marks self s.deposited) }
         ensures complete { IfOk result spec.IsComplete }
@@ -641,7 +716,11 @@ impl Simulation {
     pub fn is_untouched(&self) -> bool
         ensures { result ≡ true → (p : ℕ) → spec.those_in self.now.deposited p ≡ false }
     {
-        self.contents.deposited.is_empty()
+        let contents = &*self.contents;
+        if contents.all_executed {
+            return false;
+        }
+        contents.deposited.is_empty()
     }
 
     /// About how many steps it takes to execute a process. It is a hint for dividing work among

@@ -1,4 +1,4 @@
-use Rattle.sim_run_session.specs.Run.{IsSameRun}
+use Rattle.sim_store.specs.WaveStore.{IsSameRun}
 use Rattle.sim_run_session.proofs.team.lead.Given as goal
 
 -- the same run so far

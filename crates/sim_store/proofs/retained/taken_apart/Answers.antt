@@ -63,6 +63,7 @@ returns-clause-retained g c =
       log = m.log;
       waiting = m.waiting;
       deposited = m.deposited;
+      all_executed = m.all_executed;
       totals = m.totals;
     } in
     let is : IsRetained c.args.design f k = record {
@@ -73,6 +74,7 @@ returns-clause-retained g c =
         compiled = c.requires.of.compiled;
         marked = c.requires.of.marked;
         state = first-state i c.requires.fresh a.update_lists.sources _ e.sources e.nets;
+        marks_sized = c.requires.of.marks_sized;
         counts = c.requires.of.counts;
       };
     } in

@@ -1,4 +1,5 @@
-use Rattle.std.proofs.Common.{rules, List, length, ap, subst, arith}
+use Rattle.std.proofs.Common.{rules, false, List, length, ap, ◌∙◌, subst, arith}
+use Rattle.std.proofs.lemmas.List.{length-replicate}
 use Rattle.std.specs.List.{All}
 use Rattle.sim_flat_design.specs.Designs.{AreOwned}
 use Rattle.sim_flat_design.specs.Processes.{Process, IsProcess}
@@ -18,6 +19,7 @@ invariant_of-result c =
     record {
       compiled = m.compiled;
       marked = m.marked;
-      state = rw (c.in-Ok.ensures.start.0, c.in-Ok.ensures.start.1, c.in-Ok.ensures.start.2) begun;
+      state = rw (c.in-Ok.ensures.start.0, c.in-Ok.ensures.start.1, c.in-Ok.ensures.start.2, c.in-Ok.ensures.start.3) begun;
+      marks_sized = ap length m.deposited_is ∙ length-replicate (length c.args.design.processes) false;
       counts = totals-begin (length c.args.design.nets) _ c.in-Ok.contents.value.log.records c.in-Ok.contents.value.totals.items m.records_is m.totals_is;
     }

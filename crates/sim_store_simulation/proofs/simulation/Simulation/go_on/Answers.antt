@@ -1,5 +1,5 @@
-use Rattle.std.proofs.Common.{ℕ, suc, ◌+◌, ◌-◌, ◌<◌, ◌≡◌, ◌&&◌, ◌||◌, not, Bool, ◌++◌, [], ◌∷◌, List, length, get_or, ap, sym, ◌∙◌, subst, arith}
-use Rattle.std.proofs.lemmas.List.{length-append}
+use Rattle.std.proofs.Common.{ℕ, suc, ◌+◌, ◌-◌, ◌<◌, ◌≡◌, ◌&&◌, ◌||◌, not, Bool, false, ◌++◌, [], ◌∷◌, List, length, get_or, ap, sym, ◌∙◌, subst, arith}
+use Rattle.std.proofs.lemmas.List.{length-append, length-replicate}
 use Rattle.std.specs.List.{filter}
 use Rattle.sim_containers.proofs.Flat.{written_back}
 use Rattle.sim_standard.specs.declared.record.Record.{Record}
@@ -8,10 +8,11 @@ use Rattle.sim_standard.specs.Records.{changes_from}
 use Rattle.sim_standard.specs.Cycle.{CycleAt, has_event_in, state_of}
 use Rattle.sim_standard.specs.Processes.{process_at}
 use Rattle.sim_standard.specs.Agreement.{is_of}
-use Rattle.sim_store_simulation.specs.Simulation.{ArePostponed, AreTotals, Simulation, IsExecuted, after, next_after, those_in}
+use Rattle.sim_store_simulation.specs.Simulation.{ArePostponed, AreTotals, Simulation, IsExecuted, after, next_after, reached, those_in}
 use Rattle.sim_store_simulation.proofs.Counting.{changes-few, last-record, totals-few, totals-go-on}
-use Rattle.sim_store_simulation.proofs.Going.{advanced-count, advanced-keeps, advanced-time, cycle-count, next-time-is, none-marked-now, slow}
-use Rattle.sim_store_simulation.specs.Contents.{simulation_of}
+use Rattle.sim_store_simulation.proofs.Going.{advanced-count, advanced-keeps, advanced-time, cycle-count, next-time-is, none-marked-for, slow}
+use Rattle.sim_store_simulation.specs.declared.simulation.Contents.{Contents}
+use Rattle.sim_store_simulation.specs.Contents.{IsOf, simulation_of}
 use Rattle.sim_store_simulation.proofs.Boxes.{held, shown}
 use Rattle.sim_store_simulation.proofs.simulation.Simulation.go_on.Goals as goal
 
@@ -93,12 +94,12 @@ invariant_of-self-2 c =
     let one : Record = record { time = c.args.time; delta = c.next_delta-contents.result; changes = changes_from 0 c.update.new.self.nets } in
     let records : c.record.new.log.records ≡ m.log.records ++ one ∷ [] = c.record.ensures ∙ ap (λ rs. rs ++ one ∷ []) c.in_ok-reserve.ensures.same in
     let same : c.find.new.waiting.postponed ≡ m.waiting.postponed = c.find.ensures.postponed ∙ c.leave.ensures.postponed in
-    let marks = c.clear.ensures ∙ none-marked-now m.deposited in
+    let marks = none-marked-for kept.state m.deposited kept.marks_sized in
     let last = last-record m.log.records c.record.new.log.records one records in
     let changes = ap (λ (r : Record). r.changes) last in
     let sensed = kept.compiled.sensitive_sized ∙ sym (advanced-count i done c.args.time c.update.new.self c.in_ok-update.ensures.ok) in
     let written = written_back c.count_last.new.totals m.totals.items m.totals.len (c.count_last.ensures.sized ∙ c.as_mut_slice.ensures.len) in
-    record {
+    subst (λ (w : Contents). IsOf s.design w) (sym c.begin_phase.ensures) (record {
       compiled = kept.compiled;
       marked = subst (ArePostponed s.design) (sym same) kept.marked;
       state = advanced-keeps i done c.args.time next c.requires.early c.next_delta-contents.result (length c.record.new.log.records - 1)
@@ -115,6 +116,7 @@ invariant_of-self-2 c =
           || (has_event_in c.update.new.self.nets (process_at h.design.processes p).sensitivity && those_in m.waiting.postponed p))
           (c.leave.ensures.left p))) marks
           (omega (arith, ap length records, length-append m.log.records (one ∷ []), cycle-count i));
+      marks_sized = length-replicate (length m.deposited) false ∙ kept.marks_sized;
       counts = subst (AreTotals (length s.design.nets) c.record.new.log.records) (sym written)
           (totals-go-on (length s.design.nets) m.log.records c.record.new.log.records one m.totals.items c.count_last.new.totals
           (omega (arith, cycle-count i)) records kept.counts
@@ -123,7 +125,7 @@ invariant_of-self-2 c =
           ∙ (ap (λ (w : List ℕ). get_or w n 0 + length (filter (is_of n) (record_at c.record.new.log.records (length c.record.new.log.records - 1)).changes))
           c.as_mut_slice.ensures.value
           ∙ ap (λ (r : Record). get_or m.totals.items n 0 + length (filter (is_of n) r.changes)) last)));
-    }
+    })
 
 pub returns-clause-ok : goal.returns-clause-ok
 returns-clause-ok c =
@@ -133,10 +135,10 @@ returns-clause-ok c =
     let s = c.self.inside in
     let one : Record = record { time = c.args.time; delta = c.next_delta-contents.result; changes = changes_from 0 c.update.new.self.nets } in
     let records : c.record.new.log.records ≡ m.log.records ++ one ∷ [] = c.record.ensures ∙ ap (λ rs. rs ++ one ∷ []) c.in_ok-reserve.ensures.same in
-    let marks = c.clear.ensures ∙ none-marked-now m.deposited in
+    let marks = none-marked-for kept.state m.deposited kept.marks_sized in
     let cycles : length c.record.new.log.records - 1 ≡ suc (length m.log.records - 1) =
     omega (arith, ap length records, length-append m.log.records (one ∷ []), cycle-count kept.state) in
-    rw (cycles, marks) (ap after view)
+    ap (simulation_of s.design) c.begin_phase.ensures ∙ rw (cycles, marks) (ap after view)
 
 pub returns-clause-at : goal.returns-clause-at
 returns-clause-at c =
@@ -152,4 +154,5 @@ returns-clause-at c =
     let records : c.record.new.log.records ≡ m.log.records ++ one ∷ [] = c.record.ensures ∙ ap (λ rs. rs ++ one ∷ []) c.in_ok-reserve.ensures.same in
     let cycles : length c.record.new.log.records - 1 ≡ suc h.cycles =
     omega (arith, ap length records, length-append m.log.records (one ∷ []), cycle-count i) in
-    subst (λ (k : ℕ). (state_of s.design k).time ≡ c.args.time) (sym cycles) (advanced-time i done c.args.time next)
+    subst (λ (w : Contents). (reached (simulation_of s.design w)).time ≡ c.args.time) (sym c.begin_phase.ensures)
+    (subst (λ (k : ℕ). (state_of s.design k).time ≡ c.args.time) (sym cycles) (advanced-time i done c.args.time next))

@@ -1,0 +1,10 @@
+use Rattle.sim_store.specs.WaveStore.{IsSameRun}
+use Rattle.sim_store.proofs.Stores.{steps_left}
+use Rattle.sim_store.proofs.store.WaveStore.run_to_end.Given as goal
+
+-- the same run so far
+abbrev pub invariant-loop-alloc : goal.invariant-loop-alloc
+invariant-loop-alloc l = IsSameRun l.fn.self l.run
+
+abbrev pub decreases-loop-alloc : goal.decreases-loop-alloc
+decreases-loop-alloc l = steps_left l.run

@@ -1,0 +1,82 @@
+-- Due processes that are executed one after another, by what they own, without marks.
+use Rattle.std.proofs.Common.{ℕ, zero, suc, ◌+◌, ◌-◌, ◌<◌, ◌≤◌, ◌≡◌, Bool, true, false, if◌then◌else◌, List, ◌∷◌, length, get_or, take, drop}
+use Rattle.std.proofs.Common.{add-one, refl, ap, sym, ◌∙◌, subst, arith}
+use Rattle.std.proofs.lemmas.List.Elements.{All-cons, All-nil}
+use Rattle.std.specs.List.{All}
+use Rattle.sim_flat_design.specs.Designs.{Design}
+use Rattle.sim_exec.specs.Jobs.{IsReady}
+use Rattle.sim_standard.specs.Cycle.{those}
+use Rattle.sim_standard.specs.Processes.{process_at}
+use Rattle.sim_standard.specs.State.{owned_at}
+use Rattle.sim_store_state.specs.FlatState.{FlatState}
+use Rattle.sim_store_state.specs.InTurn as turn
+use Rattle.sim_store_state.specs.InTurn.{AreExecuted, after_one}
+use Rattle.sim_store_simulation.specs.declared.simulation.Contents.{Contents}
+use Rattle.sim_store_simulation.specs.Simulation.{listed, those_in}
+use Rattle.sim_store_simulation.proofs.Along.{number-at}
+use Rattle.sim_store_simulation.proofs.Going.{executed-keeps, held-count, ready-here}
+use Rattle.sim_store_simulation.proofs.Listed.{AreListed, listed-more, listed-next}
+use Rattle.sim_store_simulation.proofs.Walks.{due-within}
+
+-- what holds of each number from one on that passes a test holds of all that are listed from there
+those-each : (test : ℕ → Bool) (from count : ℕ) (P : ℕ → Type 0) → ((p : ℕ) → from ≤ p → test p ≡ true → P p) → All P (those test from count)
+unfolding those
+those-each test from zero P holds = All-nil P
+those-each test from (suc count) P holds = go (test from) refl (those-each test (suc from) count P (λ p ge. holds p (omega (arith, ge))))
+  where
+    go : (b : Bool) → test from ≡ b → All P (those test (suc from) count)
+        → All P (if b then from ∷ those test (suc from) count else those test (suc from) count)
+    go true is rest = All-cons P from (those test (suc from) count) (holds from (omega arith) is) rest
+    go false is rest = rest
+
+module _ {design : Design} {old : Contents} where
+  -- the due processes from a place on can be executed
+  pub rest-executable : {now : Contents} {place : ℕ} → AreListed design old now place
+      → All (turn.IsExecutable design.processes now.time now.state.owned) (drop place (listed now.due))
+  rest-executable {now} {place} s =
+      let i = s.of.state in
+      subst (All (turn.IsExecutable design.processes now.time now.state.owned)) (sym s.along.left)
+      (those-each (those_in now.due) s.along.from (length now.due - s.along.from) (turn.IsExecutable design.processes now.time now.state.owned)
+      (λ p ge due.
+      let lt = due-within i p due in
+      record {
+        number = lt;
+        owns = omega (arith, lt, held-count i);
+        ready = ready-here i p lt (s.along.fresh p ge);
+      }))
+
+  -- the next one has been
+  one-executed : {now : Contents} {place : ℕ} (s : AreListed design old now place) → place < length (listed now.due)
+      → IsReady (process_at design.processes (get_or (listed now.due) place 0)).body now.time
+      (owned_at (after_one design.processes now.time now.state (get_or (listed now.due) place 0)).owned (get_or (listed now.due) place 0))
+      → AreListed design old (record now { state = after_one design.processes now.time now.state (get_or (listed now.due) place 0) }) (place + 1)
+  one-executed {now} {place} s lt ready =
+      let n = get_or (listed now.due) place 0 in
+      let next = listed-next s lt in
+      let state : FlatState = after_one design.processes now.time now.state n in
+      listed-more s lt (record now { state = state }) refl (λ executed of fresh. record {
+        compiled = of.compiled;
+        marked = of.marked;
+        state = executed-keeps of.state n next.within fresh (process_at design.processes n) state refl
+            (sym (of.state.due_are n next.within) ∙ next.due) refl ready;
+        marks_sized = of.marks_sized;
+        counts = of.counts;
+      })
+
+  -- and so have the next few
+  pub some-executed : (count : ℕ) {now : Contents} {place : ℕ} → AreListed design old now place → place + count ≤ length (listed now.due) → (new : Contents)
+      → new ≡ record now { state = new.state }
+      → AreExecuted design.processes now.time (take count (drop place (listed now.due))) now.state new.state → AreListed design old new (place + count)
+  some-executed zero {now} {place} s le new kept e =
+      let same : now ≡ new = sym (kept ∙ ap (λ (w : FlatState). record now { state = w }) e) in
+      let here : place ≡ place + 0 = omega arith in
+      subst (λ (k : ℕ). AreListed design old new k) here (subst (λ (m : Contents). AreListed design old m place) same s)
+  some-executed (suc count) {now} {place} s le new kept e =
+      let l = listed now.due in
+      let n = get_or l place 0 in
+      let lt : place < length l = omega (arith, le) in
+      let at : drop place l ≡ n ∷ drop (place + 1) l = number-at l place lt ∙ ap (λ k. n ∷ drop k l) (sym (add-one place)) in
+      let w = subst (λ (ns : List ℕ). AreExecuted design.processes now.time (take (suc count) ns) now.state new.state) at e in
+      let there : place + 1 + count ≡ place + suc count = omega arith in
+      subst (λ (k : ℕ). AreListed design old new k) there
+      (some-executed count (one-executed s lt w.0) (omega (arith, le)) new kept w.1)
