@@ -87,7 +87,7 @@ impl FlatError {
     }
 }
 
-// (written by hand: deriving it for so many variants takes three times as long to prove)
+// (written by hand: the proof of a derived one takes three times as long)
 impl Display for FlatError {
     fn fmt<W: fmt::Write>(&self, f: &mut fmt::Formatter<W>) -> fmt::Result {
         match self.word() {

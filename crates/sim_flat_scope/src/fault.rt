@@ -3,7 +3,7 @@
 ghost use Rattle.std.specs.Prelude.{◌≡◌};
 ghost use Rattle.sim_flat_scope.specs.Faults.{number_of, sooner};
 
-/// The kind of a fault. Of two faults at one place, the kind listed first here is reported.
+/// The kind of a fault. If two faults are at one place, the kind listed first is reported.
 #[derive(Clone, Copy, PartialEq, Eq)]
 pub enum Kind {
     /// A name is declared twice.

@@ -561,9 +561,9 @@ impl FlatState {
     }
 
     /// Executes these processes in order, as long as the body of each is known to be a single
-    /// assignment, and returns how many it has executed. Some may have done nothing, because their
-    /// edge is missing. If allocation fails, an unknown number has been executed, and none must be
-    /// executed again. Only `codes` is read of the processes of the design.
+    /// assignment, and returns how many it has executed: none if what processes own is in several
+    /// parts. If allocation fails, an unknown number has been executed, and none must be executed
+    /// again. Only `codes` and `numbers` are read; `processes` are those of the design.
     pub fn execute_single_assignments(
         &mut self,
         processes: &[Process],
