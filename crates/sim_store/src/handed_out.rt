@@ -15,7 +15,7 @@ use crate::error::HandOutError;
 use crate::handing::{lengths_of, orders_of, shares_of};
 use crate::order::{Answer, Order};
 use crate::phase_input::PhaseInput;
-use crate::retained::{RetainedContents, made_whole, taken_apart};
+use crate::retained::{RetainedContents, join_contents, split_contents};
 use crate::store::WaveStore;
 use sim_store_simulation::Simulation;
 use sim_store_state::Shares;
@@ -124,7 +124,7 @@ pub fn hand_out_phase<D: DesignType>(
     ensures orders { IfOk result (λ r. spec.AreAll r.0 r.1.items) }
 {
     let (design, contents) = simulation.into_contents();
-    let (input, shares, retained) = taken_apart::<D>(alloc, design, contents)?;
+    let (input, shares, retained) = split_contents::<D>(alloc, design, contents)?;
     let (input, orders, parts) = shared_input(alloc, input, shares)?;
     let handed_out = HandedOutStore {
         input,
@@ -138,7 +138,7 @@ pub fn hand_out_phase<D: DesignType>(
 
 /// What was read, and what all processes own according to the answers to all orders, which had so
 /// many processes each.
-fn brought_back<D: DesignType>(
+fn collect_answers<D: DesignType>(
     alloc: Global,
     input: Arc<PhaseInput<D>, Global>,
     parts: Vec<usize>,
@@ -172,7 +172,7 @@ fn simulation_of<D: DesignType>(
     ensures same { IfOk result (λ s. s ≡ simulations.with_marks (retained_of D.design input retained) s.deposited) }
     ensures complete { IfOk result simulations.IsComplete }
 {
-    let (design, contents) = made_whole(input, shares, retained);
+    let (design, contents) = join_contents(input, shares, retained);
     let simulation = Simulation::of_contents(alloc, design, contents)?;
     Ok(simulation)
 }
@@ -197,7 +197,7 @@ impl<D: DesignType> HandedOutStore<D> {
             stop,
             limit,
         } = self;
-        let (input, shares) = brought_back(alloc, input, parts, answers)?;
+        let (input, shares) = collect_answers(alloc, input, parts, answers)?;
         let simulation = simulation_of(alloc, input, shares, retained)?;
         Ok(WaveStore::open(simulation, stop, limit))
     }

@@ -34,7 +34,7 @@ pub struct RetainedContents {
 
 /// Takes apart what a simulation holds, with no process executed in this phase. If allocation
 /// fails, it is lost.
-pub fn taken_apart<D: DesignType>(
+pub fn split_contents<D: DesignType>(
     alloc: Global,
     design: Design,
     contents: Contents,
@@ -89,7 +89,7 @@ pub fn taken_apart<D: DesignType>(
 }
 
 /// Puts it together again from its shares, once all due processes have been executed.
-pub fn made_whole<D: DesignType>(
+pub fn join_contents<D: DesignType>(
     input: PhaseInput<D>,
     shares: Shares,
     retained: RetainedContents,

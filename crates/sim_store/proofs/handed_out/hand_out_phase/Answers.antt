@@ -8,8 +8,8 @@ use Rattle.sim_store.specs.WaveStore.{IsStore}
 use Rattle.sim_store.proofs.Orders.{sum-counts}
 use Rattle.sim_store.proofs.handed_out.hand_out_phase.Goals as goal
 
-pub taken_apart-requires-clause-fresh : goal.taken_apart-requires-clause-fresh
-taken_apart-requires-clause-fresh g c =
+pub split_contents-requires-clause-fresh : goal.split_contents-requires-clause-fresh
+split_contents-requires-clause-fresh g c =
     subst (λ (h : Simulation). (p : ℕ) → those_in h.deposited p ≡ false) (sym c.into_contents-design.ensures.same) c.requires.fresh
 
 pub invariant_of-handed_out : goal.invariant_of-handed_out

@@ -9,7 +9,7 @@ use Rattle.sim_store.specs.Retained.{IsRetained}
 use Rattle.sim_store_simulation.proofs.Going.{cycle-count, held-count}
 use Rattle.sim_store.proofs.Retaining.{first-input, first-range, first-state, named-retained}
 use Rattle.sim_store.proofs.Returning.{fresh-owned}
-use Rattle.sim_store.proofs.retained.taken_apart.Goals as goal
+use Rattle.sim_store.proofs.retained.split_contents.Goals as goal
 
 pub take_apart-requires : goal.take_apart-requires
 take_apart-requires g c =

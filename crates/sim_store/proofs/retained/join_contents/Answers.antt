@@ -4,7 +4,7 @@ use Rattle.sim_store.specs.Handing.{PhaseInput, IsRange, completed, at_input}
 use Rattle.sim_store.specs.Retained.{IsRetained, retained_of}
 use Rattle.sim_store_simulation.specs.Simulation.{reached, with_marks}
 use Rattle.sim_store.proofs.Retaining.{whole-complete, whole-holds, whole-same, whole-values}
-use Rattle.sim_store.proofs.retained.made_whole.Goals as goal
+use Rattle.sim_store.proofs.retained.join_contents.Goals as goal
 
 pub put_together-state-requires-clause-owned : goal.put_together-state-requires-clause-owned
 put_together-state-requires-clause-owned g c =

@@ -1,6 +1,6 @@
 use Rattle.std.proofs.Common.{arith}
 use Rattle.std.proofs.lemmas.Grind.{common_steps}
-use Rattle.sim_store.proofs.handed_out.brought_back.Goals as goal
+use Rattle.sim_store.proofs.handed_out.collect_answers.Goals as goal
 
 pub returns-in-Ok : goal.returns-in-Ok
 returns-in-Ok g c = grind (arith, common_steps)
