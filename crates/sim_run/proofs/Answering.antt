@@ -3,12 +3,11 @@ use Rattle.std.proofs.Common.{◌≡◌, true, Result, Ok, Err, sym, subst, ◌�
 use Rattle.std.specs.Prelude.{IfOk, IfErr}
 use Rattle.sim_store.specs.WaveStore.{WaveStore}
 use Rattle.sim_standard.specs.Behaviour.{Behaviour}
-use Rattle.sim_standard.specs.Histories.{History}
 use Rattle.sim_run_options.specs.declared.options.Options.{Options}
 use Rattle.sim_run_options.specs.Options.{are_in_range}
 use Rattle.sim_run_session.specs.declared.error.RunError.{RunError}
 use Rattle.sim_run_session.specs.declared.error.RunError.TheVariants as refusal
-use Rattle.sim_run_session.specs.Run.{Finishes, history_of}
+use Rattle.sim_run_session.specs.Run.{Finishes, History, history_of}
 use Rattle.sim_run.specs.Run.{IsAnswer, IsRunRefusal}
 
 pub answered : (design : Behaviour) (options : Options) (run : WaveStore) (answer : Result History RunError)

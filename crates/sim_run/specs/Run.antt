@@ -1,12 +1,11 @@
 -- What the run of a design answers, for any number of threads.
 use Rattle.std.specs.Prelude.{◌≡◌, ◌↔◌, Result, Err, MatchResult, false}
 use Rattle.sim_standard.specs.Behaviour.{Behaviour}
-use Rattle.sim_standard.specs.Histories.{History}
 use Rattle.sim_run_options.specs.declared.options.Options.{Options}
 use Rattle.sim_run_options.specs.Options.{are_in_range}
 use Rattle.sim_run_session.specs.declared.error.RunError.{RunError}
 use Rattle.sim_run_session.specs.declared.error.RunError.TheVariants as refusal
-use Rattle.sim_run_session.specs.Run.{Finishes, MakesPostponedDelta, ReachesLimit}
+use Rattle.sim_run_session.specs.Run.{Finishes, History, MakesPostponedDelta, ReachesLimit}
 
 -- Why the run of a design has no history: an option is out of its range, it needs more cycles than the limit, a postponed process makes a delta cycle
 -- follow, the store under the lock is not that of this run, or memory ran out.

@@ -46,7 +46,9 @@ impl Drop for Finished {
 
 impl Model for Finished {
     ghost use Rattle.std.specs.Prelude.{◌≡◌, map, string_bytes};
-    ghost use Rattle.sim_standard.specs.Histories.{History, IsHistory, event_count};
+    ghost use Rattle.sim_standard.specs.Records.{event_count};
+    ghost use Rattle.sim_run_listing.specs.Listing.{IsHistory};
+    ghost use Rattle.sim_run_session.specs.Run.{History};
 
     ghost Value = { History };
 
@@ -58,7 +60,8 @@ impl Model for Finished {
 impl Finished {
     ghost use Rattle.std.specs.Prelude.{◌≡◌, ◌+◌, ◌<◌, ◌^◌, map, length, string_bytes, IfOk, IfErr};
     ghost use Rattle.sim_standard.specs.Behaviour.{behaviour_of};
-    ghost use Rattle.sim_standard.specs.Histories.{IsHistory, event_count};
+    ghost use Rattle.sim_standard.specs.Records.{event_count};
+    ghost use Rattle.sim_run_listing.specs.Listing.{IsHistory};
     ghost use Rattle.sim_run_session.specs.declared.error.RunError.TheVariants as refusal;
 
     /// The run with these names and records, with this many events after the initialization.

@@ -2,3 +2,4 @@ pub mod Copies
 pub mod Divided
 pub mod Gathering
 pub mod Heads
+pub mod Histories

@@ -1,9 +1,15 @@
 -- The listing of a run.
-use Rattle.std.specs.Prelude.{ℕ, ◌-◌, List, [], ◌∷◌, ◌++◌, length, decimal, codes, slice_index_or, flat_map}
+use Rattle.std.specs.Prelude.{ℕ, ◌-◌, ◌<◌, List, [], ◌∷◌, ◌++◌, length, decimal, codes, slice_index_or, flat_map}
+use Rattle.std.specs.List.{All}
 use Rattle.sim_logic.specs.declared.logic.Logic.{Logic}
 use Rattle.sim_logic.specs.Logic.{byte_of}
 use Rattle.sim_standard.specs.declared.record.Record.{Record}
-use Rattle.sim_standard.specs.Histories.{event_count}
+use Rattle.sim_standard.specs.Records.{IsNamed, event_count}
+
+-- There is an initialization, and each change is of a net that has a name.
+pub record IsHistory (names : List (List ℕ)) (records : List Record) : Type 0 where
+  pub begun : 0 < length records
+  pub named : All (IsNamed (length names)) records
 
 -- pieces of text, one after another
 abbrev pub joined : List (List ℕ) → List ℕ

@@ -4,8 +4,8 @@ ghost use Rattle.std.specs.List.{concat};
 ghost use Rattle.std.specs.Io.KnownBytes.{Appends};
 ghost use Rattle.sim_logic.specs.declared.logic.Logic as logic;
 ghost use Rattle.sim_store_state.specs.Log.{record_at};
-ghost use Rattle.sim_standard.specs.Histories.{IsHistory, IsNamed, event_count};
-ghost use Rattle.sim_run_listing.specs.Listing.{line_of, pieces_of, lines_of, end_of, listing};
+ghost use Rattle.sim_standard.specs.Records.{IsNamed, event_count};
+ghost use Rattle.sim_run_listing.specs.Listing.{IsHistory, line_of, pieces_of, lines_of, end_of, listing};
 ghost use Rattle.sim_run_listing.specs.Writing.{AppendsPart, Gathers};
 
 use crate::block::{Block, put, put_all, put_path, write_out};

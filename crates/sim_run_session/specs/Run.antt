@@ -4,13 +4,18 @@ use Rattle.sim_flat_design.specs.Designs.{Design}
 use Rattle.sim_store.specs.WaveStore.{WaveStore}
 use Rattle.std.specs.Io.KnownBytes.{Appends}
 use Rattle.sim_standard.specs.Behaviour.{Behaviour, behaviour_of}
-use Rattle.sim_standard.specs.Histories.{History}
+use Rattle.sim_standard.specs.declared.record.Record.{Record}
 use Rattle.sim_standard.specs.Outcome.{FinishedAfter, LimitReached, PostponedDeltaAfter, HasOutcome}
 use Rattle.sim_run_options.specs.declared.options.Options.{Options}
 use Rattle.sim_run_session.specs.declared.error.RunError.{RunError}
 use Rattle.sim_run_session.specs.declared.error.RunError.TheVariants as refusal
 use Rattle.sim_run_listing.specs.Listing.{listing}
 use Rattle.sim_run_listing.specs.Writing.{AppendsPart}
+
+-- the names of the nets by number, and what each cycle changed, from the initialization on
+pub record History : Type 0 where
+  pub names : List (List ℕ)
+  pub records : List Record
 
 -- The run is finished up to the stop time and within the limit, with this history (IEEE 1076-2008, 14.7.5.1).
 pub record Finishes (design : Behaviour) (options : Options) (history : History) : Type 0 where

@@ -1,7 +1,7 @@
 //! Listings that are written in blocks.
 ghost use Rattle.std.specs.Prelude.{◌≡◌, ◌<◌, length, All, IfOk, ℕ};
 ghost use Rattle.sim_logic.specs.declared.logic.Logic as logic;
-ghost use Rattle.sim_standard.specs.Histories.{IsNamed, event_count};
+ghost use Rattle.sim_standard.specs.Records.{IsNamed, event_count};
 
 use crate::streams::Failing;
 use sim_logic::Logic;

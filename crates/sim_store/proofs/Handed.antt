@@ -10,10 +10,11 @@ use Rattle.sim_flat_design.specs.Processes.{Process, IsProcess}
 use Rattle.sim_containers.specs.Words.{IsNext, NoneFrom}
 use Rattle.sim_exec.specs.Jobs.{IsReady}
 use Rattle.sim_standard.specs.declared.net_view.NetView.{NetView}
-use Rattle.sim_standard.specs.State.{Owned, net_at, nothing_owned, owned_at}
+use Rattle.sim_standard.specs.State.{Owned, net_at, owned_at}
 use Rattle.sim_standard.specs.Statements.{executed}
-use Rattle.sim_standard.specs.Processes.{object_net, no_process, process_at}
+use Rattle.sim_standard.specs.Processes.{object_net, process_at}
 use Rattle.sim_standard.specs.Together.{merged}
+use Rattle.sim_standard.proofs.Names.{no_process, nothing_owned}
 use Rattle.sim_standard.proofs.Frame.{same_owned_after}
 use Rattle.sim_standard.proofs.Together.{merged-out}
 use Rattle.sim_store_simulation.specs.Simulation.{Simulation, is_due, reached, those_in}

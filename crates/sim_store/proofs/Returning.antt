@@ -7,9 +7,10 @@ use Rattle.sim_logic.specs.declared.logic.Logic.{Logic}
 use Rattle.sim_flat_design.specs.Designs.{Design}
 use Rattle.sim_exec.specs.Jobs.{IsReady}
 use Rattle.sim_exec_code.specs.Codes.{Coded, AreCodesOf}
-use Rattle.sim_standard.specs.State.{Owned, nothing_owned, owned_at}
+use Rattle.sim_standard.specs.State.{Owned, owned_at}
 use Rattle.sim_standard.specs.Processes.{process_at}
 use Rattle.sim_standard.specs.declared.record.Record.{Record}
+use Rattle.sim_standard.proofs.Names.{nothing_owned}
 use Rattle.sim_standard.proofs.Together.{length-merged, merged-none}
 use Rattle.sim_standard.proofs.Parallel.{merged-below}
 use Rattle.sim_store_state.specs.FlatState.{FlatState, views_of}

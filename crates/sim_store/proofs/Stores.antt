@@ -4,10 +4,12 @@ use Rattle.std.proofs.Common.{refl, ap, sym, subst, arith}
 use Rattle.std.proofs.lemmas.Bool.Decides.{nat_tests}
 use Rattle.sim_logic.specs.Time.{largest_time}
 use Rattle.sim_standard.specs.Outcome.{GoesOn}
-use Rattle.sim_standard.specs.Cycle.{CycleAt, Following, standard, state_of, next_in}
+use Rattle.sim_standard.specs.Cycle.{CycleAt, Following, next_in}
+use Rattle.sim_standard.specs.Initialization.{first_state}
+use Rattle.sim_standard.specs.Midway.{updated_in}
 use Rattle.sim_store.specs.declared.store.Step.{Step}
 use Rattle.sim_store.specs.declared.store.Step.TheVariants as step
-use Rattle.std.specs.Prelude.{is_some}
+use Rattle.std.specs.Prelude.{IsSomeAnd, is_some, unwrap_or}
 use Rattle.sim_store_simulation.specs.Simulation.{Simulation, IsComplete, IsExecuted, after, in_postponed_phase, next_after, reached, with_marks}
 use Rattle.sim_store_simulation.specs.declared.phase.Phase.{Phase}
 use Rattle.sim_store_simulation.specs.declared.phase.Phase.TheVariants as phase
@@ -16,35 +18,34 @@ use Rattle.sim_store.specs.WaveStore.{WaveStore, IsStore, HasEnd}
 -- a run that begins
 pub store-begins : (g : Simulation) (stop limit : ℕ) → stop ≤ largest_time → g.cycles ≡ 0
     → IsStore (record { simulation = g; stop = stop; limit = limit; ended = None })
-unfolding standard
 store-begins g stop limit early zero = record {
   early = early;
   within = omega (arith, zero);
-  until = subst (λ (n : ℕ). (state_of g.design n).time ≤ stop) (sym zero) (omega arith);
+  until = subst (λ (n : ℕ). (unwrap_or (updated_in g.design n) (first_state g.design)).time ≤ stop) (sym zero) (omega arith);
   going = λ m lt. absurd (omega (arith, zero, lt));
   end = tt;
 }
 
 -- a run that goes on
-pub store-goes-on : (w : WaveStore) (g : Simulation) (time : ℕ) → IsStore w → w.ended ≡ None → g ≡ after w.simulation → next_after w.simulation ≡ CycleAt time
+pub store-goes-on : (w : WaveStore) (g : Simulation) (time : ℕ) → IsStore w → w.ended ≡ None → g ≡ after w.simulation → next_after w.simulation ≡ Some (CycleAt time)
     → time ≤ w.stop → w.simulation.cycles ≢ w.limit → (reached g).time ≡ time
     → IsStore (record { simulation = g; stop = w.stop; limit = w.limit; ended = w.ended })
 store-goes-on w g time is running e next before apart at = record {
   early = is.early;
   within = let k : g.cycles ≡ suc w.simulation.cycles = ap (λ (h : Simulation). h.cycles) e in omega (arith, k, is.within, apart);
   until = omega (arith, at, before);
-  going = λ m lt. subst (λ d. GoesOn (next_in d m) w.stop) (sym (ap (λ (h : Simulation). h.design) e))
+  going = λ m lt. subst (λ d. IsSomeAnd (next_in d m) (GoesOn w.stop)) (sym (ap (λ (h : Simulation). h.design) e))
       (still m (omega (arith, lt, ap (λ (h : Simulation). h.cycles) e)) (eqb m w.simulation.cycles) refl);
   end = subst (λ (o : Option Step). MatchOption o (Unit {0})
       (λ s. IsExecuted g × HasEnd (record { simulation = g; stop = w.stop; limit = w.limit; ended = w.ended }) s))
       (sym running) tt;
 }
   where
-    still : (m : ℕ) → m < suc w.simulation.cycles → (b : Bool) → eqb m w.simulation.cycles ≡ b → GoesOn (next_in w.simulation.design m) w.stop
+    still : (m : ℕ) → m < suc w.simulation.cycles → (b : Bool) → eqb m w.simulation.cycles ≡ b → IsSomeAnd (next_in w.simulation.design m) (GoesOn w.stop)
     still m lt true q =
         let same : m ≡ w.simulation.cycles = grind (arith, nat_tests) in
-        let now : GoesOn (next_after w.simulation) w.stop = subst (λ (f : Following). GoesOn f w.stop) (sym next) before in
-        subst (λ (n : ℕ). GoesOn (next_in w.simulation.design n) w.stop) (sym same) now
+        let now : IsSomeAnd (next_after w.simulation) (GoesOn w.stop) = subst (λ (o : Option Following). IsSomeAnd o (GoesOn w.stop)) (sym next) before in
+        subst (λ (n : ℕ). IsSomeAnd (next_in w.simulation.design n) (GoesOn w.stop)) (sym same) now
     still m lt false q =
         let other : m ≢ w.simulation.cycles = grind (arith, nat_tests) in
         is.going m (omega (arith, lt, other))
@@ -83,15 +84,15 @@ ended-complete w is e = go w.ended e is.end
     go (Some s) e h = h.0.complete
 
 -- a run that has had as many cycles as the limit, and needs one more
-pub limit-reached : (w : WaveStore) (time : ℕ) → IsStore w → w.simulation.cycles ≡ w.limit → next_after w.simulation ≡ CycleAt time → time ≤ w.stop
+pub limit-reached : (w : WaveStore) (time : ℕ) → IsStore w → w.simulation.cycles ≡ w.limit → next_after w.simulation ≡ Some (CycleAt time) → time ≤ w.stop
     → HasEnd w step.LimitReached
 limit-reached w time is at next before m le = go (eqb m w.simulation.cycles) refl
   where
-    go : (b : Bool) → eqb m w.simulation.cycles ≡ b → GoesOn (next_in w.simulation.design m) w.stop
+    go : (b : Bool) → eqb m w.simulation.cycles ≡ b → IsSomeAnd (next_in w.simulation.design m) (GoesOn w.stop)
     go true q =
         let same : m ≡ w.simulation.cycles = grind (arith, nat_tests) in
-        let now : GoesOn (next_after w.simulation) w.stop = subst (λ (f : Following). GoesOn f w.stop) (sym next) before in
-        subst (λ (n : ℕ). GoesOn (next_in w.simulation.design n) w.stop) (sym same) now
+        let now : IsSomeAnd (next_after w.simulation) (GoesOn w.stop) = subst (λ (o : Option Following). IsSomeAnd o (GoesOn w.stop)) (sym next) before in
+        subst (λ (n : ℕ). IsSomeAnd (next_in w.simulation.design n) (GoesOn w.stop)) (sym same) now
     go false q =
         let other : m ≢ w.simulation.cycles = grind (arith, nat_tests) in
         is.going m (omega (arith, le, at, other))

@@ -1,6 +1,6 @@
 -- The store of a run: a simulation, how far it may go, and how it ended (IEEE 1076-2008, 14.7.5.1).
 -- Implementation only: what `simulate` promises does not rest on this file.
-use Rattle.std.specs.Prelude.{ℕ, suc, [], ◌≡◌, ◌≢◌, ◌<◌, ◌≤◌, List, Bool, true, false, Option, None, Some, MatchOption, length, replicate, slice_set}
+use Rattle.std.specs.Prelude.{ℕ, suc, [], ◌≡◌, ◌≢◌, ◌<◌, ◌≤◌, List, Bool, true, false, Option, None, Some, IsSomeAnd, MatchOption, length, replicate, slice_set}
 use Rattle.sim_flat_design.specs.Designs.{Design}
 use Rattle.sim_logic.specs.Time.{largest_time}
 use Rattle.sim_exec.specs.Jobs.{Job}
@@ -9,8 +9,9 @@ use Rattle.sim_store.specs.declared.error.StoreError.TheVariants as error
 use Rattle.sim_store.specs.declared.store.Step.{Step}
 use Rattle.sim_store.specs.declared.store.Step.TheVariants as step
 use Rattle.sim_store.specs.declared.store.Look.{Look}
-use Rattle.sim_standard.specs.Histories.{event_count, records_to}
-use Rattle.sim_standard.specs.Cycle.{CycleAt, standard, next_in}
+use Rattle.sim_standard.specs.Records.{event_count, records_to}
+use Rattle.sim_standard.specs.Cycle.{CycleAt, next_in}
+use Rattle.sim_standard.specs.Midway.{updated_in}
 use Rattle.sim_standard.specs.Outcome.{FinishedAfter, LimitReached, PostponedDeltaAfter, HasOutcome, GoesOn}
 use Rattle.sim_store_simulation.specs.Simulation.{Simulation, ArePostponedNext, IsComplete, IsDue, IsExecuted, IsMissing, IsLeastMissing, IsOwn}
 use Rattle.sim_store_simulation.specs.Simulation.{after, due_numbers}
@@ -37,7 +38,7 @@ pub record IsStore (w : WaveStore) : Type 0 where
   pub early : w.stop ≤ largest_time
   pub within : w.simulation.cycles ≤ w.limit
   pub until : (reached w.simulation).time ≤ w.stop
-  pub going : (m : ℕ) → m < w.simulation.cycles → GoesOn (next_in w.simulation.design m) w.stop
+  pub going : (m : ℕ) → m < w.simulation.cycles → IsSomeAnd (next_in w.simulation.design m) (GoesOn w.stop)
   pub end : MatchOption w.ended (Unit {0}) (λ s. IsExecuted w.simulation × HasEnd w s)
 
 -- The run has not ended.
@@ -112,7 +113,7 @@ WentOn old new step.Postponed =
     (old.simulation.phase ≡ phase.AtOnce) × ArePostponedNext old.simulation.design old.simulation.cycles (updated_last old.simulation)
     × (new ≡ record old { simulation = in_postponed_phase old.simulation })
 WentOn old new step.Next =
-    (time : ℕ) × IsExecuted old.simulation × (next_after old.simulation ≡ CycleAt time) × (time ≤ old.stop) × (old.simulation.cycles < old.limit)
+    (time : ℕ) × IsExecuted old.simulation × (next_after old.simulation ≡ Some (CycleAt time)) × (time ≤ old.stop) × (old.simulation.cycles < old.limit)
     × (new ≡ record old { simulation = after old.simulation })
 WentOn old new step.PostponedDelta = IsExecuted old.simulation × HasEnd old step.PostponedDelta × (new ≡ ended_as old step.PostponedDelta)
 WentOn old new step.Finished = IsExecuted old.simulation × HasEnd old step.Finished × (new ≡ ended_as old step.Finished)
@@ -136,8 +137,8 @@ due_of w = go w.ended
 pub record IsWithin (w : WaveStore) : Type 0 where
   pub cycles : w.simulation.cycles ≤ w.limit
   pub time : (reached w.simulation).time ≤ w.stop
-  pub going : (m : ℕ) → m < w.simulation.cycles → GoesOn (next_in w.simulation.design m) w.stop
-  pub there : standard w.simulation.design w.simulation.cycles ≡ Some (updated_last w.simulation)
+  pub going : (m : ℕ) → m < w.simulation.cycles → IsSomeAnd (next_in w.simulation.design m) (GoesOn w.stop)
+  pub there : updated_in w.simulation.design w.simulation.cycles ≡ Some (updated_last w.simulation)
 
 -- how far it has come
 abbrev pub look_of : WaveStore → Look

@@ -7,7 +7,7 @@ ghost use Rattle.sim_logic.specs.Time.{largest_time};
 ghost use Rattle.std.specs.List.{All};
 ghost use Rattle.sim_standard.specs.State.{net_at};
 ghost use Rattle.sim_standard.specs.Agreement.{total_of, value_by};
-ghost use Rattle.sim_standard.specs.Histories.{IsNamed, records_to};
+ghost use Rattle.sim_standard.specs.Records.{IsNamed, records_to};
 ghost use Rattle.sim_standard.specs.Cycle.{CycleAt};
 ghost use Rattle.sim_store_simulation.specs.Simulation as simulations;
 ghost use Rattle.sim_store.specs.Handing as hands;
@@ -341,7 +341,7 @@ impl WaveStore {
     fn go_to(&mut self, time: u64) -> Result<Step, StoreError>
         requires open { spec.IsOpen self.old }
         requires executed { simulations.IsExecuted self.old.simulation }
-        requires next { simulations.next_after self.old.simulation ≡ CycleAt time }
+        requires next { simulations.next_after self.old.simulation ≡ Some (CycleAt time) }
         requires until { time ≤ self.old.stop }
         ensures ok { IfOk result (λ s. spec.WentOn self.old self.new s) }
         ensures err { IfErr result (λ e. e ≡ refusal.Memory) }

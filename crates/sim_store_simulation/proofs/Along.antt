@@ -5,7 +5,7 @@ use Rattle.std.proofs.Math.Decide.{dec_lt}
 use Rattle.std.proofs.lemmas.List.{get_or-set_other, get_or_past}
 use Rattle.sim_containers.specs.Numbers.{is_beside}
 use Rattle.sim_containers.specs.Words.{IsNext, NoneFrom}
-use Rattle.sim_standard.specs.Cycle.{those}
+use Rattle.sim_standard.proofs.Numbers.{counted, ranged}
 use Rattle.sim_standard.specs.declared.record.Record.{Record}
 use Rattle.sim_store_state.specs.FlatState.{FlatState}
 use Rattle.sim_store_simulation.specs.Simulation.{Simulation, IsStateOf, IsComplete, IsMissing, listed, those_in}
@@ -17,19 +17,19 @@ use Rattle.sim_store_simulation.proofs.Walks.{Passed, none-between, none-missing
 pub record Found (test : ℕ → Bool) (from count n : ℕ) (rest : List ℕ) : Type 0 where
   pub next : IsNext test from n
   pub below : n < from + count
-  pub rest_is : rest ≡ those test (n + 1) (from + count - (n + 1))
+  pub rest_is : rest ≡ counted test (n + 1) (from + count - (n + 1))
 
 rest_of : List ℕ → List ℕ
 rest_of [] = []
 rest_of (x ∷ xs) = xs
 
-first-of : (test : ℕ → Bool) (from count n : ℕ) (rest : List ℕ) → those test from count ≡ n ∷ rest → Found test from count n rest
-unfolding those rest_of
+first-of : (test : ℕ → Bool) (from count n : ℕ) (rest : List ℕ) → counted test from count ≡ n ∷ rest → Found test from count n rest
+unfolding counted rest_of
 first-of test from zero n rest e = absurd cc
 first-of test from (suc count) n rest e = go (test from) refl (first-of test (suc from) count n rest) e
   where
-    go : (b : Bool) → test from ≡ b → (those test (suc from) count ≡ n ∷ rest → Found test (suc from) count n rest)
-        → (if b then from ∷ those test (suc from) count else those test (suc from) count) ≡ n ∷ rest → Found test from (suc count) n rest
+    go : (b : Bool) → test from ≡ b → (counted test (suc from) count ≡ n ∷ rest → Found test (suc from) count n rest)
+        → (if b then from ∷ counted test (suc from) count else counted test (suc from) count) ≡ n ∷ rest → Found test from (suc count) n rest
     go true q later e =
         let at : from ≡ n = ap (λ l. get_or l 0 0) e in
         let next : suc from ≡ n + 1 = omega (arith, at) in
@@ -41,7 +41,7 @@ first-of test from (suc count) n rest e = go (test from) refl (first-of test (su
             first = λ k ge lt. absurd (omega (arith, ge, lt, at));
           };
           below = omega (arith, at);
-          rest_is = sym (ap rest_of e) ∙ (ap (λ k. those test k count) next ∙ ap (those test (n + 1)) left);
+          rest_is = sym (ap rest_of e) ∙ (ap (λ k. counted test k count) next ∙ ap (counted test (n + 1)) left);
         }
     go false q later e =
         let w = later e in
@@ -56,16 +56,16 @@ first-of test from (suc count) n rest e = go (test from) refl (first-of test (su
             ];
           };
           below = omega (arith, w.below);
-          rest_is = w.rest_is ∙ ap (those test (n + 1)) left;
+          rest_is = w.rest_is ∙ ap (counted test (n + 1)) left;
         }
 
-none-of : (test : ℕ → Bool) (from count : ℕ) → those test from count ≡ [] → (k : ℕ) → from ≤ k → k < from + count → test k ≡ false
-unfolding those
+none-of : (test : ℕ → Bool) (from count : ℕ) → counted test from count ≡ [] → (k : ℕ) → from ≤ k → k < from + count → test k ≡ false
+unfolding counted
 none-of test from zero e k ge lt = absurd (omega (arith, ge, lt))
 none-of test from (suc count) e k ge lt = go (test from) refl (λ f after. none-of test (suc from) count f k after (omega (arith, lt))) e
   where
-    go : (b : Bool) → test from ≡ b → (those test (suc from) count ≡ [] → suc from ≤ k → test k ≡ false)
-        → (if b then from ∷ those test (suc from) count else those test (suc from) count) ≡ [] → test k ≡ false
+    go : (b : Bool) → test from ≡ b → (counted test (suc from) count ≡ [] → suc from ≤ k → test k ≡ false)
+        → (if b then from ∷ counted test (suc from) count else counted test (suc from) count) ≡ [] → test k ≡ false
     go true q later e = absurd cc
     go false q later e = elim (dec_lt from k) [
       | yes after ↦ later e (omega (arith, after))
@@ -89,7 +89,7 @@ none-left (x ∷ xs) (suc k) le = none-left xs k (omega (arith, le))
 pub record IsAlong (due : List Bool) (h : Simulation) (place : ℕ) : Type 0 where
   pub from : ℕ
   pub within : from ≤ length due
-  pub left : drop place (listed due) ≡ those (those_in due) from (length due - from)
+  pub left : drop place (listed due) ≡ counted (those_in due) from (length due - from)
   pub passed : Passed h from
   pub fresh : (p : ℕ) → from ≤ p → those_in h.deposited p ≡ false
 
@@ -97,7 +97,7 @@ pub along-first : (due : List Bool) (h : Simulation) → ((p : ℕ) → those_in
 along-first due h none = record {
   from = 0;
   within = omega arith;
-  left = let all : length due ≡ length due - 0 = omega arith in ap (those (those_in due) 0) all;
+  left = let all : length due ≡ length due - 0 = omega arith in ranged (those_in due) 0 (length due) ∙ ap (counted (those_in due) 0) all;
   passed = none-passed h;
   fresh = λ p _. none p;
 }
@@ -128,7 +128,7 @@ module _ {h : Simulation} {time delta : ℕ} {held : FlatState} {records : List 
       record {
         from = n + 1;
         within = omega (arith, within, below);
-        left = w.rest_is ∙ ap (those (those_in due) (n + 1)) rest;
+        left = w.rest_is ∙ ap (counted (those_in due) (n + 1)) rest;
         passed = one-passed n (none-between i a.from n a.passed next) others gone;
         fresh = λ p ge.
             let apart : p ≢ n = omega (arith, ge) in
@@ -138,7 +138,7 @@ module _ {h : Simulation} {time delta : ℕ} {held : FlatState} {records : List 
   pub along-last : {place : ℕ} → IsAlong due h place → length (listed due) ≤ place → IsComplete h
   along-last {place} a le = none-missing i a.from a.passed none
     where
-      nothing : those (those_in due) a.from (length due - a.from) ≡ []
+      nothing : counted (those_in due) a.from (length due - a.from) ≡ []
       nothing = sym a.left ∙ none-left (listed due) place le
 
       none : NoneFrom (is_beside due h.deposited) a.from

@@ -5,7 +5,7 @@ use Rattle.std.proofs.lemmas.List.Elements.{All-cons, All-nil}
 use Rattle.std.specs.List.{All}
 use Rattle.sim_flat_design.specs.Designs.{Design}
 use Rattle.sim_exec.specs.Jobs.{IsReady}
-use Rattle.sim_standard.specs.Cycle.{those}
+use Rattle.sim_standard.proofs.Numbers.{counted}
 use Rattle.sim_standard.specs.Processes.{process_at}
 use Rattle.sim_standard.specs.State.{owned_at}
 use Rattle.sim_store_state.specs.FlatState.{FlatState}
@@ -19,14 +19,14 @@ use Rattle.sim_store_simulation.proofs.Listed.{AreListed, listed-more, listed-ne
 use Rattle.sim_store_simulation.proofs.Walks.{due-within}
 
 -- what holds of each number from one on that passes a test holds of all that are listed from there
-those-each : (test : ℕ → Bool) (from count : ℕ) (P : ℕ → Type 0) → ((p : ℕ) → from ≤ p → test p ≡ true → P p) → All P (those test from count)
-unfolding those
+those-each : (test : ℕ → Bool) (from count : ℕ) (P : ℕ → Type 0) → ((p : ℕ) → from ≤ p → test p ≡ true → P p) → All P (counted test from count)
+unfolding counted
 those-each test from zero P holds = All-nil P
 those-each test from (suc count) P holds = go (test from) refl (those-each test (suc from) count P (λ p ge. holds p (omega (arith, ge))))
   where
-    go : (b : Bool) → test from ≡ b → All P (those test (suc from) count)
-        → All P (if b then from ∷ those test (suc from) count else those test (suc from) count)
-    go true is rest = All-cons P from (those test (suc from) count) (holds from (omega arith) is) rest
+    go : (b : Bool) → test from ≡ b → All P (counted test (suc from) count)
+        → All P (if b then from ∷ counted test (suc from) count else counted test (suc from) count)
+    go true is rest = All-cons P from (counted test (suc from) count) (holds from (omega arith) is) rest
     go false is rest = rest
 
 module _ {design : Design} {old : Contents} where

@@ -3,45 +3,50 @@ use Rattle.std.proofs.Common.{ℕ, zero, suc, ◌+◌, ◌<◌, ◌≤◌, ◌�
 use Rattle.std.proofs.Common.{if◌then◌else◌, List, [], ◌∷◌, ◌++◌}
 use Rattle.std.proofs.Common.{length, get_or, set, map, take, drop, replicate, refl, ap, sym, ◌∙◌, subst, arith, Option, None, Some, MatchOption}
 use Rattle.std.specs.List.{All}
+use Rattle.std.specs.Prelude.{option_map, unwrap_or}
 use Rattle.std.proofs.lemmas.Bool.Decides.{nat_tests}
-use Rattle.std.proofs.lemmas.List.{get_or-set_same, get_or-set_other, length-set, length-map, length-append, get_or-map, get_or-replicate, length-replicate}
+use Rattle.std.proofs.lemmas.List.{get_or-set_same, get_or-set_other, length-set, length-map, get_or-map, get_or-replicate, length-replicate}
 use Rattle.std.proofs.lemmas.List.Elements.{All-map, All-weaker}
 use Rattle.std.proofs.lemmas.List.{drop-drop, ext_get_or, length-take-le}
-use Rattle.sim_standard.specs.Drivers.{RisesFrom, Transaction, DriverState, next_time}
+use Rattle.sim_standard.specs.Drivers.{Transaction, DriverState, next_time}
+use Rattle.sim_wave.specs.Rising.{RisesFrom}
 use Rattle.sim_flat_design.specs.Bodies.{Body}
 use Rattle.sim_flat_design.specs.declared.design.DriverOf.{DriverOf}
 use Rattle.sim_flat_design.specs.Designs.{AreOwned, Design, most}
 use Rattle.sim_flat_design.specs.Processes.{Process, IsProcess}
 use Rattle.sim_standard.specs.declared.net_view.NetView.{NetView}
 use Rattle.std.proofs.lemmas.List.Elements.{All-get_or}
-use Rattle.sim_standard.specs.State.{State, Owned, driver_values, net_at, owned_at, nothing_owned, all_drivers}
+use Rattle.sim_standard.specs.State.{State, Owned, driver_values, net_at, owned_at, all_drivers}
 use Rattle.sim_standard.specs.Statements.{executed}
-use Rattle.sim_standard.specs.Processes.{object_net, part, owned_after, no_process, process_at}
+use Rattle.sim_standard.specs.Processes.{object_net, part, owned_after, process_at}
 use Rattle.sim_standard.proofs.Frame.{same_owned_after}
 use Rattle.sim_standard.proofs.ValuesKept.{values_kept}
 use Rattle.sim_logic.specs.Time.{largest_time}
 use Rattle.sim_exec.specs.Jobs.{IsJob, IsReady, Job, holds_bit, result_of, scene}
 use Rattle.sim_standard.specs.declared.record.Record.{Record}
-use Rattle.sim_standard.specs.Cycle.{own_taken, is_at_once, is_postponed, is_resumed, is_waiting, updated, next_delta, has_event_in}
-use Rattle.sim_standard.specs.Cycle.{CycleAt, PostponedDelta, following_of, has_postponed_delta}
+use Rattle.sim_standard.specs.Cycle.{is_at_once, is_resumed, is_waiting, updated}
+use Rattle.sim_standard.specs.Cycle.{Following, CycleAt, PostponedDelta, following, has_postponed_delta}
 use Rattle.sim_standard.specs.Orders.{is_among}
-use Rattle.sim_standard.specs.Initialization.{first_owned, idle, first_state}
+use Rattle.sim_standard.specs.Initialization.{first_owned, first_state}
+use Rattle.sim_standard.proofs.Names.{no_process, nothing_owned, own_taken}
 use Rattle.sim_flat_design.specs.declared.design.Source.{Source}
 use Rattle.sim_store_state.specs.FlatState.{FlatState, flat_state_of, sources_of}
-use Rattle.sim_standard.specs.Records.{first_record, changes_from}
-use Rattle.sim_standard.specs.Together.{merged, executed_together, first_together}
-use Rattle.sim_standard.specs.Cycle.{standard, state_of, or_first, onward, cycle_in_turn, executed_in_turn, next_cycle_time}
-use Rattle.sim_standard.specs.Histories.{recorded, records_to}
+use Rattle.sim_store_state.specs.Sensitive.{has_event_in}
+use Rattle.sim_standard.specs.Records.{changes_from, records_to, values_of}
+use Rattle.sim_standard.specs.Together.{merged, cycle_end_together}
+use Rattle.sim_standard.specs.Cycle.{cycle_end, ended, next_updated}
+use Rattle.sim_standard.specs.Midway.{updated_in}
+use Rattle.sim_standard.proofs.Midway.{carried_on, next_carried_on, one_more}
+use Rattle.sim_standard.proofs.Records.{length-records_to, one-recorded}
 use Rattle.sim_store_simulation.specs.Simulation.{Simulation, ArePostponedNext, AreParted, IsStateOf, IsComplete, IsExecuted, IsResult, IsDue, IsMissing, IsOwn}
 use Rattle.sim_store_simulation.specs.Simulation.{cleared, after, in_postponed_phase, is_before, is_due, is_left, is_of_phase, kept_or, next_after}
 use Rattle.sim_store_simulation.specs.Simulation.{IsUpcoming, pending_from, upcoming_of}
 use Rattle.sim_store_simulation.specs.Simulation.{reached, those_in, updated_last, with_one}
 use Rattle.sim_store_simulation.specs.declared.phase.Phase.{Phase}
 use Rattle.sim_store_simulation.specs.declared.phase.Phase.TheVariants as phase
-use Rattle.sim_store_simulation.proofs.Listing.{those-same}
 use Rattle.sim_store_simulation.proofs.Phases.{before-all, last-owned, last-waiting, none-waits, not-before, phase_end, upcoming-is}
-use Rattle.sim_standard.specs.Cycle.{is_time_of, waiting_now}
-use Rattle.sim_standard.proofs.WithoutPostponed.{those-none}
+use Rattle.sim_store_simulation.proofs.Phases.{first_together, following_of, is_delta_at, next_cycle_time, waiting_now}
+use Rattle.sim_standard.proofs.Numbers.{counted-none, counted-same, ranged}
 use Rattle.std.proofs.Math.Decide.{dec_lt}
 use Rattle.std.proofs.lemmas.List.{get_or_past}
 use Rattle.sim_standard.proofs.Together.{also, length-merged, merged-same, merged-none, merged-out, merged-also}
@@ -52,13 +57,21 @@ use Rattle.sim_store_simulation.proofs.Readiness.{ready_after}
 abbrev results : Simulation → ℕ → Owned
 results h q = owned_after (process_at h.design.processes q) (part (process_at h.design.processes q) q (reached h))
 
-pub length-records_to : (d : Design) (k : ℕ) → length (records_to d k) ≡ suc k
-unfolding records_to
-length-records_to d zero = refl
-length-records_to d (suc k) = omega (arith, length-append (records_to d k) (recorded (suc k) (state_of d (suc k)) ∷ []), length-records_to d k)
+-- the state after the update of the last of a number of cycles
+abbrev pub state_of : Design → ℕ → State
+state_of d k = unwrap_or (updated_in d k) (first_state d)
 
-one-more : (marks : List Bool) (n k : ℕ) → n < length marks → (eqb n k || get_or marks k false) ≡ get_or (set marks n true) k false
-one-more marks n k lt = go (eqb n k) refl
+-- the delta number of a cycle at a time after one at another
+abbrev next_delta : ℕ → ℕ → ℕ → ℕ
+next_delta time last delta = if time == last then delta + 1 else 0
+
+-- at first there is one record
+pub first-records : (d : Design) → records_to d 0 ≡ record { time = 0; delta = 0; changes = values_of (first_state d).nets } ∷ []
+unfolding records_to
+first-records d = refl
+
+one-marked : (marks : List Bool) (n k : ℕ) → n < length marks → (eqb n k || get_or marks k false) ≡ get_or (set marks n true) k false
+one-marked marks n k lt = go (eqb n k) refl
   where
     go : (b : Bool) → eqb n k ≡ b → (b || get_or marks k false) ≡ get_or (set marks n true) k false
     go true e =
@@ -70,6 +83,13 @@ one-more marks n k lt = go (eqb n k) refl
 
 module _ {h : Simulation} {time delta : ℕ} {held : FlatState} {records : List Record} {due waiting : List Bool}
     (i : IsStateOf h time delta held records due waiting) where
+  -- the state at the end of the cycle, and what follows it
+  ended-here : ended h.design h.cycles ≡ Some (cycle_end h.design h.cycles (updated_last h))
+  ended-here = carried_on h.design h.cycles ∙ ap (option_map (cycle_end h.design h.cycles)) i.there
+
+  pub next-here : next_after h ≡ Some (following h.design h.cycles (updated_last h))
+  next-here = next_carried_on h.design h.cycles ∙ ap (option_map (following h.design h.cycles)) i.there
+
   -- each process owns something
   pub updated-all : length (updated_last h).owned ≡ length h.design.processes
   updated-all = subst (λ (o : Option State). all o) i.there (standard_all h.design i.processes h.cycles)
@@ -92,7 +112,7 @@ module _ {h : Simulation} {time delta : ℕ} {held : FlatState} {records : List 
   slow = subst (λ (n : ℕ). n ≤ h.cycles) (sym i.delta_is) reached-fits.1
 
   pub cycle-count : length records ≡ suc h.cycles
-  cycle-count = ap length i.records_are ∙ length-records_to h.design h.cycles
+  cycle-count = ap length i.records_are ∙ length-records_to h.design h.cycles (cycle_end h.design h.cycles (updated_last h)) ended-here
 
   pub held-count : length held.owned ≡ length h.design.processes
   held-count = ap length i.owned_are ∙ (length-merged (those_in h.deposited) (results h) 0 (reached h).owned ∙ reached-all)
@@ -114,7 +134,7 @@ module _ {h : Simulation} {time delta : ℕ} {held : FlatState} {records : List 
       let b : set (merged f (results h) 0 (reached h).owned) p (results h p) ≡ merged (also p f) (results h) 0 (reached h).owned =
       merged-also f (results h) 0 p p (reached h).owned (omega arith) in
       let m : merged (also p f) (results h) 0 (reached h).owned ≡ merged (those_in (set h.deposited p true)) (results h) 0 (reached h).owned =
-      merged-same (also p f) (those_in (set h.deposited p true)) (results h) 0 (reached h).owned (λ k l. one-more h.deposited p k lt) in
+      merged-same (also p f) (those_in (set h.deposited p true)) (results h) 0 (reached h).owned (λ k l. one-marked h.deposited p k lt) in
       record {
         there = i.there;
         phased = i.phased;
@@ -132,7 +152,7 @@ module _ {h : Simulation} {time delta : ℕ} {held : FlatState} {records : List 
         processes = i.processes;
         due_are = i.due_are;
         waiting_are = i.waiting_are;
-        ran = λ q w. still q (eqb p q) refl (one-more h.deposited p q lt ∙ w);
+        ran = λ q w. still q (eqb p q) refl (one-marked h.deposited p q lt ∙ w);
         ready = λ q l. now q l (eqb p q) refl;
       }
     where
@@ -263,28 +283,35 @@ module _ {h : Simulation} {time delta : ℕ} {held : FlatState} {records : List 
 module _ {h : Simulation} {time delta : ℕ} {held : FlatState} {records : List Record} {due waiting : List Bool}
     (i : IsStateOf h time delta held records due waiting) (done : IsExecuted h) where
   -- once all processes of the cycle have been executed, the state is that at the end of the cycle
-  present-complete : held.owned ≡ (executed_together h.design h.cycles (updated_last h)).owned
+  present-complete : held.owned ≡ (cycle_end_together h.design h.cycles (updated_last h)).owned
   present-complete =
       phase-complete i done.complete
       ∙ last-owned h.design i.processes h.cycles (updated_last h) (updated-all i) h.phase i.phased done.last
 
-  in-turn : executed_in_turn h.design h.cycles (updated_last h) ≡ executed_together h.design h.cycles (updated_last h)
+  in-turn : cycle_end h.design h.cycles (updated_last h) ≡ cycle_end_together h.design h.cycles (updated_last h)
   in-turn = in_turn_is_together h.design i.processes h.cycles (updated_last h) (updated-all i)
 
-  standard-next : standard h.design (suc h.cycles) ≡ onward h.design (executed_together h.design h.cycles (updated_last h)) (next_time (all_drivers held.owned))
-  unfolding standard
-  standard-next =
-      let x = executed_together h.design h.cycles (updated_last h) in
-      ap (cycle_in_turn h.design h.cycles) i.there ∙ (ap (λ (y : State). onward h.design y (next_cycle_time y)) in-turn
-      ∙ ap (λ (os : List Owned). onward h.design x (next_time (all_drivers os))) (sym present-complete))
+  -- the state after the next update, by the first pending time
+  one-updated : updated_in h.design (suc h.cycles)
+      ≡ option_map (updated h.design (cycle_end_together h.design h.cycles (updated_last h))) (next_time (all_drivers held.owned))
+  one-updated =
+      let d = h.design in
+      let x = cycle_end_together d h.cycles (updated_last h) in
+      one_more d h.cycles ∙ (ap (λ (o : Option State). next_updated d (option_map (cycle_end d h.cycles) o)) i.there
+      ∙ (ap (λ (y : State). option_map (updated d y) (next_cycle_time y)) in-turn
+      ∙ ap (λ (os : List Owned). option_map (updated d x) (next_time (all_drivers os))) (sym present-complete)))
 
   -- a cycle that follows is at the first pending time
-  pub next-time-is : (t : ℕ) → next_after h ≡ CycleAt t → next_time (all_drivers held.owned) ≡ Some t
+  pub next-time-is : (t : ℕ) → next_after h ≡ Some (CycleAt t) → next_time (all_drivers held.owned) ≡ Some t
   next-time-is t e =
       ap (λ (os : List Owned). next_time (all_drivers os)) present-complete
       ∙ (ap next_cycle_time (sym in-turn)
-      ∙ time_of_cycle (has_postponed_delta h.design h.cycles (updated_last h)) (next_cycle_time (executed_in_turn h.design h.cycles (updated_last h))) t e)
+      ∙ time_of_cycle (has_postponed_delta h.design h.cycles (updated_last h)) (next_cycle_time (cycle_end h.design h.cycles (updated_last h))) t
+      (only (following h.design h.cycles (updated_last h)) (CycleAt t) (sym (next-here i) ∙ e)))
     where
+      only : (a b : Following) → Some a ≡ Some b → a ≡ b
+      only a b e = cc e
+
       time_of_cycle : (b : Bool) (o : Option ℕ) (t : ℕ) → (if b then PostponedDelta else following_of o) ≡ CycleAt t → o ≡ Some t
       time_of_cycle true o t e = absurd (cc e)
       time_of_cycle false None t e = absurd (cc e)
@@ -294,9 +321,10 @@ module _ {h : Simulation} {time delta : ℕ} {held : FlatState} {records : List 
   pub advanced-time : (t : ℕ) → next_time (all_drivers held.owned) ≡ Some t → (state_of h.design (suc h.cycles)).time ≡ t
   advanced-time t some =
       let d = h.design in
-      ap (λ (s : State). s.time) (ap (or_first d) (standard-next ∙ ap (onward d (executed_together d h.cycles (updated_last h))) some))
+      ap (λ (o : Option State). (unwrap_or o (first_state d)).time)
+      (one-updated ∙ ap (option_map (updated d (cycle_end_together d h.cycles (updated_last h)))) some)
 
-  pub held-is : held ≡ flat_state_of h.design (executed_together h.design h.cycles (updated_last h))
+  pub held-is : held ≡ flat_state_of h.design (cycle_end_together h.design h.cycles (updated_last h))
   held-is =
       ap (λ (rows : List (List Source)). record { sources = rows; nets = held.nets; owned = held.owned }) i.sources_are
       ∙ (ap (λ (ns : List NetView). record { sources = sources_of h.design.nets; nets = ns; owned = held.owned }) i.nets_are
@@ -304,7 +332,7 @@ module _ {h : Simulation} {time delta : ℕ} {held : FlatState} {records : List 
       ∙ ap (λ (ns : List NetView). record {
         sources = sources_of h.design.nets;
         nets = ns;
-        owned = (executed_together h.design h.cycles (updated_last h)).owned;
+        owned = (cycle_end_together h.design h.cycles (updated_last h)).owned;
       }) (sym (executed_nets h.design h.cycles (updated_last h)))))
 
   -- there are as many nets after the cycle
@@ -312,7 +340,7 @@ module _ {h : Simulation} {time delta : ℕ} {held : FlatState} {records : List 
       → ((design : Design) (s : State) → held ≡ flat_state_of design s → held' ≡ flat_state_of design (updated design s t))
       → length held'.nets ≡ length h.design.nets
   advanced-count t held' el =
-      let x = executed_together h.design h.cycles (updated_last h) in
+      let x = cycle_end_together h.design h.cycles (updated_last h) in
       ap (λ (w : FlatState). length w.nets) (el h.design x held-is)
       ∙ length-nets_updated (all_drivers (map (own_taken t) x.owned)) h.design.nets x.nets
       (ap length (executed_nets h.design h.cycles (updated_last h) ∙ sym i.nets_are) ∙ net-count i)
@@ -323,28 +351,29 @@ module _ {h : Simulation} {time delta : ℕ} {held : FlatState} {records : List 
       → ((design : Design) (s : State) → held ≡ flat_state_of design s → held' ≡ flat_state_of design (updated design s t))
       → records' ≡ records ++ record { time = t; delta = δ; changes = changes_from 0 held'.nets } ∷ []
       → length due' ≡ length due → length waiting' ≡ length waiting
-      → ((p : ℕ) → p < length h.design.processes → those_in postponed p ≡ is_postponed h.design p)
+      → ((p : ℕ) → p < length h.design.processes → those_in postponed p ≡ (process_at h.design.processes p).postponed)
       → ((p : ℕ) → p < length due
       → those_in due' p ≡ (has_event_in held'.nets (process_at h.design.processes p).sensitivity && not (those_in postponed p)))
       → ((p : ℕ) → p < length due → those_in waiting' p
       ≡ (is_left h.phase (those_in waiting p) || (has_event_in held'.nets (process_at h.design.processes p).sensitivity && those_in postponed p)))
       → deposited' ≡ cleared h.deposited → k ≡ suc h.cycles
       → IsStateOf (record { design = h.design; cycles = k; phase = phase.AtOnce; deposited = deposited' }) t δ held' records' due' waiting'
-  unfolding records_to
   advanced-keeps t some early δ k held' records' postponed due' waiting' deposited' ed el er es ew ef eu ev ep ek =
       let d = h.design in
-      let x = executed_together d h.cycles (updated_last h) in
+      let x = cycle_end_together d h.cycles (updated_last h) in
       let u = updated d x t in
-      let p : standard d (suc h.cycles) ≡ Some u = standard-next ∙ ap (onward d x) some in
-      let q : state_of d (suc h.cycles) ≡ u = ap (or_first d) p in
+      let p : updated_in d (suc h.cycles) ≡ Some u = one-updated ∙ ap (option_map (updated d x)) some in
+      let q : state_of d (suc h.cycles) ≡ u = ap (λ (w : Option State). unwrap_or w (first_state d)) p in
       let l : held' ≡ flat_state_of d u = el d x held-is in
       let xt : (updated_last h).time ≡ x.time = sym (executed_time d h.cycles (updated_last h)) in
       let xd : (updated_last h).delta ≡ x.delta = sym (executed_delta d h.cycles (updated_last h)) in
       let dl : δ ≡ u.delta = ed ∙ (ap (λ (m : ℕ). next_delta t m delta) (i.time_is ∙ xt) ∙ ap (λ (m : ℕ). next_delta t x.time m) (i.delta_is ∙ xd)) in
       let n : held'.nets ≡ (state_of d (suc h.cycles)).nets = ap (λ (w : FlatState). w.nets) l ∙ ap (λ (w : State). w.nets) (sym q) in
       let o : held'.owned ≡ map (own_taken t) held.owned = ap (λ (w : FlatState). w.owned) l ∙ ap (map (own_taken t)) (sym present-complete) in
-      let r : record { time = t; delta = δ; changes = changes_from 0 held'.nets } ≡ recorded (suc h.cycles) (state_of d (suc h.cycles)) =
-      rw (dl, n) (ap (λ (w : State). record { time = w.time; delta = w.delta; changes = changes_from 0 (state_of d (suc h.cycles)).nets }) (sym q)) in
+      let one : Record = record { time = t; delta = δ; changes = changes_from 0 held'.nets } in
+      let r : one ≡ record { time = u.time; delta = u.delta; changes = changes_from 0 u.nets } =
+      ap (λ (m : ℕ). record { time = t; delta = m; changes = changes_from 0 held'.nets }) dl
+      ∙ ap (λ (w : FlatState). record { time = t; delta = u.delta; changes = changes_from 0 w.nets }) l in
       rw (ek, ep) (record {
         there = p ∙ ap Some (sym q);
         phased = tt;
@@ -355,8 +384,8 @@ module _ {h : Simulation} {time delta : ℕ} {held : FlatState} {records : List 
         nets_are = n;
         owned_are = ap (λ (w : FlatState). w.owned) l ∙ (ap (λ (w : State). w.owned) (sym q)
             ∙ sym (merged-none (those_in (cleared h.deposited)) (results (after h)) 0 (state_of d (suc h.cycles)).owned (none-in h.deposited)));
-        records_are = er ∙ (ap (λ w. w ++ record { time = t; delta = δ; changes = changes_from 0 held'.nets } ∷ []) i.records_are
-            ∙ ap (λ w. records_to d h.cycles ++ w ∷ []) r);
+        records_are = er ∙ (ap (λ w. w ++ one ∷ []) i.records_are
+            ∙ (ap (λ w. records_to d h.cycles ++ w ∷ []) r ∙ sym (one-recorded d i.processes h.cycles u p)));
         sized = length-map h.deposited (λ (b : Bool). false) ∙ i.sized;
         due_sized = es ∙ i.due_sized;
         waiting_sized = ew ∙ i.waiting_sized;
@@ -364,9 +393,9 @@ module _ {h : Simulation} {time delta : ℕ} {held : FlatState} {records : List 
         processes = i.processes;
         due_are = λ m lt. eu m (omega (arith, i.due_sized, lt)) ∙ rw (resumed_now m n, ef m lt) refl;
         waiting_are = λ m lt. ev m (omega (arith, i.due_sized, lt)) ∙ (rw (resumed_now m n, ef m lt, i.waiting_are m lt)
-            (parts (is_postponed d m) (is_resumed d (suc h.cycles) (state_of d (suc h.cycles)) m)
+            (parts (process_at d.processes m).postponed (is_resumed d (suc h.cycles) (state_of d (suc h.cycles)) m)
             (is_left h.phase (is_waiting d h.cycles (updated_last h) m)) (left_postponed h.phase m))
-            ∙ ap (λ (b : Bool). is_postponed d m && (is_resumed d (suc h.cycles) (state_of d (suc h.cycles)) m || b))
+            ∙ ap (λ (b : Bool). (process_at d.processes m).postponed && (is_resumed d (suc h.cycles) (state_of d (suc h.cycles)) m || b))
             (sym (ap (λ (w : State). is_among w.waiting m) q
             ∙ last-waiting d i.processes h.cycles (updated_last h) (updated-all i) h.phase i.phased done.last m lt)));
         ran = λ m e. absurd (cc (e, none-in h.deposited m));
@@ -385,8 +414,9 @@ module _ {h : Simulation} {time delta : ℕ} {held : FlatState} {records : List 
       left_of false c e = absurd (cc e)
 
       -- a process that still waits is postponed
-      left_postponed : (f : Phase) (m : ℕ) → is_left f (is_waiting h.design h.cycles (updated_last h) m) ≡ true → is_postponed h.design m ≡ true
-      left_postponed phase.AtOnce m e = left_of (is_postponed h.design m) _ e
+      left_postponed : (f : Phase) (m : ℕ) → is_left f (is_waiting h.design h.cycles (updated_last h) m) ≡ true
+          → (process_at h.design.processes m).postponed ≡ true
+      left_postponed phase.AtOnce m e = left_of (process_at h.design.processes m).postponed _ e
       left_postponed phase.Postponed m e = absurd (cc e)
 
       parts : (postponed resumed left : Bool) → (left ≡ true → postponed ≡ true) → (left || (resumed && postponed)) ≡ (postponed && (resumed || left))
@@ -606,10 +636,9 @@ drivers-there nets number first all ds (p ∷ ps) e o (suc m) lt =
 pub begins : (d : Design) (k : ℕ) (held : FlatState) (records : List Record) (due waiting deposited : List Bool) → length d.nets ≤ most
     → AreOwned (length d.nets) 0 0 d.processes d.drivers
     → All IsProcess d.processes → k ≡ 0
-    → held ≡ flat_state_of d (first_state d) → records ≡ first_record (first_state d) ∷ [] → AreParted d due waiting
+    → held ≡ flat_state_of d (first_state d) → records ≡ records_to d 0 → AreParted d due waiting
     → deposited ≡ replicate (length d.processes) false
     → IsStateOf (record { design = d; cycles = k; phase = phase.AtOnce; deposited = deposited }) 0 0 held records due waiting
-unfolding standard records_to
 begins d k held records due waiting deposited few are all e₀ e er eu ep =
     rw (e₀, e, er, ep) (record {
       there = refl;
@@ -629,7 +658,7 @@ begins d k held records due waiting deposited few are all e₀ e er eu ep =
       few = few;
       processes = all;
       due_are = eu.due_are;
-      waiting_are = λ p lt. eu.waiting_are p lt ∙ sym (and_true (is_postponed d p));
+      waiting_are = λ p lt. eu.waiting_are p lt ∙ sym (and_true (process_at d.processes p).postponed);
       ran = λ p w. absurd (cc (w, none-in-replicate (length d.processes) p));
       ready = λ p lt. rw (none-in-replicate (length d.processes) p) (ready p lt);
     })
@@ -645,7 +674,7 @@ begins d k held records due waiting deposited few are all e₀ e er eu ep =
         rw at (record {
           drivers = length-map _ _ ∙ drivers-there (length d.nets) 0 0 d.drivers d.drivers d.processes refl are p lt;
           variables = refl;
-          pending = All-map (λ (w : DriverState). RisesFrom 1 w.pending) (λ (x : DriverOf). idle x.first) _ (λ j x l. tt);
+          pending = All-map (λ (w : DriverState). RisesFrom 1 w.pending) (λ (x : DriverOf). record { value = x.first; pending = [] }) _ (λ j x l. tt);
         })
 
 -- ---- missing processes
@@ -665,9 +694,10 @@ module _ {h : Simulation} {time delta : ℕ} {held : FlatState} {records : List 
   -- if none is marked, none waits
   pub none-waiting : ((p : ℕ) → those_in waiting p ≡ false) → waiting_now h.design h.cycles (updated_last h) ≡ []
   none-waiting none =
-      those-same (is_waiting h.design h.cycles (updated_last h)) (λ p. false) 0 (length h.design.processes)
+      ranged (is_waiting h.design h.cycles (updated_last h)) 0 (length h.design.processes)
+      ∙ (counted-same (is_waiting h.design h.cycles (updated_last h)) (λ p. false) 0 (length h.design.processes)
       (λ p ge lt. sym (i.waiting_are p (omega (arith, lt))) ∙ none p)
-      ∙ those-none (λ p. false) 0 (length h.design.processes) (λ p. refl)
+      ∙ counted-none (λ p. false) 0 (length h.design.processes) (λ p. refl))
 
   -- if none waits, none is marked
   pub waiting-none : waiting_now h.design h.cycles (updated_last h) ≡ [] → (p : ℕ) → those_in waiting p ≡ false
@@ -678,10 +708,10 @@ module _ {h : Simulation} {time delta : ℕ} {held : FlatState} {records : List 
 
   -- what comes after a phase, by what the lists say
   pub coming : IsComplete h → (next : Option ℕ) (is_delta is_empty : Bool) → next ≡ next_time (all_drivers held.owned)
-      → is_delta ≡ (not (h.cycles == 0) && is_time_of (updated_last h) next) → IsTrue is_empty ↔ ((p : ℕ) → those_in waiting p ≡ false)
+      → is_delta ≡ is_delta_at h.cycles (updated_last h).time next → IsTrue is_empty ↔ ((p : ℕ) → those_in waiting p ≡ false)
       → IsUpcoming h (upcoming_of h.phase is_delta (not is_empty) next)
   coming all next is_delta is_empty en ed ee =
-      rw ed (upcoming-is h i.processes (updated-all i) next (not is_empty) some none i.phased (sym (next-is i all) ∙ sym en))
+      rw ed (upcoming-is h i.processes (updated-all i) next (not is_empty) some none (next-here i) i.phased (sym (next-is i all) ∙ sym en))
     where
       some : not is_empty ≡ true → waiting_now h.design h.cycles (updated_last h) ≢ []
       some w e = let t : is_empty ≡ true = ee.1 (waiting-none e) in absurd (cc (sym w ∙ ap not t))

@@ -5,11 +5,13 @@ use Rattle.std.specs.List.{All}
 use Rattle.std.proofs.lemmas.Bool.{eqb-false}
 use Rattle.std.proofs.lemmas.List.{length-map}
 use Rattle.std.proofs.lemmas.List.Elements.{All-cons, All-head, All-map, All-nil, All-tail}
-use Rattle.sim_standard.specs.Drivers.{Transaction, DriverState, RisesFrom, taken, pending_times, next_time, IsNext}
+use Rattle.sim_standard.specs.Drivers.{Transaction, DriverState, taken, next_time}
+use Rattle.sim_wave.specs.Rising.{RisesFrom}
+use Rattle.sim_store_state.specs.Times.{pending_times, IsNext}
 use Rattle.sim_flat_design.specs.Bodies.{Body}
 use Rattle.sim_standard.specs.State.{Owned, owned_at, all_drivers}
 use Rattle.sim_exec.specs.Jobs.{IsReady}
-use Rattle.sim_standard.specs.Cycle.{own_taken}
+use Rattle.sim_standard.proofs.Names.{own_taken}
 use Rattle.sim_store_state.proofs.Times.{next_is_least}
 
 -- none of these times is earlier than this one
@@ -36,12 +38,15 @@ least_from t ds e = let least = subst (IsNext ds) e (next_is_least ds) in each_f
 -- if pending times rise and none is below this one, all are later after a transaction of this time is taken
 taken_later : (low t : ℕ) (d : DriverState) (xs : List Transaction) → d.pending ≡ xs → RisesFrom low xs → AllFrom t (map (λ (x : Transaction). x.0) xs)
     → RisesFrom (suc t) (taken t d).pending
-taken_later low t d [] e r f = let none : (taken t d).pending ≡ [] = rw e refl in rw none tt
+taken_later low t d [] e r f =
+    let none : taken t d ≡ d = rw e refl in
+    let is : (taken t d).pending ≡ [] = ap (λ (w : DriverState). w.pending) none ∙ e in
+    rw is tt
 taken_later low t d (x ∷ xs) e r f =
-    let opened : taken t d ≡ (if x.0 == t then record { value = x.1; pending = xs } else record { value = d.value; pending = x ∷ xs }) = rw e refl in
+    let opened : taken t d ≡ (if x.0 == t then record { value = x.1; pending = xs } else d) = rw e refl in
     go (eqb x.0 t) refl opened
   where
-    go : (b : Bool) → eqb x.0 t ≡ b → taken t d ≡ (if eqb x.0 t then record { value = x.1; pending = xs } else record { value = d.value; pending = x ∷ xs })
+    go : (b : Bool) → eqb x.0 t ≡ b → taken t d ≡ (if eqb x.0 t then record { value = x.1; pending = xs } else d)
         → RisesFrom (suc t) (taken t d).pending
     go true q o =
         let at : x.0 ≡ t = eqb-true x.0 t q in
@@ -49,7 +54,8 @@ taken_later low t d (x ∷ xs) e r f =
         rw is (subst (λ (n : ℕ). RisesFrom (suc n) xs) at r.1)
     go false q o =
         let apart = eqb-false x.0 t q in
-        let is : (taken t d).pending ≡ x ∷ xs = ap (λ (w : DriverState). w.pending) o ∙ rw q refl in
+        let kept : (if eqb x.0 t then record { value = x.1; pending = xs } else d) ≡ d = rw q refl in
+        let is : (taken t d).pending ≡ x ∷ xs = ap (λ (w : DriverState). w.pending) (o ∙ kept) ∙ e in
         rw is (omega (arith, f.0, apart), r.1)
 
 drivers_later : (low t : ℕ) (ds : List DriverState) → All (λ (d : DriverState). RisesFrom low d.pending) ds → AllFrom t (pending_times ds)

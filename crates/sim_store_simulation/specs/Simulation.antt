@@ -1,8 +1,8 @@
 -- How far a simulation has come (IEEE 1076-2008, 14.7.5).
 -- Implementation only: what `simulate` promises does not rest on this file.
 use Rattle.std.specs.Prelude.{ℕ, suc, ◌≡◌, ◌≢◌, ◌<◌, ◌≤◌, ◌&&◌, ◌||◌, not, List, [], ◌∷◌, Bool, true, false, if◌then◌else◌, Option, None, Some, map, length}
-use Rattle.std.specs.Prelude.{replicate, slice_index_or, slice_set}
-use Rattle.std.specs.List.{All}
+use Rattle.std.specs.Prelude.{filter, replicate, slice_index_or, slice_set, unwrap_or}
+use Rattle.std.specs.List.{All, range_with_len}
 use Rattle.sim_flat_design.specs.Designs.{Design, most}
 use Rattle.sim_flat_design.specs.Processes.{IsProcess}
 use Rattle.sim_standard.specs.State.{State, Owned, owned_at}
@@ -12,14 +12,14 @@ use Rattle.sim_exec.specs.Jobs.{IsReady, Job, scene}
 use Rattle.sim_exec_code.specs.Codes.{Coded, AreCodesOf, FitsAll}
 use Rattle.sim_standard.specs.declared.record.Record.{Record}
 use Rattle.sim_store_state.specs.FlatState.{FlatState, flat_state_of, sources_of}
-use Rattle.sim_standard.specs.Records.{first_record}
 use Rattle.sim_store_state.specs.Sensitive.{AreSensitive}
-use Rattle.sim_standard.specs.Cycle.{is_at_once, is_postponed, is_waiting, first_in_turn, precedes_delta, standard, state_of, those, waiting_now}
-use Rattle.sim_standard.specs.Cycle.{Following, CycleAt, NothingPending, PostponedDelta, following}
+use Rattle.sim_standard.specs.Cycle.{is_at_once, is_waiting, first_executed, is_delta_next, processes_where}
+use Rattle.sim_standard.specs.Cycle.{Following, CycleAt, NothingPending, PostponedDelta, next_in}
+use Rattle.sim_standard.specs.Midway.{updated_in}
 use Rattle.sim_standard.specs.Initialization.{first_state}
 use Rattle.sim_standard.specs.Agreement.{total_of}
-use Rattle.sim_standard.specs.Together.{first_together, together}
-use Rattle.sim_standard.specs.Histories.{records_to}
+use Rattle.sim_standard.specs.Together.{together}
+use Rattle.sim_standard.specs.Records.{records_to}
 use Rattle.sim_store_simulation.specs.declared.phase.Phase.{Phase}
 use Rattle.sim_store_simulation.specs.declared.phase.Phase.TheVariants as phase
 use Rattle.sim_store_simulation.specs.declared.phase.Upcoming.{Upcoming}
@@ -39,12 +39,12 @@ those_in marks p = slice_index_or marks p false
 
 -- the state after the update of the last cycle
 abbrev pub updated_last : Simulation → State
-updated_last h = state_of h.design h.cycles
+updated_last h = unwrap_or (updated_in h.design h.cycles) (first_state h.design)
 
 -- what each process owns when a phase begins
 abbrev pub owned_before : Phase → Design → ℕ → State → List Owned
 owned_before phase.AtOnce design cycles s = s.owned
-owned_before phase.Postponed design cycles s = (first_together design cycles s).owned
+owned_before phase.Postponed design cycles s = (together design.processes (is_at_once design cycles s) s).owned
 
 -- the state at the beginning of this phase
 abbrev pub reached : Simulation → State
@@ -52,7 +52,7 @@ reached h = record (updated_last h) { owned = owned_before h.phase h.design h.cy
 
 -- the numbers of the marked processes, rising
 abbrev pub listed : List Bool → List ℕ
-listed marks = those (those_in marks) 0 (length marks)
+listed marks = filter (those_in marks) (range_with_len 0 (length marks))
 
 -- whether a phase executes a process: the first those that resumed and are not postponed, the second the postponed ones that wait (14.7.5.3 f.3, h.4)
 abbrev pub is_of_phase : Phase → Design → ℕ → State → ℕ → Bool
@@ -65,12 +65,12 @@ is_due h p = is_of_phase h.phase h.design h.cycles (updated_last h) p
 
 -- the processes that this phase executes, rising
 abbrev pub due_numbers : Simulation → List ℕ
-due_numbers h = those (is_due h) 0 (length h.design.processes)
+due_numbers h = processes_where h.design (is_due h)
 
 -- Postponed processes are executed in this cycle: some wait, and no delta cycle follows (14.7.5.3 h).
 pub record ArePostponedNext (design : Design) (cycles : ℕ) (s : State) : Type 0 where
-  pub settled : precedes_delta cycles (first_in_turn design cycles s) ≡ false
-  pub some : waiting_now design cycles s ≢ []
+  pub settled : is_delta_next cycles (first_executed design cycles s) ≡ false
+  pub some : processes_where design (is_waiting design cycles s) ≢ []
 
 -- A phase of postponed processes comes only if some wait and no delta cycle follows.
 abbrev pub IsPhase : Phase → Design → ℕ → State → Type 0
@@ -103,7 +103,7 @@ AreRising h = (p : ℕ) → p < length h.design.processes
 
 -- This is what the simulation holds.
 pub record IsStateOf (h : Simulation) (time delta : ℕ) (held : FlatState) (records : List Record) (due waiting : List Bool) : Type 0 where
-  pub there : standard h.design h.cycles ≡ Some (updated_last h)
+  pub there : updated_in h.design h.cycles ≡ Some (updated_last h)
   pub phased : IsPhase h.phase h.design h.cycles (updated_last h)
   pub time_is : time ≡ (reached h).time
   pub delta_is : delta ≡ (reached h).delta
@@ -165,7 +165,7 @@ pub record AreCompiled (design : Design) (sensitive : List (List ℕ)) (codes : 
 -- These are the postponed processes of the design.
 pub record ArePostponed (design : Design) (postponed : List Bool) : Type 0 where
   pub sized : length postponed ≡ length design.processes
-  pub are : (p : ℕ) → p < length design.processes → those_in postponed p ≡ is_postponed design p
+  pub are : (p : ℕ) → p < length design.processes → those_in postponed p ≡ (process_at design.processes p).postponed
 
 -- There is one total for each net: its number of changes in the records after the first.
 pub record AreTotals (nets : ℕ) (records : List Record) (totals : List ℕ) : Type 0 where
@@ -176,8 +176,8 @@ pub record AreTotals (nets : ℕ) (records : List Record) (totals : List ℕ) : 
 pub record AreParted (design : Design) (due waiting : List Bool) : Type 0 where
   pub due_sized : length due ≡ length design.processes
   pub waiting_sized : length waiting ≡ length design.processes
-  pub due_are : (p : ℕ) → p < length design.processes → those_in due p ≡ not (is_postponed design p)
-  pub waiting_are : (p : ℕ) → p < length design.processes → those_in waiting p ≡ is_postponed design p
+  pub due_are : (p : ℕ) → p < length design.processes → those_in due p ≡ not (process_at design.processes p).postponed
+  pub waiting_are : (p : ℕ) → p < length design.processes → those_in waiting p ≡ (process_at design.processes p).postponed
 
 -- What a simulation holds at first: what is compiled, the first state with its record, each process due or waiting and none executed, and no events of any net.
 pub record IsPrepared (design : Design) (sensitive : List (List ℕ)) (codes : Coded) (frame : ℕ) (held : FlatState) (records : List Record)
@@ -185,7 +185,7 @@ pub record IsPrepared (design : Design) (sensitive : List (List ℕ)) (codes : C
   pub compiled : AreCompiled design sensitive codes frame
   pub marked : ArePostponed design postponed
   pub held_is : held ≡ flat_state_of design (first_state design)
-  pub records_is : records ≡ first_record (first_state design) ∷ []
+  pub records_is : records ≡ records_to design 0
   pub parted : AreParted design due waiting
   pub deposited_is : deposited ≡ replicate (length design.processes) false
   pub totals_is : totals ≡ replicate (length design.nets) 0
@@ -211,15 +211,15 @@ pub record IsJobOf (h : Simulation) (p : ℕ) (job : Job) : Type 0 where
   pub own : IsOwn h job
 
 -- what follows the cycle, once all its processes have been executed
-abbrev pub next_after : Simulation → Following
-next_after h = following h.design h.cycles (updated_last h)
+abbrev pub next_after : Simulation → Option Following
+next_after h = next_in h.design h.cycles
 
 -- What comes after all processes of a phase have been executed: the phase of postponed processes, or what follows the cycle.
 abbrev pub IsUpcoming : Simulation → Upcoming → Type 0
 IsUpcoming h upcoming.Postponed = (h.phase ≡ phase.AtOnce) × ArePostponedNext h.design h.cycles (updated_last h)
-IsUpcoming h upcoming.PostponedDelta = IsLastPhase h.phase h.design h.cycles (updated_last h) × (next_after h ≡ PostponedDelta)
-IsUpcoming h upcoming.Nothing = IsLastPhase h.phase h.design h.cycles (updated_last h) × (next_after h ≡ NothingPending)
-IsUpcoming h (upcoming.Cycle time) = IsLastPhase h.phase h.design h.cycles (updated_last h) × (next_after h ≡ CycleAt time)
+IsUpcoming h upcoming.PostponedDelta = IsLastPhase h.phase h.design h.cycles (updated_last h) × (next_after h ≡ Some PostponedDelta)
+IsUpcoming h upcoming.Nothing = IsLastPhase h.phase h.design h.cycles (updated_last h) × (next_after h ≡ Some NothingPending)
+IsUpcoming h (upcoming.Cycle time) = IsLastPhase h.phase h.design h.cycles (updated_last h) × (next_after h ≡ Some (CycleAt time))
 
 -- a cycle at this time, if there is one
 abbrev pub cycle_of : Option ℕ → Upcoming

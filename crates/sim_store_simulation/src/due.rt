@@ -4,12 +4,11 @@ ghost use Rattle.std.specs.Prelude.{ℕ, ◌≡◌, ◌<◌, ◌&&◌, ◌||◌,
 ghost use Rattle.sim_flat_design.specs.Processes.{Process};
 ghost use Rattle.sim_containers.specs.Numbers.{is_beside};
 ghost use Rattle.sim_containers.specs.Words.{IsNext, NoneFrom};
-ghost use Rattle.sim_standard.specs.Cycle.{has_event_in};
 ghost use Rattle.sim_standard.specs.Processes.{process_at};
 ghost use Rattle.sim_standard.specs.declared.net_view.NetView.{NetView};
 ghost use Rattle.sim_standard.specs.Records.{changes_from};
 ghost use Rattle.sim_store_state.specs.Log.{record_at};
-ghost use Rattle.sim_store_state.specs.Sensitive.{AreSensitive};
+ghost use Rattle.sim_store_state.specs.Sensitive.{AreSensitive, has_event_in};
 ghost use Rattle.sim_store_simulation.specs.Simulation.{listed, those_in};
 
 use crate::waiting::Waiting;

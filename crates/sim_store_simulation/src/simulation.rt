@@ -1,23 +1,23 @@
 //! A simulation of a design, so far (IEEE 1076-2008, 14.7.5).
 
 ghost use Rattle.std.specs.Prelude.{ℕ, suc, ◌≡◌, ◌<◌, ◌≤◌, ◌^◌, ◌+◌, Some, None, Option, true, false, [], ◌∷◌, length, replicate, drop, take};
-ghost use Rattle.std.specs.Prelude.{not, ◌==◌, ◌&&◌, slice_set, MatchOption, MatchResult, IfSome, IfOk, IfErr, OnOk, OnErr, ◌↔◌, IsTrue};
+ghost use Rattle.std.specs.Prelude.{not, ◌==◌, ◌&&◌, if◌then◌else◌, slice_set, MatchOption, MatchResult, IfSome, IfOk, IfErr, OnOk, OnErr, ◌↔◌, IsTrue};
 ghost use Rattle.std.specs.List.{All};
+ghost use Rattle.std.specs.Option.{option_eq};
 ghost use Rattle.sim_flat_design.specs.Designs.{most};
 ghost use Rattle.sim_flat_design.specs.Processes.{IsProcess};
-ghost use Rattle.sim_standard.specs.Cycle as cycles;
 ghost use Rattle.sim_exec_code.specs.Codes.{AreCodesOf};
 ghost use Rattle.sim_store_state.specs.InTurn as turn;
 ghost use Rattle.sim_standard.specs.Initialization.{first_state};
 ghost use Rattle.sim_store_state.specs.FlatState.{flat_state_of};
-ghost use Rattle.sim_standard.specs.Records.{values_of};
+ghost use Rattle.sim_standard.specs.Records.{IsNamed, event_count, records_to, values_of};
 ghost use Rattle.sim_standard.specs.State.{driver_values, net_at, owned_at};
 ghost use Rattle.sim_logic.specs.Time.{largest_time};
 ghost use Rattle.sim_standard.specs.Agreement.{total_of, value_by};
-ghost use Rattle.sim_standard.specs.Histories.{IsNamed, event_count, records_to};
 ghost use Rattle.sim_store_simulation.specs.Contents.{AreFirst, HasOneMore, IsExecutable, IsOf, IsWith, simulation_of, simulation_with};
 ghost use Rattle.sim_store_simulation.specs.Simulation as spec;
-ghost use Rattle.sim_standard.specs.Cycle.{CycleAt, standard};
+ghost use Rattle.sim_standard.specs.Cycle.{CycleAt};
+ghost use Rattle.sim_standard.specs.Midway.{updated_in};
 ghost use Rattle.sim_store_simulation.specs.declared.phase.Phase.TheVariants as phase;
 
 use crate::due::Due;
@@ -38,7 +38,7 @@ use std::marker::Model;
 /// femtoseconds.
 fn next_delta(time: u64, last: u64, delta: u64) -> u64
     requires { delta + 1 < 2 ^ 64 }
-    ensures { result ≡ cycles.next_delta time last delta }
+    ensures { result ≡ (if time == last then delta + 1 else 0) }
 {
     if time == last { delta + 1 } else { 0 }
 }
@@ -509,7 +509,7 @@ impl Simulation {
     /// Whether the next cycle, at this pending time, is a delta cycle for which postponed processes
     /// wait. They never wait in the initialization, nor is their zero delay an error there (own).
     fn is_delta(&self, next: Option<u64>) -> bool
-        ensures { result ≡ (not (self.now.cycles == 0) && cycles.is_time_of (spec.updated_last self.now) next) }
+        ensures { result ≡ (not (self.now.cycles == 0) && option_eq ◌==◌ next (Some (spec.updated_last self.now).time)) }
     {
         self.cycles() != 0 && next == Some(self.contents.time)
     }
@@ -617,7 +617,7 @@ impl Simulation {
     /// allocation fails, nothing changes.
     pub fn go_on(&mut self, time: u64) -> Result<(), AllocError>
         requires executed { spec.IsExecuted self.old }
-        requires next { spec.next_after self.old ≡ CycleAt time }
+        requires next { spec.next_after self.old ≡ Some (CycleAt time) }
         requires early { time ≤ largest_time }
         requires bound { self.old.cycles < 2 ^ 32 }
         ensures ok { OnOk result (self.new ≡ spec.after self.old) }
@@ -741,7 +741,7 @@ impl Simulation {
     /// The time, in femtoseconds, and the delta number of the last cycle.
     pub fn time(&self) -> (u64, u64)
         ensures value { result ≡ ((spec.reached self.now).time, (spec.reached self.now).delta) }
-        ensures there { standard self.now.design self.now.cycles ≡ Some (spec.updated_last self.now) }
+        ensures there { updated_in self.now.design self.now.cycles ≡ Some (spec.updated_last self.now) }
         ensures rising { spec.AreRising self.now }
     {
         let contents = &*self.contents;

@@ -4,7 +4,7 @@ use Rattle.std.specs.List.{All}
 use Rattle.std.proofs.lemmas.List.Elements.{All-append, All-from_recursion}
 use Rattle.std.proofs.lemmas.List.Sums.{sum_by-append}
 use Rattle.sim_standard.specs.declared.record.Record.{Record}
-use Rattle.sim_standard.specs.Histories.{IsNamed, event_count}
+use Rattle.sim_standard.specs.Records.{IsNamed, event_count}
 
 -- all records are about one net; after the first there are `n` of them, with `each` changes
 pub record IsGrown (records : List Record) (n each : ℕ) : Type 0 where

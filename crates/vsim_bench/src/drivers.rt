@@ -3,8 +3,7 @@
 //! new ones, so that the number of pending transactions stays the same.
 
 ghost use Rattle.std.specs.Prelude.{◌≤◌, IfSome};
-ghost use Rattle.sim_standard.specs.Drivers.{RisesFrom};
-ghost use Rattle.sim_standard.specs.Editing.{IsWithin};
+ghost use Rattle.sim_wave.specs.Rising.{IsWithin, RisesFrom};
 
 use anyhow::Result;
 use sim_logic::LATEST;

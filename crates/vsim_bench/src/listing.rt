@@ -3,7 +3,7 @@
 
 ghost use Rattle.std.specs.Prelude.{◌≡◌, ◌*◌, ◌<◌, ◌≤◌, length, All, IfOk, ℕ};
 ghost use Rattle.sim_logic.specs.declared.logic.Logic as logic;
-ghost use Rattle.sim_standard.specs.Histories.{IsNamed, event_count};
+ghost use Rattle.sim_standard.specs.Records.{IsNamed, event_count};
 
 use anyhow::{Result, bail};
 use sim_logic::Logic;

@@ -1,8 +1,8 @@
 use Rattle.std.proofs.Common.{length, map, ap, ◌∙◌, ◌≡◌, arith}
 use Rattle.std.proofs.lemmas.List.{length-map}
 use Rattle.sim_flat_design.specs.Designs.{Design, Net}
-use Rattle.sim_standard.proofs.Records.{is_history}
-use Rattle.sim_store_simulation.proofs.Going.{length-records_to}
+use Rattle.sim_standard.proofs.Records.{records-begun}
+use Rattle.sim_run_listing.proofs.Histories.{is_history}
 use Rattle.sim_run_listing.specs.Listing.{listing}
 use Rattle.sim_run_listing.specs.Writing.{AppendsPart}
 use Rattle.sim_run_listing.proofs.Gathering.{on_err}
@@ -15,7 +15,7 @@ write_listing-requires-clause-history g c =
     let names : length (map (λ (n : Net). n.name) c.nets.result.now) ≡ length d.nets =
     length-map c.nets.result.now (λ (n : Net). n.name) ∙ (ap length c.nets.ensures.value ∙ ap (λ (e : Design). length e.nets) c.design.ensures) in
     is_history (map (λ (n : Net). n.name) c.nets.result.now) c.history.result.now.records (length d.nets) names
-    (omega (arith, ap length c.history.ensures.records, length-records_to d c.args.run.now.simulation.cycles)) c.history.ensures.named
+    (omega (arith, ap length c.history.ensures.records, records-begun d c.args.run.now.simulation.cycles)) c.history.ensures.named
 
 pub returns-in_err-write_listing-clause-part : goal.returns-in_err-write_listing-clause-part
 returns-in_err-write_listing-clause-part g c =

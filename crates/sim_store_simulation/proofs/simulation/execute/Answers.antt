@@ -4,7 +4,8 @@ use Rattle.sim_flat_design.specs.Processes.{Process}
 use Rattle.sim_exec.specs.Jobs.{IsReady}
 use Rattle.sim_exec_code.specs.Codes.{IsCodeOf, code_at, gathered_nets}
 use Rattle.sim_standard.specs.State.{owned_at}
-use Rattle.sim_standard.specs.Processes.{no_process, process_at}
+use Rattle.sim_standard.specs.Processes.{process_at}
+use Rattle.sim_standard.proofs.Names.{no_process}
 use Rattle.sim_store_simulation.specs.Simulation.{AreCompiled}
 use Rattle.sim_store_simulation.proofs.Going.{executed-keeps, held-count, ready-here}
 use Rattle.sim_store_simulation.proofs.simulation.execute.Goals as goal

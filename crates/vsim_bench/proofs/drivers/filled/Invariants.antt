@@ -1,4 +1,4 @@
-use Rattle.sim_standard.specs.Drivers.{RisesFrom}
+use Rattle.sim_wave.specs.Rising.{RisesFrom}
 use Rattle.vsim_bench.proofs.drivers.filled.Given as goal
 
 abbrev pub invariant-loop-place : goal.invariant-loop-place

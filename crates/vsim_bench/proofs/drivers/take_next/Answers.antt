@@ -1,5 +1,5 @@
 use Rattle.std.proofs.Common.{◌≡◌, suc, Some, sym, arith}
-use Rattle.sim_standard.specs.Drivers.{next_of}
+use Rattle.sim_wave.specs.Rising.{next_of}
 use Rattle.sim_wave.proofs.Rising.{RisesFrom-earlier}
 use Rattle.vsim_bench.proofs.drivers.take_next.Goals as goal
 

@@ -7,7 +7,8 @@ use Rattle.sim_logic.specs.declared.logic.Logic.{Logic}
 use Rattle.sim_flat_design.specs.Designs.{Design}
 use Rattle.sim_flat_design.specs.Processes.{Process}
 use Rattle.sim_standard.specs.State.{owned_at}
-use Rattle.sim_standard.specs.Processes.{no_process, process_at}
+use Rattle.sim_standard.specs.Processes.{process_at}
+use Rattle.sim_standard.proofs.Names.{no_process}
 use Rattle.sim_store_state.specs.FlatState.{views_of}
 use Rattle.sim_store.specs.Handing.{PhaseInput, IsPhaseInput, at_input}
 use Rattle.sim_store.proofs.Handed.{executed-is}

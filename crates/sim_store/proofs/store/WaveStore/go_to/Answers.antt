@@ -1,4 +1,4 @@
-use Rattle.std.proofs.Common.{◌≡◌, ◌≤◌, None, ap, sym, ◌∙◌, subst}
+use Rattle.std.proofs.Common.{◌≡◌, ◌≤◌, None, Some, ap, sym, ◌∙◌, subst}
 use Rattle.sim_standard.specs.Cycle.{CycleAt}
 use Rattle.sim_store_simulation.specs.Simulation.{next_after}
 use Rattle.sim_store.specs.WaveStore.{WaveStore, IsStore}
@@ -23,7 +23,7 @@ invariant_of-self-2 c =
     let s = c.self.inside in
     let w = the_view s in
     let running = subst (λ (v : WaveStore). v.ended ≡ None) (sym c.self.view_is) c.requires.open in
-    let next = subst (λ (v : WaveStore). next_after v.simulation ≡ CycleAt c.args.time) (sym c.self.view_is) c.requires.next in
+    let next = subst (λ (v : WaveStore). next_after v.simulation ≡ Some (CycleAt c.args.time)) (sym c.self.view_is) c.requires.next in
     let before = subst (λ (v : WaveStore). c.args.time ≤ v.stop) (sym c.self.view_is) c.requires.until in
     store-goes-on w c.go_on.new.self c.args.time c.self.invariant running c.in_ok-go_on.ensures.ok next before
     (λ e. c.if-cycles-self.false (c.cycles.ensures ∙ e)) c.in_ok-go_on.ensures.at

@@ -1,7 +1,6 @@
 use Rattle.std.proofs.Common.{◌≡◌, ◌-◌, length, List, ap, ◌∙◌, arith}
 use Rattle.sim_standard.specs.declared.record.Record.{Record}
-use Rattle.sim_standard.specs.Records.{all_changes}
-use Rattle.sim_standard.specs.Histories.{event_count, records_to}
+use Rattle.sim_standard.specs.Records.{all_changes, event_count, records_to}
 use Rattle.sim_store_simulation.specs.Simulation.{Simulation}
 use Rattle.sim_standard.proofs.Records.{change_count}
 use Rattle.sim_store_simulation.specs.Contents.{simulation_of}

@@ -1,16 +1,17 @@
-use Rattle.std.proofs.Common.{ℕ, suc, ◌+◌, ◌-◌, ◌<◌, ◌≡◌, ◌&&◌, ◌||◌, not, Bool, false, ◌++◌, [], ◌∷◌, List, length, get_or, ap, sym, ◌∙◌, subst, arith}
+use Rattle.std.proofs.Common.{ℕ, suc, ◌+◌, ◌-◌, ◌<◌, ◌≡◌, ◌&&◌, ◌||◌, not, Bool, false, ◌++◌, [], ◌∷◌, List, length, get_or, Some, ap, sym, ◌∙◌, subst, arith}
 use Rattle.std.proofs.lemmas.List.{length-append, length-replicate}
 use Rattle.std.specs.List.{filter}
 use Rattle.sim_containers.proofs.Flat.{written_back}
 use Rattle.sim_standard.specs.declared.record.Record.{Record}
 use Rattle.sim_store_state.specs.Log.{record_at}
 use Rattle.sim_standard.specs.Records.{changes_from}
-use Rattle.sim_standard.specs.Cycle.{CycleAt, has_event_in, state_of}
+use Rattle.sim_standard.specs.Cycle.{CycleAt}
+use Rattle.sim_store_state.specs.Sensitive.{has_event_in}
 use Rattle.sim_standard.specs.Processes.{process_at}
 use Rattle.sim_standard.specs.Agreement.{is_of}
 use Rattle.sim_store_simulation.specs.Simulation.{ArePostponed, AreTotals, Simulation, IsExecuted, after, next_after, reached, those_in}
 use Rattle.sim_store_simulation.proofs.Counting.{changes-few, last-record, totals-few, totals-go-on}
-use Rattle.sim_store_simulation.proofs.Going.{advanced-count, advanced-keeps, advanced-time, cycle-count, next-time-is, none-marked-for, slow}
+use Rattle.sim_store_simulation.proofs.Going.{advanced-count, advanced-keeps, advanced-time, cycle-count, next-time-is, none-marked-for, slow, state_of}
 use Rattle.sim_store_simulation.specs.declared.simulation.Contents.{Contents}
 use Rattle.sim_store_simulation.specs.Contents.{IsOf, simulation_of}
 use Rattle.sim_store_simulation.proofs.Boxes.{held, shown}
@@ -31,7 +32,7 @@ update-requires c =
     let done = subst IsExecuted (sym view) c.requires.executed in
     record {
       next = next-time-is kept.state done c.args.time
-          (subst (λ (g : Simulation). next_after g ≡ CycleAt c.args.time) (sym view) c.requires.next);
+          (subst (λ (g : Simulation). next_after g ≡ Some (CycleAt c.args.time)) (sym view) c.requires.next);
     }
 
 pub record-requires-clause-few : goal.record-requires-clause-few
@@ -90,7 +91,7 @@ invariant_of-self-2 c =
     let h = simulation_of s.design m in
     let i = kept.state in
     let done = subst IsExecuted (sym view) c.requires.executed in
-    let next = next-time-is i done c.args.time (subst (λ (g : Simulation). next_after g ≡ CycleAt c.args.time) (sym view) c.requires.next) in
+    let next = next-time-is i done c.args.time (subst (λ (g : Simulation). next_after g ≡ Some (CycleAt c.args.time)) (sym view) c.requires.next) in
     let one : Record = record { time = c.args.time; delta = c.next_delta-contents.result; changes = changes_from 0 c.update.new.self.nets } in
     let records : c.record.new.log.records ≡ m.log.records ++ one ∷ [] = c.record.ensures ∙ ap (λ rs. rs ++ one ∷ []) c.in_ok-reserve.ensures.same in
     let same : c.find.new.waiting.postponed ≡ m.waiting.postponed = c.find.ensures.postponed ∙ c.leave.ensures.postponed in
@@ -149,7 +150,7 @@ returns-clause-at c =
     let h = simulation_of s.design m in
     let i = kept.state in
     let done = subst IsExecuted (sym view) c.requires.executed in
-    let next = next-time-is i done c.args.time (subst (λ (g : Simulation). next_after g ≡ CycleAt c.args.time) (sym view) c.requires.next) in
+    let next = next-time-is i done c.args.time (subst (λ (g : Simulation). next_after g ≡ Some (CycleAt c.args.time)) (sym view) c.requires.next) in
     let one : Record = record { time = c.args.time; delta = c.next_delta-contents.result; changes = changes_from 0 c.update.new.self.nets } in
     let records : c.record.new.log.records ≡ m.log.records ++ one ∷ [] = c.record.ensures ∙ ap (λ rs. rs ++ one ∷ []) c.in_ok-reserve.ensures.same in
     let cycles : length c.record.new.log.records - 1 ≡ suc h.cycles =

@@ -1,7 +1,7 @@
 use Rattle.std.proofs.Common.{List, length, sym, subst}
 use Rattle.std.specs.List.{All}
 use Rattle.sim_standard.specs.declared.record.Record.{Record}
-use Rattle.sim_standard.specs.Histories.{IsNamed}
+use Rattle.sim_standard.specs.Records.{IsNamed}
 use Rattle.sim_store_simulation.specs.Simulation.{Simulation}
 use Rattle.sim_standard.proofs.Records.{all_named}
 use Rattle.sim_store_simulation.specs.Contents.{simulation_of}

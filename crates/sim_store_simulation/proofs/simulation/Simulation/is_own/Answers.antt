@@ -1,7 +1,8 @@
 use Rattle.std.proofs.Common.{rules, tests, IsTrue, ◌≡◌, ◌<◌, false, List, length, map, ap, sym, ◌∙◌, subst, arith}
 use Rattle.std.proofs.lemmas.List.{get_or_default}
 use Rattle.sim_flat_design.specs.Processes.{Process}
-use Rattle.sim_standard.specs.Processes.{no_process, process_at}
+use Rattle.sim_standard.specs.Processes.{process_at}
+use Rattle.sim_standard.proofs.Names.{no_process}
 use Rattle.sim_standard.specs.State.{net_at, owned_at}
 use Rattle.sim_store_simulation.specs.Simulation.{Simulation, IsOwn, those_in}
 use Rattle.sim_store_simulation.proofs.Going.{fits-own, held-count, own-owned, own-views}

@@ -1,11 +1,12 @@
 use Rattle.std.proofs.Common.{◌≡◌, ◌<◌, List, length, map, true, false, arith, sym, ap, ◌∙◌, subst}
 use Rattle.std.proofs.lemmas.List.{get_or_default}
 use Rattle.sim_flat_design.specs.Processes.{Process}
-use Rattle.sim_standard.specs.Processes.{no_process, process_at}
+use Rattle.sim_standard.specs.Processes.{process_at}
+use Rattle.sim_standard.proofs.Names.{no_process}
 use Rattle.sim_exec.specs.Jobs.{Job, IsJob}
 use Rattle.sim_standard.specs.State.{Owned, net_at}
 use Rattle.sim_store_simulation.specs.Simulation.{Simulation, IsJobOf, IsOwn, is_due, those_in}
-use Rattle.sim_store_simulation.proofs.Going.{held-count, job-fits, length-records_to, part-is}
+use Rattle.sim_store_simulation.proofs.Going.{cycle-count, held-count, job-fits, part-is}
 use Rattle.sim_store_simulation.specs.Contents.{simulation_of}
 use Rattle.sim_store_simulation.proofs.Boxes.{held, shown}
 use Rattle.sim_store_simulation.proofs.simulation.Simulation.job.Goals as goal
@@ -18,14 +19,8 @@ part-requires c =
 
 pub overflow_sub-len : goal.overflow_sub-len
 overflow_sub-len c =
-    let m = c.deref-contents.result.now in
     let kept = held c.self.inside.design c.deref-contents.ensures c.self.invariant in
-    omega (
-      arith,
-      c.len.ensures,
-      ap length kept.state.records_are,
-      length-records_to c.self.inside.design (simulation_of c.self.inside.design m).cycles,
-    )
+    omega (arith, c.len.ensures, cycle-count kept.state)
 
 pub new-requires : goal.new-requires
 new-requires c =

@@ -2,7 +2,7 @@ use Rattle.std.proofs.Common.{suc, ◌≤◌, List, length, sym, subst, arith}
 use Rattle.std.proofs.lemmas.List.Elements.{All-drop}
 use Rattle.std.specs.List.{All}
 use Rattle.sim_standard.specs.declared.record.Record.{Record}
-use Rattle.sim_standard.specs.Histories.{IsNamed}
+use Rattle.sim_standard.specs.Records.{IsNamed}
 use Rattle.sim_store_simulation.specs.Simulation.{Simulation}
 use Rattle.sim_store_simulation.proofs.Going.{cycle-count}
 use Rattle.sim_standard.proofs.Records.{all_named}

@@ -3,7 +3,7 @@ use Rattle.sim_standard.specs.declared.net_view.NetView.{NetView}
 use Rattle.sim_standard.specs.State.{net_at}
 use Rattle.sim_store_simulation.specs.Simulation.{Simulation, reached}
 use Rattle.sim_standard.specs.Agreement.{value_by}
-use Rattle.sim_standard.specs.Histories.{records_to}
+use Rattle.sim_standard.specs.Records.{records_to}
 use Rattle.sim_store_simulation.proofs.Counting.{known-value}
 use Rattle.sim_store_simulation.proofs.Going.{net-count}
 use Rattle.sim_store_simulation.proofs.Boxes.{held, shown}
