@@ -13,13 +13,9 @@ is_of net change = change.0 == net
 abbrev pub changes_of : List Record → ℕ → List (ℕ × Logic)
 changes_of records net = filter (is_of net) (all_changes records)
 
--- a change gives a net its value, whatever the value before
-abbrev pub changed : Option Logic → ℕ × Logic → Option Logic
-changed before change = Some change.1
-
 -- the value of a net by the records: that of its last change, since each of its changes gives it a value in turn; none if it has no change
 abbrev pub value_by : List Record → ℕ → Option Logic
-value_by records net = fold changed None (changes_of records net)
+value_by records net = fold (λ before (change : ℕ × Logic). Some change.1) None (changes_of records net)
 
 -- the number of changes of a net in the records after the first, which is that of the initialization
 abbrev pub total_of : List Record → ℕ → ℕ

@@ -1,20 +1,10 @@
 -- What a signal assignment leaves pending (IEEE 1076-2008, 10.5.2.2).
-use Rattle.std.specs.Prelude.{ℕ, suc, ◌+◌, ◌-◌, ◌<◌, ◌≤◌, ◌≡◌, nat_lt, Bool, ◌&&◌, ◌||◌, ⊤, if◌then◌else◌, List, [], ◌∷◌, ◌++◌, length, map, filter, drop}
+use Rattle.std.specs.Prelude.{ℕ, suc, ◌+◌, ◌-◌, ◌<◌, ◌≤◌, ◌≡◌, nat_lt, Bool, ◌&&◌, ◌||◌, if◌then◌else◌, List, [], ◌∷◌, ◌++◌, length, map, filter, drop}
 use Rattle.sim_logic.specs.declared.logic.Logic.{Logic}
-use Rattle.sim_logic.specs.declared.logic.Logic.TheVariants.{U}
 use Rattle.sim_logic.specs.Logic.{is_same}
 use Rattle.sim_standard.specs.declared.delay.Delay.{Delay}
 use Rattle.sim_standard.specs.declared.delay.Delay.TheVariants.{Transport, Inertial}
 use Rattle.sim_standard.specs.Drivers.{Transaction, transaction_at}
-
--- the first element of a waveform
-abbrev pub first_element : List Transaction → Transaction
-first_element [] = (0, U)
-first_element (element ∷ elements) = element
-
--- the elements of a waveform as new transactions, each at the present time plus its delay
-abbrev pub scheduled : ℕ → List Transaction → List Transaction
-scheduled now elements = map (λ (e : Transaction). (now + e.0, e.1)) elements
 
 -- ---- every assignment, a): the old transactions at or after the first new one are deleted; these stay
 
@@ -53,16 +43,12 @@ abbrev pub kept_of : Delay → Transaction → List Transaction → List Transac
 kept_of Transport first old = old
 kept_of (Inertial reject) first old = marked_of (first.0 - reject) first.1 old
 
--- what is pending after an assignment at this time: what is kept, followed by b) the new transactions
+-- what is pending after an assignment at this time: what is kept, followed by b) the new transactions, each at this time plus the delay of its element
 abbrev pub edited : List Transaction → ℕ → Delay → List Transaction → List Transaction
 edited old now delay elements =
-    let first = first_element (scheduled now elements) in
-    kept_of delay first (before first.0 old) ++ scheduled now elements
-
--- The rejection limit is at most the first delay (10.5.2.1).
-abbrev pub IsWithin : Delay → ℕ → Type 0
-IsWithin Transport first = ⊤
-IsWithin (Inertial reject) first = reject ≤ first
+    let new = map (λ (e : Transaction). (now + e.0, e.1)) elements in
+    let first = transaction_at new 0 in
+    kept_of delay first (before first.0 old) ++ new
 
 -- ---- by places, for the laws that the function marks the least set
 

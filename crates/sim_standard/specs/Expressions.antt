@@ -107,11 +107,8 @@ module _ (look : ℕ → NetView) (variables : List Held) where
   -- ---- waveforms
 
   -- the delay and the value of each element of a waveform (10.5.2.1)
-  abbrev pub element_value : Element → Transaction
-  element_value x = (x.after, logic_value x.value)
-
   abbrev pub element_values : List Element → List Transaction
-  element_values elements = map element_value elements
+  element_values elements = map (λ (x : Element). (x.after, logic_value x.value)) elements
 
   -- the selected waveform: the first whose condition holds, else the last, if there is one (10.5.3)
   unfoldable pub taken_waveform : List ConditionalWaveform → Option (List Element) → Option (List Element)

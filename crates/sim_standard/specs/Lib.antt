@@ -9,9 +9,9 @@ pub mod Orders
 pub mod Initialization
 pub mod Cycle
 pub mod Records
-pub mod Histories
 pub mod Outcome
 pub mod Behaviour
 pub mod Agreement
+pub mod Midway
 pub mod Together
-pub mod Weaving
+pub mod Interleaving

@@ -1,5 +1,5 @@
 -- Processes of one cycle, executed one after another in some order, which the standard leaves open (IEEE 1076-2008, 14.7.5.3).
-use Rattle.std.specs.Prelude.{ℕ, ◌≡◌, ◌==◌, ◌<◌, ◌||◌, List, [], ◌∷◌, Bool, false}
+use Rattle.std.specs.Prelude.{ℕ, ◌≡◌, ◌==◌, ◌||◌, List, [], ◌∷◌, Bool, false, ⊤}
 use Rattle.sim_flat_design.specs.Processes.{Process}
 use Rattle.sim_standard.specs.State.{State}
 use Rattle.sim_standard.specs.Processes.{meaning, process_at}
@@ -16,10 +16,5 @@ is_among (m ∷ ms) n = (m == n) || is_among ms n
 
 -- No number is in the list twice.
 abbrev pub NoRepeats : List ℕ → Type 0
-NoRepeats [] = Unit {0}
+NoRepeats [] = ⊤
 NoRepeats (n ∷ ns) = (is_among ns n ≡ false) × NoRepeats ns
-
--- Each number is below this one.
-abbrev pub AllBelow : ℕ → List ℕ → Type 0
-AllBelow high [] = Unit {0}
-AllBelow high (n ∷ ns) = (n < high) × AllBelow high ns

@@ -1,5 +1,6 @@
 -- How statements are executed (IEEE 1076-2008, 10): one after another, on whatever their steps change.
-use Rattle.std.specs.Prelude.{ℕ, List, [], ◌∷◌, Bool, true, false, ◌||◌, if◌then◌else◌, Option, Some, None, map, slice_set}
+use Rattle.std.specs.Prelude.{ℕ, List, [], ◌∷◌, Bool, if◌then◌else◌, map, slice_set}
+use Rattle.std.specs.Option.{option_map_or}
 use Rattle.sim_flat_design.specs.declared.held.Held.TheVariants as held
 use Rattle.sim_flat_design.specs.declared.expression.LogicExpression.{LogicExpression}
 use Rattle.sim_flat_design.specs.declared.expression.BooleanExpression.{BooleanExpression}
@@ -11,8 +12,8 @@ use Rattle.sim_flat_design.specs.declared.statement.Statement.{Statement}
 use Rattle.sim_flat_design.specs.declared.statement.Branch.{Branch}
 use Rattle.sim_flat_design.specs.declared.statement.Statement.TheOpen as s
 use Rattle.sim_flat_design.specs.declared.statement.Statement.TheFolds as folds
-use Rattle.sim_standard.specs.Drivers.{Transaction, DriverState}
-use Rattle.sim_standard.specs.Editing.{edited, first_element}
+use Rattle.sim_standard.specs.Drivers.{Transaction, DriverState, transaction_at}
+use Rattle.sim_standard.specs.Editing.{edited}
 use Rattle.sim_standard.specs.declared.delay.Delay.{Delay as WaveDelay}
 use Rattle.sim_standard.specs.declared.delay.Delay.TheVariants.{Transport, Inertial}
 use Rattle.sim_standard.specs.declared.net_view.NetView.{NetView}
@@ -42,11 +43,6 @@ in_turn (f ∷ fs) x = in_turn fs (f x)
 unfoldable pub if_taken : {S : Type 0} → List (Guarded S) → (S → S) → S → S
 if_taken [] otherwise x = otherwise x
 if_taken (g ∷ gs) otherwise x = if g.holds x then g.carried_out x else if_taken gs otherwise x
-
--- what the last statements leave, unless a branch is taken
-abbrev pub unless : {S : Type 0} → Bool → (S → S) → S → S
-unless true otherwise x = x
-unless false otherwise x = otherwise x
 
 module _ {S : Type 0} (steps : Steps S) where
   abbrev pub statement_rule : s.Statement-F (S → S) (Guarded S) → S → S
@@ -81,21 +77,18 @@ delay_of (mechanism.Reject limit) first = Inertial limit
 
 -- a driver after these elements have been assigned to it (10.5.2.2)
 abbrev pub assigned : ℕ → Delay → List Transaction → DriverState → DriverState
-assigned now mechanism elements d = record d { pending = edited d.pending now (delay_of mechanism (first_element elements).0) elements }
+assigned now mechanism elements d = record d { pending = edited d.pending now (delay_of mechanism (transaction_at elements 0).0) elements }
 
 module _ (look : ℕ → NetView) (now : ℕ) where
-  -- after the selected waveform, if there is one, has been assigned to the driver at a place
-  abbrev pub waveform_assigned : ℕ → Delay → Option (List Element) → Owned → Owned
-  waveform_assigned place mechanism None own = own
-  waveform_assigned place mechanism (Some elements) own =
-      let driver = assigned now mechanism (element_values look own.variables elements) (driver_at own.drivers place) in
-      record own { drivers = slice_set own.drivers place driver }
-
   -- the steps: a signal assignment edits its driver at once (10.5.2.2), a variable assignment its variable (10.6)
   abbrev pub own_steps : Steps Owned
   own_steps = record {
     holds = λ condition own. boolean_value look own.variables condition;
-    signal = λ a own. waveform_assigned a.driver a.delay (taken_waveform look own.variables a.conditional a.otherwise) own;
+    signal = λ a own. option_map_or
+        (λ (elements : List Element).
+            let driver = assigned now a.delay (element_values look own.variables elements) (driver_at own.drivers a.driver) in
+            record own { drivers = slice_set own.drivers a.driver driver })
+        (taken_waveform look own.variables a.conditional a.otherwise) own;
     logic_variable = λ place value own. record own { variables = slice_set own.variables place (held.Bit (logic_value look own.variables value)) };
     boolean_variable = λ place value own. record own { variables = slice_set own.variables place (held.Truth (boolean_value look own.variables value)) };
   }
@@ -103,8 +96,3 @@ module _ (look : ℕ → NetView) (now : ℕ) where
   -- what a process owns after its statements have been executed
   unfoldable pub executed : List Statement → Owned → Owned
   executed statements own = carried_out own_steps statements own
-
-  -- whether the condition of one of these branches holds
-  unfoldable pub one_holds : List Branch → Owned → Bool
-  one_holds [] own = false
-  one_holds (b ∷ bs) own = (branch_done own_steps b).holds own || one_holds bs own

@@ -1,9 +1,9 @@
 //! Laws of editing: each is what an empty function ensures.
 
-ghost use Rattle.std.specs.Prelude.{ℕ, Bool, true, List, ◌+◌, ◌-◌, ◌≡◌, ◌<◌, ◌↔◌, ◌∷◌, ◌++◌, length};
+ghost use Rattle.std.specs.Prelude.{ℕ, Bool, true, List, ◌+◌, ◌-◌, ◌≡◌, ◌<◌, ◌↔◌, ◌∷◌, ◌++◌, length, map};
 ghost use Rattle.sim_standard.specs.Drivers.{Transaction};
 ghost use Rattle.sim_standard.specs.declared.delay.Delay as delay;
-ghost use Rattle.sim_standard.specs.Editing.{at_places, before, edited, is_marked_at, marked_of, scheduled, Marked};
+ghost use Rattle.sim_standard.specs.Editing.{at_places, before, edited, is_marked_at, marked_of, Marked};
 
 /// The test of a place, `is_marked_at`, decides the least set of marked places.
 pub fn the_marked_places_are_the_least_set()
@@ -29,7 +29,7 @@ pub fn an_inertial_edit_leaves_the_marked_transactions()
     ensures { (old : List Transaction) (now : ℕ) (reject : ℕ) (element : Transaction) (elements : List Transaction)
         (test : ℕ → Bool)
         → let first = now + element.0 in
-        let new = scheduled now (element ∷ elements) in
+        let new = map (λ (e : Transaction). (now + e.0, e.1)) (element ∷ elements) in
         let all = before first old ++ new in
         ((place : ℕ) → place < length all
         → (test place ≡ true) ↔ Marked (first - reject) (before first old) new place)

@@ -1,10 +1,10 @@
 //! Laws of the execution of a process: each is what an empty function ensures.
 
-ghost use Rattle.std.specs.Prelude.{ℕ, List, ◌≡◌, ◌<◌, length};
+ghost use Rattle.std.specs.Prelude.{ℕ, List, ◌≡◌, ◌<◌, length, slice_set};
 ghost use Rattle.sim_flat_design.specs.Processes.{Process, IsProcess};
 ghost use Rattle.sim_flat_design.specs.declared.statement.Statement.{Statement};
 ghost use Rattle.sim_standard.specs.declared.net_view.NetView.{NetView};
-ghost use Rattle.sim_standard.specs.State.{State, Owned, driver_values, with_owned};
+ghost use Rattle.sim_standard.specs.State.{State, Owned, driver_values};
 ghost use Rattle.sim_standard.specs.Processes.{meaning, part, owned_after};
 ghost use Rattle.sim_standard.specs.Statements.{executed};
 
@@ -13,7 +13,7 @@ ghost use Rattle.sim_standard.specs.Statements.{executed};
 /// and what it owns.
 pub fn a_process_reads_and_changes_only_its_part()
     ensures { (p : Process) (number : ℕ) (s : State) → IsProcess p → number < length s.owned
-        → meaning p number s ≡ with_owned number (owned_after p (part p number s)) s }
+        → meaning p number s ≡ record s { owned = slice_set s.owned number (owned_after p (part p number s)) } }
 {}
 
 /// Executing statements changes the current value of no driver: only a simulation cycle does (IEEE

@@ -10,10 +10,10 @@ use Rattle.sim_flat_design.specs.declared.statement.Statement.TheOpen as s
 use Rattle.sim_flat_design.specs.declared.statement.Statement.TheViews as views
 use Rattle.sim_flat_design.specs.Processes.{Process}
 use Rattle.sim_standard.specs.declared.net_view.NetView.{NetView}
-use Rattle.sim_standard.specs.State.{State}
+use Rattle.sim_standard.specs.State.{State, owned_at}
 use Rattle.sim_standard.specs.Statements.{statement_done}
 use Rattle.sim_standard.specs.Expressions.{boolean_value, taken_waveform}
-use Rattle.sim_standard.specs.Processes.{Names, names_of, seen, owned_of, state_steps, process_at}
+use Rattle.sim_standard.specs.Processes.{seen, object_net, state_steps, process_at}
 
 -- ---- what replaces a statement, given what its process sees of its ports and signals and what its variables hold
 
@@ -25,12 +25,10 @@ module _ (look : ℕ → NetView) (variables : List Held) where
       if boolean_value look variables (views.out-Branch b).condition then (views.out-Branch b).statements else taken_statements bs otherwise
 
   -- the assignment without a condition that a conditional one selects (10.5.3)
-  abbrev pub unconditional : SignalAssignment → SignalAssignment
-  unconditional a = record a { conditional = []; otherwise = taken_waveform look variables a.conditional a.otherwise }
-
   abbrev pub selected_assignment : SignalAssignment → List ConditionalWaveform → Option (List Statement)
   selected_assignment a [] = None
-  selected_assignment a (c ∷ cs) = Some (statement.Signal (unconditional a) ∷ [])
+  selected_assignment a (c ∷ cs) =
+      Some (statement.Signal (record a { conditional = []; otherwise = taken_waveform look variables a.conditional a.otherwise }) ∷ [])
 
   abbrev pub selected_rule : s.Statement-F Statement Branch → Option (List Statement)
   selected_rule (s.Signal a) = selected_assignment a a.conditional
@@ -43,9 +41,9 @@ module _ (look : ℕ → NetView) (variables : List Held) where
 
 -- ---- interleaving
 
--- what a statement of a process selects in a state
-abbrev pub selected_in : Names → State → Statement → Option (List Statement)
-selected_in names s x = selected (seen names s) (owned_of names s).variables x
+-- what a statement of the process with a number selects in a state
+abbrev pub selected_in : Process → ℕ → State → Statement → Option (List Statement)
+selected_in process p s x = selected (seen (object_net process) s) (owned_at s.owned p).variables x
 
 -- what a process has to do
 abbrev pub to_do : List (List Statement) → ℕ → List Statement
@@ -53,18 +51,18 @@ to_do todo p = slice_index_or todo p []
 
 -- Some order of steps leads from one state to another, if each process has these statements to do. A step takes any process and its first statement: an
 -- assignment is carried out on the whole state, a null statement is dropped, and an if statement or a conditional assignment is replaced by what it selects.
-pub data Woven (processes : List Process) : State → List (List Statement) → State → Type 0 where
-  Over : (s : State) (todo : List (List Statement)) → ((p : ℕ) → to_do todo p ≡ []) → Woven processes s todo s
+pub data Interleaved (processes : List Process) : State → List (List Statement) → State → Type 0 where
+  Over : (s : State) (todo : List (List Statement)) → ((p : ℕ) → to_do todo p ≡ []) → Interleaved processes s todo s
   Carries_out : (s t : State) (todo : List (List Statement)) (p : ℕ) (x : Statement) (rest : List Statement)
       → to_do todo p ≡ x ∷ rest
-      → selected_in (names_of (process_at processes p) p) s x ≡ None
-      → Woven processes (statement_done (state_steps (names_of (process_at processes p) p)) x s) (slice_set todo p rest) t
-      → Woven processes s todo t
+      → selected_in (process_at processes p) p s x ≡ None
+      → Interleaved processes (statement_done (state_steps (object_net (process_at processes p)) p) x s) (slice_set todo p rest) t
+      → Interleaved processes s todo t
   Selects : (s t : State) (todo : List (List Statement)) (p : ℕ) (x : Statement) (rest chosen : List Statement)
       → to_do todo p ≡ x ∷ rest
-      → selected_in (names_of (process_at processes p) p) s x ≡ Some chosen
-      → Woven processes s (slice_set todo p (chosen ++ rest)) t
-      → Woven processes s todo t
+      → selected_in (process_at processes p) p s x ≡ Some chosen
+      → Interleaved processes s (slice_set todo p (chosen ++ rest)) t
+      → Interleaved processes s todo t
 
 -- at first each process of a set has its whole body to do
 unfoldable pub bodies : (ℕ → Bool) → ℕ → List Process → List (List Statement)
