@@ -3,8 +3,9 @@ use Rattle.std.proofs.Common.{ℕ, suc, ◌+◌, ◌-◌, if◌then◌else◌, �
 use Rattle.std.proofs.lemmas.Bool.Decides.{nat_tests}
 use Rattle.sim_logic.specs.declared.logic.Logic.{Logic}
 use Rattle.sim_standard.specs.declared.delay.Delay.TheVariants.{Inertial}
-use Rattle.sim_standard.specs.Drivers.{RisesFrom, Transaction}
+use Rattle.sim_standard.specs.Drivers.{Transaction}
 use Rattle.sim_standard.specs.Editing.{before, edited, marked_of}
+use Rattle.sim_wave.specs.Rising.{RisesFrom}
 
 none_before : (time from : ℕ) (old : List Transaction) → time ≤ from → RisesFrom from old → before time old ≡ []
 none_before time from [] le rises = refl

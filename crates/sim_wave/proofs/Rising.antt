@@ -3,10 +3,11 @@ use Rattle.std.proofs.Common.{ℕ, zero, suc, ◌+◌, ◌-◌, ◌<◌, ◌≤�
 use Rattle.std.proofs.Common.{arith, Result, Ok, Err, OnOk, OnErr}
 use Rattle.std.proofs.lemmas.Bool.Decides.{nat_tests}
 use Rattle.sim_logic.specs.declared.logic.Logic.{Logic}
-use Rattle.sim_standard.specs.Drivers.{RisesFrom, Transaction, transaction_at}
+use Rattle.sim_standard.specs.Drivers.{Transaction, transaction_at}
 use Rattle.sim_standard.specs.declared.delay.Delay.{Delay}
 use Rattle.sim_standard.specs.declared.delay.Delay.TheVariants.{Transport, Inertial}
-use Rattle.sim_standard.specs.Editing.{before, edited, is_marked, kept_of, marked_of, scheduled}
+use Rattle.sim_standard.specs.Editing.{before, edited, is_marked, kept_of, marked_of}
+use Rattle.sim_wave.specs.Rising.{RisesFrom, scheduled}
 
 -- transactions that ascend from a time ascend from an earlier one too
 pub RisesFrom-earlier : (low high : ℕ) (xs : List Transaction) → low ≤ high → RisesFrom high xs → RisesFrom low xs

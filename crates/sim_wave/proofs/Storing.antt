@@ -5,9 +5,10 @@ use Rattle.std.specs.List.{remove_range}
 use Rattle.std.proofs.lemmas.List.{get_or-drop, length-take-le}
 use Rattle.sim_logic.specs.declared.logic.Logic.{Logic}
 use Rattle.sim_logic.specs.declared.logic.Logic.TheVariants.{U}
-use Rattle.sim_standard.specs.Drivers.{RisesFrom, Transaction, transaction_at}
+use Rattle.sim_standard.specs.Drivers.{Transaction, transaction_at}
 use Rattle.sim_standard.specs.declared.delay.Delay.{Delay}
-use Rattle.sim_standard.specs.Editing.{before, edited, kept_of, scheduled}
+use Rattle.sim_standard.specs.Editing.{before, edited, kept_of}
+use Rattle.sim_wave.specs.Rising.{RisesFrom, scheduled}
 use Rattle.sim_wave.specs.Run.{IsRun}
 use Rattle.sim_wave.proofs.Rising.{RisesFrom-earlier}
 

@@ -1,10 +1,11 @@
 //! The driver of a process for a signal (IEEE 1076-2008, 14.7.2).
 
 ghost use Rattle.std.specs.Prelude.{suc, ◌∷◌, ◌≡◌, ◌↔◌, ◌<◌, ◌≤◌, [], length, All, Some, IsTrue, IfOk, IsOk, OnOk, OnErr};
-ghost use Rattle.sim_standard.specs.Drivers.{next_of, taken, RisesFrom, Transaction as transaction};
-ghost use Rattle.sim_standard.specs.Editing.{edited, first_element, IsWithin};
+ghost use Rattle.sim_standard.specs.Drivers.{taken, Transaction as transaction, transaction_at};
+ghost use Rattle.sim_standard.specs.Editing.{edited};
 ghost use Rattle.sim_logic.specs.Time.{largest_time};
 ghost use Rattle.sim_standard.specs.declared.delay.Delay.TheVariants as delays;
+ghost use Rattle.sim_wave.specs.Rising.{next_of, RisesFrom, IsWithin};
 
 use crate::edit::keeps;
 use crate::pending::Pending;
@@ -39,10 +40,11 @@ impl Drop for Driver {
 }
 
 impl Model for Driver {
-    ghost use Rattle.sim_standard.specs.Drivers.{DriverState, RisesFrom};
+    ghost use Rattle.sim_standard.specs.Drivers.{DriverState};
 
     ghost Value = { DriverState };
 
+    ghost use Rattle.sim_wave.specs.Rising.{RisesFrom};
     ghost use Rattle.sim_wave.specs.Pending.{transactions_of};
 
     ghost view = { λ driver. record {
@@ -161,7 +163,7 @@ impl Driver {
         requires rise { RisesFrom 0 elements.now }
         requires delays { All (λ (element : transaction). element.0 ≤ largest_time) elements.now }
         requires now { now ≤ largest_time }
-        requires reject { IsWithin delay (first_element elements.now).0 }
+        requires reject { IsWithin delay (transaction_at elements.now 0).0 }
         requires later { RisesFrom now self.old.pending }
         ensures ok { OnOk result (self.new
             ≡ record self.old { pending = edited self.old.pending now delay elements.now }) }

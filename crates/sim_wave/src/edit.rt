@@ -3,8 +3,9 @@
 ghost use Rattle.std.specs.Prelude.{ℕ, ◌≡◌, ◌≢◌, ◌+◌, ◌-◌, ◌<◌, ◌≤◌, ◌++◌, ◌↔◌, [], ◌∷◌, length, take, All, IsTrue, vec_len, vec_capacity};
 ghost use Rattle.std.specs.List.{remove_range};
 ghost use Rattle.sim_logic.specs.declared.logic.Logic as logic;
-ghost use Rattle.sim_standard.specs.Drivers.{RisesFrom, Transaction as transaction, transaction_at};
-ghost use Rattle.sim_standard.specs.Editing.{before, kept_of, scheduled, IsWithin};
+ghost use Rattle.sim_standard.specs.Drivers.{Transaction as transaction, transaction_at};
+ghost use Rattle.sim_standard.specs.Editing.{before, kept_of};
+ghost use Rattle.sim_wave.specs.Rising.{RisesFrom, scheduled, IsWithin};
 ghost use Rattle.sim_wave.specs.Run.{IsRun};
 ghost use Rattle.sim_logic.specs.Time.{largest_time};
 

@@ -1,9 +1,10 @@
 //! The pending transactions of a driver. Up to two need no allocation.
 
 ghost use Rattle.std.specs.Prelude.{◌≡◌, ◌+◌, ◌-◌, ◌<◌, ◌≤◌, [], ◌∷◌, ◌++◌, length, take, drop, All, IfOk, IsOk, OnOk, OnErr};
-ghost use Rattle.sim_standard.specs.Drivers.{RisesFrom, Transaction as transaction, transaction_at};
+ghost use Rattle.sim_standard.specs.Drivers.{Transaction as transaction, transaction_at};
 ghost use Rattle.std.specs.List.{remove_range};
-ghost use Rattle.sim_standard.specs.Editing.{edited, first_element, scheduled, IsWithin};
+ghost use Rattle.sim_standard.specs.Editing.{edited};
+ghost use Rattle.sim_wave.specs.Rising.{RisesFrom, scheduled, IsWithin};
 ghost use Rattle.sim_wave.specs.Pending.{transactions_of};
 ghost use Rattle.sim_logic.specs.Time.{largest_time};
 
@@ -117,7 +118,7 @@ impl Pending {
         requires some { 0 < length elements.now }
         requires delays { All (λ (element : transaction). element.0 ≤ largest_time) elements.now }
         requires now { now ≤ largest_time }
-        requires reject { IsWithin delay (first_element elements.now).0 }
+        requires reject { IsWithin delay (transaction_at elements.now 0).0 }
         requires rises { RisesFrom 0 (transactions_of self.old) }
         ensures ok { OnOk result (transactions_of self.new
             ≡ edited (transactions_of self.old) now delay elements.now) }

@@ -2,8 +2,9 @@
 
 ghost use Rattle.std.specs.Prelude.{◌≡◌, ◌+◌, ◌-◌, ◌<◌, ◌≤◌, length, drop, All, IfOk, IsOk, OnOk, OnErr};
 ghost use Rattle.sim_logic.specs.declared.logic.Logic as logic;
-ghost use Rattle.sim_standard.specs.Drivers.{RisesFrom, Transaction as transaction};
-ghost use Rattle.sim_standard.specs.Editing.{edited, first_element, IsWithin};
+ghost use Rattle.sim_standard.specs.Drivers.{Transaction as transaction, transaction_at};
+ghost use Rattle.sim_standard.specs.Editing.{edited};
+ghost use Rattle.sim_wave.specs.Rising.{RisesFrom, IsWithin};
 ghost use Rattle.sim_logic.specs.Time.{largest_time};
 
 use crate::driver::{IN_PLACE, Transaction};
@@ -91,7 +92,7 @@ impl Stored {
         requires some { 0 < length elements.now }
         requires delays { All (λ (element : transaction). element.0 ≤ largest_time) elements.now }
         requires now { now ≤ largest_time }
-        requires reject { IsWithin delay (first_element elements.now).0 }
+        requires reject { IsWithin delay (transaction_at elements.now 0).0 }
         requires rises { RisesFrom 0 self.old }
         ensures ok { OnOk result (self.new ≡ edited self.old now delay elements.now) }
         ensures err { OnErr result (self.new ≡ self.old) }

@@ -1,5 +1,5 @@
 use Rattle.std.proofs.Common.{◌≤◌, ◌+◌, ◌-◌, ◌≡◌, ◌++◌, length, take, vec_len, vec_capacity}
-use Rattle.sim_standard.specs.Editing.{scheduled}
+use Rattle.sim_wave.specs.Rising.{scheduled}
 use Rattle.sim_wave.proofs.edit.append.Given as goal
 
 abbrev pub invariant-loop-delay : goal.invariant-loop-delay

@@ -1,5 +1,6 @@
 use Rattle.std.proofs.Common.{◌≡◌, ap, arith}
-use Rattle.sim_standard.specs.Drivers.{RisesFrom, DriverState}
+use Rattle.sim_standard.specs.Drivers.{DriverState}
+use Rattle.sim_wave.specs.Rising.{RisesFrom}
 use Rattle.sim_wave.specs.Pending.{transactions_of}
 use Rattle.sim_wave.proofs.Rising.{RisesFrom-earlier, edit-rises}
 use Rattle.sim_wave.proofs.driver.Driver.edit.Goals as goal

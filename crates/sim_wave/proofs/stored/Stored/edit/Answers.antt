@@ -1,7 +1,8 @@
 use Rattle.std.proofs.Common.{◌≡◌, ◌+◌, ◌-◌, ◌≤◌, ◌++◌, ◌∙◌, sym, ap, subst, List, length, take, drop, rules, arith, length-drop, vec_len, vec_capacity}
 use Rattle.std.specs.List.{remove_range}
 use Rattle.sim_standard.specs.Drivers.{Transaction, transaction_at}
-use Rattle.sim_standard.specs.Editing.{edited, scheduled}
+use Rattle.sim_standard.specs.Editing.{edited}
+use Rattle.sim_wave.specs.Rising.{scheduled}
 use Rattle.sim_wave.specs.Run.{IsRun}
 use Rattle.sim_wave.proofs.Storing.{drop-remove_range, kept-edited, length-left, IsRun-edited}
 use Rattle.sim_wave.proofs.stored.Stored.edit.Goals as goal
