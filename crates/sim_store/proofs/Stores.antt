@@ -27,8 +27,8 @@ store-begins g stop limit early zero = record {
 }
 
 -- a run that goes on
-pub store-goes-on : (w : WaveStore) (g : Simulation) (time : ℕ) → IsStore w → w.ended ≡ None → g ≡ after w.simulation → next_after w.simulation ≡ Some (CycleAt time)
-    → time ≤ w.stop → w.simulation.cycles ≢ w.limit → (reached g).time ≡ time
+pub store-goes-on : (w : WaveStore) (g : Simulation) (time : ℕ) → IsStore w → w.ended ≡ None → g ≡ after w.simulation
+    → next_after w.simulation ≡ Some (CycleAt time) → time ≤ w.stop → w.simulation.cycles ≢ w.limit → (reached g).time ≡ time
     → IsStore (record { simulation = g; stop = w.stop; limit = w.limit; ended = w.ended })
 store-goes-on w g time is running e next before apart at = record {
   early = is.early;

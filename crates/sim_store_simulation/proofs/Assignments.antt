@@ -19,10 +19,10 @@ use Rattle.sim_store_simulation.proofs.Listed.{AreListed, listed-more, listed-ne
 use Rattle.sim_store_simulation.proofs.Walks.{due-within}
 
 -- what holds of each number from one on that passes a test holds of all that are listed from there
-those-each : (test : ℕ → Bool) (from count : ℕ) (P : ℕ → Type 0) → ((p : ℕ) → from ≤ p → test p ≡ true → P p) → All P (counted test from count)
+counted-each : (test : ℕ → Bool) (from count : ℕ) (P : ℕ → Type 0) → ((p : ℕ) → from ≤ p → test p ≡ true → P p) → All P (counted test from count)
 unfolding counted
-those-each test from zero P holds = All-nil P
-those-each test from (suc count) P holds = go (test from) refl (those-each test (suc from) count P (λ p ge. holds p (omega (arith, ge))))
+counted-each test from zero P holds = All-nil P
+counted-each test from (suc count) P holds = go (test from) refl (counted-each test (suc from) count P (λ p ge. holds p (omega (arith, ge))))
   where
     go : (b : Bool) → test from ≡ b → All P (counted test (suc from) count)
         → All P (if b then from ∷ counted test (suc from) count else counted test (suc from) count)
@@ -36,7 +36,7 @@ module _ {design : Design} {old : Contents} where
   rest-executable {now} {place} s =
       let i = s.of.state in
       subst (All (turn.IsExecutable design.processes now.time now.state.owned)) (sym s.along.left)
-      (those-each (those_in now.due) s.along.from (length now.due - s.along.from) (turn.IsExecutable design.processes now.time now.state.owned)
+      (counted-each (those_in now.due) s.along.from (length now.due - s.along.from) (turn.IsExecutable design.processes now.time now.state.owned)
       (λ p ge due.
       let lt = due-within i p due in
       record {

@@ -50,7 +50,7 @@ use Rattle.sim_standard.proofs.Numbers.{counted-none, counted-same, ranged}
 use Rattle.std.proofs.Math.Decide.{dec_lt}
 use Rattle.std.proofs.lemmas.List.{get_or_past}
 use Rattle.sim_standard.proofs.Together.{also, length-merged, merged-same, merged-none, merged-out, merged-also}
-use Rattle.sim_standard.proofs.Parallel.{FitsCycles, length-nets_updated, merged-below, in_turn_is_together, standard_all, standard_fits}
+use Rattle.sim_standard.proofs.Parallel.{FitsCycles, length-nets_updated, merged-below, in_turn_is_together, updated_all, updated_fits}
 use Rattle.sim_standard.proofs.Parallel.{executed_delta, executed_nets, executed_time}
 use Rattle.sim_store_simulation.proofs.Readiness.{ready_after}
 
@@ -92,7 +92,7 @@ module _ {h : Simulation} {time delta : ℕ} {held : FlatState} {records : List 
 
   -- each process owns something
   pub updated-all : length (updated_last h).owned ≡ length h.design.processes
-  updated-all = subst (λ (o : Option State). all o) i.there (standard_all h.design i.processes h.cycles)
+  updated-all = subst (λ (o : Option State). all o) i.there (updated_all h.design i.processes h.cycles)
     where
       all : Option State → Type 0
       all None = Unit {0}
@@ -102,7 +102,7 @@ module _ {h : Simulation} {time delta : ℕ} {held : FlatState} {records : List 
   reached-all = before-all h.phase h.design h.cycles (updated_last h) updated-all
 
   reached-fits : FitsCycles h.design h.cycles (Some (updated_last h))
-  reached-fits = subst (FitsCycles h.design h.cycles) i.there (standard_fits h.design i.processes h.cycles)
+  reached-fits = subst (FitsCycles h.design h.cycles) i.there (updated_fits h.design i.processes h.cycles)
 
   pub net-count : length held.nets ≡ length h.design.nets
   net-count = ap length i.nets_are ∙ reached-fits.0

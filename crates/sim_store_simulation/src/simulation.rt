@@ -240,6 +240,7 @@ fn joined(marks: FirstMarks, compiled: Compiled, start: Start) -> Contents
 
 /// What the simulation of a design holds at first: what is compiled, the first state with its
 /// record, which processes are due, and no events of any net.
+#[tactic(auto, unfolding(sim_standard::specs::Records::records_to))]
 fn prepared(alloc: Global, design: &Design) -> Result<Contents, AllocError>
     ensures start { IfOk result (λ m. (m.time ≡ 0) × (m.delta ≡ 0) × (m.phase ≡ phase.AtOnce) × (m.all_executed ≡ false)) }
     ensures contents { IfOk result (λ m. AreFirst design.now m) }
