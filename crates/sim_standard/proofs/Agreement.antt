@@ -1,28 +1,31 @@
 -- The values and totals of nets are those in the records.
 use Rattle.std.proofs.Common.{ℕ, zero, suc, ◌+◌, ◌<◌, ◌≤◌, ◌≡◌, eqb, Bool, true, false, not, if◌then◌else◌, List, [], ◌∷◌, ◌++◌, Option, None, Some}
-use Rattle.std.proofs.Common.{length, map, drop, refl, ap, sym, ◌∙◌, subst, arith, cond, append-nil}
+use Rattle.std.proofs.Common.{length, map, drop, option_map, unwrap_or, refl, ap, sym, ◌∙◌, subst, arith, cond, append-nil}
 use Rattle.std.specs.List.{All, enumerate_from, filter, fold}
 use Rattle.std.proofs.lemmas.Bool.Decides.{nat_tests}
-use Rattle.std.proofs.lemmas.List.{length-append}
+use Rattle.std.proofs.lemmas.List.{length-append, length-map}
 use Rattle.std.proofs.lemmas.List.Elements.{filter-append}
 use Rattle.std.proofs.lemmas.List.Sums.{fold-append}
 use Rattle.std.proofs.lemmas.Grind.{flat_map-append}
 use Rattle.sim_logic.specs.declared.logic.Logic.{Logic}
 use Rattle.sim_logic.specs.Logic.{is_same}
 use Rattle.sim_logic.proofs.SameValues.{same_from_is_same}
-use Rattle.sim_standard.specs.Drivers.{DriverState}
+use Rattle.sim_standard.specs.Drivers.{DriverState, next_time}
 use Rattle.sim_flat_design.specs.Designs.{Design, Net}
 use Rattle.sim_flat_design.specs.Processes.{IsProcess}
 use Rattle.sim_standard.specs.declared.net_view.NetView.{NetView}
 use Rattle.sim_standard.specs.State.{State, net_at, all_drivers}
 use Rattle.sim_standard.specs.declared.record.Record.{Record}
-use Rattle.sim_standard.specs.Cycle.{own_taken, cycle_in_turn, executed_in_turn, next_cycle_time, onward, or_first, standard, state_of}
-use Rattle.sim_standard.specs.Records.{all_changes, changes_from, numbered_value, values_of}
-use Rattle.sim_standard.specs.Nets.{net_value, nets_updated}
-use Rattle.sim_standard.specs.Agreement.{changed, changes_of, is_of, total_of, value_by}
-use Rattle.sim_standard.specs.Histories.{recorded, records_to}
-use Rattle.sim_standard.proofs.Parallel.{FitsCycles, executed_nets, in_turn_is_together, standard_all, standard_fits}
-use Rattle.sim_standard.proofs.Records.{first-recorded}
+use Rattle.sim_standard.specs.Initialization.{first_state}
+use Rattle.sim_standard.specs.Cycle.{updated, cycle_end, next_updated, ended}
+use Rattle.sim_standard.specs.Midway.{updated_in}
+use Rattle.sim_standard.specs.Records.{all_changes, changes_from, records_to, values_of}
+use Rattle.sim_standard.specs.Nets.{net_value}
+use Rattle.sim_standard.specs.Agreement.{changes_of, is_of, total_of, value_by}
+use Rattle.sim_standard.proofs.Names.{changed, nets_updated, numbered_value, own_taken, record_of}
+use Rattle.sim_standard.proofs.Midway.{carried_on}
+use Rattle.sim_standard.proofs.Parallel.{FitsCycles, HasAll, end_nets, ended_all, ended_fits, first_all, updated_all}
+use Rattle.sim_standard.proofs.Records.{one-more-record, records-begun}
 
 -- ---- filters
 
@@ -121,7 +124,6 @@ total-first d n = refl
 -- a net without an event keeps its value
 quiet : (ds : List DriverState) (nets : List Net) (olds : List NetView) (n : ℕ) → length olds ≡ length nets → n < length nets
     → (net_at (nets_updated ds nets olds) n).event ≡ false → (net_at (nets_updated ds nets olds) n).value ≡ (net_at olds n).value
-unfolding nets_updated
 quiet ds [] olds n e lt none = absurd (omega (arith, lt))
 quiet ds (net ∷ nets) [] n e lt none = absurd (omega (arith, e))
 quiet ds (net ∷ nets) (old ∷ olds) zero e lt none = sym (same_from_is_same old.value (net_value ds net) (go (is_same old.value (net_value ds net)) none))
@@ -137,63 +139,59 @@ record Follows (d : Design) (before now : State) : Type 0 where
   nets : now.nets ≡ nets_updated drivers d.nets before.nets
 
 module _ (d : Design) (is : All IsProcess d.processes) where
-  -- if there is a state after one more cycle, there is the state before that cycle
+  -- if there is one more cycle, there is the one before
   record HasBefore (k : ℕ) (now : State) : Type 0 where
     before : State
-    there : standard d k ≡ Some before
+    there : ended d k ≡ Some before
     follows : Follows d before now
 
-  onward-follows : (x now : State) (t : Option ℕ) → onward d x t ≡ Some now → Follows d x now
-  onward-follows x now None e = absurd (cc e)
-  onward-follows x now (Some t) e = record {
-    drivers = all_drivers (map (own_taken t) x.owned);
-    nets = ap (λ (o : Option State). (or_first d o).nets) (sym e);
-  }
-
-  cycle-follows : (k : ℕ) (now : State) (o : Option State) → standard d k ≡ o → cycle_in_turn d k o ≡ Some now → HasBefore k now
+  cycle-follows : (k : ℕ) (now : State) (o : Option State) → ended d k ≡ o → option_map (cycle_end d (suc k)) (next_updated d o) ≡ Some now
+      → HasBefore k now
   cycle-follows k now None at e = absurd (cc e)
-  cycle-follows k now (Some s) at e =
-      let x = executed_in_turn d k s in
-      let counted : length s.owned ≡ length d.processes = subst (λ (o : Option State). all o) at (standard_all d is k) in
-      let same : x.nets ≡ s.nets = ap (λ (y : State). y.nets) (in_turn_is_together d is k s counted) ∙ executed_nets d k s in
-      let f = onward-follows x now (next_cycle_time x) e in
-      record {
-        before = s;
-        there = at;
-        follows = record { drivers = f.drivers; nets = f.nets ∙ ap (nets_updated f.drivers d.nets) same };
-      }
+  cycle-follows k now (Some s) at e = go (next_time (all_drivers s.owned)) e
     where
-      all : Option State → Type 0
-      all None = Unit {0}
-      all (Some y) = length y.owned ≡ length d.processes
+      go : (t : Option ℕ) → option_map (cycle_end d (suc k)) (option_map (updated d s) t) ≡ Some now → HasBefore k now
+      go None f = absurd (cc f)
+      go (Some t) f =
+          let counted : length s.owned ≡ length d.processes = subst (HasAll d) at (ended_all d is k) in
+          let same : (cycle_end d (suc k) (updated d s t)).nets ≡ (updated d s t).nets =
+          end_nets d is (suc k) (updated d s t) (length-map s.owned (own_taken t) ∙ counted) in
+          record {
+            before = s;
+            there = at;
+            follows = record {
+              drivers = all_drivers (map (own_taken t) s.owned);
+              nets = ap (λ (o : Option State). (unwrap_or o s).nets) (sym f) ∙ same;
+            };
+          }
 
-  one-before : (k : ℕ) (now : State) → standard d (suc k) ≡ Some now → HasBefore k now
-  unfolding standard
-  one-before k now e = cycle-follows k now (standard d k) refl e
+  one-before : (k : ℕ) (now : State) → ended d (suc k) ≡ Some now → HasBefore k now
+  unfolding ended
+  one-before k now e = cycle-follows k now (ended d k) refl e
 
-  net-count : (k : ℕ) (s : State) → standard d k ≡ Some s → length s.nets ≡ length d.nets
-  net-count k s e = (subst (FitsCycles d k) e (standard_fits d is k)).0
+  net-count : (k : ℕ) (s : State) → ended d k ≡ Some s → length s.nets ≡ length d.nets
+  net-count k s e = (subst (FitsCycles d k) e (ended_fits d is k)).0
 
-  -- the record of a later cycle
-  later-record : (k : ℕ) (s : State) → standard d (suc k) ≡ Some s → recorded (suc k) (state_of d (suc k)) ≡ recorded (suc k) s
-  later-record k s e = ap (λ (o : Option State). recorded (suc k) (or_first d o)) e
+  -- the nets at the end of the initialization are the first ones
+  first-end : (s : State) → ended d 0 ≡ Some s → (first_state d).nets ≡ s.nets
+  unfolding ended
+  first-end s e = sym (end_nets d is 0 (first_state d) (first_all d)) ∙ ap (λ (o : Option State). (unwrap_or o s).nets) e
 
   -- the value of each net is that of its last change in the records
-  pub records-give-values : (k n : ℕ) (s : State) → standard d k ≡ Some s → n < length d.nets → value_by (records_to d k) n ≡ Some (net_at s.nets n).value
-  unfolding standard records_to
-  records-give-values zero n s e lt =
-      let first : (state_of d 0).nets ≡ s.nets = ap (λ (o : Option State). (or_first d o).nets) e in
+  pub ended-values : (k n : ℕ) (s : State) → ended d k ≡ Some s → n < length d.nets → value_by (records_to d k) n ≡ Some (net_at s.nets n).value
+  unfolding records_to
+  ended-values zero n s e lt =
+      let first = first-end s e in
       let counted = net-count 0 s e in
-      let whole : changes_of (records_to d 0) n ≡ filter (is_of n) (values_of (state_of d 0).nets) =
-      ap (filter (is_of n)) (append-nil (values_of (state_of d 0).nets)) in
+      let whole : changes_of (records_to d 0) n ≡ filter (is_of n) (values_of (first_state d).nets) =
+      ap (filter (is_of n)) (append-nil (values_of (first_state d).nets)) in
       ap (fold changed None) (whole ∙ (ap (λ ns. filter (is_of n) (values_of ns)) first ∙ first-changes s.nets n (omega (arith, lt, counted))))
-  records-give-values (suc k) n s e lt =
+  ended-values (suc k) n s e lt =
       let b = one-before k s e in
       let counted = net-count (suc k) s e in
-      let known : value_by (records_to d k) n ≡ Some (net_at b.before.nets n).value = records-give-values k n b.before b.there lt in
+      let known : value_by (records_to d k) n ≡ Some (net_at b.before.nets n).value = ended-values k n b.before b.there lt in
       let more : value_by (records_to d (suc k)) n ≡ fold changed (value_by (records_to d k) n) (filter (is_of n) (changes_from 0 s.nets)) =
-      value-more (records_to d k) (recorded (suc k) (state_of d (suc k))) n
-      ∙ ap (λ (r : Record). fold changed (value_by (records_to d k) n) (filter (is_of n) r.changes)) (later-record k s e) in
+      ap (λ (rs : List Record). value_by rs n) (one-more-record d k s e) ∙ value-more (records_to d k) (record_of s) n in
       let kept : (net_at s.nets n).event ≡ false → (net_at s.nets n).value ≡ (net_at b.before.nets n).value =
       λ none. still b.before b.follows (net-count k b.before b.there) none in
       more ∙ (ap (λ cs. fold changed (value_by (records_to d k) n) cs) (later-changes s.nets n (omega (arith, lt, counted)))
@@ -214,16 +212,12 @@ module _ (d : Design) (is : All IsProcess d.processes) where
 
   -- ---- how many events a net had
 
-  records-begun : (k : ℕ) → 0 < length (records_to d k)
-  records-begun k = omega (arith, ap length (first-recorded d k))
-
-  pub total-counts : (k n : ℕ) (s : State) → standard d (suc k) ≡ Some s → n < length d.nets
+  pub total-counts : (k n : ℕ) (s : State) → ended d (suc k) ≡ Some s → n < length d.nets
       → total_of (records_to d (suc k)) n ≡ (if (net_at s.nets n).event then suc (total_of (records_to d k) n) else total_of (records_to d k) n)
-  unfolding records_to
   total-counts k n s e lt =
       let counted = net-count (suc k) s e in
-      total-more (records_to d k) (recorded (suc k) (state_of d (suc k))) n (records-begun k)
-      ∙ (ap (λ (r : Record). total_of (records_to d k) n + length (filter (is_of n) r.changes)) (later-record k s e)
+      ap (λ (rs : List Record). total_of rs n) (one-more-record d k s e)
+      ∙ (total-more (records_to d k) (record_of s) n (records-begun d k)
       ∙ (ap (λ cs. total_of (records_to d k) n + length cs) (later-changes s.nets n (omega (arith, lt, counted)))
       ∙ go (net_at s.nets n).event (total_of (records_to d k) n) (net_at s.nets n).value))
     where
@@ -232,14 +226,27 @@ module _ (d : Design) (is : All IsProcess d.processes) where
       go false t v = omega arith
 
   -- there are no more of them than cycles
-  pub total-few : (k n : ℕ) (s : State) → standard d k ≡ Some s → n < length d.nets → total_of (records_to d k) n ≤ k
-  total-few zero n s e lt = let none = total-first d n in omega (arith, none)
-  total-few (suc k) n s e lt =
+  ended-few : (k n : ℕ) (s : State) → ended d k ≡ Some s → n < length d.nets → total_of (records_to d k) n ≤ k
+  ended-few zero n s e lt = let none = total-first d n in omega (arith, none)
+  ended-few (suc k) n s e lt =
       let b = one-before k s e in
-      let before : total_of (records_to d k) n ≤ k = total-few k n b.before b.there lt in
+      let before : total_of (records_to d k) n ≤ k = ended-few k n b.before b.there lt in
       let more = total-counts k n s e lt in
       go (net_at s.nets n).event (total_of (records_to d k) n) (total_of (records_to d (suc k)) n) more before
     where
       go : (b : Bool) (t u : ℕ) → u ≡ (if b then suc t else t) → t ≤ k → u ≤ suc k
       go true t u e le = omega (arith, e, le)
       go false t u e le = omega (arith, e, le)
+
+  -- ---- the same by the state after the update of a cycle
+
+  carried : (k : ℕ) (u : State) → updated_in d k ≡ Some u → ended d k ≡ Some (cycle_end d k u)
+  carried k u e = carried_on d k ∙ ap (option_map (cycle_end d k)) e
+
+  pub records-give-values : (k n : ℕ) (u : State) → updated_in d k ≡ Some u → n < length d.nets → value_by (records_to d k) n ≡ Some (net_at u.nets n).value
+  records-give-values k n u e lt =
+      let counted : length u.owned ≡ length d.processes = subst (HasAll d) e (updated_all d is k) in
+      ended-values k n (cycle_end d k u) (carried k u e) lt ∙ ap (λ (ns : List NetView). Some (net_at ns n).value) (end_nets d is k u counted)
+
+  pub total-few : (k n : ℕ) (u : State) → updated_in d k ≡ Some u → n < length d.nets → total_of (records_to d k) n ≤ k
+  total-few k n u e lt = ended-few k n (cycle_end d k u) (carried k u e) lt

@@ -5,11 +5,12 @@ use Rattle.std.proofs.lemmas.Bool.Decides.{nat_tests}
 use Rattle.std.proofs.lemmas.List.{get_or-map}
 use Rattle.sim_flat_design.specs.Bodies.{objects_of}
 use Rattle.sim_flat_design.specs.Processes.{Process, IsProcess, rising, with_number, nets_of}
-use Rattle.sim_standard.specs.State.{State, Owned, net_at, owned_at, with_owned, no_net}
+use Rattle.sim_standard.specs.State.{State, Owned, net_at, owned_at}
 use Rattle.sim_standard.specs.Statements.{executed}
-use Rattle.sim_standard.specs.Processes.{seen, object_net, names_of, meaning, part, place_in, part_names, owned_after}
+use Rattle.sim_standard.specs.Processes.{seen, object_net, meaning, part, place_in, owned_after}
+use Rattle.sim_standard.proofs.Names.{no_net, with_owned}
 use Rattle.sim_standard.proofs.Alongside.{Each}
-use Rattle.sim_standard.proofs.Owning.{only_owned, owned_after_is}
+use Rattle.sim_standard.proofs.Owning.{part_net, only_owned, owned_after_is}
 use Rattle.sim_standard.proofs.Seeing.{Alike, executed_same}
 
 -- a number is at its place
@@ -94,21 +95,21 @@ all_placed (n ∷ ns) = (placed n (rising ns), each_still n (rising ns) ns (all_
 
 module _ (p : Process) (number : ℕ) (s : State) where
   seen_alike : (objects : List ℕ) → Each (IsPlaced p.reads) (nets_of p.nets objects)
-      → Each (Alike (seen (names_of p number) s) (seen (part_names p) (part p number s))) objects
+      → Each (Alike (seen (object_net p) s) (seen (part_net p) (part p number s))) objects
   seen_alike [] h = tt
   seen_alike (k ∷ ks) h =
       (sym (get_or-map (net_at s.nets) p.reads (place_in p.reads (object_net p k)) 0 no_net h.0.0 ∙ ap (net_at s.nets) h.0.1), seen_alike ks h.1)
 
   -- so it leaves the same
-  pub same_owned_after : IsProcess p → executed (seen (names_of p number) s) s.time p.body.statements (owned_at s.owned number)
+  pub same_owned_after : IsProcess p → executed (seen (object_net p) s) s.time p.body.statements (owned_at s.owned number)
       ≡ owned_after p (part p number s)
   same_owned_after is =
       let objects = objects_of p.body.statements in
       let places = subst (λ (xs : List ℕ). Each (IsPlaced xs) (nets_of p.nets objects)) (sym is.reads) (all_placed (nets_of p.nets objects)) in
-      executed_same (seen (names_of p number) s) (seen (part_names p) (part p number s)) s.time p.body.statements (owned_at s.owned number)
+      executed_same (seen (object_net p) s) (seen (part_net p) (part p number s)) s.time p.body.statements (owned_at s.owned number)
       (seen_alike objects places)
       ∙ sym (owned_after_is p (part p number s) (omega arith))
 
   pub the_frame : IsProcess p → number < length s.owned → meaning p number s ≡ with_owned number (owned_after p (part p number s)) s
   unfolding meaning
-  the_frame is h = only_owned (names_of p number) s h p.body.statements ∙ ap (λ (o : Owned). with_owned number o s) (same_owned_after is)
+  the_frame is h = only_owned (object_net p) number s h p.body.statements ∙ ap (λ (o : Owned). with_owned number o s) (same_owned_after is)

@@ -1,3 +1,5 @@
+pub mod Names
+pub mod Numbers
 pub mod Alongside
 pub mod Owning
 pub mod Frame
@@ -9,8 +11,8 @@ pub mod Parallel
 pub mod Records
 pub mod Selecting
 pub mod Together
-pub mod Weaves
+pub mod Interleavings
 pub mod Keeping
 pub mod Least
-pub mod Ends
+pub mod Midway
 pub mod WithoutPostponed

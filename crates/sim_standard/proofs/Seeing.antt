@@ -25,7 +25,8 @@ use Rattle.sim_standard.specs.declared.net_view.NetView.{NetView}
 use Rattle.sim_standard.specs.State.{Owned, driver_at}
 use Rattle.sim_standard.specs.Expressions.{logic_operation, boolean_operation, relation, condition, is_same_boolean, has_edge, logic_value_rule, logic_value}
 use Rattle.sim_standard.specs.Expressions.{boolean_value_rule, boolean_value, element_values, taken_waveform}
-use Rattle.sim_standard.specs.Statements.{own_steps, assigned, waveform_assigned, executed}
+use Rattle.sim_standard.specs.Statements.{own_steps, assigned, executed}
+use Rattle.sim_standard.proofs.Names.{waveform_assigned}
 use Rattle.sim_standard.proofs.Alongside.{Keeps, Each, each_left, each_right, all_go}
 
 module _ (f g : ℕ → NetView) where

@@ -10,12 +10,16 @@ use Rattle.sim_flat_design.specs.declared.statement.Statement.TheOpen as s
 use Rattle.sim_flat_design.specs.declared.statement.Statement.TheViews as views
 use Rattle.sim_flat_design.specs.declared.statement.Statement.TheFolds as folds
 use Rattle.sim_standard.specs.declared.net_view.NetView.{NetView}
-use Rattle.sim_standard.specs.State.{State, Owned}
+use Rattle.sim_standard.specs.State.{State, Owned, owned_at}
 use Rattle.sim_standard.specs.Expressions.{boolean_value, taken_waveform}
 use Rattle.sim_standard.specs.Statements.{Steps, Guarded, in_turn, if_taken, statement_rule, branch_rule, statement_done, branch_done, carried_out, own_steps}
-use Rattle.sim_standard.specs.Processes.{Names, seen, owned_of, state_steps}
+use Rattle.sim_standard.specs.Processes.{seen, state_steps}
 use Rattle.sim_standard.proofs.Rules.{signal_done, branch_is}
-use Rattle.sim_standard.specs.Weaving.{taken_statements, unconditional, selected_assignment, selected_rule, selected}
+use Rattle.sim_standard.specs.Interleaving.{taken_statements, selected_assignment, selected_rule, selected}
+
+-- the assignment without a condition that a conditional one selects
+abbrev pub unconditional : (ℕ → NetView) → List Held → SignalAssignment → SignalAssignment
+unconditional look variables a = record a { conditional = []; otherwise = taken_waveform look variables a.conditional a.otherwise }
 
 -- statements, and then others
 pub carried-append : {S : Type 0} (steps : Steps S) (xs ys : List Statement) (x : S) → carried_out steps (xs ++ ys) x
@@ -33,9 +37,9 @@ pub own_sees : (look : ℕ → NetView) (now : ℕ) (own : Owned) → Sees (own_
 unfolding taken_waveform
 own_sees look now own = record { holds = λ c. refl; signal = λ a. refl }
 
-pub state_sees : (n : Names) (s : State) → Sees (state_steps n) s (seen n s) (owned_of n s).variables
+pub state_sees : (net : ℕ → ℕ) (process : ℕ) (s : State) → Sees (state_steps net process) s (seen net s) (owned_at s.owned process).variables
 unfolding taken_waveform
-state_sees n s = record { holds = λ c. refl; signal = λ a. refl }
+state_sees net process s = record { holds = λ c. refl; signal = λ a. refl }
 
 abbrev the_statements : Option (List Statement) → List Statement
 the_statements None = []

@@ -1,14 +1,15 @@
 -- Processes executed one after another leave what they leave together: each keeps to its part, and those before it leave its part as it was.
 use Rattle.std.proofs.Common.{ℕ, zero, suc, ◌+◌, ◌<◌, ◌≤◌, ◌≡◌, ◌≢◌, ◌==◌, ◌||◌, eqb, Bool, true, false, if◌then◌else◌, List, [], ◌∷◌}
 use Rattle.std.proofs.Common.{length, set, map, refl, ap, sym, ◌∙◌, arith}
-use Rattle.std.specs.List.{All}
+use Rattle.std.specs.List.{All, AllByRecursion}
 use Rattle.std.proofs.lemmas.Bool.Decides.{nat_tests}
-use Rattle.std.proofs.lemmas.List.Elements.{All-get_or}
+use Rattle.std.proofs.lemmas.List.Elements.{All-get_or, recursion_from_All}
 use Rattle.sim_flat_design.specs.Processes.{Process, IsProcess}
-use Rattle.sim_standard.specs.State.{State, Owned, owned_at, with_owned, net_at}
-use Rattle.sim_standard.specs.Processes.{meaning, part, owned_after, no_process, process_at}
+use Rattle.sim_standard.specs.State.{State, Owned, owned_at, net_at}
+use Rattle.sim_standard.specs.Processes.{meaning, part, owned_after, process_at}
+use Rattle.sim_standard.proofs.Names.{no_process, with_owned}
 use Rattle.sim_standard.proofs.Frame.{the_frame}
-use Rattle.sim_standard.specs.Orders.{is_among, one_by_one, NoRepeats, AllBelow}
+use Rattle.sim_standard.specs.Orders.{is_among, one_by_one, NoRepeats}
 use Rattle.sim_standard.specs.Together.{merged, together}
 
 -- a set and one more process
@@ -114,7 +115,7 @@ out-also f p (q ∷ order) absent out =
     (rw turned out.0, out-also f p order rest out.1)
 
 module _ (ps : List Process) (s : State) (all : (p : ℕ) → p < length s.owned → IsProcess (process_at ps p)) where
-  from_set : (order : List ℕ) (f : ℕ → Bool) → NoRepeats order → AllBelow (length s.owned) order → AllOut f order
+  from_set : (order : List ℕ) (f : ℕ → Bool) → NoRepeats order → AllByRecursion (λ (p : ℕ). p < length s.owned) order → AllOut f order
       → one_by_one ps order (together ps f s) ≡ together ps (with_list order f) s
   unfolding one_by_one
   from_set [] f once below out = refl
@@ -133,11 +134,11 @@ or-false false = refl
 
 -- in any order, each once
 pub in_any_order : (ps : List Process) (order : List ℕ) (s : State) → All IsProcess ps → length s.owned ≡ length ps → NoRepeats order
-    → AllBelow (length s.owned) order → one_by_one ps order s ≡ together ps (is_among order) s
+    → All (λ (p : ℕ). p < length s.owned) order → one_by_one ps order s ≡ together ps (is_among order) s
 in_any_order ps order s is len once below =
     let none : s ≡ together ps (λ q. false) s =
     ap (λ (os : List Owned). record s { owned = os }) (sym (merged-none (λ q. false) (results ps s) 0 s.owned (λ k. refl))) in
     let all : (p : ℕ) → p < length s.owned → IsProcess (process_at ps p) = λ p h. All-get_or IsProcess ps p no_process (omega (arith, h, len)) is in
     ap (one_by_one ps order) none
-    ∙ (from_set ps s all order (λ q. false) once below (none_out order)
+    ∙ (from_set ps s all order (λ q. false) once (recursion_from_All (λ (p : ℕ). p < length s.owned) order below) (none_out order)
     ∙ together-same ps s (with_list order (λ q. false)) (is_among order) (λ k. or-false (is_among order k)))

@@ -8,9 +8,10 @@ use Rattle.sim_flat_design.specs.declared.statement.Statement.{Statement}
 use Rattle.sim_flat_design.specs.Bodies.{objects_of}
 use Rattle.sim_standard.specs.Drivers.{DriverState}
 use Rattle.sim_standard.specs.declared.net_view.NetView.{NetView}
-use Rattle.sim_standard.specs.State.{Owned, driver_at, driver_values, no_driver}
+use Rattle.sim_standard.specs.State.{Owned, driver_at, driver_values}
 use Rattle.sim_standard.specs.Expressions.{boolean_value, taken_waveform}
-use Rattle.sim_standard.specs.Statements.{own_steps, waveform_assigned, executed}
+use Rattle.sim_standard.specs.Statements.{own_steps, executed}
+use Rattle.sim_standard.proofs.Names.{no_driver, waveform_assigned}
 use Rattle.sim_standard.proofs.Alongside.{Keeps, each_of_all, all_go}
 
 -- a driver is replaced by one with its value

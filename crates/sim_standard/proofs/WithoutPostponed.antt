@@ -1,5 +1,5 @@
 -- A cycle of a design without postponed processes executes what it resumes, and nothing else.
-use Rattle.std.proofs.Common.{ℕ, zero, suc, ◌≡◌, ◌<◌, ◌≤◌, ◌&&◌, ◌||◌, not, nat_lt, Bool, true, false, if◌then◌else◌, List, [], ◌∷◌, length}
+use Rattle.std.proofs.Common.{ℕ, ◌≡◌, ◌<◌, ◌≤◌, ◌&&◌, ◌||◌, not, nat_lt, Bool, true, false, if◌then◌else◌, List, [], length}
 use Rattle.std.proofs.Common.{refl, ap, sym, ◌∙◌, arith}
 use Rattle.std.proofs.lemmas.Bool.Decides.{nat_tests}
 use Rattle.std.proofs.lemmas.List.{get_or_past}
@@ -8,21 +8,18 @@ use Rattle.std.proofs.lemmas.List.Elements.{All-get_or}
 use Rattle.sim_flat_design.specs.Designs.{Design}
 use Rattle.sim_flat_design.specs.Processes.{Process, IsProcess}
 use Rattle.sim_standard.specs.State.{State}
-use Rattle.sim_standard.specs.Processes.{no_process, process_at}
+use Rattle.sim_standard.specs.Processes.{process_at}
 use Rattle.sim_standard.specs.Orders.{is_among, one_by_one}
-use Rattle.sim_standard.specs.Cycle.{is_at_once, is_postponed, is_resumed, is_waiting, executed_in_turn, first_in_turn, precedes_delta, those, with_waiting}
+use Rattle.sim_standard.specs.Cycle.{is_at_once, is_resumed, is_waiting, cycle_end, first_executed, is_delta_next, processes_where}
+use Rattle.sim_standard.proofs.Names.{is_postponed, no_process, with_waiting}
+use Rattle.sim_standard.proofs.Numbers.{counted-none, counted-same, ranged}
 use Rattle.sim_standard.proofs.Parallel.{first_is_together}
 
-those-same : (f g : ℕ → Bool) (i n : ℕ) → ((p : ℕ) → f p ≡ g p) → those f i n ≡ those g i n
-unfolding those
-those-same f g i zero same = refl
-those-same f g i (suc n) same =
-    rw (same i) (ap (λ (ps : List ℕ). if g i then i ∷ ps else ps) (those-same f g (suc i) n same))
-
-pub those-none : (f : ℕ → Bool) (i n : ℕ) → ((p : ℕ) → f p ≡ false) → those f i n ≡ []
-unfolding those
-those-none f i zero none = refl
-those-none f i (suc n) none = rw (none i) (those-none f (suc i) n none)
+-- tests that agree on each number
+where-same : (d : Design) (f g : ℕ → Bool) → ((p : ℕ) → f p ≡ g p) → processes_where d f ≡ processes_where d g
+where-same d f g same =
+    let n = length d.processes in
+    ranged f 0 n ∙ (counted-same f g 0 n (λ p ge lt. same p) ∙ sym (ranged g 0 n))
 
 not_one : (ps : List Process) (p : ℕ) → All (λ (q : Process). q.postponed ≡ false) ps → (process_at ps p).postponed ≡ false
 not_one ps p none = go (nat_lt p (length ps)) refl
@@ -40,19 +37,20 @@ none_and a b e = rw e refl
 
 module _ (d : Design) (is : All IsProcess d.processes) (none : All (λ (q : Process). q.postponed ≡ false) d.processes) where
   pub without_postponed : (k : ℕ) (s : State) → length s.owned ≡ length d.processes → s.waiting ≡ []
-      → executed_in_turn d k s ≡ one_by_one d.processes (those (is_resumed d k s) 0 (length d.processes)) s
+      → cycle_end d k s ≡ one_by_one d.processes (processes_where d (is_resumed d k s)) s
   unfolding one_by_one
   without_postponed k s len nobody =
       let n = length d.processes in
-      let nobody_now : those (is_waiting d k s) 0 n ≡ [] =
-      those-none (is_waiting d k s) 0 n (λ p. none_and (is_postponed d p) (is_resumed d k s p || is_among s.waiting p) (not_one d.processes p none)) in
-      let x = first_in_turn d k s in
+      let nobody_now : processes_where d (is_waiting d k s) ≡ [] =
+      ranged (is_waiting d k s) 0 n
+      ∙ counted-none (is_waiting d k s) 0 n (λ p. none_and (is_postponed d p) (is_resumed d k s p || is_among s.waiting p) (not_one d.processes p none)) in
+      let x = first_executed d k s in
       let still : x.waiting ≡ [] = ap (λ (y : State). y.waiting) (first_is_together d is k s len) ∙ nobody in
-      let all : x ≡ one_by_one d.processes (those (is_resumed d k s) 0 n) s =
+      let all : x ≡ one_by_one d.processes (processes_where d (is_resumed d k s)) s =
       ap (λ (ps : List ℕ). one_by_one d.processes ps s)
-      (those-same (is_at_once d k s) (is_resumed d k s) 0 n (λ p. and_not (is_resumed d k s p) (is_postponed d p) (not_one d.processes p none))) in
-      ap (λ (ps : List ℕ). if precedes_delta k x then with_waiting ps x else with_waiting [] (one_by_one d.processes ps x)) nobody_now
-      ∙ (go (precedes_delta k x) x still ∙ all)
+      (where-same d (is_at_once d k s) (is_resumed d k s) (λ p. and_not (is_resumed d k s p) (is_postponed d p) (not_one d.processes p none))) in
+      ap (λ (ps : List ℕ). if is_delta_next k x then with_waiting ps x else with_waiting [] (one_by_one d.processes ps x)) nobody_now
+      ∙ (go (is_delta_next k x) x still ∙ all)
     where
       go : (b : Bool) (y : State) → y.waiting ≡ [] → (if b then with_waiting [] y else with_waiting [] (one_by_one d.processes [] y)) ≡ y
       go true y e = ap (λ (ps : List ℕ). with_waiting ps y) (sym e)

@@ -86,8 +86,8 @@ module _ (look : ℕ → NetView) (now : ℕ) where
     holds = λ condition own. boolean_value look own.variables condition;
     signal = λ a own. option_map_or
         (λ (elements : List Element).
-            let driver = assigned now a.delay (element_values look own.variables elements) (driver_at own.drivers a.driver) in
-            record own { drivers = slice_set own.drivers a.driver driver })
+        let driver = assigned now a.delay (element_values look own.variables elements) (driver_at own.drivers a.driver) in
+        record own { drivers = slice_set own.drivers a.driver driver })
         (taken_waveform look own.variables a.conditional a.otherwise) own;
     logic_variable = λ place value own. record own { variables = slice_set own.variables place (held.Bit (logic_value look own.variables value)) };
     boolean_variable = λ place value own. record own { variables = slice_set own.variables place (held.Truth (boolean_value look own.variables value)) };

@@ -1,5 +1,6 @@
 use Rattle.std.proofs.Common.{◌+◌, ◌-◌}
-use Rattle.sim_standard.specs.Editing.{before, scheduled}
+use Rattle.sim_standard.specs.Editing.{before}
+use Rattle.sim_standard.proofs.Names.{scheduled}
 use Rattle.sim_standard.proofs.Least.{marked-at_places}
 use Rattle.sim_standard.proofs.editing.an_inertial_edit_leaves_the_marked_transactions.Goals as goal
 

@@ -15,17 +15,18 @@ use Rattle.sim_flat_design.specs.declared.statement.Statement.TheViews as views
 use Rattle.sim_flat_design.specs.declared.statement.Statement.TheFolds as folds
 use Rattle.sim_flat_design.specs.Processes.{Process, IsProcess}
 use Rattle.sim_standard.specs.declared.net_view.NetView.{NetView}
-use Rattle.sim_standard.specs.State.{State, Owned, owned_at, with_owned}
+use Rattle.sim_standard.specs.State.{State, Owned, owned_at}
 use Rattle.sim_standard.specs.Statements.{Steps, Guarded, in_turn, statement_rule, branch_rule, statement_done, branch_done, carried_out, own_steps, executed}
-use Rattle.sim_standard.specs.Processes.{Names, names_of, seen, owned_of, state_steps, part, owned_after, no_process, process_at}
+use Rattle.sim_standard.specs.Processes.{object_net, seen, state_steps, part, owned_after, process_at}
+use Rattle.sim_standard.proofs.Names.{no_process, with_owned}
 use Rattle.sim_standard.proofs.Owning.{with-itself}
 use Rattle.sim_standard.proofs.Frame.{same_owned_after}
 use Rattle.sim_standard.specs.Together.{merged, together}
 use Rattle.sim_standard.specs.Expressions.{boolean_value}
 use Rattle.sim_flat_design.specs.declared.held.Held.{Held}
-use Rattle.sim_standard.specs.Weaving.{taken_statements, unconditional, selected_assignment, selected_rule, selected_in, to_do, Woven, Over}
-use Rattle.sim_standard.specs.Weaving.{Carries_out, Selects, bodies}
-use Rattle.sim_standard.proofs.Selecting.{carried-append, own_sees, state_sees, selected_leaves}
+use Rattle.sim_standard.specs.Interleaving.{taken_statements, selected_assignment, selected_rule, selected_in, to_do, Interleaved, Over}
+use Rattle.sim_standard.specs.Interleaving.{Carries_out, Selects, bodies}
+use Rattle.sim_standard.proofs.Selecting.{unconditional, carried-append, own_sees, state_sees, selected_leaves}
 
 -- ---- what each process owns once it has done what it has to do
 
@@ -34,7 +35,7 @@ finishing looks now b i [] = []
 finishing looks now b i (o ∷ os) = executed (looks i) now (b i) o ∷ finishing looks now b (suc i) os
 
 abbrev pub looks_of : List Process → State → ℕ → ℕ → NetView
-looks_of ps s p = seen (names_of (process_at ps p) p) s
+looks_of ps s p = seen (object_net (process_at ps p)) s
 
 abbrev pub finished : List Process → (ℕ → List Statement) → State → State
 finished ps b s = record s { owned = finishing (looks_of ps s) s.time b 0 s.owned }
@@ -104,58 +105,62 @@ onward ps s todo p rest own lt step =
 
 -- ---- a statement that is carried out at once
 
-module _ (n : Names) (s : State) where
-  at_once_rule : (z : so.Statement-F Statement Branch) → selected_rule (seen n s) (owned_of n s).variables z ≡ None
-      → statement_rule (state_steps n) (folds.map-Statement _ _ _ _ (statement_done (state_steps n)) (branch_done (state_steps n)) z) s
-      ≡ with_owned n.process (statement_rule (own_steps (seen n s) s.time)
-      (folds.map-Statement _ _ _ _ (statement_done (own_steps (seen n s) s.time)) (branch_done (own_steps (seen n s) s.time)) z) (owned_of n s)) s
+module _ (q : Process) (p : ℕ) (s : State) where
+  abbrev on_state : Steps State
+  on_state = state_steps (object_net q) p
+
+  abbrev on_own : Steps Owned
+  on_own = own_steps (seen (object_net q) s) s.time
+
+  at_once_rule : (z : so.Statement-F Statement Branch) → selected_rule (seen (object_net q) s) (owned_at s.owned p).variables z ≡ None
+      → statement_rule on_state (folds.map-Statement _ _ _ _ (statement_done on_state) (branch_done on_state) z) s
+      ≡ with_owned p (statement_rule on_own (folds.map-Statement _ _ _ _ (statement_done on_own) (branch_done on_own) z) (owned_at s.owned p)) s
   at_once_rule (so.Signal a) e = refl
   at_once_rule (so.LogicVariable place value) e = refl
   at_once_rule (so.BooleanVariable place value) e = refl
   at_once_rule (so.If bs os) e = absurd cc
-  at_once_rule so.Null e = with-itself n.process s
+  at_once_rule so.Null e = with-itself p s
 
   -- it changes what its process owns just as it does by itself
-  at_once : (x : Statement) → selected_in n s x ≡ None
-      → statement_done (state_steps n) x s ≡ with_owned n.process (statement_done (own_steps (seen n s) s.time) x (owned_of n s)) s
+  at_once : (x : Statement) → selected_in q p s x ≡ None
+      → statement_done (state_steps (object_net q) p) x s ≡ with_owned p (statement_done (own_steps (seen (object_net q) s) s.time) x (owned_at s.owned p)) s
   unfolding statement_done branch_done
   at_once x e =
-      let whole = folds.fold_out-Statement (State → State) (Guarded State) (statement_rule (state_steps n)) (branch_rule (state_steps n)) x in
-      let own = folds.fold_out-Statement (Owned → Owned) (Guarded Owned) (statement_rule (own_steps (seen n s) s.time))
-      (branch_rule (own_steps (seen n s) s.time)) x in
+      let whole = folds.fold_out-Statement (State → State) (Guarded State) (statement_rule on_state) (branch_rule on_state) x in
+      let own = folds.fold_out-Statement (Owned → Owned) (Guarded Owned) (statement_rule on_own) (branch_rule on_own) x in
       ap (λ (f : State → State). f s) whole
       ∙ (at_once_rule (views.out-Statement x) e
-      ∙ ap (λ (f : Owned → Owned). with_owned n.process (f (owned_of n s)) s) (sym own))
+      ∙ ap (λ (f : Owned → Owned). with_owned p (f (owned_at s.owned p)) s) (sym own))
 
--- ---- each weaving ends so
+-- ---- each interleaving ends so
 
-pub woven-finished : (ps : List Process) (s t : State) (todo : List (List Statement)) → Woven ps s todo t → t ≡ finished ps (to_do todo) s
+pub interleaved-finished : (ps : List Process) (s t : State) (todo : List (List Statement)) → Interleaved ps s todo t → t ≡ finished ps (to_do todo) s
 unfolding executed in_turn
-woven-finished ps s t todo (Over s' todo' none) =
+interleaved-finished ps s t todo (Over s' todo' none) =
     sym (ap (λ (w : List Owned). record s' { owned = w }) (finishing-none (looks_of ps s') s'.time (to_do todo') 0 s'.owned none))
-woven-finished ps s t todo (Carries_out s' t' todo' p x rest is at w) =
-    let n : Names = names_of (process_at ps p) p in
-    let own : Owned = statement_done (own_steps (seen n s') s'.time) x (owned_of n s') in
+interleaved-finished ps s t todo (Carries_out s' t' todo' p x rest is at w) =
+    let q : Process = process_at ps p in
+    let own : Owned = statement_done (own_steps (seen (object_net q) s') s'.time) x (owned_at s'.owned p) in
     let step : executed (looks_of ps s' p) s'.time rest own ≡ executed (looks_of ps s' p) s'.time (to_do todo' p) (owned_at s'.owned p) =
     ap (λ (y : List Statement). executed (looks_of ps s' p) s'.time y (owned_at s'.owned p)) (sym is) in
-    woven-finished ps (statement_done (state_steps n) x s') t' (set todo' p rest) w
-    ∙ (ap (finished ps (to_do (set todo' p rest))) (at_once n s' x at)
+    interleaved-finished ps (statement_done (state_steps (object_net q) p) x s') t' (set todo' p rest) w
+    ∙ (ap (finished ps (to_do (set todo' p rest))) (at_once q p s' x at)
     ∙ onward ps s' todo' p rest own (something todo' p x rest is) step)
-woven-finished ps s t todo (Selects s' t' todo' p x rest chosen is at w) =
-    let n : Names = names_of (process_at ps p) p in
-    let own : Owned = owned_of n s' in
-    let steps = own_steps (seen n s') s'.time in
+interleaved-finished ps s t todo (Selects s' t' todo' p x rest chosen is at w) =
+    let q : Process = process_at ps p in
+    let own : Owned = owned_at s'.owned p in
+    let steps = own_steps (seen (object_net q) s') s'.time in
     let left : statement_done steps x own ≡ carried_out steps chosen own =
-    selected_leaves steps own (seen n s') own.variables (own_sees (seen n s') s'.time own) x chosen at in
+    selected_leaves steps own (seen (object_net q) s') own.variables (own_sees (seen (object_net q) s') s'.time own) x chosen at in
     let step : executed (looks_of ps s' p) s'.time (chosen ++ rest) own ≡ executed (looks_of ps s' p) s'.time (to_do todo' p) own =
     carried-append steps chosen rest own
     ∙ (ap (carried_out steps rest) (sym left)
     ∙ ap (λ (y : List Statement). executed (looks_of ps s' p) s'.time y own) (sym is)) in
-    woven-finished ps s' t' (set todo' p (chosen ++ rest)) w
+    interleaved-finished ps s' t' (set todo' p (chosen ++ rest)) w
     ∙ (ap (finished ps (to_do (set todo' p (chosen ++ rest)))) (with-itself p s')
     ∙ onward ps s' todo' p (chosen ++ rest) own (something todo' p x rest is) step)
 
--- ---- together is the end of a weaving
+-- ---- together is the end of an interleaving
 
 module _ (ps : List Process) (f : ℕ → Bool) (s : State) (all : (p : ℕ) → p < length s.owned → IsProcess (process_at ps p)) where
   to_do-bodies : (i : ℕ) (qs : List Process) (k n : ℕ) → n ≡ i + k → to_do (bodies f i qs) k ≡ (if f n then (process_at qs k).body.statements else [])
@@ -193,24 +198,24 @@ module _ (ps : List Process) (f : ℕ → Bool) (s : State) (all : (p : ℕ) →
       let b = finishing-merged 0 s.owned (λ k h. ap (owned_at s.owned) (omega arith)) (omega arith) in
       ap (λ (w : List Owned). record s { owned = w }) (a ∙ b)
 
--- ---- there is a weaving: one process after another
+-- ---- there is an interleaving: one process after another
 
 module _ (ps : List Process) (p : ℕ) (t : State) where
-  abbrev names : Names
-  names = names_of (process_at ps p) p
+  abbrev net : ℕ → ℕ
+  net = object_net (process_at ps p)
 
   abbrev steps : Steps State
-  steps = state_steps names
+  steps = state_steps net p
 
   -- a statement goes first, and then what else its process has to do
   abbrev GoesFirst : Statement → Type 0
   GoesFirst x = (rest : List Statement) (s : State) (todo : List (List Statement)) → p < length todo
-      → Woven ps (statement_done steps x s) (set todo p rest) t → Woven ps s (set todo p (x ∷ rest)) t
+      → Interleaved ps (statement_done steps x s) (set todo p rest) t → Interleaved ps s (set todo p (x ∷ rest)) t
 
   -- and so do statements
   abbrev AllGoFirst : List Statement → Type 0
   AllGoFirst xs = (rest : List Statement) (s : State) (todo : List (List Statement)) → p < length todo
-      → Woven ps (carried_out steps xs s) (set todo p rest) t → Woven ps s (set todo p (xs ++ rest)) t
+      → Interleaved ps (carried_out steps xs s) (set todo p rest) t → Interleaved ps s (set todo p (xs ++ rest)) t
 
   -- the statements of a branch
   abbrev BranchGoesFirst : Branch → Type 0
@@ -229,21 +234,22 @@ module _ (ps : List Process) (p : ℕ) (t : State) where
       q.1 (map (λ (r : Part). r.0) qs ++ rest) s todo lt (parts_go qs rest (statement_done steps q.0 s) todo lt w)
 
   -- what is carried out at once
-  carries : (x : Statement) (rest : List Statement) (s : State) (todo : List (List Statement)) → p < length todo → selected_in names s x ≡ None
-      → Woven ps (statement_done steps x s) (set todo p rest) t → Woven ps s (set todo p (x ∷ rest)) t
+  carries : (x : Statement) (rest : List Statement) (s : State) (todo : List (List Statement)) → p < length todo → selected_in (process_at ps p) p s x ≡ None
+      → Interleaved ps (statement_done steps x s) (set todo p rest) t → Interleaved ps s (set todo p (x ∷ rest)) t
   carries x rest s todo lt at w =
       Carries_out s t (set todo p (x ∷ rest)) p x rest (own-todo todo p (x ∷ rest) lt) at
-      (subst (λ (l : List (List Statement)). Woven ps (statement_done steps x s) l t) (sym (set-set todo p (x ∷ rest) rest)) w)
+      (subst (λ (l : List (List Statement)). Interleaved ps (statement_done steps x s) l t) (sym (set-set todo p (x ∷ rest) rest)) w)
 
   -- what selects others that go first
-  selects : (x : Statement) (chosen rest : List Statement) (s : State) (todo : List (List Statement)) → p < length todo → selected_in names s x ≡ Some chosen
-      → AllGoFirst chosen → Woven ps (statement_done steps x s) (set todo p rest) t → Woven ps s (set todo p (x ∷ rest)) t
+  selects : (x : Statement) (chosen rest : List Statement) (s : State) (todo : List (List Statement)) → p < length todo
+      → selected_in (process_at ps p) p s x ≡ Some chosen
+      → AllGoFirst chosen → Interleaved ps (statement_done steps x s) (set todo p rest) t → Interleaved ps s (set todo p (x ∷ rest)) t
   selects x chosen rest s todo lt at go w =
       let same : statement_done steps x s ≡ carried_out steps chosen s =
-      selected_leaves steps s (seen names s) (owned_of names s).variables (state_sees names s) x chosen at in
-      let then_ = go rest s todo lt (subst (λ (u : State). Woven ps u (set todo p rest) t) same w) in
+      selected_leaves steps s (seen net s) (owned_at s.owned p).variables (state_sees net p s) x chosen at in
+      let then_ = go rest s todo lt (subst (λ (u : State). Interleaved ps u (set todo p rest) t) same w) in
       Selects s t (set todo p (x ∷ rest)) p x rest chosen (own-todo todo p (x ∷ rest) lt) at
-      (subst (λ (l : List (List Statement)). Woven ps s l t) (sym (set-set todo p (x ∷ rest) (chosen ++ rest))) then_)
+      (subst (λ (l : List (List Statement)). Interleaved ps s l t) (sym (set-set todo p (x ∷ rest) (chosen ++ rest))) then_)
 
   -- the statements of the branch that is taken go first
   taken_go : (s : State) (look : ℕ → NetView) (variables : List Held) (qs : List BranchPart) (os : List Statement) → AllGoFirst os
@@ -259,20 +265,20 @@ module _ (ps : List Process) (p : ℕ) (t : State) where
       go false rest = rest
 
   -- what a statement selects, by its outermost part
-  rolled : (z : so.Statement-F Statement Branch) (s : State) → selected_in names s (views.roll-Statement z)
-      ≡ selected_rule (seen names s) (owned_of names s).variables z
-  rolled z s = ap (selected_rule (seen names s) (owned_of names s).variables) (views.out-roll-Statement z)
+  rolled : (z : so.Statement-F Statement Branch) (s : State) → selected_in (process_at ps p) p s (views.roll-Statement z)
+      ≡ selected_rule (seen net s) (owned_at s.owned p).variables z
+  rolled z s = ap (selected_rule (seen net s) (owned_at s.owned p).variables) (views.out-roll-Statement z)
 
   signal_goes : (a : SignalAssignment) (cs : List ConditionalWaveform) → a.conditional ≡ cs → GoesFirst (views.roll-Statement (so.Signal a))
   unfolding in_turn
   signal_goes a [] none rest s todo lt w =
       carries (views.roll-Statement (so.Signal a)) rest s todo lt
-      (rolled (so.Signal a) s ∙ ap (selected_assignment (seen names s) (owned_of names s).variables a) none) w
+      (rolled (so.Signal a) s ∙ ap (selected_assignment (seen net s) (owned_at s.owned p).variables a) none) w
   signal_goes a (c ∷ cs) some rest s todo lt w =
-      let b : SignalAssignment = unconditional (seen names s) (owned_of names s).variables a in
+      let b : SignalAssignment = unconditional (seen net s) (owned_at s.owned p).variables a in
       selects (views.roll-Statement (so.Signal a)) (views.roll-Statement (so.Signal b) ∷ []) rest s todo lt
       (rolled (so.Signal a) s
-      ∙ (ap (selected_assignment (seen names s) (owned_of names s).variables a) some
+      ∙ (ap (selected_assignment (seen net s) (owned_at s.owned p).variables a) some
       ∙ ap (λ (y : Statement). Some (y ∷ [])) (sym (statement.rolls-Signal b))))
       (λ rest' s' todo' lt' w'. carries (views.roll-Statement (so.Signal b)) rest' s' todo' lt' (rolled (so.Signal b) s') w') w
 
@@ -284,8 +290,8 @@ module _ (ps : List Process) (p : ℕ) (t : State) where
   parts (so.If bs xs) = λ rest s todo lt w.
       let branches : List Branch = map (λ (q : BranchPart). q.0) bs in
       let last : List Statement = map (λ (q : Part). q.0) xs in
-      selects (views.roll-Statement (so.If branches last)) (taken_statements (seen names s) (owned_of names s).variables branches last) rest s todo lt
-      (rolled (so.If branches last) s) (taken_go s (seen names s) (owned_of names s).variables bs last (parts_go xs)) w
+      selects (views.roll-Statement (so.If branches last)) (taken_statements (seen net s) (owned_at s.owned p).variables branches last) rest s todo lt
+      (rolled (so.If branches last) s) (taken_go s (seen net s) (owned_at s.owned p).variables bs last (parts_go xs)) w
   parts so.Null = λ rest s todo lt w. carries (views.roll-Statement so.Null) rest s todo lt (rolled so.Null s) w
 
   branch_parts : (y : so.Branch-F Part BranchPart)
@@ -303,15 +309,15 @@ module _ (ps : List Process) (p : ℕ) (t : State) where
   all_go_first (x ∷ xs) rest s todo lt w = goes_first x (xs ++ rest) s todo lt (all_go_first xs rest (statement_done steps x s) todo lt w)
 
 -- there is an order of steps to the end: one process after another, the last first
-some_weaving : (ps : List Process) (m : ℕ) (s : State) (todo : List (List Statement)) → m ≤ length todo → ((p : ℕ) → m ≤ p → to_do todo p ≡ [])
-    → (t : State) × Woven ps s todo t
-some_weaving ps zero s todo le none = (s, Over s todo (λ p. none p (omega arith)))
-some_weaving ps (suc m) s todo le none =
+some_interleaving : (ps : List Process) (m : ℕ) (s : State) (todo : List (List Statement)) → m ≤ length todo → ((p : ℕ) → m ≤ p → to_do todo p ≡ [])
+    → (t : State) × Interleaved ps s todo t
+some_interleaving ps zero s todo le none = (s, Over s todo (λ p. none p (omega arith)))
+some_interleaving ps (suc m) s todo le none =
     let b : List Statement = to_do todo m in
-    let rest = some_weaving ps m (carried_out (state_steps (names_of (process_at ps m) m)) b s) (set todo m []) (omega (arith, length-set todo m []))
+    let rest = some_interleaving ps m (carried_out (state_steps (object_net (process_at ps m)) m) b s) (set todo m []) (omega (arith, length-set todo m []))
     (λ p h. after p (up m p h)) in
-    let w : Woven ps s (set todo m (b ++ [])) rest.0 = all_go_first ps m rest.0 b [] s todo (omega arith) rest.1 in
-    (rest.0, subst (λ (l : List (List Statement)). Woven ps s l rest.0) (ap (set todo m) (append-nil b) ∙ set-get_or todo m []) w)
+    let w : Interleaved ps s (set todo m (b ++ [])) rest.0 = all_go_first ps m rest.0 b [] s todo (omega arith) rest.1 in
+    (rest.0, subst (λ (l : List (List Statement)). Interleaved ps s l rest.0) (ap (set todo m) (append-nil b) ∙ set-get_or todo m []) w)
   where
     up : (a c : ℕ) → a ≤ c → (c ≡ a) ⊎ (suc a ≤ c)
     up a c h = grind arith
@@ -326,11 +332,11 @@ module _ (ps : List Process) (f : ℕ → Bool) (s t : State) (is : All IsProces
   all_are : (p : ℕ) → p < length s.owned → IsProcess (process_at ps p)
   all_are p h = All-get_or IsProcess ps p no_process (omega (arith, h, len)) is
 
-  pub woven-together : Woven ps s (bodies f 0 ps) t → t ≡ together ps f s
-  woven-together w = woven-finished ps s t (bodies f 0 ps) w ∙ finished-together ps f s all_are
+  pub interleaved-together : Interleaved ps s (bodies f 0 ps) t → t ≡ together ps f s
+  interleaved-together w = interleaved-finished ps s t (bodies f 0 ps) w ∙ finished-together ps f s all_are
 
-  pub together-woven : t ≡ together ps f s → Woven ps s (bodies f 0 ps) t
-  together-woven e =
-      let w = some_weaving ps (length (bodies f 0 ps)) s (bodies f 0 ps) (omega arith) (λ p h. get_or_past (bodies f 0 ps) p [] h) in
-      let end : w.0 ≡ t = woven-finished ps s w.0 (bodies f 0 ps) w.1 ∙ (finished-together ps f s all_are ∙ sym e) in
-      subst (λ (x : State). Woven ps s (bodies f 0 ps) x) end w.1
+  pub together-interleaved : t ≡ together ps f s → Interleaved ps s (bodies f 0 ps) t
+  together-interleaved e =
+      let w = some_interleaving ps (length (bodies f 0 ps)) s (bodies f 0 ps) (omega arith) (λ p h. get_or_past (bodies f 0 ps) p [] h) in
+      let end : w.0 ≡ t = interleaved-finished ps s w.0 (bodies f 0 ps) w.1 ∙ (finished-together ps f s all_are ∙ sym e) in
+      subst (λ (x : State). Interleaved ps s (bodies f 0 ps) x) end w.1
