@@ -13,6 +13,7 @@ use Rattle.sim_standard.specs.declared.record.Record.{Record}
 use Rattle.sim_store_state.specs.FlatState.{FlatState}
 use Rattle.sim_store_state.specs.Log.{record_at}
 use Rattle.sim_standard.specs.Records.{changes_from, records_to}
+use Rattle.sim_standard.proofs.Names.{numbered_value}
 use Rattle.sim_standard.specs.Agreement.{is_of, total_of, value_by}
 use Rattle.sim_store_simulation.specs.Simulation.{AreTotals, IsStateOf, Simulation, updated_last}
 use Rattle.sim_standard.proofs.Agreement.{records-give-values, total-few, total-more}
@@ -57,7 +58,7 @@ changes-few nets =
     let found = filter has_event (enumerate_from 0 nets) in
     omega (
       arith,
-      length-map found (λ (n : ℕ × NetView). (n.0, n.1.value)),
+      length-map found numbered_value,
       length-filter has_event (enumerate_from 0 nets),
       count_by-le-length has_event (enumerate_from 0 nets),
       length-enumerate_from 0 nets,
