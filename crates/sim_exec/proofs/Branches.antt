@@ -6,8 +6,9 @@ use Rattle.sim_flat_design.specs.declared.statement.Statement.{Statement}
 use Rattle.sim_flat_design.specs.declared.statement.Statement.TheViews as views
 use Rattle.sim_standard.specs.declared.net_view.NetView.{NetView}
 use Rattle.sim_standard.specs.State.{Owned}
-use Rattle.sim_standard.specs.Statements.{Steps, in_turn, if_taken, statement_done, branch_done, own_steps, one_holds}
+use Rattle.sim_standard.specs.Statements.{Steps, in_turn, if_taken, statement_done, branch_done, own_steps}
 use Rattle.sim_standard.proofs.Rules.{branch_is}
+use Rattle.sim_exec.specs.Branches.{one_holds}
 
 module _ {S : Type 0} (steps : Steps S) (branches : List Branch) (i : ℕ) (b : Branch) where
   -- the branches from it on

@@ -5,9 +5,10 @@ use Rattle.sim_flat_design.specs.declared.held.Held.{Held}
 use Rattle.sim_flat_design.specs.declared.waveform.Element.{Element}
 use Rattle.sim_flat_design.specs.Waveforms.{IsWaveform}
 use Rattle.sim_flat_design.specs.Waveforms as design
-use Rattle.sim_standard.specs.Drivers.{RisesFrom, Transaction}
+use Rattle.sim_standard.specs.Drivers.{Transaction}
 use Rattle.sim_standard.specs.declared.net_view.NetView.{NetView}
 use Rattle.sim_standard.specs.Expressions.{element_values}
+use Rattle.sim_wave.specs.Rising.{RisesFrom}
 
 module _ (look : ℕ → NetView) (variables : List Held) where
   later : (time : ℕ) (w : List Element) → design.ElementsRise time w → RisesFrom (suc time) (element_values look variables w)

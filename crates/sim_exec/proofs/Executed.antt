@@ -2,7 +2,7 @@
 use Rattle.std.proofs.Common.{◌≡◌, ℕ, suc, List, [], ◌∷◌, ◌++◌, map, take, length, Some, None, refl, sym, ◌∙◌, subst, arith}
 use Rattle.std.proofs.lemmas.List.{take_at}
 use Rattle.std.proofs.lemmas.List.Elements.{All-weaker}
-use Rattle.sim_standard.specs.Drivers.{DriverState, RisesFrom}
+use Rattle.sim_standard.specs.Drivers.{DriverState}
 use Rattle.sim_standard.specs.declared.net_view.NetView.{NetView}
 use Rattle.sim_standard.specs.State.{Owned, net_at}
 use Rattle.sim_flat_design.specs.Processes.{Process}
@@ -12,6 +12,7 @@ use Rattle.sim_standard.specs.Statements.{own_steps, statement_done, in_turn, ex
 use Rattle.sim_standard.specs.Processes.{object_net, place_in}
 use Rattle.sim_exec.specs.Jobs.{Job, IsJob, IsReady, IsDone, result_of}
 use Rattle.sim_standard.proofs.Owning.{owned_after_is}
+use Rattle.sim_wave.specs.Rising.{RisesFrom}
 
 -- the views of the ports and signals of a job's body
 abbrev pub sight : Job → ℕ → NetView

@@ -7,10 +7,11 @@ use Rattle.sim_flat_design.specs.declared.held.Held.{Held}
 use Rattle.sim_flat_design.specs.declared.held.Held.TheVariants as held
 use Rattle.sim_flat_design.specs.Bodies.{Body}
 use Rattle.sim_flat_design.specs.Processes.{Process}
-use Rattle.sim_standard.specs.Drivers.{DriverState, RisesFrom}
+use Rattle.sim_standard.specs.Drivers.{DriverState}
 use Rattle.sim_standard.specs.declared.net_view.NetView.{NetView}
 use Rattle.sim_standard.specs.State.{State, Owned}
 use Rattle.sim_standard.specs.Processes.{owned_after}
+use Rattle.sim_wave.specs.Rising.{RisesFrom}
 
 -- A process to be executed: the number of cycles completed, its number, the time, its views of the nets it reads, and what it owns.
 pub record Job : Type 0 where

@@ -5,12 +5,13 @@ ghost use Rattle.std.specs.List.{All};
 ghost use Rattle.sim_logic.specs.Time.{largest_time};
 ghost use Rattle.sim_flat_design.specs.Waveforms.{IsWaveform, IsRejected};
 ghost use Rattle.sim_flat_design.specs.Bodies.{assignment_fits, is_bit, is_truth};
-ghost use Rattle.sim_standard.specs.Drivers.{RisesFrom, Transaction as transaction};
+ghost use Rattle.sim_standard.specs.Drivers.{Transaction as transaction};
 ghost use Rattle.sim_flat_design.specs.declared.held.Held as held;
 ghost use Rattle.sim_exec.specs.Jobs.{holds_bit};
 ghost use Rattle.sim_standard.specs.State.{driver_values};
 ghost use Rattle.sim_standard.specs.Statements as spec;
 ghost use Rattle.sim_standard.specs.Expressions as values;
+ghost use Rattle.sim_wave.specs.Rising.{RisesFrom};
 
 use crate::values::{boolean_value, logic_value};
 use crate::view::Nets;
@@ -39,7 +40,7 @@ fn delay(mechanism: statement::Delay, first: u64) -> Delay
 
 /// An element, evaluated: its delay and its value.
 fn element_value<N: Nets>(nets: &N, variables: &[Held], element: &Element) -> Transaction
-    ensures value { result ≡ values.element_value (N.look nets.now) variables.now element.now }
+    ensures value { result ≡ (element.now.after, values.logic_value (N.look nets.now) variables.now element.now.value) }
     ensures bound { result.0 ≤ largest_time }
 {
     (

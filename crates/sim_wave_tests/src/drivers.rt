@@ -2,8 +2,7 @@ ghost use Rattle.std.specs.Prelude.{◌≡◌, ◌≤◌, [], ◌∷◌, fold, m
 ghost use Rattle.sim_logic.specs.Tables.{resolution_table};
 ghost use Rattle.sim_logic.specs.Resolution.{resolved};
 ghost use Rattle.sim_logic.specs.declared.logic.Logic as logic;
-ghost use Rattle.sim_standard.specs.Drivers.{RisesFrom};
-ghost use Rattle.sim_standard.specs.Editing.{IsWithin};
+ghost use Rattle.sim_wave.specs.Rising.{RisesFrom, IsWithin};
 
 use sim_logic::Logic::{self, Dash, One, X, Zero};
 use sim_logic::resolve_two;

@@ -1,4 +1,4 @@
-use Rattle.sim_standard.specs.Drivers.{RisesFrom}
+use Rattle.sim_wave.specs.Rising.{RisesFrom}
 use Rattle.sim_wave_tests.proofs.drivers.assigned_each_time.Given as goal
 
 abbrev pub invariant-loop-now : goal.invariant-loop-now
