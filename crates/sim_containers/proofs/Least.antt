@@ -1,12 +1,12 @@
 -- The least time is that of the top.
 use Rattle.std.proofs.Common.{ℕ, zero, suc, ◌<◌, ◌≤◌, ◌≡◌, ◌≢◌, min, eqb, ltb, Bool, true, false, List, [], ◌∷◌, length, get_or, refl, ap, sym, ◌∙◌}
-use Rattle.std.proofs.Common.{arith, inl, inr, ◌⊎◌, Option, None, Some, IfSome, IfNone, ⊤}
+use Rattle.std.proofs.Common.{arith, inl, inr, ◌⊎◌, Option, None, Some, IfSome, IfNone, subst}
 use Rattle.std.proofs.Math.ListN.{replicate}
 use Rattle.std.proofs.lemmas.Bool.Decides.{nat_tests}
 use Rattle.std.proofs.lemmas.Option.{same_Some}
 use Rattle.std.specs.BinaryHeap.{lt_by_cmp}
 use Rattle.std.specs.List.{Contains}
-use Rattle.std.specs.Prelude.{MatchOption}
+use Rattle.std.specs.Prelude.{MatchOption, ⊤}
 use Rattle.sim_containers.specs.Numbers.{is_in}
 use Rattle.sim_containers.specs.Times.{time_of, cleared, earlier, earliest}
 use Rattle.sim_containers.specs.Entries.{Entry, entry, entry_cmp, HasLiveTop, IsQueue}
@@ -135,8 +135,11 @@ place_of times now later front laters items q d s e = go (eqb s now) refl
     beyond other true h =
         let same : s ≡ later = grind (arith, nat_tests) in
         let hidden : time_of (cleared now times) d ≡ Some s = still_there now times d s e other in
-        inl (same, ap (λ (set' : List Bool). is_in set' d) q.later_is
-        ∙ (in_those_at later (cleared now times) d ∙ at_from_time later (time_of (cleared now times) d) (hidden ∙ ap Some same)))
+        inl (
+          same,
+          ap (λ (set' : List Bool). is_in set' d) q.later_is
+              ∙ (in_those_at later (cleared now times) d ∙ at_from_time later (time_of (cleared now times) d) (hidden ∙ ap Some same)),
+        )
     beyond other false h = let differ : s ≢ later = grind (arith, nat_tests) in inr (q.stands d s e other differ)
 
     go : (b : Bool) → eqb s now ≡ b → ((s ≡ now) × (is_in front d ≡ true)) ⊎ (((s ≡ later) × (is_in laters d ≡ true)) ⊎ Contains items (entry s d))

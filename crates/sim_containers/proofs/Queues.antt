@@ -11,7 +11,7 @@ use Rattle.sim_containers.specs.Numbers.{is_in}
 use Rattle.sim_containers.specs.Times.{is_at, time_of, clear, cleared, those_at}
 use Rattle.sim_containers.specs.Entries.{Entry, entry_cmp, those_later, HasLiveTop, IsQueue, StandsBut}
 use Rattle.sim_containers.proofs.Bits.{not_both}
-use Rattle.sim_containers.proofs.Heaps.{at_from_time, none_in_empty, stands_with, time_from_at}
+use Rattle.sim_containers.proofs.Heaps.{at_from_time, none_in_empty, stands_with}
 use Rattle.sim_containers.proofs.Sets.{in_none}
 use Rattle.sim_containers.proofs.Taking.{cleared_time, in_those_at}
 
@@ -257,19 +257,25 @@ others_taken now later time times other =
 pub all_later : (now later : ℕ) (times : List (Option ℕ)) → later ≢ now → those_later now later times ≡ those_at later times
 all_later now later times other = sym (others_left now later times (λ e. other (sym e)))
 
-pub is_later_is : (now later : ℕ) (time : Option ℕ) (b : Bool) → eqb later now ≡ b → (cond b false (is_at later time)) ≡ is_at later (clear now time)
-is_later_is now later None b q = go b
+pub later_kept : (now later : ℕ) (time : Option ℕ) → later ≢ now → is_at later time ≡ is_at later (clear now time)
+later_kept now later None other = refl
+later_kept now later (Some t) other = go (eqb t now) refl
   where
-    go : (c : Bool) → (cond c false false) ≡ false
-    go true = refl
-    go false = refl
-is_later_is now later (Some t) b q = go b q (eqb t now) refl
+    go : (e : Bool) → eqb t now ≡ e → eqb t later ≡ is_at later (cond e None (Some t))
+    go true r = grind (arith, nat_tests)
+    go false r = refl
+
+pub later_gone : (now later : ℕ) (time : Option ℕ) → later ≡ now → false ≡ is_at later (clear now time)
+later_gone now later None same = refl
+later_gone now later (Some t) same = go (eqb t now) refl
   where
-    go : (c : Bool) → eqb later now ≡ c → (e : Bool) → eqb t now ≡ e → (cond c false (eqb t later)) ≡ is_at later (cond e None (Some t))
-    go true p true r = refl
-    go true p false r = grind (arith, nat_tests)
-    go false p true r = grind (arith, nat_tests)
-    go false p false r = refl
+    go : (e : Bool) → eqb t now ≡ e → false ≡ is_at later (cond e None (Some t))
+    go true r = refl
+    go false r = grind (arith, nat_tests)
+
+pub no_entries : (items : List Entry) → length items ≡ 0 → items ≡ []
+no_entries [] e = refl
+no_entries (x ∷ xs) e = absurd (omega arith)
 
 -- the time of an empty front may change
 pub turned : (times : List (Option ℕ)) (now later time next : ℕ) (front laters : List Bool) (items : List Entry)

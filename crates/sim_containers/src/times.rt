@@ -186,7 +186,10 @@ impl TimeQueue {
 fn is_later(time: Option<u64>, now: u64, later: u64) -> bool
     ensures { result ≡ is_at later (clear now time) }
 {
-    later != now && is_time(time, later)
+    if later == now {
+        return false;
+    }
+    is_time(time, later)
 }
 
 /// The time of the drivers of a set, if it has one.

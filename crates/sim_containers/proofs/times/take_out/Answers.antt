@@ -1,4 +1,4 @@
-use Rattle.std.proofs.Common.{◌≡◌, ◌≢◌, ◌∙◌, ap, length, subst, sym, ℕ, List, Bool, Option, heap_items}
+use Rattle.std.proofs.Common.{◌≢◌, ◌∙◌, ap, length, sym, ℕ, heap_items}
 use Rattle.sim_containers.specs.Times.{cleared, those_at}
 use Rattle.sim_containers.specs.Entries.{those_later}
 use Rattle.sim_containers.proofs.Queues.{none_left, others_left, front_taken, later_taken, others_taken, all_later, stands_cleared}
@@ -27,13 +27,13 @@ returns-then-time-later-clause-front c = c.requires.front ∙ others_left c.args
 
 pub returns-then-time-later-clause-later : goal.returns-then-time-later-clause-later
 returns-then-time-later-clause-later c =
-    c.swap.ensures.x_after ∙ (c.clear.ensures ∙ (later_taken c.args.now c.args.later (length c.args.taken.now) c.args.times.now c.requires.sized
+    c.swap-then-time-later.ensures.x_after ∙ (c.clear.ensures ∙ (later_taken c.args.now c.args.later (length c.args.taken.now) c.args.times.now c.requires.sized
     ∙ ap (λ (time : ℕ). those_later c.args.now c.args.later (cleared time c.args.times.now)) (sym c.if-time-later.true)))
 
 pub returns-then-time-later-clause-taken : goal.returns-then-time-later-clause-taken
 returns-then-time-later-clause-taken c =
     let other : c.args.later ≢ c.args.now = λ e. c.if-time-now.false (c.if-time-later.true ∙ e) in
-    c.swap.ensures.y_after ∙ (c.requires.later ∙ (all_later c.args.now c.args.later c.args.times.now other
+    c.swap-then-time-later.ensures.y_after ∙ (c.requires.later ∙ (all_later c.args.now c.args.later c.args.times.now other
     ∙ ap (λ (time : ℕ). those_at time c.args.times.now) (sym c.if-time-later.true)))
 
 pub returns-clause-front : goal.returns-clause-front

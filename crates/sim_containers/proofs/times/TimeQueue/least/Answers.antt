@@ -1,4 +1,4 @@
-use Rattle.std.proofs.Common.{◌≡◌, ◌∙◌, List, Option, ap, heap_items, sym, subst}
+use Rattle.std.proofs.Common.{◌≡◌, ◌∙◌, List, Option, ap, heap_items, subst}
 use Rattle.sim_containers.specs.Times.{earlier, earliest}
 use Rattle.sim_containers.proofs.Least.{least_time}
 use Rattle.sim_containers.proofs.times.TimeQueue.least.Goals as goal
