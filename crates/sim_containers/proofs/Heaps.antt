@@ -43,10 +43,10 @@ within_from_time (x ∷ xs) zero t e = omega arith
 within_from_time (x ∷ xs) (suc d) t e = let h = within_from_time xs d t e in omega arith
 
 -- a stale entry may be removed
-pub stands_without : (now : ℕ) (times : List (Option ℕ)) (old new : List Entry) (x : Entry) → IsPermutation old (x ∷ new) → is_live times x ≡ false
-    → StandsBut now times old → StandsBut now times new
-stands_without now times old new x p stale s d t e other =
-    elim (first_or_behind x (entry t d) new (Contains-permutation old (x ∷ new) (entry t d) p (s d t e other))) [
+pub stands_without : (now later : ℕ) (times : List (Option ℕ)) (old new : List Entry) (x : Entry) → IsPermutation old (x ∷ new) → is_live times x ≡ false
+    → StandsBut now later times old → StandsBut now later times new
+stands_without now later times old new x p stale s d t e other beyond =
+    elim (first_or_behind x (entry t d) new (Contains-permutation old (x ∷ new) (entry t d) p (s d t e other beyond))) [
       | inl same ↦ absurd (impossible same)
       | inr there ↦ there
     ]
@@ -70,31 +70,33 @@ set_time (x ∷ xs) (suc k) v (suc d) t e = elim (set_time xs k v d t e) [
 ]
 
 -- a new time is represented once its entry is added
-pub stands_with : (now : ℕ) (times : List (Option ℕ)) (old new : List Entry) (driver : ℕ) (v : Option ℕ) → ((e : Entry) → Contains old e → Contains new e)
-    → ((t : ℕ) → v ≡ Some t → t ≢ now → Contains new (entry t driver)) → StandsBut now times old → StandsBut now (set times driver v) new
-stands_with now times old new driver v kept added s d t e other =
+pub stands_with : (now later : ℕ) (times : List (Option ℕ)) (old new : List Entry) (driver : ℕ) (v : Option ℕ) → ((e : Entry) → Contains old e → Contains new e)
+    → ((t : ℕ) → v ≡ Some t → t ≢ now → t ≢ later → Contains new (entry t driver)) → StandsBut now later times old
+    → StandsBut now later (set times driver v) new
+stands_with now later times old new driver v kept added s d t e other beyond =
     elim (set_time times driver v d t e) [
-      | inl same ↦ subst (λ (k : ℕ). Contains new (entry t k)) (sym same.0) (added t same.1 other)
-      | inr before ↦ kept (entry t d) (s d t before other)
+      | inl same ↦ subst (λ (k : ℕ). Contains new (entry t k)) (sym same.0) (added t same.1 other beyond)
+      | inr before ↦ kept (entry t d) (s d t before other beyond)
     ]
 
 -- a step of adding all entries again
-pub stands_upto : (now : ℕ) (times : List (Option ℕ)) (i : ℕ) (old new : List Entry) → ((d t : ℕ) → d < i → time_of times d ≡ Some t → t ≢ now
-    → Contains old (entry t d))
-    → ((e : Entry) → Contains old e → Contains new e) → ((t : ℕ) → time_of times i ≡ Some t → t ≢ now → Contains new (entry t i))
-    → (d t : ℕ) → d < i + 1 → time_of times d ≡ Some t → t ≢ now → Contains new (entry t d)
-stands_upto now times i old new before kept put d t l e other = go (cases d i l)
+pub stands_upto : (now later : ℕ) (times : List (Option ℕ)) (i : ℕ) (old new : List Entry) → ((d t : ℕ) → d < i → time_of times d ≡ Some t → t ≢ now
+    → t ≢ later → Contains old (entry t d))
+    → ((e : Entry) → Contains old e → Contains new e) → ((t : ℕ) → time_of times i ≡ Some t → t ≢ now → t ≢ later → Contains new (entry t i))
+    → (d t : ℕ) → d < i + 1 → time_of times d ≡ Some t → t ≢ now → t ≢ later → Contains new (entry t d)
+stands_upto now later times i old new before kept put d t l e other beyond = go (cases d i l)
   where
     cases : (d i : ℕ) → d < i + 1 → (d < i) ⊎ (d ≡ i)
     cases d i l = grind arith
 
     go : (d < i) ⊎ (d ≡ i) → Contains new (entry t d)
-    go (inl m) = kept (entry t d) (before d t m e other)
-    go (inr q) = subst (λ (k : ℕ). Contains new (entry t k)) (sym q) (put t (subst (λ (k : ℕ). time_of times k ≡ Some t) q e) other)
+    go (inl m) = kept (entry t d) (before d t m e other beyond)
+    go (inr q) = subst (λ (k : ℕ). Contains new (entry t k)) (sym q) (put t (subst (λ (k : ℕ). time_of times k ≡ Some t) q e) other beyond)
 
-pub stands_from_all : (now : ℕ) (times : List (Option ℕ)) (items : List Entry) (n : ℕ) → length times ≤ n
-    → ((d t : ℕ) → d < n → time_of times d ≡ Some t → t ≢ now → Contains items (entry t d)) → StandsBut now times items
-stands_from_all now times items n le all d t e other = let l : d < length times = within_from_time times d t e in all d t (omega arith) e other
+pub stands_from_all : (now later : ℕ) (times : List (Option ℕ)) (items : List Entry) (n : ℕ) → length times ≤ n
+    → ((d t : ℕ) → d < n → time_of times d ≡ Some t → t ≢ now → t ≢ later → Contains items (entry t d)) → StandsBut now later times items
+stands_from_all now later times items n le all d t e other beyond =
+    let l : d < length times = within_from_time times d t e in all d t (omega arith) e other beyond
 
 -- one more entry
 pub kept_by_push : (old new : List Entry) (x : Entry) → IsPermutation (x ∷ old) new → (e : Entry) → Contains old e → Contains new e

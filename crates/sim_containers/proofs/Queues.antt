@@ -9,11 +9,11 @@ use Rattle.std.specs.BinaryHeap.{IsHeap}
 use Rattle.sim_containers.specs.Words.{NoneFrom}
 use Rattle.sim_containers.specs.Numbers.{is_in}
 use Rattle.sim_containers.specs.Times.{is_at, time_of, clear, cleared, those_at}
-use Rattle.sim_containers.specs.Entries.{Entry, entry_cmp, HasLiveTop, IsQueue, StandsBut}
+use Rattle.sim_containers.specs.Entries.{Entry, entry_cmp, those_later, HasLiveTop, IsQueue, StandsBut}
 use Rattle.sim_containers.proofs.Bits.{not_both}
-use Rattle.sim_containers.proofs.Heaps.{at_from_time, stands_with}
+use Rattle.sim_containers.proofs.Heaps.{at_from_time, none_in_empty, stands_with}
 use Rattle.sim_containers.proofs.Sets.{in_none}
-use Rattle.sim_containers.proofs.Taking.{in_those_at}
+use Rattle.sim_containers.proofs.Taking.{cleared_time, in_those_at}
 
 -- no driver has a time
 pub no_time : (n d t : ℕ) (times : List (Option ℕ)) → times ≡ replicate n None → time_of times d ≡ Some t → ⊥
@@ -28,13 +28,70 @@ pub none_at : (time n : ℕ) → those_at time (replicate n None) ≡ replicate 
 none_at time zero = refl
 none_at time (suc n) = ap (λ (l : List Bool). false ∷ l) (none_at time n)
 
-pub empty_queue : (n now : ℕ) (times : List (Option ℕ)) (front : List Bool) (items : List Entry) → times ≡ replicate n None
-    → front ≡ replicate n false → items ≡ []
-    → IsHeap entry_cmp items → IsQueue times now front items
-empty_queue n now times front items e f none order = record {
+-- ---- clearing one time and another
+
+clear_both : (a b : ℕ) (o : Option ℕ) → clear a (clear b o) ≡ clear b (clear a o)
+clear_both a b o = go (is_at a o) (is_at b o) refl refl
+  where
+    go : (x y : Bool) → is_at a o ≡ x → is_at b o ≡ y → clear a (clear b o) ≡ clear b (clear a o)
+    go true true p q = rw p (rw q refl)
+    go true false p q = rw p (rw q (rw p refl))
+    go false true p q = rw p (rw q refl)
+    go false false p q = rw p (rw q (rw p refl))
+
+clear_again : (a : ℕ) (o : Option ℕ) → clear a (clear a o) ≡ clear a o
+clear_again a o = go (is_at a o) refl
+  where
+    go : (x : Bool) → is_at a o ≡ x → clear a (clear a o) ≡ clear a o
+    go true p = rw p refl
+    go false p = rw p (rw p refl)
+
+cleared_both : (a b : ℕ) (times : List (Option ℕ)) → cleared a (cleared b times) ≡ cleared b (cleared a times)
+cleared_both a b [] = refl
+cleared_both a b (x ∷ xs) = λ i. clear_both a b x i ∷ cleared_both a b xs i
+
+cleared_again : (a : ℕ) (times : List (Option ℕ)) → cleared a (cleared a times) ≡ cleared a times
+cleared_again a [] = refl
+cleared_again a (x ∷ xs) = λ i. clear_again a x i ∷ cleared_again a xs i
+
+-- no driver has the time
+none_to_clear : (a : ℕ) (times : List (Option ℕ)) → ((d : ℕ) → is_at a (time_of times d) ≡ false) → cleared a times ≡ times
+none_to_clear a [] none = refl
+none_to_clear a (x ∷ xs) none =
+    λ i. ap (λ (b : Bool). cond b None x) (none 0) i ∷ none_to_clear a xs (λ d. none (suc d)) i
+
+none_of_empty : (a : ℕ) (times : List (Option ℕ)) (n : ℕ) → those_at a times ≡ replicate n false → (d : ℕ) → is_at a (time_of times d) ≡ false
+none_of_empty a times n e d = sym (in_those_at a times d) ∙ (ap (λ (set' : List Bool). is_in set' d) e ∙ in_none n d)
+
+empty_of_none : (a : ℕ) (times : List (Option ℕ)) → ((d : ℕ) → is_at a (time_of times d) ≡ false) → those_at a times ≡ replicate (length times) false
+empty_of_none a [] none = refl
+empty_of_none a (x ∷ xs) none = λ i. none 0 i ∷ empty_of_none a xs (λ d. none (suc d)) i
+
+-- the time of a driver
+at_cleared : (time : ℕ) (times : List (Option ℕ)) (d : ℕ) → time_of (cleared time times) d ≡ clear time (time_of times d)
+at_cleared time [] d = refl
+at_cleared time (x ∷ xs) zero = refl
+at_cleared time (x ∷ xs) (suc d) = at_cleared time xs d
+
+pub still_there : (a : ℕ) (times : List (Option ℕ)) (d t : ℕ) → time_of times d ≡ Some t → t ≢ a → time_of (cleared a times) d ≡ Some t
+still_there a times d t e other =
+    let differ : eqb t a ≡ false = grind (arith, nat_tests) in
+    at_cleared a times d ∙ (ap (clear a) e ∙ ap (λ (b : Bool). cond b None (Some t)) differ)
+
+-- ---- a new queue
+
+cleared_none : (a n : ℕ) → cleared a (replicate n None) ≡ replicate n None
+cleared_none a zero = refl
+cleared_none a (suc n) = ap (λ (l : List (Option ℕ)). None ∷ l) (cleared_none a n)
+
+pub empty_queue : (n now later : ℕ) (times : List (Option ℕ)) (front laters : List Bool) (items : List Entry) → times ≡ replicate n None
+    → front ≡ replicate n false → laters ≡ replicate n false → items ≡ []
+    → IsHeap entry_cmp items → IsQueue times now later front laters items
+empty_queue n now later times front laters items e f l none order = record {
   front_is = f ∙ sym (ap (those_at now) e ∙ none_at now n);
+  later_is = l ∙ sym (ap (those_later now later) e ∙ (ap (those_at later) (cleared_none now n) ∙ none_at later n));
   order = order;
-  stands = λ d t q _. absurd (no_time n d t times e q);
+  stands = λ d t q _ _. absurd (no_time n d t times e q);
   live = subst (λ (l : List Entry). HasLiveTop times l) (sym none) tt;
 }
 
@@ -44,6 +101,13 @@ pub put_at : (now : ℕ) (times : List (Option ℕ)) (front new : List Bool) (dr
     → new ≡ set front driver b → new ≡ those_at now (set times driver time)
 put_at now times front new driver time b f is e =
     e ∙ ((λ i. set (f i) driver (is i)) ∙ sym (map-set (is_at now) times driver time))
+
+pub put_later : (now later : ℕ) (times : List (Option ℕ)) (laters new : List Bool) (driver : ℕ) (time : Option ℕ) (b : Bool)
+    → laters ≡ those_later now later times → b ≡ is_at later (clear now time)
+    → new ≡ set laters driver b → new ≡ those_later now later (set times driver time)
+put_later now later times laters new driver time b f is e =
+    put_at later (cleared now times) laters new driver (clear now time) b f is e
+    ∙ ap (those_at later) (sym (map-set (clear now) times driver time))
 
 -- a driver that had no time joins the front
 still_live : (times : List (Option ℕ)) (driver : ℕ) (time : Option ℕ) (items : List Entry) → time_of times driver ≡ None → HasLiveTop times items
@@ -59,15 +123,71 @@ still_live times driver time (e ∷ es) free live = go (eqb e.0.1 driver) refl
         let differ : e.0.1 ≢ driver = grind (arith, nat_tests) in
         ap (is_at e.0.0) (get_or-set_other times driver e.0.1 time None differ) ∙ live
 
-pub joined_front : (times : List (Option ℕ)) (now : ℕ) (front new : List Bool) (items : List Entry) (driver : ℕ) → time_of times driver ≡ None
-    → new ≡ set front driver true → IsQueue times now front items → IsQueue (set times driver (Some now)) now new items
-joined_front times now front new items driver free is queue = record {
+set_none : (times : List (Option ℕ)) (driver : ℕ) → time_of times driver ≡ None → set times driver None ≡ times
+set_none [] driver free = refl
+set_none (x ∷ xs) zero free = ap (λ (o : Option ℕ). o ∷ xs) (sym free)
+set_none (x ∷ xs) (suc k) free = ap (λ (l : List (Option ℕ)). x ∷ l) (set_none xs k free)
+
+pub joined_front : (times : List (Option ℕ)) (now later : ℕ) (front laters new : List Bool) (items : List Entry) (driver : ℕ)
+    → time_of times driver ≡ None
+    → new ≡ set front driver true → IsQueue times now later front laters items → IsQueue (set times driver (Some now)) now later new laters items
+joined_front times now later front laters new items driver free is queue = record {
   front_is = put_at now times front new driver (Some now) true queue.front_is (sym (at_from_time now (Some now) refl)) is;
+  later_is = queue.later_is ∙ ap (those_at later) (sym hidden);
   order = queue.order;
-  stands = stands_with now times items items driver (Some now) (λ e there. there)
-      (λ t same other. absurd (other (sym (same_Some now t same)))) queue.stands;
+  stands = stands_with now later times items items driver (Some now) (λ e there. there)
+      (λ t same other _. absurd (other (sym (same_Some now t same)))) queue.stands;
   live = still_live times driver (Some now) items free queue.live;
 }
+  where
+    gone : clear now (Some now) ≡ None
+    gone = ap (λ (b : Bool). cond b None (Some now)) (at_from_time now (Some now) refl)
+
+    no_time_left : time_of (cleared now times) driver ≡ None
+    no_time_left = at_cleared now times driver ∙ ap (clear now) free
+
+    hidden : cleared now (set times driver (Some now)) ≡ cleared now times
+    hidden = map-set (clear now) times driver (Some now)
+        ∙ (ap (set (cleared now times) driver) gone ∙ set_none (cleared now times) driver no_time_left)
+
+-- the time of the other set may change while nothing is beyond the front
+pub chosen : (times : List (Option ℕ)) (now later time : ℕ) (front laters : List Bool) (items : List Entry)
+    → laters ≡ replicate (length laters) false → items ≡ [] → IsQueue times now later front laters items → IsQueue times now time front laters items
+chosen times now later time front laters items empty none queue = record {
+  front_is = queue.front_is;
+  later_is = empty ∙ (ap (λ (n : ℕ). replicate n false) counted ∙ sym (empty_of_none time (cleared now times) (λ d. absent d)));
+  order = queue.order;
+  stands = λ d t e other _. absurd (nothing d t e other);
+  live = queue.live;
+}
+  where
+    counted : length laters ≡ length (cleared now times)
+    counted = ap length queue.later_is ∙ length-map (cleared now times) (is_at later)
+
+    not_later : (d : ℕ) → is_at later (time_of (cleared now times) d) ≡ false
+    not_later = none_of_empty later (cleared now times) (length laters) (sym queue.later_is ∙ empty)
+
+    nothing : (d t : ℕ) → time_of times d ≡ Some t → t ≢ now → ⊥
+    nothing d t e other = go (eqb t later) refl
+      where
+        hidden : time_of (cleared now times) d ≡ Some t
+        hidden = still_there now times d t e other
+
+        go : (b : Bool) → eqb t later ≡ b → ⊥
+        go true q =
+            let same : t ≡ later = grind (arith, nat_tests) in
+            not_both (is_at later (time_of (cleared now times) d)) (not_later d)
+            (at_from_time later (time_of (cleared now times) d) (hidden ∙ ap Some same))
+        go false q =
+            let differ : t ≢ later = grind (arith, nat_tests) in
+            none_in_empty items _ (ap length none) (queue.stands d t e other differ)
+
+    absent : (d : ℕ) → is_at time (time_of (cleared now times) d) ≡ false
+    absent d = go (time_of (cleared now times) d) refl
+      where
+        go : (o : Option ℕ) → time_of (cleared now times) d ≡ o → is_at time o ≡ false
+        go None q = refl
+        go (Some t) q = let c = cleared_time now times d t q in absurd (nothing d t c.0 c.1)
 
 -- the drivers of one time are cleared
 pub none_left : (time n : ℕ) (times : List (Option ℕ)) → n ≡ length times → replicate n false ≡ those_at time (cleared time times)
@@ -94,11 +214,6 @@ others_left time now (x ∷ xs) other = λ i. same x (is_at time x) refl i ∷ o
     same o false q = sym (ap (λ (b : Bool). is_at now (cond b None o)) q)
 
 -- the loop that clears
-at_cleared : (time : ℕ) (times : List (Option ℕ)) (d : ℕ) → time_of (cleared time times) d ≡ clear time (time_of times d)
-at_cleared time [] d = refl
-at_cleared time (x ∷ xs) zero = refl
-at_cleared time (x ∷ xs) (suc d) = at_cleared time xs d
-
 pub all_cleared : (time : ℕ) (old new : List (Option ℕ)) (taken : List Bool) (from : ℕ) → length new ≡ length old
     → ((d : ℕ) → d < from → is_in taken d ≡ true → time_of new d ≡ None) → ((d : ℕ) → d < from → is_in taken d ≡ false → time_of new d ≡ time_of old d)
     → ((d : ℕ) → from ≤ d → time_of new d ≡ time_of old d) → NoneFrom (is_in taken) from → taken ≡ those_at time old → new ≡ cleared time old
@@ -121,26 +236,71 @@ all_cleared time old new taken from len gone others rest none is =
     go d false q (inl l) = others d l q ∙ kept d q
     go d false q (inr le) = rest d le ∙ kept d q
 
+-- ---- the sets after one time is cleared
+
+pub stands_cleared : (now later time : ℕ) (times : List (Option ℕ)) (items : List Entry) → StandsBut now later times items
+    → StandsBut now later (cleared time times) items
+stands_cleared now later time times items s d t e other beyond = s d t (cleared_time time times d t e).0 other beyond
+
+pub front_taken : (now later : ℕ) (times : List (Option ℕ)) → those_later now later times ≡ those_later now later (cleared now times)
+front_taken now later times = ap (those_at later) (sym (cleared_again now times))
+
+pub later_taken : (now later n : ℕ) (times : List (Option ℕ)) → n ≡ length times → replicate n false ≡ those_later now later (cleared later times)
+later_taken now later n times e =
+    none_left later n (cleared now times) (e ∙ sym (length-map times (clear now))) ∙ ap (those_at later) (cleared_both later now times)
+
+pub others_taken : (now later time : ℕ) (times : List (Option ℕ)) → time ≢ later
+    → those_later now later times ≡ those_later now later (cleared time times)
+others_taken now later time times other =
+    others_left time later (cleared now times) other ∙ ap (those_at later) (cleared_both time now times)
+
+pub all_later : (now later : ℕ) (times : List (Option ℕ)) → later ≢ now → those_later now later times ≡ those_at later times
+all_later now later times other = sym (others_left now later times (λ e. other (sym e)))
+
+pub later_kept : (now later : ℕ) (time : Option ℕ) → later ≢ now → is_at later time ≡ is_at later (clear now time)
+later_kept now later None other = refl
+later_kept now later (Some t) other = go (eqb t now) refl
+  where
+    go : (e : Bool) → eqb t now ≡ e → eqb t later ≡ is_at later (cond e None (Some t))
+    go true r = grind (arith, nat_tests)
+    go false r = refl
+
+pub later_gone : (now later : ℕ) (time : Option ℕ) → later ≡ now → false ≡ is_at later (clear now time)
+later_gone now later None same = refl
+later_gone now later (Some t) same = go (eqb t now) refl
+  where
+    go : (e : Bool) → eqb t now ≡ e → false ≡ is_at later (cond e None (Some t))
+    go true r = refl
+    go false r = grind (arith, nat_tests)
+
+pub no_entries : (items : List Entry) → length items ≡ 0 → items ≡ []
+no_entries [] e = refl
+no_entries (x ∷ xs) e = absurd (omega arith)
+
 -- the time of an empty front may change
-pub turned : (times : List (Option ℕ)) (now time next : ℕ) (front : List Bool) (items : List Entry) → front ≡ those_at now (cleared time times)
+pub turned : (times : List (Option ℕ)) (now later time next : ℕ) (front laters : List Bool) (items : List Entry)
+    → front ≡ those_at now (cleared time times) → laters ≡ those_later now later (cleared time times)
     → IsHeap entry_cmp items
-    → StandsBut now (cleared time times) items → HasLiveTop (cleared time times) items
+    → StandsBut now later (cleared time times) items → HasLiveTop (cleared time times) items
     → (next ≡ now) ⊎ ((next ≡ time) × (front ≡ replicate (length front) false))
-    → IsQueue (cleared time times) next front items
-turned times now time next front items f order stands live (inl same) =
-    subst (λ (k : ℕ). IsQueue (cleared time times) k front items) (sym same) (record { front_is = f; order = order; stands = stands; live = live })
-turned times now time next front items f order stands live (inr (same, empty)) =
+    → IsQueue (cleared time times) next later front laters items
+turned times now later time next front laters items f g order stands live (inl same) =
+    subst (λ (k : ℕ). IsQueue (cleared time times) k later front laters items) (sym same)
+    (record { front_is = f; later_is = g; order = order; stands = stands; live = live })
+turned times now later time next front laters items f g order stands live (inr (same, empty)) =
     let a : length front ≡ length (cleared time times) = ap length f ∙ length-map (cleared time times) (is_at now) in
     let b : length (cleared time times) ≡ length times = length-map times (clear time) in
-    subst (λ (k : ℕ). IsQueue (cleared time times) k front items) (sym same) (record {
+    subst (λ (k : ℕ). IsQueue (cleared time times) k later front laters items) (sym same) (record {
       front_is = empty ∙ none_left time (length front) times (a ∙ b);
+      later_is = g ∙ ap (those_at later) (none_to_clear now (cleared time times) none ∙ sym (cleared_again time times));
       order = order;
-      stands = λ d t e _. stands d t e (λ now_is. not_now d t e now_is);
+      stands = λ d t e _ beyond. stands d t e (λ now_is. not_now d t e now_is) beyond;
       live = live;
     })
   where
+    none : (d : ℕ) → is_at now (time_of (cleared time times) d) ≡ false
+    none = none_of_empty now (cleared time times) (length front) (sym f ∙ empty)
+
     not_now : (d t : ℕ) → time_of (cleared time times) d ≡ Some t → t ≡ now → ⊥
     not_now d t e now_is =
-        let there : is_in front d ≡ true = ap (λ (set' : List Bool). is_in set' d) f ∙ (in_those_at now (cleared time times) d
-        ∙ at_from_time now (time_of (cleared time times) d) (e ∙ ap Some now_is)) in
-        not_both (is_in front d) (ap (λ (set' : List Bool). is_in set' d) empty ∙ in_none (length front) d) there
+        not_both (is_at now (time_of (cleared time times) d)) (none d) (at_from_time now (time_of (cleared time times) d) (e ∙ ap Some now_is))

@@ -22,13 +22,13 @@ in_those_at time (x ∷ xs) zero = refl
 in_those_at time (x ∷ xs) (suc d) = in_those_at time xs d
 
 -- at the start
-pub none_taken : (now time : ℕ) (times : List (Option ℕ)) (taken : List Bool) (items : List Entry) → taken ≡ replicate (length times) false
-    → StandsBut now times items
-    → IsTaking now time times taken items
-none_taken now time times taken items e s = record {
+pub none_taken : (now later time : ℕ) (times : List (Option ℕ)) (taken : List Bool) (items : List Entry) → taken ≡ replicate (length times) false
+    → StandsBut now later times items
+    → IsTaking now later time times taken items
+none_taken now later time times taken items e s = record {
   sized = ap length e ∙ length-replicate (length times) false;
   due = λ d here. absurd (not_both (is_in taken d) (ap (λ (set' : List Bool). is_in set' d) e ∙ in_none (length times) d) here);
-  stands = λ d t q other. inr (s d t q other);
+  stands = λ d t q other beyond. inr (s d t q other beyond);
 }
 
 -- a live entry has the time
@@ -37,13 +37,13 @@ live_time times time x none le live =
     let h : time ≤ x.0.0 = none x.0.1 x.0.0 (time_from_at x.0.0 (time_of times x.0.1) live) in omega arith
 
 -- a stale entry is removed
-pub stale_goes : (now time : ℕ) (times : List (Option ℕ)) (taken : List Bool) (old new : List Entry) (x : Entry) → IsPermutation old (x ∷ new)
+pub stale_goes : (now later time : ℕ) (times : List (Option ℕ)) (taken : List Bool) (old new : List Entry) (x : Entry) → IsPermutation old (x ∷ new)
     → is_live times x ≡ false
-    → IsTaking now time times taken old → IsTaking now time times taken new
-stale_goes now time times taken old new x p stale i = record {
+    → IsTaking now later time times taken old → IsTaking now later time times taken new
+stale_goes now later time times taken old new x p stale i = record {
   sized = i.sized;
   due = i.due;
-  stands = λ d t e other. go d t e (i.stands d t e other);
+  stands = λ d t e other beyond. go d t e (i.stands d t e other beyond);
 }
   where
     impossible : (d t : ℕ) → time_of times d ≡ Some t → x ≡ entry t d → ⊥
@@ -79,15 +79,15 @@ still_in_set set' n d here l m = go (eqb d n) refl
     go false q = let differ : d ≢ n = grind (arith, nat_tests) in get_or-set_other set' n d true false differ ∙ here
 
 -- a live entry is removed, and its driver is taken
-pub live_goes : (now time : ℕ) (times : List (Option ℕ)) (taken : List Bool) (old new : List Entry) (x : Entry) → IsPermutation old (x ∷ new)
+pub live_goes : (now later time : ℕ) (times : List (Option ℕ)) (taken : List Bool) (old new : List Entry) (x : Entry) → IsPermutation old (x ∷ new)
     → NoneBefore time times
-    → x.0.0 ≤ time → is_live times x ≡ true → IsTaking now time times taken old → IsTaking now time times (set taken x.0.1 true) new
-live_goes now time times taken old new x p none le live i =
+    → x.0.0 ≤ time → is_live times x ≡ true → IsTaking now later time times taken old → IsTaking now later time times (set taken x.0.1 true) new
+live_goes now later time times taken old new x p none le live i =
     let len : length (set taken x.0.1 true) ≡ length taken = length-set taken x.0.1 true in
     record {
       sized = len ∙ i.sized;
       due = λ d here. due d (cases_in_set taken x.0.1 d here);
-      stands = λ d t e other. go d t e (i.stands d t e other);
+      stands = λ d t e other beyond. go d t e (i.stands d t e other beyond);
     }
   where
     at_time : x.0.0 ≡ time
@@ -118,21 +118,21 @@ live_goes now time times taken old new x p none le live i =
     ]
 
 -- the end, when all entries that are left are later
-pub all_taken : (now time : ℕ) (times : List (Option ℕ)) (taken : List Bool) (items : List Entry) → time ≢ now → ((t d : ℕ)
+pub all_taken : (now later time : ℕ) (times : List (Option ℕ)) (taken : List Bool) (items : List Entry) → time ≢ now → time ≢ later → ((t d : ℕ)
     → Contains items (entry t d) → time < t)
-    → IsTaking now time times taken items → taken ≡ those_at time times
-all_taken now time times taken items other later i =
+    → IsTaking now later time times taken items → taken ≡ those_at time times
+all_taken now later time times taken items other beyond after i =
     let l : length (those_at time times) ≡ length times = length-map times (is_at time) in
     let s : length taken ≡ length times = i.sized in
     ext_get_or false taken (those_at time times) (omega arith) (λ d _. go d (is_in taken d) refl ∙ sym (in_those_at time times d))
   where
     impossible : (d : ℕ) → is_in taken d ≡ false → ((time ≡ time) × (is_in taken d ≡ true)) ⊎ Contains items (entry time d) → ⊥
     impossible d q (inl r) = not_both (is_in taken d) q r.1
-    impossible d q (inr c) = let h = later time d c in omega arith
+    impossible d q (inr c) = let h = after time d c in omega arith
 
     absent : (d : ℕ) → is_in taken d ≡ false → (b : Bool) → is_at time (time_of times d) ≡ b → false ≡ b
     absent d q false h = refl
-    absent d q true h = absurd (impossible d q (i.stands d time (time_from_at time (time_of times d) h) other))
+    absent d q true h = absurd (impossible d q (i.stands d time (time_from_at time (time_of times d) h) other beyond))
 
     go : (d : ℕ) → (b : Bool) → is_in taken d ≡ b → is_in taken d ≡ is_at time (time_of times d)
     go d true q = q ∙ sym (at_from_time time (time_of times d) (i.due d q))
@@ -152,11 +152,11 @@ cleared_time time (x ∷ xs) zero t e = go x e
         on false r q' = let k : s ≡ t = same_Some s t q' in (q', grind (arith, nat_tests))
 cleared_time time (x ∷ xs) (suc d) t e = cleared_time time xs d t e
 
-pub others_stand : (now time : ℕ) (times : List (Option ℕ)) (taken : List Bool) (items : List Entry) → IsTaking now time times taken items
-    → StandsBut now (cleared time times) items
-others_stand now time times taken items i d t e other =
+pub others_stand : (now later time : ℕ) (times : List (Option ℕ)) (taken : List Bool) (items : List Entry) → IsTaking now later time times taken items
+    → StandsBut now later (cleared time times) items
+others_stand now later time times taken items i d t e other beyond =
     let c = cleared_time time times d t e in
-    go c.1 (i.stands d t c.0 other)
+    go c.1 (i.stands d t c.0 other beyond)
   where
     go : t ≢ time → ((t ≡ time) × (is_in taken d ≡ true)) ⊎ Contains items (entry t d) → Contains items (entry t d)
     go differ (inl r) = absurd (differ r.0)

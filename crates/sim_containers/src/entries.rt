@@ -64,11 +64,11 @@ fn pop_top(heap: &mut Heap) -> Reverse<(u64, usize)>
 }
 
 /// Removes stale entries from the top.
-pub fn settle(heap: &mut Heap, times: &[Option<u64>], now: u64)
+pub fn settle(heap: &mut Heap, times: &[Option<u64>], now: u64, later: u64)
     requires order { IsHeap entry_cmp (heap_items heap.old) }
-    requires stands { StandsBut now times.now (heap_items heap.old) }
+    requires stands { StandsBut now later times.now (heap_items heap.old) }
     ensures order { IsHeap entry_cmp (heap_items heap.new) }
-    ensures stands { StandsBut now times.now (heap_items heap.new) }
+    ensures stands { StandsBut now later times.now (heap_items heap.new) }
     ensures live { HasLiveTop times.now (heap_items heap.new) }
 {
     while has_stale_top(heap, times) {
@@ -76,24 +76,25 @@ pub fn settle(heap: &mut Heap, times: &[Option<u64>], now: u64)
     }
 }
 
-/// Adds an entry for the time of a driver, if it has a time other than `now`.
+/// Adds an entry for the time of a driver, if it has a time other than `now` and `later`.
 pub fn add_entry(
     heap: &mut Heap,
     now: u64,
+    later: u64,
     driver: usize,
     time: Option<u64>,
 ) -> Result<(), AllocError>
     requires order { IsHeap entry_cmp (heap_items heap.old) }
     ensures order { IsHeap entry_cmp (heap_items heap.new) }
     ensures kept { (e : Entry) → Contains (heap_items heap.old) e → Contains (heap_items heap.new) e }
-    ensures added { OnOk result ((t : ℕ) → time ≡ Some t → t ≢ now → Contains (heap_items heap.new) (entry t driver)) }
+    ensures added { OnOk result ((t : ℕ) → time ≡ Some t → t ≢ now → t ≢ later → Contains (heap_items heap.new) (entry t driver)) }
     ensures len { heap_len heap.new ≤ heap_len heap.old + 1 }
     ensures capacity { heap_capacity heap.old ≤ heap_capacity heap.new }
     ensures room { heap_len heap.old < heap_capacity heap.old → IsOk result }
     ensures err { OnErr result (heap_items heap.new ≡ heap_items heap.old) }
 {
     match time {
-        Some(time) if time != now => {
+        Some(time) if time != now && time != later => {
             heap.push(Reverse((time, driver)))?;
             Ok(())
         }
@@ -102,48 +103,48 @@ pub fn add_entry(
 }
 
 /// Adds such an entry to a heap that has room for it.
-fn add_in_room(heap: &mut Heap, now: u64, driver: usize, time: Option<u64>)
+fn add_in_room(heap: &mut Heap, now: u64, later: u64, driver: usize, time: Option<u64>)
     requires room { heap_len heap.old < heap_capacity heap.old }
     requires order { IsHeap entry_cmp (heap_items heap.old) }
     ensures order { IsHeap entry_cmp (heap_items heap.new) }
     ensures kept { (e : Entry) → Contains (heap_items heap.old) e → Contains (heap_items heap.new) e }
-    ensures added { (t : ℕ) → time ≡ Some t → t ≢ now → Contains (heap_items heap.new) (entry t driver) }
+    ensures added { (t : ℕ) → time ≡ Some t → t ≢ now → t ≢ later → Contains (heap_items heap.new) (entry t driver) }
     ensures len { heap_len heap.new ≤ heap_len heap.old + 1 }
     ensures capacity { heap_capacity heap.old ≤ heap_capacity heap.new }
 {
-    match add_entry(heap, now, driver, time) {
+    match add_entry(heap, now, later, driver, time) {
         Ok(()) => {}
         Err(_) => unreachable(),
     }
 }
 
 /// Makes the heap anew from the times, without stale entries.
-fn rebuild(heap: &mut Heap, times: &[Option<u64>], now: u64)
+fn rebuild(heap: &mut Heap, times: &[Option<u64>], now: u64, later: u64)
     requires { length times.now ≤ heap_capacity heap.old }
     ensures order { IsHeap entry_cmp (heap_items heap.new) }
-    ensures stands { StandsBut now times.now (heap_items heap.new) }
+    ensures stands { StandsBut now later times.now (heap_items heap.new) }
     ensures len { heap_len heap.new ≤ length times.now }
 {
     heap.clear();
     for driver in 0..times.len() {
-        add_in_room(heap, now, driver, times[driver]);
+        add_in_room(heap, now, later, driver, times[driver]);
     }
 }
 
 /// Removes stale entries: all of them if they are more than half, else those at the top.
-pub fn trim(heap: &mut Heap, times: &[Option<u64>], now: u64)
+pub fn trim(heap: &mut Heap, times: &[Option<u64>], now: u64, later: u64)
     requires order { IsHeap entry_cmp (heap_items heap.old) }
-    requires stands { StandsBut now times.now (heap_items heap.old) }
+    requires stands { StandsBut now later times.now (heap_items heap.old) }
     ensures order { IsHeap entry_cmp (heap_items heap.new) }
-    ensures stands { StandsBut now times.now (heap_items heap.new) }
+    ensures stands { StandsBut now later times.now (heap_items heap.new) }
     ensures live { HasLiveTop times.now (heap_items heap.new) }
 {
     if heap.len() / 2 > times.len() {
-        rebuild(heap, times, now);
-        settle(heap, times, now);
+        rebuild(heap, times, now, later);
+        settle(heap, times, now, later);
         return;
     }
-    settle(heap, times, now);
+    settle(heap, times, now, later);
 }
 
 /// The first entry, if its time is at most `time`.
@@ -171,6 +172,7 @@ fn take_first(
     heap: &mut Heap,
     times: &[Option<u64>],
     now: u64,
+    later: u64,
     time: u64,
     first: (u64, usize),
     taken: &mut NumberSet,
@@ -180,9 +182,9 @@ fn take_first(
     requires first { (x : Entry) → slice_index_or (heap_items heap.old) 0 x ≡ entry first.0 first.1 }
     requires due { first.0 ≤ time }
     requires none_before { NoneBefore time times.now }
-    requires taking { IsTaking now time times.now taken.old (heap_items heap.old) }
+    requires taking { IsTaking now later time times.now taken.old (heap_items heap.old) }
     ensures order { IsHeap entry_cmp (heap_items heap.new) }
-    ensures taking { IsTaking now time times.now taken.new (heap_items heap.new) }
+    ensures taking { IsTaking now later time times.now taken.new (heap_items heap.new) }
     ensures len { heap_len heap.new + 1 ≡ heap_len heap.old }
 {
     let (found, driver) = first;
@@ -193,25 +195,27 @@ fn take_first(
     taken.insert(driver);
 }
 
-/// Takes the drivers with the least time, which is not `now`, from the heap.
+/// Takes the drivers with the least time, which is neither `now` nor `later`, from the heap.
 pub fn take_least(
     heap: &mut Heap,
     times: &[Option<u64>],
     now: u64,
+    later: u64,
     time: u64,
     taken: &mut NumberSet,
 )
     requires order { IsHeap entry_cmp (heap_items heap.old) }
-    requires stands { StandsBut now times.now (heap_items heap.old) }
+    requires stands { StandsBut now later times.now (heap_items heap.old) }
     requires none_before { NoneBefore time times.now }
     requires other { time ≢ now }
+    requires beyond { time ≢ later }
     requires empty { taken.old ≡ replicate (length times.now) false }
     ensures order { IsHeap entry_cmp (heap_items heap.new) }
     ensures taken { taken.new ≡ those_at time times.now }
-    ensures stands { StandsBut now (cleared time times.now) (heap_items heap.new) }
+    ensures stands { StandsBut now later (cleared time times.now) (heap_items heap.new) }
 {
     while let Some(first) = first_due(heap, time) {
-        take_first(heap, times, now, time, first, taken);
+        take_first(heap, times, now, later, time, first, taken);
     }
 }
 

@@ -1,9 +1,9 @@
 //! For each driver the time of its next transaction, with fast access to the least time.
 
-ghost use Rattle.std.specs.Prelude.{◌≡◌, ◌<◌, ◌⊎◌, ℕ, length, false, Option, None, Some, OnOk, OnErr, IfOk, replicate, slice_set};
+ghost use Rattle.std.specs.Prelude.{◌≡◌, ◌<◌, ◌⊎◌, ℕ, length, false, Option, None, Some, OnOk, OnErr, IfOk, MatchOption, replicate, slice_set};
 ghost use Rattle.std.specs.BinaryHeap.{heap_items, IsHeap};
-ghost use Rattle.sim_containers.specs.Times.{cleared, due_at, earliest, those_at};
-ghost use Rattle.sim_containers.specs.Entries.{entry_cmp, NoneBefore, StandsBut};
+ghost use Rattle.sim_containers.specs.Times.{clear, cleared, due_at, earlier, earliest, is_at, those_at};
+ghost use Rattle.sim_containers.specs.Entries.{entry_cmp, those_later, NoneBefore, StandsBut};
 
 use crate::entries::{Heap, add_entry, is_time, settle, take_least, top_time, trim};
 use crate::numbers::NumberSet;
@@ -13,11 +13,14 @@ use std::marker::Model;
 use std::mem;
 
 /// For each driver a time in femtoseconds, or none. The drivers whose time is `front_time` are in
-/// the set `front`, so that the next delta cycle is fast; the heap has entries for all other times.
+/// the set `front`, so that the next delta cycle is fast. Those with one more time, such as that of
+/// the next edge of a clock, are in the set `later`. The heap has entries for all other times.
 pub struct TimeQueue {
     times: Vec<Option<u64>>,
     front_time: u64,
     front: NumberSet,
+    later_time: u64,
+    later: NumberSet,
     heap: Heap,
 }
 
@@ -28,10 +31,13 @@ impl Drop for TimeQueue {
             times,
             front_time: _,
             front,
+            later_time: _,
+            later,
             heap,
         } = self;
         drop(times);
         drop(front);
+        drop(later);
         drop(heap);
     }
 }
@@ -45,7 +51,7 @@ impl Model for TimeQueue {
 
     ghost view = { λ queue. queue.times.items };
 
-    ghost invariant = { λ queue. IsQueue queue.times.items queue.front_time queue.front (heap_items queue.heap) };
+    ghost invariant = { λ queue. IsQueue queue.times.items queue.front_time queue.later_time queue.front queue.later (heap_items queue.heap) };
 }
 
 impl TimeQueue {
@@ -55,10 +61,13 @@ impl TimeQueue {
     {
         let times = Vec::from_elem(alloc, None, drivers)?;
         let front = NumberSet::new(alloc, drivers)?;
+        let later = NumberSet::new(alloc, drivers)?;
         Ok(TimeQueue {
             times,
             front_time: 0,
             front,
+            later_time: 0,
+            later,
             heap: BinaryHeap::new(alloc),
         })
     }
@@ -79,20 +88,44 @@ impl TimeQueue {
             self.times[driver] = Some(self.front_time);
             return Ok(());
         }
-        self.change(driver, time)
+        self.put_beyond(driver, time)
     }
 
     /// The same, for any time. It is out of line to keep the frequent cases short.
     #[inline(never)]
+    fn put_beyond(&mut self, driver: usize, time: Option<u64>) -> Result<(), AllocError>
+        requires { driver < length self.old }
+        ensures ok { OnOk result (self.new ≡ slice_set self.old driver time) }
+        ensures err { OnErr result (self.new ≡ self.old) }
+    {
+        self.choose_later(time);
+        self.change(driver, time)
+    }
+
+    /// Chooses the time of the set `later`, unless it or the heap have drivers.
+    fn choose_later(&mut self, time: Option<u64>)
+        ensures { self.new ≡ self.old }
+    {
+        let Some(time) = time else {
+            return;
+        };
+        if self.heap.is_empty() && self.later.is_empty() {
+            self.later_time = time;
+        }
+    }
+
+    /// Sets or clears the time of a driver.
     fn change(&mut self, driver: usize, time: Option<u64>) -> Result<(), AllocError>
         requires { driver < length self.old }
         ensures ok { OnOk result (self.new ≡ slice_set self.old driver time) }
         ensures err { OnErr result (self.new ≡ self.old) }
     {
-        add_entry(&mut self.heap, self.front_time, driver, time)?;
-        self.front.put(driver, is_time(time, self.front_time));
+        let (now, later) = (self.front_time, self.later_time);
+        add_entry(&mut self.heap, now, later, driver, time)?;
+        self.front.put(driver, is_time(time, now));
+        self.later.put(driver, is_later(time, now, later));
         self.times[driver] = time;
-        trim(&mut self.heap, self.times.as_slice(), self.front_time);
+        trim(&mut self.heap, self.times.as_slice(), now, later);
         Ok(())
     }
 
@@ -100,14 +133,9 @@ impl TimeQueue {
     pub fn least(&self) -> Option<u64>
         ensures { result ≡ earliest self.now }
     {
-        let top = top_time(&self.heap);
-        if self.front.is_empty() {
-            return top;
-        }
-        match top {
-            None => Some(self.front_time),
-            Some(top) => Some(top.min(self.front_time)),
-        }
+        let front = time_of_set(&self.front, self.front_time);
+        let later = time_of_set(&self.later, self.later_time);
+        sooner(front, sooner(later, top_time(&self.heap)))
     }
 
     /// Moves the drivers with the least time to `taken`, whose members they replace. It takes no
@@ -122,12 +150,19 @@ impl TimeQueue {
             &mut self.heap,
             self.times.as_slice(),
             self.front_time,
+            self.later_time,
             &mut self.front,
+            &mut self.later,
             time,
             taken,
         );
         clear_each(&mut self.times, taken);
-        settle(&mut self.heap, self.times.as_slice(), self.front_time);
+        settle(
+            &mut self.heap,
+            self.times.as_slice(),
+            self.front_time,
+            self.later_time,
+        );
         self.front_time = next_time(&self.front, self.front_time, time);
     }
 
@@ -147,23 +182,56 @@ impl TimeQueue {
     }
 }
 
-/// Takes the drivers with the least time from the front or from the heap.
+/// Whether a time is there and is `later`, and that is not `now`.
+fn is_later(time: Option<u64>, now: u64, later: u64) -> bool
+    ensures { result ≡ is_at later (clear now time) }
+{
+    if later == now {
+        return false;
+    }
+    is_time(time, later)
+}
+
+/// The time of the drivers of a set, if it has one.
+fn time_of_set(set: &NumberSet, time: u64) -> Option<u64>
+    ensures { MatchOption result (set.now ≡ replicate (length set.now) false)
+        (λ t. (t ≡ time) × (set.now ≡ replicate (length set.now) false → ⊥)) }
+{
+    if set.is_empty() { None } else { Some(time) }
+}
+
+/// The earlier of two times.
+fn sooner(time: Option<u64>, other: Option<u64>) -> Option<u64>
+    ensures { result ≡ earlier time other }
+{
+    match (time, other) {
+        (Some(time), Some(other)) => Some(time.min(other)),
+        (None, other) => other,
+        (time, None) => time,
+    }
+}
+
+/// Takes the drivers with the least time from the sets or from the heap.
 fn take_out(
     heap: &mut Heap,
     times: &[Option<u64>],
     now: u64,
+    later: u64,
     front: &mut NumberSet,
+    laters: &mut NumberSet,
     time: u64,
     taken: &mut NumberSet,
 )
     requires order { IsHeap entry_cmp (heap_items heap.old) }
-    requires stands { StandsBut now times.now (heap_items heap.old) }
+    requires stands { StandsBut now later times.now (heap_items heap.old) }
     requires front { front.old ≡ those_at now times.now }
+    requires later { laters.old ≡ those_later now later times.now }
     requires none_before { NoneBefore time times.now }
     requires sized { length taken.old ≡ length times.now }
     ensures order { IsHeap entry_cmp (heap_items heap.new) }
-    ensures stands { StandsBut now (cleared time times.now) (heap_items heap.new) }
+    ensures stands { StandsBut now later (cleared time times.now) (heap_items heap.new) }
     ensures front { front.new ≡ those_at now (cleared time times.now) }
+    ensures later { laters.new ≡ those_later now later (cleared time times.now) }
     ensures taken { taken.new ≡ those_at time times.now }
 {
     taken.clear();
@@ -171,7 +239,11 @@ fn take_out(
         mem::swap(front, taken);
         return;
     }
-    take_least(heap, times, now, time, taken);
+    if time == later {
+        mem::swap(laters, taken);
+        return;
+    }
+    take_least(heap, times, now, later, time, taken);
 }
 
 /// Clears the times of these drivers.

@@ -42,14 +42,12 @@ fn execute_alone(alloc: Global, run: WaveStore) -> Option<WaveStore>
     run.execute_due(alloc).ok()
 }
 
-/// Executes all processes that are due, which take `steps` steps in all. Large shares go to
-/// workers. `None` if the team fails.
+/// Executes all processes that are due. Large shares go to workers. `None` if the team fails.
 fn execute_in_shares<D: DesignType, R: Wait>(
     rt: &R,
     alloc: Global,
     run: WaveStore,
     team: &mut Team<'_, PhaseWork<D>>,
-    steps: usize,
 ) -> Option<WaveStore>
     requires design { run.simulation.design ≡ D.design }
     requires untouched { hands.IsUntouched run }
@@ -57,15 +55,15 @@ fn execute_in_shares<D: DesignType, R: Wait>(
     ensures complete { IfSome result (λ s. simulations.IsComplete s.simulation) }
 {
     let (handed_out, shares) = run.hand_out::<D>(alloc).ok()?;
-    let answers = team.carry_out(rt, alloc, shares, steps)?;
+    let answers = team.carry_out(rt, alloc, shares)?;
     match handed_out.take_back(alloc, answers) {
         Ok(run) => Some(run),
         Err(_lost) => None,
     }
 }
 
-/// Executes all processes that are due, by the team if there is enough work and the team is free.
-/// Each process takes about `length` steps. `None` if the team fails or memory runs out.
+/// Executes all processes that are due, by the team if there is enough work. Each process takes
+/// about `length` steps. `None` if the team fails or memory runs out.
 fn execute<D: DesignType, R: Wait>(
     rt: &R,
     alloc: Global,
@@ -78,11 +76,10 @@ fn execute<D: DesignType, R: Wait>(
     ensures complete { IfSome result (λ s. simulations.IsComplete s.simulation) }
 {
     let steps = run.due().len().saturating_mul(length);
-    if !team.is_free(steps) || !run.is_untouched() {
-        team.pay(steps);
+    if !team.is_useful(steps) || !run.is_untouched() {
         return execute_alone(alloc, run);
     }
-    execute_in_shares(rt, alloc, run, team, steps)
+    execute_in_shares(rt, alloc, run, team)
 }
 
 /// Carries out one phase of a cycle, and goes on; `None` if the team fails or memory runs out.
@@ -158,7 +155,11 @@ fn run_by<D: DesignType + Send + Sync, R: Threads + Wait + Sync>(
         {
             let mut team = Team::new(alloc, main, hints);
             for bell in bells {
-                let (line, worker) = pair::<PhaseWork<D>>(alloc, bell).ok()?;
+                let (line, worker) = pair::<PhaseWork<D>>(
+                    alloc,
+                    bell,
+                    hints.looks_before_sleep,
+                ).ok()?;
                 if scope
                     .spawn(move || worker.work(rt, alloc, bell, main))
                     .is_ok()

@@ -13,30 +13,31 @@ pub struct Hints {
     /// The least number of processes of an order for a worker. A smaller order is carried out by
     /// the main thread.
     pub least_processes_of_an_order: usize,
-    /// The number of steps that the main thread takes alone after the first late answer.
-    pub steps_after_a_late_answer: usize,
+    /// The number of times that a waiting thread looks for a message before it sleeps, so that
+    /// another thread or program may have its processor.
+    pub looks_before_sleep: u32,
 }
 
 impl Hints {
-    /// Measured values: a phase takes some tens of microseconds, and a late answer costs about a
-    /// millisecond.
+    /// Measured values: a phase takes some tens of microseconds, as does to sleep and to be woken;
+    /// so a thread looks for some thirty microseconds.
     pub const fn measured() -> Hints {
         Hints {
             least_steps_of_a_process: 16,
             least_steps_of_a_phase: 10_000,
             least_processes_of_an_order: 16,
-            steps_after_a_late_answer: 100_000,
+            looks_before_sleep: 4_000,
         }
     }
 
-    /// Every phase is handed out to all threads, whatever it costs, so that small runs exercise the
-    /// threads.
+    /// Every phase is handed out to all threads, whatever it costs, and who waits soon sleeps, so
+    /// that small runs exercise the threads.
     pub const fn all_handed_out() -> Hints {
         Hints {
             least_steps_of_a_process: 0,
             least_steps_of_a_phase: 0,
             least_processes_of_an_order: 0,
-            steps_after_a_late_answer: 0,
+            looks_before_sleep: 100,
         }
     }
 }

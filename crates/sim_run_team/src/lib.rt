@@ -5,7 +5,6 @@
 mod bell;
 mod hints;
 mod message;
-mod pace;
 mod workers;
 
 pub use bell::Bell;

@@ -47,17 +47,16 @@ fn awaited<R: Wait, T: Drop>(rt: &R, from: &mut Consumer<T>, bell: &Bell) -> Opt
     None
 }
 
-/// The next message, and whether it took more than `looks` looks; `None` if the other end is gone.
-/// It spins for that many looks and then sleeps, so that another thread may have the processor.
+/// The next message; `None` if the other end is gone. It spins for so many looks and then sleeps,
+/// so that another thread may have the processor.
 pub fn next<R: Wait, T: Drop>(
     rt: &R,
     from: &mut Consumer<T>,
     bell: &Bell,
     looks: u32,
-) -> Option<(T, bool)> {
+) -> Option<T> {
     if let Some(message) = seen(from, looks) {
-        return Some((message, false));
+        return Some(message);
     }
-    let message = awaited(rt, from, bell)?;
-    Some((message, true))
+    awaited(rt, from, bell)
 }

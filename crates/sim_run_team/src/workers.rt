@@ -5,7 +5,6 @@ ghost use Rattle.std.specs.Prelude.{◌≡◌, ◌+◌, IfSome, length};
 use crate::bell::Bell;
 use crate::hints::Hints;
 use crate::message::next;
-use crate::pace::{Pace, patience};
 use rtrb::{Consumer, Producer, PushError, RingBuffer};
 use std::alloc::{AllocError, Global};
 use std::sync::Wait;
@@ -26,23 +25,18 @@ pub trait Work {
     fn carry_out(alloc: Global, order: Self::Order) -> Option<Self::Answer>;
 }
 
-/// An order for a worker, and the number of looks for the next one before it sleeps.
-#[derive(Drop)]
-struct Errand<O> {
-    order: O,
-    looks: u32,
-}
-
 /// A worker's ends: it takes orders and gives answers, one at a time.
 #[derive(Drop)]
 pub struct Worker<W: Work> {
-    orders: Consumer<Errand<W::Order>>,
+    orders: Consumer<W::Order>,
     answers: Producer<Option<W::Answer>>,
+    /// The number of looks for an order before it sleeps.
+    looks: u32,
 }
 
 /// The main thread's ends. When they are dropped, the worker wakes up and ends.
 pub struct Line<'a, W: Work> {
-    orders: Producer<Errand<W::Order>>,
+    orders: Producer<W::Order>,
     answers: Consumer<Option<W::Answer>>,
     bell: &'a Bell,
 }
@@ -60,8 +54,13 @@ impl<W: Work> Drop for Line<'_, W> {
     }
 }
 
-/// The ends of the main thread and of a worker, which sleeps until this bell rings.
-pub fn pair<W: Work>(alloc: Global, bell: &Bell) -> Result<(Line<'_, W>, Worker<W>), AllocError> {
+/// The ends of the main thread and of a worker, which sleeps until this bell rings if it has found
+/// no order after so many looks.
+pub fn pair<W: Work>(
+    alloc: Global,
+    bell: &Bell,
+    looks: u32,
+) -> Result<(Line<'_, W>, Worker<W>), AllocError> {
     let (orders, their_orders) = RingBuffer::new(alloc, 1)?;
     let (their_answers, answers) = RingBuffer::new(alloc, 1)?;
     Ok((
@@ -73,6 +72,7 @@ pub fn pair<W: Work>(alloc: Global, bell: &Bell) -> Result<(Line<'_, W>, Worker<
         Worker {
             orders: their_orders,
             answers: their_answers,
+            looks,
         },
     ))
 }
@@ -80,18 +80,19 @@ pub fn pair<W: Work>(alloc: Global, bell: &Bell) -> Result<(Line<'_, W>, Worker<
 impl<W: Work> Worker<W> {
     /// Carries out one order after another, until the main thread's ends are gone.
     pub fn work<R: Wait>(self, rt: &R, alloc: Global, mine: &Bell, main: &Bell) {
-        let Worker { orders, answers } = self;
+        let Worker {
+            orders,
+            answers,
+            looks,
+        } = self;
         let mut orders = orders;
         let mut answers = answers;
-        let mut often = 0;
         for _ in rt.forever() {
-            let Some((errand, _is_late)) = next(rt, &mut orders, mine, often) else {
+            let Some(order) = next(rt, &mut orders, mine, looks) else {
                 return;
             };
-            let Errand { order, looks } = errand;
             let _ = answers.push(W::carry_out(alloc, order));
             main.ring();
-            often = looks;
         }
     }
 }
@@ -109,7 +110,6 @@ pub struct Team<'a, W: Work> {
     lines: Vec<Line<'a, W>>,
     bell: &'a Bell,
     hints: Hints,
-    pace: Pace,
 }
 
 impl<'a, W: Work> Team<'a, W> {
@@ -119,7 +119,6 @@ impl<'a, W: Work> Team<'a, W> {
             lines: Vec::new(alloc),
             bell,
             hints,
-            pace: Pace::new(hints.steps_after_a_late_answer),
         }
     }
 
@@ -128,15 +127,10 @@ impl<'a, W: Work> Team<'a, W> {
         self.lines.push(line).ok()
     }
 
-    /// Whether orders of this many steps in all may be given: there is enough work, there are
-    /// workers, and their answers come in time.
-    pub fn is_free(&self, steps: usize) -> bool {
-        steps >= self.hints.least_steps_of_a_phase && !self.lines.is_empty() && self.pace.is_free()
-    }
-
-    /// Records that steps were executed without the team.
-    pub fn pay(&mut self, steps: usize) {
-        self.pace.pay(steps);
+    /// Whether orders of this many steps in all are worth giving: there is enough work, and there
+    /// are workers.
+    pub fn is_useful(&self, steps: usize) -> bool {
+        steps >= self.hints.least_steps_of_a_phase && !self.lines.is_empty()
     }
 
     /// Gives an order to the worker with a number, or carries it out here if it is small or there
@@ -146,43 +140,30 @@ impl<'a, W: Work> Team<'a, W> {
         if !is_large || number >= self.lines.len() {
             return Begun::Done(W::carry_out(alloc, order));
         }
-        let looks = self.pace.looks();
         let line = &mut self.lines[number];
-        match line.orders.push(Errand { order, looks }) {
+        match line.orders.push(order) {
             Ok(()) => {
                 line.bell.ring();
                 Begun::Given(number)
             }
-            Err(PushError::Full(errand)) => Begun::Done(W::carry_out(alloc, errand.order)),
+            Err(PushError::Full(order)) => Begun::Done(W::carry_out(alloc, order)),
         }
     }
 
-    /// The answer of the worker with a number, and whether it was late; `None` if that worker is
-    /// gone, or had no memory.
-    fn received<R: Wait>(
-        &mut self,
-        rt: &R,
-        number: usize,
-        looks: u32,
-    ) -> Option<(W::Answer, bool)> {
+    /// The answer of the worker with a number; `None` if that worker is gone, or had no memory.
+    fn received<R: Wait>(&mut self, rt: &R, number: usize) -> Option<W::Answer> {
         if number >= self.lines.len() {
             return None;
         }
         let answers = &mut self.lines[number].answers;
-        let (message, is_late) = next(rt, answers, self.bell, looks)?;
-        Some((message?, is_late))
+        next(rt, answers, self.bell, self.hints.looks_before_sleep)?
     }
 
-    /// The answer to an order that was begun, and whether it was late; `None` if there is none.
-    fn answer<R: Wait>(
-        &mut self,
-        rt: &R,
-        begun: Begun<W::Answer>,
-        looks: u32,
-    ) -> Option<(W::Answer, bool)> {
+    /// The answer to an order that was begun; `None` if there is none.
+    fn answer<R: Wait>(&mut self, rt: &R, begun: Begun<W::Answer>) -> Option<W::Answer> {
         match begun {
-            Begun::Done(answer) => Some((answer?, false)),
-            Begun::Given(number) => self.received(rt, number, looks),
+            Begun::Done(answer) => answer,
+            Begun::Given(number) => self.received(rt, number),
         }
     }
 
@@ -199,49 +180,44 @@ impl<'a, W: Work> Team<'a, W> {
         Some(begun)
     }
 
-    /// The answers to orders, in order, and whether one was late. Waits for all that were given
-    /// away; `None` if one has no answer.
+    /// The answers to orders, in order. Waits for all that were given away; `None` if one has no
+    /// answer.
     fn answers<R: Wait>(
         &mut self,
         rt: &R,
         begun: Vec<Begun<W::Answer>>,
-        looks: u32,
         answers: &mut Vec<W::Answer>,
-    ) -> Option<bool>
+    ) -> Option<()>
         ensures { IfSome result (λ _. length answers.new.items ≡ length answers.old.items + length begun.items) }
     {
-        let mut late = Some(false);
+        let mut all = Some(());
         for one in begun {
-            match self.answer(rt, one, looks) {
-                Some((answer, is_late)) => {
+            match self.answer(rt, one) {
+                Some(answer) => {
                     if answers.push(answer).is_err() {
-                        late = None;
-                    } else if is_late && late == Some(false) {
-                        late = Some(true);
+                        all = None;
                     }
                 }
-                None => late = None,
+                None => all = None,
             }
         }
-        late
+        all
     }
 
-    /// Has orders of this many steps in all carried out by the workers and this thread, and returns
-    /// their answers in order. `None` if the team fails: this thread or a worker had no memory, or
-    /// a worker is gone. What the orders held is then lost.
+    /// Has orders carried out by the workers and this thread, and returns their answers in order.
+    /// `None` if the team fails: this thread or a worker had no memory, or a worker is gone. What
+    /// the orders held is then lost.
     pub fn carry_out<R: Wait>(
         &mut self,
         rt: &R,
         alloc: Global,
         orders: Vec<W::Order>,
-        steps: usize,
     ) -> Option<Vec<W::Answer>>
         ensures { IfSome result (λ v. length v.items ≡ length orders.items) }
     {
         let mut answers = Vec::with_capacity(alloc, orders.len()).ok()?;
         let begun = self.begin_all(alloc, orders)?;
-        let is_late = self.answers(rt, begun, patience(steps), &mut answers)?;
-        self.pace.came(is_late);
+        self.answers(rt, begun, &mut answers)?;
         Some(answers)
     }
 }

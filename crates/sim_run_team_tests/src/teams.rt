@@ -13,6 +13,8 @@ use std::thread::{self, Threads};
 struct Given {
     /// The number of threads beside the main thread.
     workers: usize,
+    /// The number of looks of a waiting thread before it sleeps.
+    looks: u32,
     /// The number of arrivals before one of these threads begins to work.
     begins_after: u64,
     /// The number of orders.
@@ -32,6 +34,13 @@ fn bells(alloc: Global, workers: usize) -> Result<Vec<Bell>, AllocError> {
     Ok(bells)
 }
 
+/// Everything is handed out, and a waiting thread sleeps after so many looks.
+fn hints(looks: u32) -> Hints {
+    let mut hints = Hints::all_handed_out();
+    hints.looks_before_sleep = looks;
+    hints
+}
+
 /// The bells of the workers, the orders, and the board that all of them use.
 fn ready(alloc: Global, given: Given) -> Option<(Vec<Bell>, Vec<Visit>, Arc<Board, Global>)> {
     let bells = bells(alloc, given.workers).ok()?;
@@ -47,17 +56,18 @@ fn answered<R: Threads + Wait + Sync>(rt: &R, alloc: Global, given: Given) -> Op
     let bells = bells.as_slice();
     let board = &*board;
     let begins_after = given.begins_after;
+    let looks = given.looks;
     thread::scope(thread::scope_env(), rt, |scope| -> Option<Vec<usize>> {
-        let mut team = Team::new(alloc, main, Hints::all_handed_out());
+        let mut team = Team::new(alloc, main, hints(looks));
         for bell in bells {
-            let (line, worker) = pair::<Visits>(alloc, bell).ok()?;
+            let (line, worker) = pair::<Visits>(alloc, bell, looks).ok()?;
             let _started = scope.spawn(move || {
                 board.has(begins_after);
                 worker.work(rt, alloc, bell, main)
             });
             team.add(line)?;
         }
-        team.carry_out(rt, alloc, orders, 0)
+        team.carry_out(rt, alloc, orders)
     })
 }
 
@@ -74,30 +84,33 @@ fn is_answered<R: Threads + Wait + Sync>(rt: &R, alloc: Global, given: Given) ->
     answers.len() == given.orders
 }
 
-/// The numbers of workers, of arrivals before they begin, of orders, and of orders at the same
-/// time. If the last two are equal, a thread that carries out two orders would leave all without an
+/// The numbers of workers, of looks before a thread sleeps, of arrivals before the workers begin, of
+/// orders, and of orders at the same time. If the last two are equal, a thread that carries out two orders would leave all without an
 /// answer, as each waits for all. Workers that begin late have their orders before they first look.
-static ANSWERED: [(usize, u64, usize, u64); 13] = [
-    (1, 0, 2, 2),
-    (2, 0, 3, 3),
-    (3, 0, 4, 4),
-    (7, 0, 8, 8),
-    (15, 0, 16, 16),
-    (1, 1, 2, 2),
-    (3, 1, 4, 4),
-    (0, 0, 5, 1),
-    (1, 0, 5, 2),
-    (3, 0, 5, 4),
-    (5, 0, 5, 5),
-    (16, 0, 5, 5),
-    (3, 0, 0, 0),
+static ANSWERED: [(usize, u32, u64, usize, u64); 15] = [
+    (1, 100, 0, 2, 2),
+    (2, 100, 0, 3, 3),
+    (3, 0, 0, 4, 4),
+    (3, 1_000_000, 0, 4, 4),
+    (7, 100, 0, 8, 8),
+    (15, 0, 0, 16, 16),
+    (1, 0, 1, 2, 2),
+    (3, 100, 1, 4, 4),
+    (3, 1_000_000, 1, 4, 4),
+    (0, 0, 0, 5, 1),
+    (1, 100, 0, 5, 2),
+    (3, 100, 0, 5, 4),
+    (5, 0, 0, 5, 5),
+    (16, 100, 0, 5, 5),
+    (3, 100, 0, 0, 0),
 ];
 
 #[test]
 fn orders_are_carried_out_at_once_and_answered_in_order(rt: HostRuntime) -> Result<(), Fail> {
-    for (workers, begins_after, orders, at_once) in &ANSWERED {
+    for (workers, looks, begins_after, orders, at_once) in &ANSWERED {
         let given = Given {
             workers: *workers,
+            looks: *looks,
             begins_after: *begins_after,
             orders: *orders,
             at_once: *at_once,
@@ -105,7 +118,7 @@ fn orders_are_carried_out_at_once_and_answered_in_order(rt: HostRuntime) -> Resu
         };
         assert!(rt;
             is_answered(&rt, rt.alloc(), given),
-            "{workers} workers, {orders} orders"
+            "{workers} workers, {looks} looks, {orders} orders"
         );
     }
     Ok(())
@@ -116,6 +129,7 @@ fn a_team_fails_where_an_order_has_no_answer(rt: HostRuntime) -> Result<(), Fail
     for silent in 0..4 {
         let given = Given {
             workers: 2,
+            looks: 100,
             begins_after: 0,
             orders: 4,
             at_once: 0,
@@ -130,17 +144,18 @@ fn a_team_fails_where_an_order_has_no_answer(rt: HostRuntime) -> Result<(), Fail
 fn answered_by_nobody<R: Wait>(rt: &R, alloc: Global, given: Given) -> Option<Vec<usize>> {
     let (main, theirs) = (Bell::new(), Bell::new());
     let (_bells, orders, _board) = ready(alloc, given)?;
-    let (line, worker) = pair::<Visits>(alloc, &theirs).ok()?;
+    let (line, worker) = pair::<Visits>(alloc, &theirs, given.looks).ok()?;
     drop(worker);
-    let mut team = Team::new(alloc, &main, Hints::all_handed_out());
+    let mut team = Team::new(alloc, &main, hints(given.looks));
     team.add(line)?;
-    team.carry_out(rt, alloc, orders, 0)
+    team.carry_out(rt, alloc, orders)
 }
 
 #[test]
 fn a_team_fails_where_a_worker_is_gone(rt: HostRuntime) -> Result<(), Fail> {
     let given = Given {
         workers: 0,
+        looks: 100,
         begins_after: 0,
         orders: 1,
         at_once: 0,

@@ -9,6 +9,6 @@ returns-in_ok-push-in-Some-clause-kept c =
     kept_by_push (heap_items c.args.heap.now) (heap_items c.push.new.self) (entry c.in-Some.time c.args.driver) c.in_ok-push-in-Some.ensures.permutation
 
 pub returns-in_ok-push-in-Some-clause-added : goal.returns-in_ok-push-in-Some-clause-added
-returns-in_ok-push-in-Some-clause-added c t e other =
+returns-in_ok-push-in-Some-clause-added c t e other beyond =
     added_by_push (heap_items c.args.heap.now) (heap_items c.push.new.self) t c.in-Some.time c.args.driver c.in_ok-push-in-Some.ensures.permutation
     (same_Some c.in-Some.time t (sym c.in-Some.is ∙ e))

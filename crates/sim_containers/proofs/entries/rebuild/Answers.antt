@@ -8,6 +8,6 @@ loop-driver-preserved c =
       order = c.add_in_room.ensures.order;
       room = omega arith;
       len = omega arith;
-      stands = stands_upto c.args.now c.args.times.now c.loop-driver.driver (heap_items c.loop-driver.heap) (heap_items c.add_in_room.new.heap)
+      stands = stands_upto c.args.now c.args.later c.args.times.now c.loop-driver.driver (heap_items c.loop-driver.heap) (heap_items c.add_in_room.new.heap)
           c.loop-driver.invariant.stands c.add_in_room.ensures.kept c.add_in_room.ensures.added;
     }

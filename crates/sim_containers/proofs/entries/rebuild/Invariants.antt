@@ -10,5 +10,5 @@ invariant-loop-driver l = record {
   order : IsHeap entry_cmp (heap_items l.heap);
   room : length l.times ≤ heap_capacity l.heap;
   len : heap_len l.heap ≤ l.driver;
-  stands : (d t : ℕ) → d < l.driver → time_of l.times d ≡ Some t → t ≢ l.now → Contains (heap_items l.heap) (entry t d);
+  stands : (d t : ℕ) → d < l.driver → time_of l.times d ≡ Some t → t ≢ l.now → t ≢ l.later → Contains (heap_items l.heap) (entry t d);
 }

@@ -10,6 +10,6 @@ loop-heap-preserved c =
     (c.has_stale_top.ensures.stale c.loop-heap-test.true c.pop_top.result) in
     record {
       order = c.pop_top.ensures.order;
-      stands = stands_without c.args.now c.args.times.now (heap_items c.loop-heap.heap) (heap_items c.pop_top.new.heap) c.pop_top.result
+      stands = stands_without c.args.now c.args.later c.args.times.now (heap_items c.loop-heap.heap) (heap_items c.pop_top.new.heap) c.pop_top.result
           c.pop_top.ensures.permutation stale c.loop-heap.invariant.stands;
     }

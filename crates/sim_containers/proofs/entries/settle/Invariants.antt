@@ -6,7 +6,7 @@ use Rattle.sim_containers.proofs.entries.settle.Given as goal
 abbrev pub invariant-loop-heap : goal.invariant-loop-heap
 invariant-loop-heap l = record {
   order : IsHeap entry_cmp (heap_items l.heap);
-  stands : StandsBut l.now l.times (heap_items l.heap);
+  stands : StandsBut l.now l.later l.times (heap_items l.heap);
 }
 
 abbrev pub decreases-loop-heap : goal.decreases-loop-heap

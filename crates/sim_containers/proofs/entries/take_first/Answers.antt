@@ -6,7 +6,7 @@ use Rattle.sim_containers.proofs.entries.take_first.Goals as goal
 
 pub returns-then-not-has_time-clause-taking : goal.returns-then-not-has_time-clause-taking
 returns-then-not-has_time-clause-taking c =
-    stale_goes c.args.now c.args.time c.args.times.now c.args.taken.now (heap_items c.args.heap.now) (heap_items c.pop_top.new.heap)
+    stale_goes c.args.now c.args.later c.args.time c.args.times.now c.args.taken.now (heap_items c.args.heap.now) (heap_items c.pop_top.new.heap)
     (entry c.args.first.0 c.args.first.1)
     (subst (λ (y : Entry). IsPermutation (heap_items c.args.heap.now) (y ∷ heap_items c.pop_top.new.heap))
     (c.pop_top.ensures.top ∙ c.requires.first c.pop_top.result) c.pop_top.ensures.permutation)
@@ -14,8 +14,8 @@ returns-then-not-has_time-clause-taking c =
 
 pub returns-clause-taking : goal.returns-clause-taking
 returns-clause-taking c =
-    subst (λ (taken : List Bool). IsTaking c.args.now c.args.time c.args.times.now taken (heap_items c.pop_top.new.heap)) (sym c.insert.ensures)
-    (live_goes c.args.now c.args.time c.args.times.now c.args.taken.now (heap_items c.args.heap.now) (heap_items c.pop_top.new.heap)
+    subst (λ (taken : List Bool). IsTaking c.args.now c.args.later c.args.time c.args.times.now taken (heap_items c.pop_top.new.heap)) (sym c.insert.ensures)
+    (live_goes c.args.now c.args.later c.args.time c.args.times.now c.args.taken.now (heap_items c.args.heap.now) (heap_items c.pop_top.new.heap)
     (entry c.args.first.0 c.args.first.1)
     (subst (λ (y : Entry). IsPermutation (heap_items c.args.heap.now) (y ∷ heap_items c.pop_top.new.heap))
     (c.pop_top.ensures.top ∙ c.requires.first c.pop_top.result) c.pop_top.ensures.permutation)
