@@ -9,9 +9,11 @@ use Rattle.std.proofs.lemmas.List.{get_or-set_other, set-get_or}
 use Rattle.std.proofs.lemmas.Result.{on_ok_weaker}
 use Rattle.sim_flat_design.specs.Bodies.{Body}
 use Rattle.sim_exec.specs.Jobs.{IsReady}
-use Rattle.sim_standard.specs.Drivers.{DriverState, RisesFrom, next_time}
-use Rattle.sim_standard.specs.State.{Owned, driver_at, no_driver}
+use Rattle.sim_standard.specs.Drivers.{DriverState, next_time}
+use Rattle.sim_standard.specs.State.{Owned, driver_at}
 use Rattle.sim_standard.specs.declared.net_view.NetView.{NetView}
+use Rattle.sim_standard.proofs.Names.{no_driver}
+use Rattle.sim_wave.specs.Rising.{RisesFrom}
 use Rattle.sim_exec_code.specs.declared.quick.SingleAssignment.{SingleAssignment}
 use Rattle.sim_exec_code.specs.Codes.{is_missing}
 use Rattle.sim_exec_code.specs.Quick.{driven, quick_executed}

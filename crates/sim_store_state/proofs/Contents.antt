@@ -9,10 +9,11 @@ use Rattle.sim_exec_code.specs.Codes.{Program, ArePlaced, objects_of, gathered_n
 use Rattle.sim_standard.specs.Drivers.{DriverState, taken}
 use Rattle.sim_containers.specs.RowArray.{joined}
 use Rattle.sim_standard.specs.declared.net_view.NetView.{NetView}
-use Rattle.sim_standard.specs.State.{State, Owned, nothing_owned, net_at, all_drivers}
-use Rattle.sim_standard.specs.Nets.{changed_to, net_value, nets_updated}
-use Rattle.sim_standard.specs.Cycle.{own_taken, updated}
-use Rattle.sim_store_state.specs.FlatState.{FlatState, flat_state_of, held, views_of, owned_lists, AreLists, sources_of}
+use Rattle.sim_standard.specs.State.{State, Owned, net_at, all_drivers}
+use Rattle.sim_standard.specs.Nets.{net_value}
+use Rattle.sim_standard.specs.Cycle.{updated}
+use Rattle.sim_standard.proofs.Names.{nothing_owned, nets_updated, own_taken}
+use Rattle.sim_store_state.specs.FlatState.{FlatState, flat_state_of, held, views_of, owned_lists, AreLists, sources_of, changed_to}
 use Rattle.sim_store_state.specs.Changes.{row_value}
 use Rattle.sim_store_state.proofs.Views.{length-views_of}
 
@@ -120,7 +121,6 @@ gathered_placed nets values values_before row code e = λ k lt.
 -- new values, with the old ones as the values before
 pub views-updated : (ws : List DriverState) (nets : List Net) (values values_before : List Logic) → length values ≡ length values_before
     → length nets ≡ length values → views_of (map (row_value ws) (sources_of nets)) values ≡ nets_updated ws nets (views_of values values_before)
-unfolding nets_updated
 views-updated ws [] values values_before e f = refl
 views-updated ws (n ∷ nets) [] values_before e f = absurd (omega arith)
 views-updated ws (n ∷ nets) (v ∷ values) [] e f = absurd (omega arith)

@@ -6,7 +6,7 @@ use Rattle.std.proofs.lemmas.Bool.Decides.{nat_tests}
 use Rattle.std.proofs.lemmas.List.{length-map, same_lists, get_or_default, get_or-set_same, get_or-set_other}
 use Rattle.std.proofs.lemmas.Option.{same_Some}
 use Rattle.sim_logic.specs.declared.logic.Logic.{Logic}
-use Rattle.sim_standard.specs.Drivers.{Transaction, DriverState, taken, taken_at, next_time}
+use Rattle.sim_standard.specs.Drivers.{Transaction, DriverState, taken, next_time}
 use Rattle.sim_standard.specs.State.{driver_at}
 use Rattle.sim_containers.specs.Numbers.{is_in}
 use Rattle.sim_containers.specs.Times as queue
@@ -83,7 +83,7 @@ abbrev driver_state : Logic → List Transaction → DriverState
 driver_state value pending = record { value = value; pending = pending }
 
 keeps : (time : ℕ) (v : Logic) (xs : List Transaction) → ((x : Transaction) (rest : List Transaction) → xs ≡ x ∷ rest → x.0 ≢ time)
-    → taken_at time v xs ≡ record { value = v; pending = xs }
+    → taken time (driver_state v xs) ≡ driver_state v xs
 keeps time v [] f = refl
 keeps time v (x ∷ xs) f = go (eqb x.0 time) refl
   where

@@ -11,7 +11,8 @@ use Rattle.sim_exec.specs.Jobs.{IsReady}
 use Rattle.sim_flat_design.specs.declared.held.Held.{Held}
 use Rattle.sim_standard.specs.Drivers.{DriverState}
 use Rattle.sim_standard.specs.Processes.{process_at}
-use Rattle.sim_standard.specs.State.{Owned, nothing_owned, owned_at}
+use Rattle.sim_standard.specs.State.{Owned, owned_at}
+use Rattle.sim_standard.proofs.Names.{nothing_owned}
 use Rattle.sim_store_state.specs.FlatState.{FlatState, held, owned_lists}
 use Rattle.sim_store_state.proofs.Contents.{as_owned, owned-at, owned-set}
 use Rattle.sim_store_state.specs.InTurn.{after_one, AreExecuted, IsOther}

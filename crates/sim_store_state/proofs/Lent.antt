@@ -7,7 +7,8 @@ use Rattle.sim_logic.specs.declared.logic.Logic.{Logic}
 use Rattle.sim_flat_design.specs.declared.held.Held.{Held}
 use Rattle.sim_flat_design.specs.declared.design.Source.{Source}
 use Rattle.sim_standard.specs.Drivers.{DriverState, next_time}
-use Rattle.sim_standard.specs.State.{Owned, driver_at, driver_values, no_driver, nothing_owned, owned_at}
+use Rattle.sim_standard.specs.State.{Owned, driver_at, driver_values, owned_at}
+use Rattle.sim_standard.proofs.Names.{no_driver, nothing_owned}
 use Rattle.sim_containers.specs.Numbers.{is_in}
 use Rattle.sim_containers.specs.RowArray.{joined}
 use Rattle.sim_store_state.specs.Changes.{AreTimes, IsHeld}

@@ -8,7 +8,8 @@ use Rattle.sim_logic.specs.declared.logic.Logic.{Logic}
 use Rattle.sim_standard.specs.declared.record.Record.{Record}
 use Rattle.std.specs.List.{enumerate_from}
 use Rattle.sim_store_state.specs.FlatState.{views_of}
-use Rattle.sim_standard.specs.Records.{numbered_value, all_changes}
+use Rattle.sim_standard.specs.Records.{all_changes}
+use Rattle.sim_standard.proofs.Names.{numbered_value}
 use Rattle.sim_store_state.specs.Log.{marks_from, records_in, IsLog, end_mark, record_at}
 
 records-from : (before : List (ℕ × Logic)) (n : ℕ) (rs : List Record) → n ≡ length before → records_in (marks_from n rs) (before ++ all_changes rs) ≡ rs

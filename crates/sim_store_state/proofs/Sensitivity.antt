@@ -7,9 +7,8 @@ use Rattle.sim_logic.specs.declared.logic.Logic.{Logic}
 use Rattle.sim_flat_design.specs.Processes.{Process}
 use Rattle.sim_standard.specs.declared.net_view.NetView.{NetView}
 use Rattle.sim_standard.specs.State.{net_at}
-use Rattle.sim_standard.specs.Cycle.{has_event_in}
 use Rattle.sim_standard.specs.Processes.{process_at}
-use Rattle.sim_store_state.specs.Sensitive.{AreSensitive, is_sensitive, is_told}
+use Rattle.sim_store_state.specs.Sensitive.{AreSensitive, is_sensitive, is_told, has_event_in}
 use Rattle.sim_standard.specs.Orders.{is_among}
 
 -- ---- truth values
@@ -118,7 +117,6 @@ record Changed (nets : List NetView) (ns : List ℕ) : Type 0 where
   event : has_event nets net ≡ true
 
 event-changed : (nets : List NetView) (ns : List ℕ) → has_event_in nets ns ≡ true → Changed nets ns
-unfolding has_event_in
 event-changed nets [] e = absurd cc
 event-changed nets (n ∷ ns) e = elim (or_true (has_event nets n) (has_event_in nets ns) e) [
   | inl h ↦ (let t : eqb n n ≡ true = grind (arith, nat_tests) in record { net = n; among = or_left (n == n) (is_among ns n) t; event = h })
@@ -126,7 +124,6 @@ event-changed nets (n ∷ ns) e = elim (or_true (has_event nets n) (has_event_in
 ]
 
 changed-event : (nets : List NetView) (ns : List ℕ) (n : ℕ) → is_among ns n ≡ true → has_event nets n ≡ true → has_event_in nets ns ≡ true
-unfolding has_event_in
 changed-event nets [] n e f = e
 changed-event nets (m ∷ ns) n e f = elim (or_true (m == n) (is_among ns n) e) [
   | inl h ↦ (let t : m ≡ n = grind (arith, nat_tests) in or_left (has_event nets m) (has_event_in nets ns) (ap (has_event nets) t ∙ f))

@@ -4,7 +4,8 @@ use Rattle.std.proofs.Math.Seq.{take-add, take-suc}
 use Rattle.std.proofs.lemmas.List.{get_or-drop, get_or-map, length-append, length-drop, length-map, length-set, length-take, take_all}
 use Rattle.sim_flat_design.specs.declared.held.Held.{Held}
 use Rattle.sim_standard.specs.Drivers.{DriverState}
-use Rattle.sim_standard.specs.State.{Owned, nothing_owned}
+use Rattle.sim_standard.specs.State.{Owned}
+use Rattle.sim_standard.proofs.Names.{nothing_owned}
 use Rattle.sim_containers.specs.RowArray.{joined}
 use Rattle.sim_containers.specs.DividedRows.{AreParts}
 use Rattle.sim_containers.proofs.Divided.{before-more, before-whole}

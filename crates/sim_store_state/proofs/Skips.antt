@@ -11,9 +11,8 @@ use Rattle.sim_standard.specs.State.{net_at}
 use Rattle.sim_logic.proofs.SameValues.{same_from_is_same, is_same_from_same}
 use Rattle.sim_containers.specs.Numbers.{is_in}
 use Rattle.sim_containers.specs.Words.{IsNext, NoneFrom}
-use Rattle.sim_standard.specs.Nets.{changed_to}
 use Rattle.sim_store_state.specs.Changes.{AreTouched, value_at}
-use Rattle.sim_store_state.specs.FlatState.{views_of}
+use Rattle.sim_store_state.specs.FlatState.{views_of, changed_to}
 use Rattle.sim_standard.specs.Records.{changes_from}
 use Rattle.sim_standard.specs.Orders.{is_among}
 use Rattle.sim_store_state.specs.Sensitive.{is_sensitive, is_told}

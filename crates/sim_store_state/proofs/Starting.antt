@@ -16,14 +16,24 @@ use Rattle.sim_flat_design.specs.Processes.{Process}
 use Rattle.sim_flat_design.specs.Designs.{AreOwned, Design, Net}
 use Rattle.sim_flat_design.specs.declared.design.Source.{Source}
 use Rattle.sim_standard.specs.Drivers.{Transaction, DriverState, next_time}
-use Rattle.sim_standard.specs.State.{driver_at, driver_values, all_drivers}
+use Rattle.sim_standard.specs.State.{Owned, driver_at, driver_values, all_drivers}
 use Rattle.sim_containers.specs.Times.{time_of}
 use Rattle.sim_store_state.specs.Changes.{AreFanOut, IsHeld, row_from, row_value, value_at}
 use Rattle.sim_store_state.proofs.Values.{rows-from}
 use Rattle.sim_containers.specs.RowArray.{joined}
-use Rattle.sim_standard.specs.Nets.{net_started, net_value}
-use Rattle.sim_standard.specs.Initialization.{idle, first_owned, all_first_owned, first_state}
+use Rattle.sim_standard.specs.Nets.{net_value}
+use Rattle.sim_standard.specs.Initialization.{first_owned, first_state}
+use Rattle.sim_standard.proofs.Names.{net_started}
 use Rattle.sim_store_state.specs.FlatState.{flat_state_of, held, views_of, owned_lists, sources_of}
+
+-- ---- names for what the first state writes out
+
+-- a driver with this value and nothing pending
+abbrev pub idle : Logic → DriverState
+idle value = record { value = value; pending = [] }
+
+abbrev pub all_first_owned : Design → List Owned
+all_first_owned design = map (first_owned design.drivers) design.processes
 
 -- ---- the drivers of processes stand side by side
 

@@ -11,8 +11,9 @@ use Rattle.sim_standard.specs.Drivers.{DriverState, next_time, taken}
 use Rattle.sim_containers.specs.Numbers.{is_in}
 use Rattle.sim_containers.specs.Words.{IsNext, NoneFrom}
 use Rattle.sim_containers.specs.Times.{time_of}
-use Rattle.sim_standard.specs.State.{driver_at, no_driver}
+use Rattle.sim_standard.specs.State.{driver_at}
 use Rattle.sim_standard.specs.Orders.{is_among}
+use Rattle.sim_standard.proofs.Names.{no_driver}
 use Rattle.sim_store_state.specs.Changes.{AreReached, AreTimes, AreTold, time_at}
 use Rattle.sim_store_state.proofs.Sensitivity.{or_left, or_right}
 use Rattle.sim_store_state.proofs.Walks.{Walked, not_both, walk_start, walk_more}

@@ -7,7 +7,9 @@ use Rattle.std.specs.List.{All, Contains, reduce}
 use Rattle.std.specs.Prelude.{slice_get}
 use Rattle.std.proofs.lemmas.List.Concat.{flat_map-append}
 use Rattle.std.proofs.lemmas.List.Sums.{fold-append}
-use Rattle.sim_standard.specs.Drivers.{RisesFrom, Transaction, DriverState, next_of, next_time, pending_times, IsNext}
+use Rattle.sim_standard.specs.Drivers.{Transaction, DriverState, next_time}
+use Rattle.sim_store_state.specs.Times.{pending_times, IsNext}
+use Rattle.sim_wave.specs.Rising.{RisesFrom, next_of}
 use Rattle.sim_containers.specs.Times.{earlier}
 
 abbrev pub times : List Transaction → List ℕ

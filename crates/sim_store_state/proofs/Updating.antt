@@ -11,7 +11,8 @@ use Rattle.sim_containers.specs.RowArray.{joined}
 use Rattle.sim_containers.proofs.Flat.{joined-map}
 use Rattle.sim_containers.specs.Numbers.{is_in}
 use Rattle.sim_containers.specs.Times.{cleared, those_at}
-use Rattle.sim_standard.specs.State.{driver_at, driver_values, no_driver}
+use Rattle.sim_standard.specs.State.{driver_at, driver_values}
+use Rattle.sim_standard.proofs.Names.{no_driver}
 use Rattle.sim_store_state.specs.Changes.{AreFanOut, AreReached, IsHeld, first_times, is_source, row_from, row_value, value_at}
 use Rattle.sim_store_state.proofs.Due.{driver-taken, times-taken}
 use Rattle.sim_store_state.proofs.Reaching.{fan_out-there, same_row}

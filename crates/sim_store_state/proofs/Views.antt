@@ -1,9 +1,8 @@
 -- Nets, from their values and those before the cycle.
 use Rattle.std.proofs.Common.{ℕ, zero, suc, ◌<◌, ◌≤◌, ◌≡◌, List, [], ◌∷◌, length, get_or, refl, ap, arith}
 use Rattle.sim_logic.specs.declared.logic.Logic.{Logic}
-use Rattle.sim_standard.specs.State.{no_net}
-use Rattle.sim_standard.specs.Nets.{changed_to}
-use Rattle.sim_store_state.specs.FlatState.{views_of}
+use Rattle.sim_standard.proofs.Names.{no_net}
+use Rattle.sim_store_state.specs.FlatState.{views_of, changed_to}
 
 pub length-views_of : (values values_before : List Logic) → length values ≡ length values_before → length (views_of values values_before) ≡ length values
 length-views_of [] values_before e = refl

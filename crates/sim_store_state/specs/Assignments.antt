@@ -1,9 +1,10 @@
 -- What a body that is a single assignment leaves of the drivers of its process.
 use Rattle.std.specs.Prelude.{ℕ, ◌≡◌, List, [], ◌∷◌, Option, Result, OnOk, slice_set}
 use Rattle.std.specs.List.{All}
-use Rattle.sim_standard.specs.Drivers.{DriverState, RisesFrom, next_time}
+use Rattle.sim_standard.specs.Drivers.{DriverState, next_time}
 use Rattle.sim_standard.specs.State.{driver_at, driver_values}
 use Rattle.sim_standard.specs.declared.net_view.NetView.{NetView}
+use Rattle.sim_wave.specs.Rising.{RisesFrom}
 use Rattle.sim_exec_code.specs.declared.quick.SingleAssignment.{SingleAssignment}
 use Rattle.sim_exec_code.specs.Quick.{driven}
 

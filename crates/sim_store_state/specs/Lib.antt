@@ -1,5 +1,6 @@
 pub mod Executions
 pub mod Assignments
+pub mod Times
 pub mod FlatState
 pub mod Sensitive
 pub mod Changes

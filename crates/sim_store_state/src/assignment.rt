@@ -3,8 +3,9 @@
 ghost use Rattle.std.specs.Prelude.{◌≡◌, ◌<◌, ◌≤◌, ◌++◌, ◌∷◌, [], length, take, drop, slice_range, slice_index_or, slice_set};
 ghost use Rattle.std.specs.List.{All};
 ghost use Rattle.sim_logic.specs.Time.{largest_time};
-ghost use Rattle.sim_standard.specs.Drivers.{RisesFrom, next_time};
+ghost use Rattle.sim_standard.specs.Drivers.{next_time};
 ghost use Rattle.sim_standard.specs.State.{driver_at};
+ghost use Rattle.sim_wave.specs.Rising.{RisesFrom};
 ghost use Rattle.sim_containers.specs.RowArray.{joined};
 ghost use Rattle.sim_store_state.specs.Changes.{AreTimes};
 ghost use Rattle.sim_store_state.specs.Assignments as spec;

@@ -16,7 +16,7 @@ ghost use Rattle.sim_standard.specs.Processes.{object_net, process_at};
 ghost use Rattle.sim_standard.specs.State.{State, driver_values, net_at, owned_at};
 ghost use Rattle.sim_standard.specs.Statements.{executed};
 ghost use Rattle.sim_standard.specs.Drivers as spec;
-ghost use Rattle.sim_standard.specs.Drivers.{RisesFrom};
+ghost use Rattle.sim_store_state.specs.Times as times;
 ghost use Rattle.sim_store_state.specs.Assignments.{AreAssigned};
 ghost use Rattle.sim_standard.specs.State as states;
 ghost use Rattle.sim_standard.specs.Initialization.{first_state};
@@ -25,6 +25,7 @@ ghost use Rattle.sim_store_state.specs.FlatState.{flat_state_of, held};
 ghost use Rattle.sim_store_state.specs.Changes.{IsHeld};
 ghost use Rattle.sim_store_state.specs.InTurn.{AreExecuted, IsExecutable, IsOther};
 ghost use Rattle.sim_standard.specs.Records.{changes_from, values_of};
+ghost use Rattle.sim_wave.specs.Rising.{RisesFrom};
 
 use crate::assignment::assign_in_parts_and_tell;
 use crate::drivers::{
@@ -354,7 +355,7 @@ impl FlatState {
     pub fn next(&mut self) -> Result<Option<u64>, AllocError>
         ensures same { self.new ≡ self.old }
         ensures value { IfOk result (λ next. next ≡ spec.next_time (states.all_drivers self.old.owned)) }
-        ensures least { IfOk result (λ next. spec.IsNext (states.all_drivers self.old.owned) next) }
+        ensures least { IfOk result (λ next. times.IsNext (states.all_drivers self.old.owned) next) }
     {
         bring_up_to_date(&mut self.queue, &self.stale, &self.drivers)?;
         self.stale.clear();

@@ -6,7 +6,7 @@ ghost use Rattle.sim_logic.specs.Tables.{resolution_table};
 ghost use Rattle.sim_standard.specs.State.{net_at};
 ghost use Rattle.sim_containers.specs.Numbers.{is_in};
 ghost use Rattle.sim_store_state.specs.Changes.{AreTouched, row_from, value_at, value_from};
-ghost use Rattle.sim_standard.specs.Nets as spec;
+ghost use Rattle.sim_store_state.specs.FlatState as spec;
 ghost use Rattle.sim_store_state.specs.FlatState.{views_of};
 
 use sim_containers::{NumberSet, RowArray};

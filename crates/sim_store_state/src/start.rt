@@ -3,6 +3,7 @@
 
 ghost use Rattle.std.specs.Prelude.{ℕ, [], None, false, ◌≡◌, ◌+◌, ◌<◌, ◌≤◌, ◌==◌, ◌||◌, ◌&&◌, map, length, take, drop, slice_index_or, replicate, IfOk, OnOk};
 ghost use Rattle.std.specs.List.{All};
+ghost use Rattle.sim_flat_design.specs.declared.design.DriverOf.{DriverOf as driver_of};
 ghost use Rattle.sim_standard.specs.Initialization as at_start;
 ghost use Rattle.sim_standard.specs.State.{driver_values};
 ghost use Rattle.sim_store_state.specs.Changes.{AreFanOut, is_source, is_driver, row_from};
@@ -21,7 +22,7 @@ use std::alloc::{AllocError, Global};
 
 /// Drivers with their initial values and no pending transactions.
 fn idle_drivers(alloc: Global, drivers: &[DriverOf]) -> Result<Vec<Driver>, AllocError>
-    ensures { IfOk result (λ v. v.items ≡ map (λ d. at_start.idle d.first) drivers.now) }
+    ensures { IfOk result (λ v. v.items ≡ map (λ (d : driver_of). record { value = d.first; pending = [] }) drivers.now) }
 {
     drivers
         .iter()

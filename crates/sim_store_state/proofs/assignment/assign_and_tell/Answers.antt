@@ -1,7 +1,8 @@
 use Rattle.std.proofs.Common.{ℕ, ◌+◌, ◌<◌, ◌≤◌, ◌≡◌, ◌∷◌, length, List, [], arith, subst, refl, get_or, set, take, ap, sym, ◌∙◌}
 use Rattle.std.proofs.lemmas.List.{length-set, set-get_or, take-set}
 use Rattle.sim_standard.specs.Drivers.{DriverState, next_time}
-use Rattle.sim_standard.specs.State.{driver_at, no_driver}
+use Rattle.sim_standard.specs.State.{driver_at}
+use Rattle.sim_standard.proofs.Names.{no_driver}
 use Rattle.sim_containers.specs.DividedRows.{IsAt}
 use Rattle.sim_containers.specs.RowArray.{joined}
 use Rattle.sim_containers.proofs.Divided.{at-get}

@@ -1,6 +1,7 @@
 use Rattle.std.proofs.Common.{ap, sym, ◌∙◌, subst, length}
 use Rattle.std.specs.List.{All}
-use Rattle.sim_standard.specs.Drivers.{DriverState, RisesFrom}
+use Rattle.sim_standard.specs.Drivers.{DriverState}
+use Rattle.sim_wave.specs.Rising.{RisesFrom}
 use Rattle.sim_store_state.proofs.Assigned.{next_as}
 use Rattle.sim_store_state.proofs.Placed.{row-old, row-put}
 use Rattle.sim_store_state.proofs.Putting.{values-count}

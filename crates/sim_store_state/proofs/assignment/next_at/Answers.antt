@@ -1,7 +1,7 @@
 use Rattle.std.proofs.Common.{◌∷◌, [], ◌≤◌, length, refl, ap, sym, ◌∙◌, arith}
 use Rattle.std.proofs.lemmas.List.{get_or_past}
 use Rattle.sim_standard.specs.Drivers.{DriverState, next_time}
-use Rattle.sim_standard.specs.State.{no_driver}
+use Rattle.sim_standard.proofs.Names.{no_driver}
 use Rattle.sim_store_state.proofs.Times.{only_next}
 use Rattle.sim_store_state.proofs.assignment.next_at.Goals as goal
 

@@ -3,7 +3,8 @@ use Rattle.std.proofs.lemmas.List.{get_or_default, length-set}
 use Rattle.sim_standard.specs.Drivers.{DriverState, next_time}
 use Rattle.sim_containers.specs.RowArray.{joined}
 use Rattle.sim_containers.specs.Times.{time_of}
-use Rattle.sim_standard.specs.State.{driver_at, no_driver}
+use Rattle.sim_standard.specs.State.{driver_at}
+use Rattle.sim_standard.proofs.Names.{no_driver}
 use Rattle.sim_store_state.proofs.Walks.{member_within, walk_start, walk_done, walk_others}
 use Rattle.sim_store_state.proofs.Due.{all-times, times-more}
 use Rattle.sim_store_state.proofs.drivers.bring_up_to_date.Goals as goal

@@ -1,6 +1,6 @@
 use Rattle.std.proofs.Common.{set, ap, [], ◌∷◌, ◌∙◌}
 use Rattle.sim_standard.specs.Drivers.{DriverState, next_time, taken}
-use Rattle.sim_standard.specs.State.{no_driver}
+use Rattle.sim_standard.proofs.Names.{no_driver}
 use Rattle.sim_containers.specs.RowArray.{joined}
 use Rattle.sim_store_state.proofs.Items.{item-in, item-read}
 use Rattle.sim_store_state.proofs.drivers.take_driver.Goals as goal

@@ -2,7 +2,8 @@ use Rattle.std.proofs.Common.{List, [], ◌∷◌, set, ap, sym, ◌∙◌}
 use Rattle.std.proofs.lemmas.List.{get_or-set_same}
 use Rattle.sim_logic.specs.declared.logic.Logic.{Logic}
 use Rattle.sim_standard.specs.Drivers.{DriverState, next_time, taken}
-use Rattle.sim_standard.specs.State.{driver_at, driver_values, no_driver}
+use Rattle.sim_standard.specs.State.{driver_at, driver_values}
+use Rattle.sim_standard.proofs.Names.{no_driver}
 use Rattle.sim_containers.specs.RowArray.{joined}
 use Rattle.sim_store_state.proofs.Values.{values-set}
 use Rattle.sim_store_state.proofs.drivers.take_one.Goals as goal

@@ -2,7 +2,8 @@ use Rattle.std.proofs.Common.{◌∷◌, [], ◌≡◌, ap, arith, ◌∙◌}
 use Rattle.std.proofs.lemmas.List.{get_or_default}
 use Rattle.sim_standard.specs.Drivers.{DriverState, next_time}
 use Rattle.sim_containers.specs.RowArray.{joined}
-use Rattle.sim_standard.specs.State.{driver_at, no_driver}
+use Rattle.sim_standard.specs.State.{driver_at}
+use Rattle.sim_standard.proofs.Names.{no_driver}
 use Rattle.sim_store_state.proofs.Ranges.{range-end}
 use Rattle.sim_store_state.proofs.Telling.{told-more, others-kept}
 use Rattle.sim_store_state.proofs.drivers.tell_range.Goals as goal

@@ -1,10 +1,11 @@
 use Rattle.std.proofs.Common.{ℕ, List, [], ◌<◌, ◌≡◌, length, get_or, set, take, refl, ap, sym, ◌∙◌, subst, arith}
 use Rattle.std.specs.List.{All}
 use Rattle.std.proofs.lemmas.List.{take_more}
-use Rattle.sim_standard.specs.Drivers.{DriverState, RisesFrom}
+use Rattle.sim_standard.specs.Drivers.{DriverState}
 use Rattle.sim_standard.specs.Processes.{process_at}
 use Rattle.sim_standard.specs.State.{Owned, net_at, owned_at}
 use Rattle.sim_standard.specs.Statements.{executed}
+use Rattle.sim_wave.specs.Rising.{RisesFrom}
 use Rattle.sim_exec_code.specs.Quick.{quick_executed}
 use Rattle.sim_store_state.specs.FlatState.{held, owned_lists, views_of}
 use Rattle.sim_store_state.specs.InTurn.{after_one, AreExecuted}

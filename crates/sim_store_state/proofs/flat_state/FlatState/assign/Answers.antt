@@ -1,8 +1,9 @@
 use Rattle.std.proofs.Common.{ℕ, List, [], ◌≡◌, ap, sym, ◌∙◌, subst, arith, get_or, set}
 use Rattle.std.specs.List.{All}
 use Rattle.std.proofs.lemmas.List.{set-get_or}
-use Rattle.sim_standard.specs.Drivers.{DriverState, RisesFrom}
+use Rattle.sim_standard.specs.Drivers.{DriverState}
 use Rattle.sim_standard.specs.State.{Owned, net_at}
+use Rattle.sim_wave.specs.Rising.{RisesFrom}
 use Rattle.sim_logic.specs.declared.logic.Logic.{Logic}
 use Rattle.sim_store_state.specs.FlatState.{FlatState, views_of}
 use Rattle.sim_store_state.proofs.Assigned.{assigned_as}

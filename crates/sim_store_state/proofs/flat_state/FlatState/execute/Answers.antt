@@ -6,12 +6,13 @@ use Rattle.sim_flat_design.specs.Bodies.{Body}
 use Rattle.sim_standard.specs.declared.net_view.NetView.{NetView}
 use Rattle.sim_exec.specs.Jobs.{IsReady}
 use Rattle.sim_exec_code.specs.Codes.{IsCodeOf, code_at}
-use Rattle.sim_standard.specs.State.{Owned, nothing_owned}
+use Rattle.sim_standard.specs.State.{Owned}
 use Rattle.sim_standard.specs.Statements.{executed}
 use Rattle.sim_store_state.specs.Executions.{without_value}
 use Rattle.sim_store_state.specs.FlatState.{FlatState, views_of, owned_lists}
 use Rattle.sim_store_state.proofs.Contents.{as_owned, gathered_placed, owned-by, owned-count, owned-now, held-set, seen, sees}
 use Rattle.sim_standard.specs.Drivers.{DriverState}
+use Rattle.sim_standard.proofs.Names.{nothing_owned}
 use Rattle.sim_containers.specs.RowArray.{joined}
 use Rattle.sim_store_state.specs.Changes.{AreTimes}
 use Rattle.sim_store_state.proofs.Putting.{own-keeps, values-count, values-kept}

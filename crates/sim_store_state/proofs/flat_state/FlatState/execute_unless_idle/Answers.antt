@@ -2,8 +2,9 @@ use Rattle.std.proofs.Common.{ℕ, List, ◌≡◌, refl, ap, sym, ◌∙◌, su
 use Rattle.std.proofs.lemmas.List.{set-get_or}
 use Rattle.std.proofs.lemmas.Result.{on_ok_weaker}
 use Rattle.sim_standard.specs.declared.net_view.NetView.{NetView}
-use Rattle.sim_standard.specs.State.{Owned, net_at, nothing_owned}
+use Rattle.sim_standard.specs.State.{Owned, net_at}
 use Rattle.sim_standard.specs.Statements.{executed}
+use Rattle.sim_standard.proofs.Names.{nothing_owned}
 use Rattle.sim_store_state.specs.FlatState.{FlatState, views_of}
 use Rattle.sim_store_state.proofs.Contents.{seen, sees}
 use Rattle.sim_store_state.proofs.flat_state.FlatState.execute_unless_idle.Goals as goal

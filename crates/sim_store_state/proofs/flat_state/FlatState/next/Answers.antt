@@ -1,9 +1,10 @@
 use Rattle.std.proofs.Common.{◌≡◌, false, length, ap, ◌∙◌, sym, subst}
 use Rattle.std.proofs.lemmas.List.{length-replicate}
-use Rattle.sim_standard.specs.Drivers.{next_time, IsNext}
+use Rattle.sim_standard.specs.Drivers.{next_time}
 use Rattle.sim_containers.specs.RowArray.{joined}
 use Rattle.sim_containers.specs.Times.{earliest}
 use Rattle.sim_standard.specs.State.{all_drivers}
+use Rattle.sim_store_state.specs.Times.{IsNext}
 use Rattle.sim_store_state.proofs.Times.{next_is_least}
 use Rattle.sim_store_state.proofs.Contents.{drivers-by}
 use Rattle.sim_store_state.proofs.Due.{earliest-next, up-to-date}

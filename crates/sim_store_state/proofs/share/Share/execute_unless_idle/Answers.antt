@@ -1,7 +1,7 @@
 use Rattle.std.proofs.Common.{◌≡◌, ap, sym, ◌∙◌, get_or, set}
 use Rattle.std.proofs.lemmas.List.{set-get_or}
-use Rattle.sim_standard.specs.State.{nothing_owned}
 use Rattle.sim_standard.specs.Statements.{executed}
+use Rattle.sim_standard.proofs.Names.{nothing_owned}
 use Rattle.sim_store_state.specs.FlatState.{views_of}
 use Rattle.sim_store_state.proofs.Contents.{seen}
 use Rattle.sim_store_state.proofs.share.Share.execute_unless_idle.Goals as goal
