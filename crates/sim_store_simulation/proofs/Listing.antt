@@ -1,7 +1,7 @@
 -- The numbers of the marked processes, one after another.
 use Rattle.std.proofs.Common.{ℕ, ◌≤◌, ◌≡◌, Bool, List, length, refl, sym, subst}
 use Rattle.sim_containers.specs.Numbers.{members}
-use Rattle.sim_standard.proofs.Numbers.{counted, counted-few, ranged}
+use Rattle.sim_standard.proofs.Numbers.{counted-few, ranged}
 use Rattle.sim_store_simulation.specs.Simulation.{listed, those_in}
 
 -- The members of a set are those that are marked in it.

@@ -1,6 +1,6 @@
 -- How far a simulation has come (IEEE 1076-2008, 14.7.5).
 -- Implementation only: what `simulate` promises does not rest on this file.
-use Rattle.std.specs.Prelude.{ℕ, suc, ◌≡◌, ◌≢◌, ◌<◌, ◌≤◌, ◌&&◌, ◌||◌, not, List, [], ◌∷◌, Bool, true, false, if◌then◌else◌, Option, None, Some, map, length}
+use Rattle.std.specs.Prelude.{ℕ, suc, ◌≡◌, ◌≢◌, ◌<◌, ◌≤◌, ◌&&◌, ◌||◌, not, List, [], Bool, true, false, if◌then◌else◌, Option, None, Some, map, length}
 use Rattle.std.specs.Prelude.{filter, replicate, slice_index_or, slice_set, unwrap_or}
 use Rattle.std.specs.List.{All, range_with_len}
 use Rattle.sim_flat_design.specs.Designs.{Design, most}

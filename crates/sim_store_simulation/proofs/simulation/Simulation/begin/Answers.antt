@@ -1,4 +1,4 @@
-use Rattle.std.proofs.Common.{rules, false, List, length, ap, ◌∙◌, subst, arith}
+use Rattle.std.proofs.Common.{rules, false, List, length, refl, ap, ◌≡◌, ◌-◌, ◌∙◌, subst, arith}
 use Rattle.std.proofs.lemmas.List.{length-replicate}
 use Rattle.std.specs.List.{All}
 use Rattle.sim_flat_design.specs.Designs.{AreOwned}
@@ -24,3 +24,10 @@ invariant_of-result c =
       marks_sized = ap length m.deposited_is ∙ length-replicate (length c.args.design.processes) false;
       counts = totals-begin (length c.args.design.nets) _ c.in-Ok.contents.value.log.records c.in-Ok.contents.value.totals.items records m.totals_is;
     }
+
+pub returns-in-Ok-clause-ok : goal.returns-in-Ok-clause-ok
+returns-in-Ok-clause-ok c =
+    let m = c.in-Ok.contents.value in
+    let first = c.in-Ok.ensures.start in
+    let count : length m.log.records - 1 ≡ 0 = omega (arith, ap length (c.in-Ok.ensures.contents.records_is ∙ first-records c.args.design)) in
+    rw (count, first.2, first.3, c.in-Ok.ensures.contents.deposited_is) refl
