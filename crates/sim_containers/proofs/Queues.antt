@@ -150,6 +150,42 @@ joined_front times now later front laters new items driver free is queue = recor
     hidden = map-set (clear now) times driver (Some now)
         ∙ (ap (set (cleared now times) driver) gone ∙ set_none (cleared now times) driver no_time_left)
 
+set_false : (set' : List Bool) (d : ℕ) → is_in set' d ≡ false → set set' d false ≡ set'
+set_false [] d none = refl
+set_false (b ∷ bs) zero none = ap (λ (c : Bool). c ∷ bs) (sym none)
+set_false (b ∷ bs) (suc d) none = ap (λ (l : List Bool). b ∷ l) (set_false bs d none)
+
+later_not_now : (now later : ℕ) (time : Option ℕ) → is_at later (clear now time) ≡ true → is_at now time ≡ false
+later_not_now now later None there = refl
+later_not_now now later (Some t) there = go (eqb t now) refl
+  where
+    go : (b : Bool) → eqb t now ≡ b → eqb t now ≡ false
+    go true q =
+        absurd (not_both (is_at later (clear now (Some t))) (ap (λ (b : Bool). is_at later (cond b None (Some t))) q) there)
+    go false q = q
+
+its_later : (now later t : ℕ) → is_at later (clear now (Some t)) ≡ true → t ≡ later
+its_later now later t there =
+    let differ : eqb t now ≡ false = later_not_now now later (Some t) there in
+    let same : eqb t later ≡ true = sym (ap (λ (b : Bool). is_at later (cond b None (Some t))) differ) ∙ there in
+    grind (arith, nat_tests)
+
+-- a driver that had no time joins the other set
+pub joined_later : (times : List (Option ℕ)) (now later : ℕ) (front laters new : List Bool) (items : List Entry) (driver : ℕ) (time : Option ℕ)
+    → time_of times driver ≡ None → is_at later (clear now time) ≡ true
+    → new ≡ set laters driver true → IsQueue times now later front laters items → IsQueue (set times driver time) now later front new items
+joined_later times now later front laters new items driver time free there is queue = record {
+  front_is = put_at now times front front driver time false queue.front_is (sym (later_not_now now later time there)) (sym (set_false front driver absent));
+  later_is = put_later now later times laters new driver time true queue.later_is (sym there) is;
+  order = queue.order;
+  stands = stands_with now later times items items driver time (λ e here. here)
+      (λ t same _ beyond. absurd (beyond (its_later now later t (ap (λ (o : Option ℕ). is_at later (clear now o)) (sym same) ∙ there)))) queue.stands;
+  live = still_live times driver time items free queue.live;
+}
+  where
+    absent : is_in front driver ≡ false
+    absent = ap (λ (set' : List Bool). is_in set' driver) queue.front_is ∙ (in_those_at now times driver ∙ ap (is_at now) free)
+
 -- the time of the other set may change while nothing is beyond the front
 pub chosen : (times : List (Option ℕ)) (now later time : ℕ) (front laters : List Bool) (items : List Entry)
     → laters ≡ replicate (length laters) false → items ≡ [] → IsQueue times now later front laters items → IsQueue times now time front laters items

@@ -13,7 +13,8 @@ invariant_of-self-2 c =
       later_is = put_later c.self.inside.front_time c.self.inside.later_time c.self.inside.times.items c.self.inside.later c.put-2.new.self c.args.driver
           c.args.time c.is_later.result c.self.invariant.later_is c.is_later.ensures c.put-2.ensures;
       order = c.trim.ensures.order;
-      stands = subst (λ (ts : List (Option ℕ)). StandsBut c.self.inside.front_time c.self.inside.later_time ts (heap_items c.trim.new.heap)) times c.trim.ensures.stands;
+      stands = subst (λ (ts : List (Option ℕ)). StandsBut c.self.inside.front_time c.self.inside.later_time ts (heap_items c.trim.new.heap)) times
+          c.trim.ensures.stands;
       live = subst (λ (ts : List (Option ℕ)). HasLiveTop ts (heap_items c.trim.new.heap)) times c.trim.ensures.live;
     }
 

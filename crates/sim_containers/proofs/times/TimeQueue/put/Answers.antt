@@ -7,7 +7,8 @@ use Rattle.sim_containers.proofs.times.TimeQueue.put.Goals as goal
 pub invariant_of-self : goal.invariant_of-self
 invariant_of-self c =
     let free : time_of c.self.inside.times.items c.args.driver ≡ None = search rules in
-    joined_front c.self.inside.times.items c.self.inside.front_time c.self.inside.later_time c.self.inside.front c.self.inside.later c.insert.new.self _ c.args.driver free c.insert.ensures
+    joined_front c.self.inside.times.items c.self.inside.front_time c.self.inside.later_time c.self.inside.front c.self.inside.later c.insert.new.self _
+    c.args.driver free c.insert.ensures
     c.self.invariant
 
 pub returns-then-eq-clause-ok : goal.returns-then-eq-clause-ok
