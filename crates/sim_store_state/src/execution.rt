@@ -2,9 +2,7 @@
 
 ghost use Rattle.std.specs.Prelude.{◌≡◌, ◌<◌, ◌≤◌, ◌++◌, [], length, take, drop, slice_range, slice_index_or, slice_set, false, Ok, IfOk, OnOk};
 ghost use Rattle.sim_store_state.specs.Executions as spec;
-ghost use Rattle.sim_logic.specs.Time.{largest_time};
 ghost use Rattle.sim_exec.specs.Jobs.{IsReady};
-ghost use Rattle.sim_exec_code.specs.Codes as code;
 ghost use Rattle.sim_standard.specs.State.{driver_values};
 ghost use Rattle.sim_standard.specs.Statements.{executed};
 
@@ -31,13 +29,10 @@ fn execute_between<N: Nets, P: Nets>(
     variables: &mut [Held],
     held: (usize, usize),
 ) -> Result<bool, AllocError>
-    requires now { now ≤ largest_time }
-    requires code { code.IsCodeOf body.now (code.code_at codes.now.codes number) }
-    requires placed { code.ArePlaced (N.look nets.now) (P.look places.now) (code.objects_of (code.code_at codes.now.codes number)) }
-    requires frame { code.slots_of (code.code_at codes.now.codes number) ≤ frame.old }
+    requires executable { spec.IsBodyReadyToExecute (N.look nets.now) (P.look places.now) body.now number now codes.now frame.old
+        (record { drivers = slice_range drivers.old owned.0 owned.1; variables = slice_range variables.old held.0 held.1 }) }
     requires owned { (owned.0 ≤ owned.1) × (owned.1 ≤ length drivers.old) }
     requires held { (held.0 ≤ held.1) × (held.1 ≤ length variables.old) }
-    requires ready { IsReady body.now now (record { drivers = slice_range drivers.old owned.0 owned.1; variables = slice_range variables.old held.0 held.1 }) }
     ensures frame { frame.new ≡ frame.old }
     ensures drivers { drivers.new ≡ take owned.0 drivers.old ++ slice_range drivers.new owned.0 owned.1 ++ drop owned.1 drivers.old }
     ensures variables { variables.new ≡ take held.0 variables.old ++ slice_range variables.new held.0 held.1 ++ drop held.1 variables.old }
@@ -77,16 +72,10 @@ fn execute_in_rows<N: Nets, P: Nets>(
     drivers: &mut RowArray<Driver>,
     variables: &mut RowArray<Held>,
 ) -> Result<bool, AllocError>
-    requires now { now ≤ largest_time }
-    requires code { code.IsCodeOf body.now (code.code_at codes.now.codes number) }
-    requires placed { code.ArePlaced (N.look nets.now) (P.look places.now) (code.objects_of (code.code_at codes.now.codes number)) }
-    requires frame { code.slots_of (code.code_at codes.now.codes number) ≤ frame.old }
+    requires executable { spec.IsBodyReadyToExecute (N.look nets.now) (P.look places.now) body.now number now codes.now frame.old
+        (record { drivers = slice_index_or drivers.old own_place []; variables = slice_index_or variables.old held_place [] }) }
     requires drivers { own_place < length drivers.old }
     requires variables { held_place < length variables.old }
-    requires ready { IsReady body.now now (record {
-      drivers = slice_index_or drivers.old own_place [];
-      variables = slice_index_or variables.old held_place [];
-    }) }
     ensures frame { frame.new ≡ frame.old }
     ensures drivers { drivers.new ≡ slice_set drivers.old own_place (slice_index_or drivers.new own_place []) }
     ensures variables { variables.new ≡ slice_set variables.old held_place (slice_index_or variables.new held_place []) }
@@ -133,13 +122,10 @@ pub fn execute_at<N: Nets, P: Nets>(
     drivers: &mut RowArray<Driver>,
     variables: &mut RowArray<Held>,
 ) -> Result<bool, AllocError>
-    requires now { now ≤ largest_time }
-    requires code { code.IsCodeOf body.now (code.code_at codes.now.codes number) }
-    requires placed { code.ArePlaced (N.look nets.now) (P.look places.now) (code.objects_of (code.code_at codes.now.codes number)) }
-    requires frame { code.slots_of (code.code_at codes.now.codes number) ≤ frame.old }
+    requires executable { spec.IsBodyReadyToExecute (N.look nets.now) (P.look places.now) body.now number now codes.now frame.old
+        (record { drivers = slice_index_or drivers.old place []; variables = slice_index_or variables.old place [] }) }
     requires drivers { place < length drivers.old }
     requires variables { place < length variables.old }
-    requires ready { IsReady body.now now (record { drivers = slice_index_or drivers.old place []; variables = slice_index_or variables.old place [] }) }
     ensures frame { frame.new ≡ frame.old }
     ensures drivers { drivers.new ≡ slice_set drivers.old place (slice_index_or drivers.new place []) }
     ensures variables { variables.new ≡ slice_set variables.old place (slice_index_or variables.new place []) }
@@ -169,13 +155,10 @@ pub fn execute_in_parts<N: Nets, P: Nets>(
     drivers: &mut DividedRows<Driver>,
     variables: &mut DividedRows<Held>,
 ) -> Result<bool, AllocError>
-    requires now { now ≤ largest_time }
-    requires code { code.IsCodeOf body.now (code.code_at codes.now.codes number) }
-    requires placed { code.ArePlaced (N.look nets.now) (P.look places.now) (code.objects_of (code.code_at codes.now.codes number)) }
-    requires frame { code.slots_of (code.code_at codes.now.codes number) ≤ frame.old }
+    requires executable { spec.IsBodyReadyToExecute (N.look nets.now) (P.look places.now) body.now number now codes.now frame.old
+        (record { drivers = slice_index_or drivers.old number []; variables = slice_index_or variables.old number [] }) }
     requires drivers { number < length drivers.old }
     requires variables { number < length variables.old }
-    requires ready { IsReady body.now now (record { drivers = slice_index_or drivers.old number []; variables = slice_index_or variables.old number [] }) }
     ensures frame { frame.new ≡ frame.old }
     ensures drivers { drivers.new ≡ slice_set drivers.old number (slice_index_or drivers.new number []) }
     ensures variables { variables.new ≡ slice_set variables.old number (slice_index_or variables.new number []) }

@@ -1,6 +1,6 @@
 //! The state of a design, in flat lists.
 
-ghost use Rattle.std.specs.Prelude.{ℕ, ◌≡◌, ◌↔◌, IsTrue, ◌<◌, ◌≤◌, ◌^◌, ◌++◌, ◌∷◌, [], List, Some, length, map, take, slice_index_or, slice_set, MatchOption};
+ghost use Rattle.std.specs.Prelude.{ℕ, ◌≡◌, ◌↔◌, IsTrue, ◌<◌, ◌≤◌, ◌^◌, ◌++◌, ◌∷◌, [], List, Some, length, map, take, slice_set, MatchOption};
 ghost use Rattle.std.specs.Prelude.{IfOk, OnOk, OnErr};
 ghost use Rattle.std.specs.Bool.{Decides};
 ghost use Rattle.std.specs.List.{All};
@@ -21,6 +21,7 @@ ghost use Rattle.sim_store_state.specs.Assignments.{AreAssigned};
 ghost use Rattle.sim_standard.specs.State as states;
 ghost use Rattle.sim_standard.specs.Initialization.{first_state};
 ghost use Rattle.sim_standard.specs.Cycle.{updated};
+ghost use Rattle.sim_store_state.specs.Executions.{IsReadyToExecute};
 ghost use Rattle.sim_store_state.specs.FlatState.{flat_state_of, held};
 ghost use Rattle.sim_store_state.specs.Changes.{IsHeld};
 ghost use Rattle.sim_store_state.specs.InTurn.{AreExecuted, IsExecutable, IsOther};
@@ -413,12 +414,7 @@ impl FlatState {
         codes: &Codes,
         frame: &mut Frame,
     ) -> Result<(), AllocError>
-        requires at { number < length self.old.owned }
-        requires time { time ≤ largest_time }
-        requires code { code.IsCodeOf process.now.body (code.code_at codes.now.codes number) }
-        requires nets { slice_index_or codes.now.nets number [] ≡ code.gathered_nets process.now.nets (code.code_at codes.now.codes number) }
-        requires frame { code.slots_of (code.code_at codes.now.codes number) ≤ frame.old }
-        requires ready { IsReady process.now.body time (owned_at self.old.owned number) }
+        requires { IsReadyToExecute process.now number time codes.now frame.old self.old.owned number }
         ensures frame { frame.new ≡ frame.old }
         ensures alone { self.new ≡ record self.old { owned = slice_set self.old.owned number (owned_at self.new.owned number) } }
         ensures ok { OnOk result (self.new ≡ record self.old {
@@ -534,12 +530,7 @@ impl FlatState {
         codes: &Codes,
         frame: &mut Frame,
     ) -> Result<(), AllocError>
-        requires at { number < length self.old.owned }
-        requires time { time ≤ largest_time }
-        requires code { code.IsCodeOf process.now.body (code.code_at codes.now.codes number) }
-        requires nets { slice_index_or codes.now.nets number [] ≡ code.gathered_nets process.now.nets (code.code_at codes.now.codes number) }
-        requires frame { code.slots_of (code.code_at codes.now.codes number) ≤ frame.old }
-        requires ready { IsReady process.now.body time (owned_at self.old.owned number) }
+        requires { IsReadyToExecute process.now number time codes.now frame.old self.old.owned number }
         ensures frame { frame.new ≡ frame.old }
         ensures alone { self.new ≡ record self.old { owned = slice_set self.old.owned number (owned_at self.new.owned number) } }
         ensures ok { OnOk result (self.new ≡ record self.old {

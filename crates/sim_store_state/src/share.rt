@@ -1,12 +1,11 @@
 //! What the processes of a range own, apart from the rest of a state.
 
-ghost use Rattle.std.specs.Prelude.{◌≡◌, ◌<◌, ◌≤◌, [], length, slice_index_or, slice_set, OnOk};
-ghost use Rattle.sim_logic.specs.Time.{largest_time};
+ghost use Rattle.std.specs.Prelude.{◌≡◌, length, slice_set, OnOk};
 ghost use Rattle.sim_exec.specs.Jobs.{IsReady};
-ghost use Rattle.sim_exec_code.specs.Codes as code;
 ghost use Rattle.sim_standard.specs.Processes.{object_net};
 ghost use Rattle.sim_standard.specs.State.{net_at, owned_at};
 ghost use Rattle.sim_standard.specs.Statements.{executed};
+ghost use Rattle.sim_store_state.specs.Executions.{IsReadyToExecute};
 ghost use Rattle.sim_store_state.specs.FlatState.{owned_lists, views_of};
 
 use crate::execution::{as_done, execute_at};
@@ -87,12 +86,7 @@ impl Share {
         values: &[Logic],
         values_before: &[Logic],
     ) -> Result<(), AllocError>
-        requires at { place < length self.old }
-        requires time { time ≤ largest_time }
-        requires code { code.IsCodeOf process.now.body (code.code_at codes.now.codes number) }
-        requires nets { slice_index_or codes.now.nets number [] ≡ code.gathered_nets process.now.nets (code.code_at codes.now.codes number) }
-        requires frame { code.slots_of (code.code_at codes.now.codes number) ≤ frame.old }
-        requires ready { IsReady process.now.body time (owned_at self.old place) }
+        requires { IsReadyToExecute process.now number time codes.now frame.old self.old place }
         ensures frame { frame.new ≡ frame.old }
         ensures alone { self.new ≡ slice_set self.old place (owned_at self.new place) }
         ensures ok { OnOk result (self.new ≡ slice_set self.old place
@@ -133,12 +127,7 @@ impl Share {
         values: &[Logic],
         values_before: &[Logic],
     ) -> Result<(), AllocError>
-        requires at { place < length self.old }
-        requires time { time ≤ largest_time }
-        requires code { code.IsCodeOf process.now.body (code.code_at codes.now.codes number) }
-        requires nets { slice_index_or codes.now.nets number [] ≡ code.gathered_nets process.now.nets (code.code_at codes.now.codes number) }
-        requires frame { code.slots_of (code.code_at codes.now.codes number) ≤ frame.old }
-        requires ready { IsReady process.now.body time (owned_at self.old place) }
+        requires { IsReadyToExecute process.now number time codes.now frame.old self.old place }
         ensures frame { frame.new ≡ frame.old }
         ensures alone { self.new ≡ slice_set self.old place (owned_at self.new place) }
         ensures ok { OnOk result (self.new ≡ slice_set self.old place

@@ -4,17 +4,19 @@ use Rattle.std.proofs.lemmas.Result.{IfOk-weaker}
 use Rattle.sim_exec.specs.Jobs.{IsReady, holds_bit}
 use Rattle.sim_standard.specs.State.{Owned, driver_values}
 use Rattle.sim_standard.specs.Statements.{executed}
+use Rattle.sim_store_state.specs.Executions.{IsBodyReadyToExecute}
 use Rattle.sim_store_state.proofs.Contents.{as_owned, same_owned}
 use Rattle.sim_store_state.proofs.Placed.{held-count, row-old, row-put}
 use Rattle.sim_store_state.proofs.Putting.{values-count}
 use Rattle.sim_store_state.proofs.execution.execute_in_parts.Goals as goal
 
-pub execute_in_rows-requires-clause-ready : goal.execute_in_rows-requires-clause-ready
-execute_in_rows-requires-clause-ready g c =
+pub execute_in_rows-requires-clause-executable : goal.execute_in_rows-requires-clause-executable
+execute_in_rows-requires-clause-executable g c =
     let drivers = row-old c.place_of-owned.ensures c.as_slice.ensures.value c.drivers.view_is c.as_mut_slice.ensures.value c.index-as_mut_slice-owned.result in
     let variables = row-old c.place_of-held.ensures c.as_slice-2.ensures.value c.variables.view_is c.as_mut_slice-2.ensures.value
     c.index-as_mut_slice-held.result in
-    subst (IsReady c.args.body.now c.args.now) (sym (same_owned drivers variables)) c.requires.ready
+    subst (IsBodyReadyToExecute (g.N.Nets.look c.args.nets.now) (g.P.Nets.look c.args.places.now) c.args.body.now c.args.number c.args.now c.args.codes.now
+    c.args.frame.now) (sym (same_owned drivers variables)) c.requires.executable
 
 pub invariant_of-drivers : goal.invariant_of-drivers
 invariant_of-drivers g c =
@@ -31,7 +33,7 @@ invariant_of-variables g c =
     let e = c.execute_in_rows.ensures in
     let v = row-put c.variables.invariant c.variables.view_is c.place_of-held.ensures c.as_slice-2.ensures.value c.as_mut_slice-2.ensures.value
     c.variables.inside.parts.len c.index-as_mut_slice-held.result c.execute_in_rows.new.variables e.variables
-    (held-count _ _ (map holds_bit c.args.body.now.variables) e.ready.variables c.requires.ready.variables)
+    (held-count _ _ (map holds_bit c.args.body.now.variables) e.ready.variables c.requires.executable.ready.variables)
     c.variables.inside.parts.ok.0 in
     v.parts
 
@@ -50,7 +52,7 @@ returns-clause-variables g c =
     let e = c.execute_in_rows.ensures in
     let v = row-put c.variables.invariant c.variables.view_is c.place_of-held.ensures c.as_slice-2.ensures.value c.as_mut_slice-2.ensures.value
     c.variables.inside.parts.len c.index-as_mut_slice-held.result c.execute_in_rows.new.variables e.variables
-    (held-count _ _ (map holds_bit c.args.body.now.variables) e.ready.variables c.requires.ready.variables)
+    (held-count _ _ (map holds_bit c.args.body.now.variables) e.ready.variables c.requires.executable.ready.variables)
     c.variables.inside.parts.ok.0 in
     v.alone
 
@@ -66,7 +68,7 @@ returns-clause-ok g c =
     c.drivers.inside.parts.ok.0 in
     let v = row-put c.variables.invariant c.variables.view_is c.place_of-held.ensures c.as_slice-2.ensures.value c.as_mut_slice-2.ensures.value
     c.variables.inside.parts.len c.index-as_mut_slice-held.result c.execute_in_rows.new.variables e.variables
-    (held-count _ _ (map holds_bit c.args.body.now.variables) e.ready.variables c.requires.ready.variables)
+    (held-count _ _ (map holds_bit c.args.body.now.variables) e.ready.variables c.requires.executable.ready.variables)
     c.variables.inside.parts.ok.0 in
     let r = c.execute_in_rows.result in
     let was = same_owned owned held in
@@ -88,7 +90,7 @@ returns-clause-ready g c =
     c.drivers.inside.parts.ok.0 in
     let v = row-put c.variables.invariant c.variables.view_is c.place_of-held.ensures c.as_slice-2.ensures.value c.as_mut_slice-2.ensures.value
     c.variables.inside.parts.len c.index-as_mut_slice-held.result c.execute_in_rows.new.variables e.variables
-    (held-count _ _ (map holds_bit c.args.body.now.variables) e.ready.variables c.requires.ready.variables)
+    (held-count _ _ (map holds_bit c.args.body.now.variables) e.ready.variables c.requires.executable.ready.variables)
     c.variables.inside.parts.ok.0 in
     subst (IsReady c.args.body.now c.args.now) (sym (same_owned d.there v.there)) e.ready
 

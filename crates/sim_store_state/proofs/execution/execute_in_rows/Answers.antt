@@ -23,13 +23,9 @@ execute_between-requires g c =
     let r = places_read c.variables.invariant c.variables.view_is c.args.held_place _ _ _ _ c.requires.variables c.as_slice-2.ensures.value
     c.as_mut_slice-2.ensures.value c.bounds-held.ensures.start c.bounds-held.ensures.end in
     record {
-      now = c.requires.now;
-      code = c.requires.code;
-      placed = c.requires.placed;
-      frame = c.requires.frame;
+      executable = rw (q.holds, r.holds) c.requires.executable;
       owned = (q.order, q.within);
       held = (r.order, r.within);
-      ready = rw (q.holds, r.holds) c.requires.ready;
     }
 
 pub invariant_of-drivers : goal.invariant_of-drivers

@@ -34,16 +34,18 @@ on_ok_without_value P (Err x) s e h = subst (λ (t : Result Unit _). OnOk t P) (
 
 pub execute_in_parts-done-requires : goal.execute_in_parts-done-requires
 execute_in_parts-done-requires c = record {
-  now = c.requires.time;
-  code = subst (λ (b : Body). IsCodeOf b (code_at c.args.codes.now.codes c.args.number)) (sym c.body.ensures) c.requires.code;
-  placed = gathered_placed c.args.process.now.nets c.as_slice-values.result.now c.as_slice-values_before.result.now
-      c.nets.result.now (code_at c.args.codes.now.codes c.args.number) (c.nets.ensures ∙ c.requires.nets);
-  frame = c.requires.frame;
+  executable = record {
+    time = c.requires.time;
+    code = subst (λ (b : Body). IsCodeOf b (code_at c.args.codes.now.codes c.args.number)) (sym c.body.ensures) c.requires.code;
+    placed = gathered_placed c.args.process.now.nets c.as_slice-values.result.now c.as_slice-values_before.result.now
+        c.nets.result.now (code_at c.args.codes.now.codes c.args.number) (c.nets.ensures ∙ c.requires.nets);
+    frame = c.requires.frame;
+    ready = subst (λ (b : Body). IsReady b c.args.time (as_owned (get_or c.self.inside.drivers c.args.number [])
+        (get_or c.self.inside.variables c.args.number []))) (sym c.body.ensures)
+        (subst (IsReady c.args.process.now.body c.args.time) (owned-by c.self.view_is c.self.invariant.lists c.args.number) c.requires.ready);
+  };
   drivers = omega (arith, c.requires.at, owned-count c.self.view_is c.self.invariant.lists);
   variables = omega (arith, c.requires.at, owned-count c.self.view_is c.self.invariant.lists, c.self.invariant.lists.owned);
-  ready = subst (λ (b : Body). IsReady b c.args.time (as_owned (get_or c.self.inside.drivers c.args.number [])
-      (get_or c.self.inside.variables c.args.number []))) (sym c.body.ensures)
-      (subst (IsReady c.args.process.now.body c.args.time) (owned-by c.self.view_is c.self.invariant.lists c.args.number) c.requires.ready);
 }
 
 pub tell_changed-requires : goal.tell_changed-requires

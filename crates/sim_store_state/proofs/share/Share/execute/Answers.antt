@@ -15,17 +15,19 @@ use Rattle.sim_store_state.proofs.share.Share.execute.Goals as goal
 
 pub execute_at-done-requires : goal.execute_at-done-requires
 execute_at-done-requires c = record {
-  now = c.requires.time;
-  code = subst (λ (b : Body). IsCodeOf b (code_at c.args.codes.now.codes c.args.number)) (sym c.body.ensures) c.requires.code;
-  placed = gathered_placed c.args.process.now.nets c.args.values.now c.args.values_before.now
-      c.nets.result.now (code_at c.args.codes.now.codes c.args.number) (c.nets.ensures ∙ c.requires.nets);
-  frame = c.requires.frame;
+  executable = record {
+    time = c.requires.time;
+    code = subst (λ (b : Body). IsCodeOf b (code_at c.args.codes.now.codes c.args.number)) (sym c.body.ensures) c.requires.code;
+    placed = gathered_placed c.args.process.now.nets c.args.values.now c.args.values_before.now
+        c.nets.result.now (code_at c.args.codes.now.codes c.args.number) (c.nets.ensures ∙ c.requires.nets);
+    frame = c.requires.frame;
+    ready = subst (λ (b : Body). IsReady b c.args.time (as_owned (get_or c.self.inside.drivers c.args.place [])
+        (get_or c.self.inside.variables c.args.place []))) (sym c.body.ensures)
+        (subst (IsReady c.args.process.now.body c.args.time) (share-at c.self.inside.drivers c.self.inside.variables c.self.view_is c.self.invariant
+        c.args.place) c.requires.ready);
+  };
   drivers = omega (arith, c.requires.at, share-count c.self.inside.drivers c.self.inside.variables c.self.view_is c.self.invariant);
   variables = omega (arith, c.requires.at, share-count c.self.inside.drivers c.self.inside.variables c.self.view_is c.self.invariant, c.self.invariant);
-  ready = subst (λ (b : Body). IsReady b c.args.time (as_owned (get_or c.self.inside.drivers c.args.place [])
-      (get_or c.self.inside.variables c.args.place []))) (sym c.body.ensures)
-      (subst (IsReady c.args.process.now.body c.args.time) (share-at c.self.inside.drivers c.self.inside.variables c.self.view_is c.self.invariant
-      c.args.place) c.requires.ready);
 }
 
 pub invariant_of-self : goal.invariant_of-self
