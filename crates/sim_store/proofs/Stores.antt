@@ -5,12 +5,11 @@ use Rattle.std.proofs.lemmas.Bool.Decides.{nat_tests}
 use Rattle.sim_logic.specs.Time.{largest_time}
 use Rattle.sim_standard.specs.Outcome.{GoesOn}
 use Rattle.sim_standard.specs.Cycle.{CycleAt, Following, next_in}
-use Rattle.sim_standard.specs.Initialization.{first_state}
 use Rattle.sim_standard.specs.Midway.{updated_in}
 use Rattle.sim_store.specs.declared.store.Step.{Step}
 use Rattle.sim_store.specs.declared.store.Step.TheVariants as step
-use Rattle.std.specs.Prelude.{IsSomeAnd, is_some, unwrap_or}
-use Rattle.sim_store_simulation.specs.Simulation.{Simulation, IsComplete, IsExecuted, after, in_postponed_phase, next_after, reached, with_marks}
+use Rattle.std.specs.Prelude.{IsSomeAnd, is_some}
+use Rattle.sim_store_simulation.specs.Simulation.{Simulation, IsComplete, IsExecuted, after, in_postponed_phase, next_after, or_first, reached, with_marks}
 use Rattle.sim_store_simulation.specs.declared.phase.Phase.{Phase}
 use Rattle.sim_store_simulation.specs.declared.phase.Phase.TheVariants as phase
 use Rattle.sim_store.specs.WaveStore.{WaveStore, IsStore, HasEnd}
@@ -21,7 +20,7 @@ pub store-begins : (g : Simulation) (stop limit : ℕ) → stop ≤ largest_time
 store-begins g stop limit early zero = record {
   early = early;
   within = omega (arith, zero);
-  until = subst (λ (n : ℕ). (unwrap_or (updated_in g.design n) (first_state g.design)).time ≤ stop) (sym zero) (omega arith);
+  until = subst (λ (n : ℕ). (or_first g.design (updated_in g.design n)).time ≤ stop) (sym zero) (omega arith);
   going = λ m lt. absurd (omega (arith, zero, lt));
   end = tt;
 }

@@ -3,7 +3,7 @@ use Rattle.std.proofs.Common.{ℕ, zero, suc, ◌+◌, ◌<◌, ◌≤◌, ◌�
 use Rattle.std.proofs.Common.{if◌then◌else◌, List, [], ◌∷◌, ◌++◌}
 use Rattle.std.proofs.Common.{length, get_or, set, map, take, drop, replicate, refl, ap, sym, ◌∙◌, subst, arith, Option, None, Some, MatchOption}
 use Rattle.std.specs.List.{All}
-use Rattle.std.specs.Prelude.{option_map, unwrap_or}
+use Rattle.std.specs.Prelude.{option_map}
 use Rattle.std.proofs.lemmas.Bool.Decides.{nat_tests}
 use Rattle.std.proofs.lemmas.List.{get_or-set_same, get_or-set_other, length-set, length-map, get_or-map, get_or-replicate, length-replicate}
 use Rattle.std.proofs.lemmas.List.Elements.{All-map, All-weaker}
@@ -39,7 +39,7 @@ use Rattle.sim_standard.specs.Midway.{updated_in}
 use Rattle.sim_standard.proofs.Midway.{carried_on, next_carried_on, one_more}
 use Rattle.sim_standard.proofs.Records.{length-records_to, one-recorded}
 use Rattle.sim_store_simulation.specs.Simulation.{Simulation, ArePostponedNext, AreParted, IsStateOf, IsComplete, IsExecuted, IsResult, IsDue, IsMissing, IsOwn}
-use Rattle.sim_store_simulation.specs.Simulation.{cleared, after, in_postponed_phase, is_before, is_due, is_left, is_of_phase, kept_or, next_after}
+use Rattle.sim_store_simulation.specs.Simulation.{cleared, after, in_postponed_phase, is_before, is_due, is_left, is_of_phase, kept_or, next_after, or_first}
 use Rattle.sim_store_simulation.specs.Simulation.{IsUpcoming, pending_from, upcoming_of}
 use Rattle.sim_store_simulation.specs.Simulation.{reached, those_in, updated_last, with_one}
 use Rattle.sim_store_simulation.specs.declared.phase.Phase.{Phase}
@@ -59,7 +59,7 @@ results h q = owned_after (process_at h.design.processes q) (part (process_at h.
 
 -- the state after the update of the last of a number of cycles
 abbrev pub state_of : Design → ℕ → State
-state_of d k = unwrap_or (updated_in d k) (first_state d)
+state_of d k = or_first d (updated_in d k)
 
 -- the delta number of a cycle at a time after one at another
 abbrev next_delta : ℕ → ℕ → ℕ → ℕ
@@ -321,7 +321,7 @@ module _ {h : Simulation} {time delta : ℕ} {held : FlatState} {records : List 
   pub advanced-time : (t : ℕ) → next_time (all_drivers held.owned) ≡ Some t → (state_of h.design (suc h.cycles)).time ≡ t
   advanced-time t some =
       let d = h.design in
-      ap (λ (o : Option State). (unwrap_or o (first_state d)).time)
+      ap (λ (o : Option State). (or_first d o).time)
       (one-updated ∙ ap (option_map (updated d (cycle_end_together d h.cycles (updated_last h)))) some)
 
   pub held-is : held ≡ flat_state_of h.design (cycle_end_together h.design h.cycles (updated_last h))
@@ -363,7 +363,7 @@ module _ {h : Simulation} {time delta : ℕ} {held : FlatState} {records : List 
       let x = cycle_end_together d h.cycles (updated_last h) in
       let u = updated d x t in
       let p : updated_in d (suc h.cycles) ≡ Some u = one-updated ∙ ap (option_map (updated d x)) some in
-      let q : state_of d (suc h.cycles) ≡ u = ap (λ (w : Option State). unwrap_or w (first_state d)) p in
+      let q : state_of d (suc h.cycles) ≡ u = ap (or_first d) p in
       let l : held' ≡ flat_state_of d u = el d x held-is in
       let xt : (updated_last h).time ≡ x.time = sym (executed_time d h.cycles (updated_last h)) in
       let xd : (updated_last h).delta ≡ x.delta = sym (executed_delta d h.cycles (updated_last h)) in

@@ -1,7 +1,7 @@
 -- How far a simulation has come (IEEE 1076-2008, 14.7.5).
 -- Implementation only: what `simulate` promises does not rest on this file.
 use Rattle.std.specs.Prelude.{ℕ, suc, ◌≡◌, ◌≢◌, ◌<◌, ◌≤◌, ◌&&◌, ◌||◌, not, List, [], Bool, true, false, if◌then◌else◌, Option, None, Some, map, length}
-use Rattle.std.specs.Prelude.{filter, replicate, slice_index_or, slice_set, unwrap_or}
+use Rattle.std.specs.Prelude.{filter, replicate, slice_index_or, slice_set}
 use Rattle.std.specs.List.{All, range_with_len}
 use Rattle.sim_flat_design.specs.Designs.{Design, most}
 use Rattle.sim_flat_design.specs.Processes.{IsProcess}
@@ -37,9 +37,14 @@ pub record Simulation : Type 0 where
 abbrev pub those_in : List Bool → ℕ → Bool
 those_in marks p = slice_index_or marks p false
 
+-- this state or, without one, the first
+abbrev pub or_first : Design → Option State → State
+or_first design None = first_state design
+or_first design (Some s) = s
+
 -- the state after the update of the last cycle
 abbrev pub updated_last : Simulation → State
-updated_last h = unwrap_or (updated_in h.design h.cycles) (first_state h.design)
+updated_last h = or_first h.design (updated_in h.design h.cycles)
 
 -- what each process owns when a phase begins
 abbrev pub owned_before : Phase → Design → ℕ → State → List Owned
