@@ -10,6 +10,7 @@ use crate::bit_set::BitSet;
 use crate::stamps::Stamps;
 use std::alloc::{AllocError, Global};
 use std::marker::Model;
+use std::mem;
 
 /// A number keeps the list in order if it belongs before at most this many members.
 const NEAR: usize = 8;
@@ -102,6 +103,19 @@ impl NumberSet {
         ensures { result ≡ is_in self.now number }
     {
         self.marks.contains(number)
+    }
+
+    /// Exchanges two sets. It does so field by field, since a move of a whole set is a call.
+    #[inline(always)]
+    pub fn swap(&mut self, other: &mut NumberSet)
+        ensures first { self.new ≡ other.old }
+        ensures second { other.new ≡ self.old }
+    {
+        mem::swap(&mut self.marks, &mut other.marks);
+        mem::swap(&mut self.list, &mut other.list);
+        mem::swap(&mut self.is_listed, &mut other.is_listed);
+        mem::swap(&mut self.end, &mut other.end);
+        mem::swap(&mut self.bits, &mut other.bits);
     }
 
     /// Adds a number. It takes no memory.

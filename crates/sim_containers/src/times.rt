@@ -10,7 +10,6 @@ use crate::numbers::NumberSet;
 use std::alloc::{AllocError, Global};
 use std::collections::BinaryHeap;
 use std::marker::Model;
-use std::mem;
 
 /// For each driver a time in femtoseconds, or none. The drivers whose time is `front_time` are in
 /// the set `front`, so that the next delta cycle is fast. Those with one more time, such as that of
@@ -94,7 +93,8 @@ impl TimeQueue {
         self.change(driver, time)
     }
 
-    /// Sets the time of a driver that has none.
+    /// Sets the time of a driver that has none. It is out of line to keep `put` short.
+    #[inline(never)]
     fn put_beyond(&mut self, driver: usize, time: Option<u64>) -> Result<(), AllocError>
         requires at { driver < length self.old }
         requires free { time_of self.old driver ≡ None }
@@ -245,11 +245,11 @@ fn take_out(
 {
     taken.clear();
     if time == now {
-        mem::swap(front, taken);
+        front.swap(taken);
         return;
     }
     if time == later {
-        mem::swap(laters, taken);
+        laters.swap(taken);
         return;
     }
     take_least(heap, times, now, later, time, taken);

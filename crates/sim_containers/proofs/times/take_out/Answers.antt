@@ -10,7 +10,7 @@ returns-then-time-now-clause-stands c =
 
 pub returns-then-time-now-clause-front : goal.returns-then-time-now-clause-front
 returns-then-time-now-clause-front c =
-    c.swap.ensures.x_after ∙ (c.clear.ensures ∙ (none_left c.args.time (length c.args.taken.now) c.args.times.now c.requires.sized
+    c.swap.ensures.first ∙ (c.clear.ensures ∙ (none_left c.args.time (length c.args.taken.now) c.args.times.now c.requires.sized
     ∙ ap (λ (now : ℕ). those_at now (cleared c.args.time c.args.times.now)) c.if-time-now.true))
 
 pub returns-then-time-now-clause-later : goal.returns-then-time-now-clause-later
@@ -27,13 +27,13 @@ returns-then-time-later-clause-front c = c.requires.front ∙ others_left c.args
 
 pub returns-then-time-later-clause-later : goal.returns-then-time-later-clause-later
 returns-then-time-later-clause-later c =
-    c.swap-then-time-later.ensures.x_after ∙ (c.clear.ensures ∙ (later_taken c.args.now c.args.later (length c.args.taken.now) c.args.times.now c.requires.sized
+    c.swap-then-time-later.ensures.first ∙ (c.clear.ensures ∙ (later_taken c.args.now c.args.later (length c.args.taken.now) c.args.times.now c.requires.sized
     ∙ ap (λ (time : ℕ). those_later c.args.now c.args.later (cleared time c.args.times.now)) (sym c.if-time-later.true)))
 
 pub returns-then-time-later-clause-taken : goal.returns-then-time-later-clause-taken
 returns-then-time-later-clause-taken c =
     let other : c.args.later ≢ c.args.now = λ e. c.if-time-now.false (c.if-time-later.true ∙ e) in
-    c.swap-then-time-later.ensures.y_after ∙ (c.requires.later ∙ (all_later c.args.now c.args.later c.args.times.now other
+    c.swap-then-time-later.ensures.second ∙ (c.requires.later ∙ (all_later c.args.now c.args.later c.args.times.now other
     ∙ ap (λ (time : ℕ). those_at time c.args.times.now) (sym c.if-time-later.true)))
 
 pub returns-clause-front : goal.returns-clause-front
