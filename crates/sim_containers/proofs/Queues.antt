@@ -3,7 +3,7 @@ use Rattle.std.proofs.Common.{ℕ, zero, suc, ◌<◌, ◌≤◌, ◌≡◌, ◌
 use Rattle.std.proofs.Common.{inl, inr, ◌⊎◌, Option, None, Some}
 use Rattle.std.proofs.Math.ListN.{replicate}
 use Rattle.std.proofs.lemmas.Bool.Decides.{nat_tests}
-use Rattle.std.proofs.lemmas.List.{ext_get_or, get_or-set_other, length-map, map-set}
+use Rattle.std.proofs.lemmas.List.{ext_get_or, get_or-set_other, length-map, map-set, set-get_or}
 use Rattle.std.proofs.lemmas.Option.{same_Some}
 use Rattle.std.specs.BinaryHeap.{IsHeap}
 use Rattle.sim_containers.specs.Words.{NoneFrom}
@@ -123,11 +123,6 @@ still_live times driver time (e ∷ es) free live = go (eqb e.0.1 driver) refl
         let differ : e.0.1 ≢ driver = grind (arith, nat_tests) in
         ap (is_at e.0.0) (get_or-set_other times driver e.0.1 time None differ) ∙ live
 
-set_none : (times : List (Option ℕ)) (driver : ℕ) → time_of times driver ≡ None → set times driver None ≡ times
-set_none [] driver free = refl
-set_none (x ∷ xs) zero free = ap (λ (o : Option ℕ). o ∷ xs) (sym free)
-set_none (x ∷ xs) (suc k) free = ap (λ (l : List (Option ℕ)). x ∷ l) (set_none xs k free)
-
 pub joined_front : (times : List (Option ℕ)) (now later : ℕ) (front laters new : List Bool) (items : List Entry) (driver : ℕ)
     → time_of times driver ≡ None
     → new ≡ set front driver true → IsQueue times now later front laters items → IsQueue (set times driver (Some now)) now later new laters items
@@ -148,12 +143,10 @@ joined_front times now later front laters new items driver free is queue = recor
 
     hidden : cleared now (set times driver (Some now)) ≡ cleared now times
     hidden = map-set (clear now) times driver (Some now)
-        ∙ (ap (set (cleared now times) driver) gone ∙ set_none (cleared now times) driver no_time_left)
+        ∙ (ap (set (cleared now times) driver) (gone ∙ sym no_time_left) ∙ set-get_or (cleared now times) driver None)
 
 set_false : (set' : List Bool) (d : ℕ) → is_in set' d ≡ false → set set' d false ≡ set'
-set_false [] d none = refl
-set_false (b ∷ bs) zero none = ap (λ (c : Bool). c ∷ bs) (sym none)
-set_false (b ∷ bs) (suc d) none = ap (λ (l : List Bool). b ∷ l) (set_false bs d none)
+set_false set' d none = ap (set set' d) (sym none) ∙ set-get_or set' d false
 
 later_not_now : (now later : ℕ) (time : Option ℕ) → is_at later (clear now time) ≡ true → is_at now time ≡ false
 later_not_now now later None there = refl
@@ -308,10 +301,6 @@ later_gone now later (Some t) same = go (eqb t now) refl
     go : (e : Bool) → eqb t now ≡ e → false ≡ is_at later (cond e None (Some t))
     go true r = refl
     go false r = grind (arith, nat_tests)
-
-pub no_entries : (items : List Entry) → length items ≡ 0 → items ≡ []
-no_entries [] e = refl
-no_entries (x ∷ xs) e = absurd (omega arith)
 
 -- the time of an empty front may change
 pub turned : (times : List (Option ℕ)) (now later time next : ℕ) (front laters : List Bool) (items : List Entry)

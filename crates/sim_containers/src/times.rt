@@ -2,7 +2,7 @@
 
 ghost use Rattle.std.specs.Prelude.{◌≡◌, ◌<◌, ◌⊎◌, ℕ, length, false, Option, None, Some, OnOk, OnErr, IfOk, MatchOption, replicate, slice_set};
 ghost use Rattle.std.specs.BinaryHeap.{heap_items, IsHeap};
-ghost use Rattle.sim_containers.specs.Times.{clear, cleared, due_at, earlier, earliest, is_at, those_at, time_of};
+ghost use Rattle.sim_containers.specs.Times.{clear, cleared, due_at, earlier, earliest, is_at, those_at};
 ghost use Rattle.sim_containers.specs.Entries.{entry_cmp, those_later, NoneBefore, StandsBut};
 
 use crate::entries::{Heap, add_entry, is_time, settle, take_least, top_time, trim};
@@ -87,22 +87,19 @@ impl TimeQueue {
             self.times[driver] = Some(self.front_time);
             return Ok(());
         }
-        if before.is_none() {
-            return self.put_beyond(driver, time);
-        }
-        self.change(driver, time)
+        self.put_beyond(driver, time)
     }
 
-    /// Sets the time of a driver that has none. It is out of line to keep `put` short.
+    /// The same, for any time. It is out of line to keep the frequent cases short.
     #[inline(never)]
     fn put_beyond(&mut self, driver: usize, time: Option<u64>) -> Result<(), AllocError>
-        requires at { driver < length self.old }
-        requires free { time_of self.old driver ≡ None }
+        requires { driver < length self.old }
         ensures ok { OnOk result (self.new ≡ slice_set self.old driver time) }
         ensures err { OnErr result (self.new ≡ self.old) }
     {
         self.choose_later(time);
-        if is_later(time, self.front_time, self.later_time) {
+        let is_free = self.times[driver].is_none();
+        if is_free && is_later(time, self.front_time, self.later_time) {
             self.later.insert(driver);
             self.times[driver] = time;
             return Ok(());
@@ -110,7 +107,7 @@ impl TimeQueue {
         self.change(driver, time)
     }
 
-    /// Chooses the time of the set `later`, unless it or the heap have drivers.
+    /// Makes `time` the time of the set `later`, where neither this set nor the heap has a driver.
     fn choose_later(&mut self, time: Option<u64>)
         ensures { self.new ≡ self.old }
     {
@@ -122,7 +119,7 @@ impl TimeQueue {
         }
     }
 
-    /// Sets or clears the time of a driver. It is out of line to keep the frequent cases short.
+    /// Sets or clears the time of a driver that has another one.
     #[inline(never)]
     fn change(&mut self, driver: usize, time: Option<u64>) -> Result<(), AllocError>
         requires { driver < length self.old }
