@@ -19,7 +19,7 @@ pub struct Hints {
 }
 
 impl Hints {
-    /// Measured values: a phase takes some tens of microseconds, as does to sleep and to be woken;
+    /// Measured values: a phase takes some tens of microseconds, and so do sleeping and being woken;
     /// so a thread looks for some thirty microseconds.
     pub const fn measured() -> Hints {
         Hints {
@@ -30,8 +30,8 @@ impl Hints {
         }
     }
 
-    /// Every phase is handed out to all threads, whatever it costs, and who waits soon sleeps, so
-    /// that small runs exercise the threads.
+    /// Every phase is handed out to all threads, whatever it costs, and a waiting thread soon sleeps,
+    /// so that small runs exercise the threads.
     pub const fn all_handed_out() -> Hints {
         Hints {
             least_steps_of_a_process: 0,

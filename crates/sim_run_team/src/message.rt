@@ -47,8 +47,8 @@ fn awaited<R: Wait, T: Drop>(rt: &R, from: &mut Consumer<T>, bell: &Bell) -> Opt
     None
 }
 
-/// The next message; `None` if the other end is gone. It spins for so many looks and then sleeps,
-/// so that another thread may have the processor.
+/// The next message; `None` if the other end is gone. The thread spins for `looks` looks and then
+/// sleeps, so that another thread may have the processor.
 pub fn next<R: Wait, T: Drop>(
     rt: &R,
     from: &mut Consumer<T>,

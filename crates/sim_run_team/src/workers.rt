@@ -54,8 +54,8 @@ impl<W: Work> Drop for Line<'_, W> {
     }
 }
 
-/// The ends of the main thread and of a worker, which sleeps until this bell rings if it has found
-/// no order after so many looks.
+/// The ends of the main thread and of a worker. The worker sleeps until this bell rings, once it has
+/// looked `looks` times and found no order.
 pub fn pair<W: Work>(
     alloc: Global,
     bell: &Bell,

@@ -34,7 +34,7 @@ fn bells(alloc: Global, workers: usize) -> Result<Vec<Bell>, AllocError> {
     Ok(bells)
 }
 
-/// Everything is handed out, and a waiting thread sleeps after so many looks.
+/// Hints by which everything is handed out and a waiting thread sleeps after `looks` looks.
 fn hints(looks: u32) -> Hints {
     let mut hints = Hints::all_handed_out();
     hints.looks_before_sleep = looks;
