@@ -1,14 +1,15 @@
 #!/usr/bin/env python3
 """Gives the program what a stranger may give it: texts that are cut off, damaged or huge, and streams that fail.
 
-    hostile.py PROGRAM [--texts]
+    hostile.py PROGRAM [CASES] [--texts]
 
 - Each proper prefix of three designs is refused as a text, except the one that ends after its entity.
 - A zero byte in place of each byte of these designs is refused at its place, or at the token that it breaks.
 - Texts of 1 MiB that repeat one thing, and one with a byte more, are answered as the manual says, in at most 20 s of processor
   time and 200 MiB; so is a design of 8,000 instances below one long label.
 - In little memory a run answers `vsim: Memory`, and in more its listing, with one worker and with three. If work is handed out,
-  runs with 4 and 16 workers answer like one worker, in address spaces from what one worker needs up to ample.
+  runs with 4 and 16 workers answer like one worker, in address spaces from what one worker needs up to ample. Given CASES, which is
+  sim_run_cases, there are as many threads as workers; PROGRAM starts no more than there are processors.
 - Standard output is full, closed, or a pipe without a reader; standard input is closed, a folder or a terminal; standard error is
   closed. The status and the line are those of the manual.
 
@@ -219,9 +220,9 @@ def worked(processes, statements):
     return f"entity t is end;architecture a of t is signal clk,{','.join(of_all)}:std_logic:='0';begin clk<=not clk after 1 ns;{every}end;".encode()
 
 
-def shared(program, tally):
+def shared(program, tally, *first):
     """Runs in small address spaces, which have no room for the stack and the heap of each thread."""
-    text, words = worked(600, 20), [*WORDS, "--stop", "20000000", "--workers"]
+    text, words = worked(600, 20), [*first, *WORDS, "--stop", "20000000", "--workers"]
     ample = run(program, text, [*words, "1"])
     tally.note(ample.status == 0 and ample.out.endswith(b"\ndone 41 20\n"), "600 processes by 1", ample)
     for mebibytes in (24, 32, 48, 64, 96, 128, 192, 256, 384, 512, 768, 1000, 1200, 1600, 2400, 3200):
@@ -270,13 +271,19 @@ def terminal(program, tally):
 
 def main():
     program, *words = sys.argv[1:] or [""]
-    if not program or words not in ([], ["--texts"]):
+    cases = [os.path.abspath(it) for it in words if it != "--texts"]
+    if not program or len(cases) > 1 or len(words) > 2:
         sys.exit(__doc__)
     program, tally = os.path.abspath(program), Tally()
     answer = run(program, DESIGN)
     tally.note(answer.same(0, LISTING, b""), "the design", answer)
-    of_texts = (prefixes, zeros, huge, memory, shared)
-    for part in of_texts if words else (*of_texts, streams, terminal):
+    for part in (prefixes, zeros, huge, memory):
+        part(program, tally)
+    if cases:
+        shared(cases[0], tally, "--handed-out")
+    else:
+        shared(program, tally)
+    for part in () if "--texts" in words else (streams, terminal):
         part(program, tally)
     print(f"{tally.passed} passed, {tally.failed} failed")
     return 1 if tally.failed else 0

@@ -6,9 +6,10 @@
 CASES is sim_run_cases, which with the word --handed-out is vsim, except that each phase is handed out; without it the examples are left out.
 
 - Each example that examples/check runs and whose run finishes has its listing with 2, 3, 4, 8 and 16 workers, with each phase handed out.
-- 600 processes of twenty statements run in VSIM itself with three workers: the listing follows the rules, and each of three threads takes
-  processor time. A thread without an order sleeps, so this shows that work is handed out. It is tried at most five times, since under
-  other load a thread may find no processor.
+- 600 processes of twenty statements run in VSIM itself with three workers: the listing follows the rules, and each of three threads (of
+  two on two processors) takes processor time. A thread without an order sleeps, so this shows that work is handed out. It is tried at most
+  five times, since under other load a thread may find no processor.
+- With sixteen workers no more threads are started than there are processors.
 
 Each run has a minute, so one that does not end is reported. The last line is `N passed, M failed`.
 """
@@ -104,16 +105,21 @@ def watched(words, text):
 
 
 def handed_out(vsim):
-    """Yields a name, and whether a large design has its listing with one worker and with three, and three threads take part."""
+    """Yields a name, and whether a large design has its listing with 1, 3 and 16 workers, by as many threads as it should."""
     text, stop, listing = large()
+    processors = len(os.sched_getaffinity(0))
     words = [vsim, "--top", "t", "--limit", "1000000", "--stop", stop, "--workers"]
     yield f"{PROCESSES} processes by 1", answer([*words, "1"], text) == (listing, b"", 0)
+    found, taken = watched([*words, "16"], text)
+    yield f"{PROCESSES} processes by 16", found == (0, listing)
+    yield f"{len(taken)} threads on {processors} processors", len(taken) <= processors
+    several = min(3, processors)
     for turn in range(TRIES):
         found, taken = watched([*words, "3"], text)
         busy = sum(count > BUSY for count in taken.values())
-        if found != (0, listing) or busy == 3 or turn == TRIES - 1:
+        if found != (0, listing) or busy == several or turn == TRIES - 1:
             yield f"{PROCESSES} processes by 3", found == (0, listing)
-            yield f"three threads take part, and not {busy}", busy == 3
+            yield f"{several} threads take part, and not {busy}", busy == several
             return
 
 

@@ -173,14 +173,14 @@ fn run_by<D: DesignType + Send + Sync, R: Threads + Wait + Sync>(
 }
 
 /// The number of threads that are useful for a run, at most `workers`: one if bodies are short, or
-/// all processes together have too little work.
-fn useful(run: &WaveStore, workers: usize, hints: Hints) -> usize {
+/// all processes together have too little work, and otherwise one for each processor.
+fn useful<R: Threads>(rt: &R, run: &WaveStore, workers: usize, hints: Hints) -> usize {
     let length = run.mean_length();
     let all = run.design().processes().len().saturating_mul(length);
     if length < hints.least_steps_of_a_process || all < hints.least_steps_of_a_phase {
         1
     } else {
-        workers
+        workers.min(hints.most_threads(rt))
     }
 }
 
@@ -198,7 +198,7 @@ pub fn carry_to_end<R: Threads + Wait + Sync>(
 ) -> Option<WaveStore>
     ensures { IfSome result (λ r. IsSameRun run r × (r.ended ≢ None)) }
 {
-    let workers = useful(&run, workers, hints);
+    let workers = useful(rt, &run, workers, hints);
     let run = run.divide(alloc, workers).ok()?;
     run_by::<Brand, R>(rt, alloc, run, workers, hints)
 }

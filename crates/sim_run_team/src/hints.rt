@@ -1,5 +1,8 @@
 //! When it pays to give work to other threads.
 
+use std::thread;
+use std::thread::Threads;
+
 /// How much work there must be for other threads to get a part of it. Only the duration of a run
 /// depends on these numbers, no result.
 #[derive(Clone, Copy)]
@@ -16,6 +19,9 @@ pub struct Hints {
     /// The number of times that a waiting thread looks for a message before it sleeps, so that
     /// another thread or program may have its processor.
     pub looks_before_sleep: u32,
+    /// The greatest number of threads for each processor that the program may use. Where there are
+    /// more, they wait for each other.
+    pub threads_of_a_processor: usize,
 }
 
 impl Hints {
@@ -27,6 +33,7 @@ impl Hints {
             least_steps_of_a_phase: 10_000,
             least_processes_of_an_order: 16,
             looks_before_sleep: 4_000,
+            threads_of_a_processor: 1,
         }
     }
 
@@ -38,6 +45,15 @@ impl Hints {
             least_steps_of_a_phase: 0,
             least_processes_of_an_order: 0,
             looks_before_sleep: 100,
+            threads_of_a_processor: usize::MAX,
+        }
+    }
+
+    /// The greatest number of threads, by the number of processors, if that is known.
+    pub fn most_threads<R: Threads>(&self, rt: &R) -> usize {
+        match thread::available_parallelism(rt) {
+            Ok(processors) => processors.get().saturating_mul(self.threads_of_a_processor),
+            Err(_unknown) => usize::MAX,
         }
     }
 }
