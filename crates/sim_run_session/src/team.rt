@@ -13,7 +13,7 @@ use std::alloc::{AllocError, Global};
 use std::marker::{Brand, PhantomData};
 use std::sync::Wait;
 use std::thread;
-use std::thread::Threads;
+use std::thread::{Scope, Threads};
 
 /// The work of the phases of this design's run, in shares.
 struct PhaseWork<D: DesignType> {
@@ -130,6 +130,29 @@ fn bells(alloc: Global, workers: usize) -> Option<Vec<Bell>> {
     Some(bells)
 }
 
+/// Adds a worker to a team for each bell for which a thread can be started. `None` if memory runs
+/// out.
+fn hire<'s, D: DesignType + Send + Sync + 's, R: Threads + Wait + Sync, E>(
+    scope: &Scope<'s, E>,
+    rt: &'s R,
+    alloc: Global,
+    bells: &'s [Bell],
+    main: &'s Bell,
+    looks: u32,
+    team: &mut Team<'s, PhaseWork<D>>,
+) -> Option<()> {
+    for bell in bells {
+        let (line, worker) = pair::<PhaseWork<D>>(alloc, bell, looks).ok()?;
+        if scope
+            .spawn(move || worker.work(rt, alloc, bell, main))
+            .is_ok()
+        {
+            team.add(line)?;
+        }
+    }
+    Some(())
+}
+
 /// Carries a run of the design that `D` names to its end. It starts up to `workers - 1` threads, as
 /// many as can be. `None` if the team fails or memory runs out.
 fn run_by<D: DesignType + Send + Sync, R: Threads + Wait + Sync>(
@@ -153,20 +176,16 @@ fn run_by<D: DesignType + Send + Sync, R: Threads + Wait + Sync>(
             requires { run.simulation.design ≡ D.design }
             ensures { IfSome result (λ r. IsSameRun run r × (r.ended ≢ None)) }
         {
-            let mut team = Team::new(alloc, main, hints);
-            for bell in bells {
-                let (line, worker) = pair::<PhaseWork<D>>(
-                    alloc,
-                    bell,
-                    hints.looks_before_sleep,
-                ).ok()?;
-                if scope
-                    .spawn(move || worker.work(rt, alloc, bell, main))
-                    .is_ok()
-                {
-                    team.add(line)?;
-                }
-            }
+            let mut team: Team<'_, PhaseWork<D>> = Team::new(alloc, main, hints);
+            hire(
+                scope,
+                rt,
+                alloc,
+                bells,
+                main,
+                hints.looks_before_sleep,
+                &mut team,
+            )?;
             lead(rt, alloc, run, &mut team)
         },
     )

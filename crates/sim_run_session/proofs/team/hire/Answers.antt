@@ -10,14 +10,14 @@ use Rattle.sim_store.proofs.order.Answer.TheSendSync as answers
 use Rattle.sim_run_team.specs.contracts.workers.Worker as Worker
 use Rattle.sim_run_team.proofs.Crossing.{ends_send, worker_send}
 use Rattle.sim_run_session.specs.contracts.team.PhaseWork as PhaseWork
-use Rattle.sim_run_session.specs.contracts.team.fn.run_by.scope as scope
-use Rattle.sim_run_session.proofs.team.fn.run_by.scope.Goals as goal
+use Rattle.sim_run_session.specs.contracts.team.hire as hire
+use Rattle.sim_run_session.proofs.team.hire.Goals as goal
 
 pub spawn-requires-send-F : goal.spawn-requires-send-F
 spawn-requires-send-F g c κs within =
     let r : IsSync g.row.R = search rules in
-    let s : IsSend (scope.D-row g.row.D g.row.R) = search rules in
-    let y : IsSync (scope.D-row g.row.D g.row.R) = search rules in
+    let s : IsSend (hire.D-row g.row.D g.row.R g.row.E) = search rules in
+    let y : IsSync (hire.D-row g.row.D g.row.R g.row.E) = search rules in
     let n : IsSend (param 0 g.row.D) = s in
     let o : IsSend (Order.the_row (param 0 g.row.D) g.D.DesignType) = order_send (param 0 g.row.D) g.D.DesignType n y in
     let a : IsSend (Answer.the_row (param 0 g.row.D) g.D.DesignType) = search (answers.the_send, crosses, sendable) depth 20 in
