@@ -404,8 +404,8 @@ impl FlatState {
             &self.fan_out,
             &mut self.queue,
             &mut self.touched,
-            &mut self.tallies,
         );
+        self.tallies.follow(self.driving.as_slice(), &self.stale);
         forget(&mut self.stale, told);
         // d) Nets of changed drivers take the values of their sources.
         resolve_touched(

@@ -61,9 +61,9 @@ pub fn net_value(sources: &[Source], driving: &[Logic]) -> Logic
     }
 }
 
-/// The same, of the net with a number. If the values of its sources are kept, it looks at their
-/// counts alone.
-fn resolved_value(tallies: &Tallies, net: usize, sources: &[Source], driving: &[Logic]) -> Logic
+/// The value of the net with a number, which has these sources. If they are many and their values
+/// kept, it looks at the counts of these alone.
+fn several_value(tallies: &Tallies, net: usize, sources: &[Source], driving: &[Logic]) -> Logic
     requires { 0 < length (slice_index_or tallies.now.rows net []) → slice_index_or tallies.now.rows net [] ≡ map (value_from driving.now) sources.now }
     ensures { result ≡ row_from driving.now sources.now }
 {
@@ -73,6 +73,17 @@ fn resolved_value(tallies: &Tallies, net: usize, sources: &[Source], driving: &[
     match tallies.resolved(net) {
         Some(value) => value,
         None => net_value(sources, driving),
+    }
+}
+
+/// The same; a net of one source costs no more than a look at it.
+fn resolved_value(tallies: &Tallies, net: usize, sources: &[Source], driving: &[Logic]) -> Logic
+    requires { 0 < length (slice_index_or tallies.now.rows net []) → slice_index_or tallies.now.rows net [] ≡ map (value_from driving.now) sources.now }
+    ensures { result ≡ row_from driving.now sources.now }
+{
+    match sources {
+        [only] => source_value(*only, driving),
+        sources => several_value(tallies, net, sources, driving),
     }
 }
 

@@ -5,7 +5,7 @@ use Rattle.sim_logic.specs.declared.logic.Logic.TheVariants.{Z}
 use Rattle.sim_logic.specs.Tables.{resolution_table}
 use Rattle.sim_store_state.specs.Changes.{value_from}
 use Rattle.sim_store_state.proofs.Resolving.{resolved-many}
-use Rattle.sim_store_state.proofs.nets.resolved_value.Goals as goal
+use Rattle.sim_store_state.proofs.nets.several_value.Goals as goal
 
 pub returns-in-Some : goal.returns-in-Some
 returns-in-Some c =
