@@ -34,7 +34,8 @@ variables-of (ds ∷ dss) (vs ∷ vss) l = ap (λ w. vs ∷ w) (variables-of dss
 -- what the lists of a state hold, in terms of what processes own
 pub held-split : {values values_before driving : List Logic} {dss : List (List DriverState)} {vss : List (List Held)} {sources : List (List Source)}
     {fan_out : List (List ℕ)}
-    {times : List (Option ℕ)} {stale touched : List Bool} {tallies : TallyLists} → IsHeld values values_before driving dss vss sources fan_out times stale touched tallies
+    {times : List (Option ℕ)} {stale touched : List Bool} {tallies : TallyLists}
+    → IsHeld values values_before driving dss vss sources fan_out times stale touched tallies
     → IsHeld values values_before driving (drivers_of (owned_lists dss vss)) (variables_of (owned_lists dss vss)) sources fan_out times stale touched tallies
 held-split {dss = dss} {vss = vss} i = rw (drivers-of dss vss i.lists.owned, variables-of dss vss i.lists.owned) i
 

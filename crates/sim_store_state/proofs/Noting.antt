@@ -1,20 +1,17 @@
 -- The values kept of the sources of nets follow those of the drivers.
 use Rattle.std.proofs.Common.{ℕ, zero, suc, ◌+◌, ◌<◌, ◌≤◌, ◌≡◌, ◌≢◌, ◌==◌, ◌||◌, ◌&&◌, eqb, Bool, true, false, List, [], ◌∷◌, length, get_or, set, map}
-use Rattle.std.proofs.Common.{refl, ap, sym, subst, ◌∙◌, arith}
+use Rattle.std.proofs.Common.{refl, ap, sym, ◌∙◌, arith}
 use Rattle.std.specs.Prelude.{if◌then◌else◌}
 use Rattle.std.proofs.Math.Decide.{dec_lt}
 use Rattle.std.proofs.lemmas.Bool.Decides.{nat_tests}
 use Rattle.std.proofs.lemmas.List.{get_or-set_same, get_or-set_other, get_or-map, get_or_past, length-map, length-set}
-use Rattle.sim_containers.specs.Numbers.{is_in}
-use Rattle.sim_containers.specs.Words.{IsNext, NoneFrom}
 use Rattle.sim_logic.specs.declared.logic.Logic.{Logic}
 use Rattle.sim_logic.specs.declared.logic.Logic.TheVariants.{U}
 use Rattle.sim_flat_design.specs.declared.design.Source.{Source}
 use Rattle.sim_flat_design.specs.declared.design.Source.TheVariants as source
 use Rattle.sim_store_state.specs.Changes.{AreTallied, is_driver, value_at, value_from}
 use Rattle.sim_store_state.specs.Tallies.{TallyLists, is_placed, noted, set_all, set_one, source_at}
-use Rattle.sim_store_state.proofs.Values.{same-everywhere, walk-each}
-use Rattle.sim_store_state.proofs.Walks.{Walked, walk_done, walk_start}
+use Rattle.sim_store_state.proofs.Values.{same-everywhere}
 
 -- ---- a value at each of several places
 
@@ -133,42 +130,3 @@ tallied-noted sources driving t d v lt i = record {
         ∙ (ap (λ b. if b then v else at_place t.rows n p) (i.placed n p d lt at)
         ∙ (ap (λ w. if is_driver (source_at row p) d then v else w) (ap (λ w. value_at w p) was ∙ source-value driving row p in_row)
         ∙ (sym (source-after driving (source_at row p) d v lt) ∙ sym (source-value (set driving d v) row p in_row)))))
-
--- ---- drivers of a set, one after another
-
--- The values kept are those of the sources if drivers that the walk has not passed have the values that they had.
-pub record Following (sources : List (List Source)) (driving : List Logic) (changed : List Bool) (from : ℕ) (t : TallyLists) : Type 0 where
-  pub known : List Logic
-  pub long : length known ≡ length driving
-  pub walked : Walked changed from (λ (d : ℕ). value_at known d ≡ value_at driving d)
-  pub tallied : AreTallied sources known t
-
-pub follow_start : {sources : List (List Source)} {before driving : List Logic} {changed : List Bool} {t : TallyLists} → length before ≡ length driving
-    → ((d : ℕ) → is_in changed d ≡ false → value_at driving d ≡ value_at before d) → AreTallied sources before t
-    → Following sources driving changed 0 t
-follow_start {before = before} {changed = changed} long others tallied =
-    record { known = before; long = long; walked = walk_start changed (λ d e. sym (others d e)); tallied = tallied }
-
-pub follow_more : {sources : List (List Source)} {driving : List Logic} {changed : List Bool} {from n : ℕ} {t : TallyLists}
-    → Following sources driving changed from t → IsNext (is_in changed) from n → n < length driving
-    → Following sources driving changed (n + 1) (noted t n (value_at driving n))
-follow_more {sources} {driving} {changed} {from} {n} {t} f next lt =
-    let there : n < length f.known = omega (arith, lt, f.long) in
-    record {
-      known = set f.known n (value_at driving n);
-      long = length-set f.known n (value_at driving n) ∙ f.long;
-      walked = walk-each f.known (set f.known n (value_at driving n)) (value_at driving n) (value_at driving) f.walked next there refl refl;
-      tallied = tallied-noted sources f.known t n (value_at driving n) there f.tallied;
-    }
-
-pub follow_done : {sources : List (List Source)} {driving : List Logic} {changed : List Bool} {from : ℕ} {t : TallyLists}
-    → Following sources driving changed from t → NoneFrom (is_in changed) from → AreTallied sources driving t
-follow_done {sources} {driving} {t = t} f none =
-    subst (λ (w : List Logic). AreTallied sources w t) (same-everywhere f.known driving f.long (λ d _. walk_done f.walked none d)) f.tallied
-
--- no values are kept
-pub nothing_kept : (sources : List (List Source)) (driving : List Logic) (t : TallyLists) → t.rows ≡ [] → AreTallied sources driving t
-nothing_kept sources driving t e = record {
-  kept = λ n some. absurd (omega (arith, some, ap (λ w. length (get_or w n [])) e));
-  placed = λ n p d below within. absurd (omega (arith, within, ap (λ w. length (get_or w n [])) e));
-}

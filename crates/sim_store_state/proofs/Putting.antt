@@ -76,7 +76,8 @@ values-kept dss dss' p ds ed e = ap (λ w. driver_values (joined w)) ed ∙ row-
 
 pub own-keeps : {values values_before driving : List Logic} {dss : List (List DriverState)} {vss : List (List Held)}
     {sources : List (List Source)} {fan_out : List (List ℕ)}
-    {times : List (Option ℕ)} {stale touched : List Bool} {tallies : TallyLists} → IsHeld values values_before driving dss vss sources fan_out times stale touched tallies
+    {times : List (Option ℕ)} {stale touched : List Bool} {tallies : TallyLists}
+    → IsHeld values values_before driving dss vss sources fan_out times stale touched tallies
     → (p : ℕ) (ds : List DriverState)
     (vs : List Held) (dss' : List (List DriverState)) (vss' : List (List Held)) (times' : List (Option ℕ)) (stale' : List Bool)
     → dss' ≡ set dss p ds → vss' ≡ set vss p vs → driver_values ds ≡ driver_values (get_or dss p []) → AreTimes times' stale' (joined dss')
@@ -100,7 +101,8 @@ own-keeps {values} {values_before} {driving} {dss} {vss} {sources} {fan_out} {ti
 
 pub put-keeps : {values values_before driving : List Logic} {dss : List (List DriverState)} {vss : List (List Held)}
     {sources : List (List Source)} {fan_out : List (List ℕ)}
-    {times : List (Option ℕ)} {stale touched : List Bool} {tallies : TallyLists} → IsHeld values values_before driving dss vss sources fan_out times stale touched tallies
+    {times : List (Option ℕ)} {stale touched : List Bool} {tallies : TallyLists}
+    → IsHeld values values_before driving dss vss sources fan_out times stale touched tallies
     → (p : ℕ) (ds : List DriverState)
     (vs : List Held) (dss' : List (List DriverState)) (vss' : List (List Held)) (stale' : List Bool) → dss' ≡ set dss p ds → vss' ≡ set vss p vs
     → driver_values ds ≡ driver_values (get_or dss p []) → length stale' ≡ length stale → AreMarked stale stale' dss p
@@ -119,7 +121,8 @@ put-keeps {values} {values_before} {driving} {dss} {vss} {sources} {fan_out} {ti
 -- other drivers with the same values, in as many rows
 pub drivers-keep : {values values_before driving : List Logic} {dss : List (List DriverState)} {vss : List (List Held)}
     {sources : List (List Source)} {fan_out : List (List ℕ)}
-    {times : List (Option ℕ)} {stale touched : List Bool} {tallies : TallyLists} → IsHeld values values_before driving dss vss sources fan_out times stale touched tallies
+    {times : List (Option ℕ)} {stale touched : List Bool} {tallies : TallyLists}
+    → IsHeld values values_before driving dss vss sources fan_out times stale touched tallies
     → (dss' : List (List DriverState)) (times' : List (Option ℕ)) (stale' : List Bool) → length dss' ≡ length dss
     → driver_values (joined dss') ≡ driver_values (joined dss) → AreTimes times' stale' (joined dss')
     → IsHeld values values_before driving dss' vss sources fan_out times' stale' touched tallies
@@ -137,7 +140,8 @@ drivers-keep {dss = dss} {sources = sources} i dss' times' stale' long same time
 -- the queue alone changes, or what is stale
 pub times-keep : {values values_before driving : List Logic} {dss : List (List DriverState)} {vss : List (List Held)} {sources : List (List Source)}
     {fan_out : List (List ℕ)}
-    {times : List (Option ℕ)} {stale touched : List Bool} {tallies : TallyLists} → IsHeld values values_before driving dss vss sources fan_out times stale touched tallies
+    {times : List (Option ℕ)} {stale touched : List Bool} {tallies : TallyLists}
+    → IsHeld values values_before driving dss vss sources fan_out times stale touched tallies
     → (times' : List (Option ℕ)) (stale' : List Bool) → AreTimes times' stale' (joined dss)
     → IsHeld values values_before driving dss vss sources fan_out times' stale' touched tallies
 times-keep i times' stale' t = record {

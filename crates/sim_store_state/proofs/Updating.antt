@@ -17,7 +17,7 @@ use Rattle.sim_store_state.specs.Changes.{AreFanOut, AreReached, AreTallied, IsH
 use Rattle.sim_store_state.specs.Tallies.{TallyLists}
 use Rattle.sim_store_state.proofs.Due.{driver-taken, times-taken}
 use Rattle.sim_store_state.proofs.Reaching.{fan_out-there, same_row}
-use Rattle.sim_store_state.proofs.Values.{rows-from, value-here, value-of}
+use Rattle.sim_store_state.proofs.Values.{rows-from, value-here}
 
 -- the nets of each driver that has another value are touched
 abbrev pub AllReached : List Bool → List (List ℕ) → List DriverState → ℕ → Type 0
@@ -42,48 +42,10 @@ unreached sources fan_out ds es touched time n driving l long ee reached other =
           ap (λ (w : DriverState). w.value) (after d ∙ ap (taken time) none) ∙ ap (λ (w : DriverState). w.value) (sym none))
     ]
 
--- the drivers that are not due have the values that they had
-driving-others : (ds es : List DriverState) (driving driving' : List Logic) (due : List Bool) (time : ℕ) → driving ≡ driver_values ds
-    → driving' ≡ driver_values es → es ≡ map (taken time) ds
-    → ((d : ℕ) → is_in due d ≡ false → taken time (driver_at ds d) ≡ driver_at ds d)
-    → (d : ℕ) → is_in due d ≡ false → value_at driving' d ≡ value_at driving d
-driving-others ds es driving driving' due time e e' ee others d other =
-    let value_of = λ (w : DriverState). w.value in
-    ap (λ w. value_at w d) e' ∙ (value-of es d ∙ (ap (λ w. (driver_at w d).value) ee
-    ∙ (ap value_of (driver-taken time ds d ∙ others d other) ∙ (sym (value-of ds d) ∙ ap (λ w. value_at w d) (sym e)))))
-
-driving-sized : (ds es : List DriverState) (driving driving' : List Logic) (time : ℕ) → driving ≡ driver_values ds
-    → driving' ≡ driver_values es → es ≡ map (taken time) ds → length driving ≡ length driving'
-driving-sized ds es driving driving' time e e' ee =
-    omega (
-      arith,
-      ap length e,
-      ap length e',
-      ap length ee,
-      length-map ds (taken time),
-      length-map ds (λ (w : DriverState). w.value),
-      length-map es (λ (w : DriverState). w.value),
-    )
-
--- each due driver is among those of which the values are known
-pub due-sized : (ds es : List DriverState) (driving' : List Logic) (due : List Bool) (time : ℕ) → driving' ≡ driver_values es
-    → es ≡ map (taken time) ds → length due ≡ length ds → length due ≡ length driving'
-due-sized ds es driving' due time e' ee l =
-    omega (arith, ap length e', ap length ee, l, length-map ds (taken time), length-map es (λ (w : DriverState). w.value))
-
--- what is kept of the sources of nets has followed the due drivers
-pub driving-followed : (sources : List (List Source)) (ds es : List DriverState) (driving driving' : List Logic) (due : List Bool) (time : ℕ)
-    (t t' : TallyLists) → driving ≡ driver_values ds → driving' ≡ driver_values es → es ≡ map (taken time) ds
-    → ((d : ℕ) → is_in due d ≡ false → taken time (driver_at ds d) ≡ driver_at ds d) → AreTallied sources driving t
-    → ((sources : List (List Source)) (before : List Logic) → length before ≡ length driving'
-    → ((d : ℕ) → is_in due d ≡ false → value_at driving' d ≡ value_at before d) → AreTallied sources before t → AreTallied sources driving' t')
-    → AreTallied sources driving' t'
-driving-followed sources ds es driving driving' due time t t' e e' ee others tallied follow =
-    follow sources driving (driving-sized ds es driving driving' time e e' ee) (driving-others ds es driving driving' due time e e' ee others) tallied
-
 pub update-keeps : {values values_before driving : List Logic} {dss : List (List DriverState)} {vss : List (List Held)} {sources : List
     (List Source)} {fan_out : List (List ℕ)}
-    {times : List (Option ℕ)} {stale touched : List Bool} {tallies : TallyLists} → IsHeld values values_before driving dss vss sources fan_out times stale touched tallies
+    {times : List (Option ℕ)} {stale touched : List Bool} {tallies : TallyLists}
+    → IsHeld values values_before driving dss vss sources fan_out times stale touched tallies
     → (time : ℕ) (values' values_before' driving' : List Logic) (dss' : List (List DriverState)) (times₁ times' : List (Option ℕ))
     (stale' touched' : List Bool) (tallies' : TallyLists)
     → next_time (joined dss) ≡ Some time → times₁ ≡ first_times (joined dss) → values_before' ≡ values → stale' ≡ those_at time times₁

@@ -110,7 +110,8 @@ impl Model for FlatState {
 
     ghost view = { λ s. held s.sources s.values.items s.values_before.items s.drivers s.variables };
 
-    ghost invariant = { λ s. IsHeld s.values.items s.values_before.items s.driving.items s.drivers s.variables s.sources s.fan_out s.queue s.stale s.touched s.tallies };
+    ghost invariant = { λ s. IsHeld s.values.items s.values_before.items s.driving.items s.drivers s.variables s.sources s.fan_out s.queue s.stale
+        s.touched s.tallies };
 }
 
 /// The lists of a state, by themselves, so that a part of one can be given away and put back.
@@ -404,8 +405,8 @@ impl FlatState {
             &self.fan_out,
             &mut self.queue,
             &mut self.touched,
+            &mut self.tallies,
         );
-        self.tallies.follow(self.driving.as_slice(), &self.stale);
         forget(&mut self.stale, told);
         // d) Nets of changed drivers take the values of their sources.
         resolve_touched(

@@ -1,15 +1,11 @@
 //! The values of the sources of nets that have many (IEEE 1076-2008, 4.6, 14.7.3.3).
 
-ghost use Rattle.std.specs.Prelude.{ℕ, ◌≡◌, ◌<◌, [], false, List, length, fold, slice_index_or, IfSome};
+ghost use Rattle.std.specs.Prelude.{ℕ, ◌≡◌, ◌<◌, [], length, fold, slice_index_or, IfSome};
 ghost use Rattle.sim_logic.specs.declared.logic.Logic as logic;
 ghost use Rattle.sim_logic.specs.Tables.{resolution_table};
-ghost use Rattle.sim_containers.specs.Numbers.{is_in};
-ghost use Rattle.sim_flat_design.specs.declared.design.Source.{Source};
-ghost use Rattle.sim_store_state.specs.Changes.{AreTallied, value_at};
 ghost use Rattle.sim_store_state.specs.Tallies.{TallyLists, noted, set_all, set_one};
 
 use crate::tally::Tally;
-use sim_containers::NumberSet;
 use sim_logic::Logic;
 use sqlite_items::Items;
 use std::alloc::Global;
@@ -60,23 +56,6 @@ fn set_each(rows: &mut [Tally], places: &[(usize, usize)], value: Logic)
     }
 }
 
-/// Notes the values of these drivers. If others have the values that they had, the values kept are
-/// those that the sources of each net have now.
-fn note_each(tallies: &mut Tallies, driving: &[Logic], changed: &NumberSet)
-    requires { length changed.now ≡ length driving.now }
-    ensures { (sources : List (List Source)) (before : List logic.Logic) → length before ≡ length driving.now
-        → ((d : ℕ) → is_in changed.now d ≡ false → value_at driving.now d ≡ value_at before d)
-        → AreTallied sources before tallies.old → AreTallied sources driving.now tallies.new }
-{
-    let mut place = 0;
-    let mut from = 0;
-    while let Some(driver) = changed.next_at(place, from) {
-        tallies.note(driver, driving[driver]);
-        place = place.wrapping_add(1);
-        from = driver + 1;
-    }
-}
-
 impl Tallies {
     /// No values, for a design without nets of many sources.
     pub fn none(alloc: Global) -> Tallies
@@ -95,31 +74,28 @@ impl Tallies {
         Tallies { rows, places }
     }
 
-    /// Notes that a driver has a value.
-    fn note(&mut self, driver: usize, value: Logic)
+    /// Notes the value of a driver that is among the sources of which values are kept. It is not
+    /// inlined, so that other drivers cost little.
+    #[inline(never)]
+    fn note_places(&mut self, driver: usize, value: Logic)
+        requires { driver < length self.old.places }
+        ensures { self.new ≡ noted self.old driver value }
+    {
+        set_each(
+            self.rows.as_mut_slice(),
+            self.places[driver].as_slice(),
+            value,
+        );
+    }
+
+    /// Notes the value of a driver. Without nets of many sources it is one comparison.
+    #[inline(always)]
+    pub fn note(&mut self, driver: usize, value: Logic)
         ensures { self.new ≡ noted self.old driver value }
     {
         if driver < self.places.len() {
-            set_each(
-                self.rows.as_mut_slice(),
-                self.places[driver].as_slice(),
-                value,
-            );
+            self.note_places(driver, value);
         }
-    }
-
-    /// Follows the drivers, of which these may have another value than before. Without nets of many
-    /// sources it looks at none.
-    pub fn follow(&mut self, driving: &[Logic], changed: &NumberSet)
-        requires { length changed.now ≡ length driving.now }
-        ensures { (sources : List (List Source)) (before : List logic.Logic) → length before ≡ length driving.now
-            → ((d : ℕ) → is_in changed.now d ≡ false → value_at driving.now d ≡ value_at before d)
-            → AreTallied sources before self.old → AreTallied sources driving.now self.new }
-    {
-        if self.rows.is_empty() {
-            return;
-        }
-        note_each(self, driving, changed);
     }
 
     /// The values of the sources of a net, resolved from `'Z'` on; `None` if they are not kept.

@@ -16,8 +16,10 @@ invariant_of-result c =
     c.in_ok-first.ensures.values_before
     (count-values (joined f.drivers) f.driving.items c.len-count.result c.in_ok-first.ensures.driving (omega (arith, c.len-count.ensures, f.driving.ok)))
     (omega (arith, c.len.ensures, f.values.ok)) c.in_ok-sources.ensures.fan_out
-    (omega (arith, c.in_ok-sources.ensures.drivers, ap length c.as_slice.ensures.value, c.len-count.ensures, f.driving.ok)) c.in_ok-queue.ensures.queue c.in_ok-queue.ensures.stale
-    c.in_ok-queue.ensures.touched (subst (λ (w : List Logic). AreTallied c.in_ok-sources.sources w c.in_ok-sources.tallies) c.as_slice.ensures.value c.in_ok-sources.ensures.tallied)
+    (omega (arith, c.in_ok-sources.ensures.drivers, ap length c.as_slice.ensures.value, c.len-count.ensures, f.driving.ok))
+    c.in_ok-queue.ensures.queue c.in_ok-queue.ensures.stale c.in_ok-queue.ensures.touched
+    (subst (λ (w : List Logic). AreTallied c.in_ok-sources.sources w c.in_ok-sources.tallies) c.as_slice.ensures.value
+    c.in_ok-sources.ensures.tallied)
 
 pub returns : goal.returns
 returns c =

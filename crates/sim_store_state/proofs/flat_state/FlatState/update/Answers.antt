@@ -12,7 +12,7 @@ use Rattle.sim_store_state.proofs.Contents.{drivers-by, held-updated}
 use Rattle.sim_store_state.proofs.Due.{earliest-next, others-keep}
 use Rattle.sim_store_state.proofs.Putting.{times-keep}
 use Rattle.sim_store_state.proofs.Taking.{told-times}
-use Rattle.sim_store_state.proofs.Updating.{driving-followed, due-sized, unreached, update-keeps}
+use Rattle.sim_store_state.proofs.Updating.{unreached, update-keeps}
 use Rattle.sim_store_state.proofs.Values.{row-from, rows-from, value-here}
 use Rattle.sim_store_state.proofs.flat_state.FlatState.update.Goals as goal
 
@@ -47,20 +47,6 @@ take_due-told-requires c =
       others = others-keep ds queue c.take.new.taken c.args.time next c.in_ok-bring_up_to_date.ensures.ok c.take.ensures.taken;
     }
 
-pub follow-requires : goal.follow-requires
-follow-requires c =
-    let s = c.self.inside in
-    let ds = joined s.drivers in
-    let queue = c.bring_up_to_date.new.queue in
-    let now = joined c.take_due-told.new.drivers in
-    let next : next_time ds ≡ Some c.args.time = ap next_time (sym (drivers-by c.self.view_is c.self.invariant.lists)) ∙ c.requires.next in
-    let es : now ≡ map (taken c.args.time) ds = ap joined c.take_due-told.ensures.drivers ∙ joined-map (taken c.args.time) s.drivers in
-    let driving : c.as_slice-2.result.now ≡ driver_values now =
-    c.as_slice-2.ensures.value ∙ (written_back c.take_due-told.new.driving s.driving.items s.driving.len
-    (omega (arith, c.take_due-told.auto.driving, ap length c.as_mut_slice-2.ensures.value, s.driving.ok)) ∙ c.take_due-told.ensures.driving) in
-    due-sized ds now c.as_slice-2.result.now c.take.new.taken c.args.time driving es
-    (ap length c.take.ensures.taken ∙ (length-map queue (is_at c.args.time) ∙ c.bring_up_to_date.ensures.times.sized))
-
 pub resolve_touched-requires : goal.resolve_touched-requires
 resolve_touched-requires c =
     let s = c.self.inside in
@@ -73,15 +59,12 @@ resolve_touched-requires c =
     let nets : length s.values.items ≡ length s.sources = ap length i.resolving ∙ length-map s.sources (row_value ds) in
     let back : length c.as_mut_slice-3.result.now ≡ length s.values.items = ap length c.as_mut_slice-3.ensures.value in
     let written = written_back c.take_due-told.new.driving s.driving.items s.driving.len
-    (omega (arith, c.take_due-told.auto.driving, ap length c.as_mut_slice-2.ensures.value, s.driving.ok)) ∙ c.take_due-told.ensures.driving in
-    let driving : c.as_slice-3.result.now ≡ driver_values now = c.as_slice-3.ensures.value ∙ written in
-    let next : next_time ds ≡ Some c.args.time = ap next_time (sym (drivers-by c.self.view_is i.lists)) ∙ c.requires.next in
+    (omega (arith, c.take_due-told.auto.driving, ap length c.as_mut_slice-2.ensures.value, s.driving.ok)) in
+    let driving : c.as_slice-2.result.now ≡ driver_values now = c.as_slice-2.ensures.value ∙ (written ∙ c.take_due-told.ensures.driving) in
     record {
-      tallied = subst (λ (w : List Logic). AreTallied s.sources w c.follow.new.self) (c.as_slice-2.ensures.value ∙ sym c.as_slice-3.ensures.value)
-          (driving-followed s.sources ds now s.driving.items c.as_slice-2.result.now c.take.new.taken c.args.time s.tallies c.follow.new.self i.valued
-          (c.as_slice-2.ensures.value ∙ written) es
-          (others-keep ds c.bring_up_to_date.new.queue c.take.new.taken c.args.time next c.in_ok-bring_up_to_date.ensures.ok c.take.ensures.taken)
-          i.tallied c.follow.ensures);
+      tallied = subst (λ (w : List Logic). AreTallied s.sources w c.take_due-told.new.tallies) (sym (c.as_slice-2.ensures.value ∙ written))
+          (c.take_due-told.ensures.tallied s.sources (subst (λ (w : List Logic). AreTallied s.sources w s.tallies) (sym c.as_mut_slice-2.ensures.value)
+          i.tallied));
       touched = long ∙ sym back;
       sources = sym nets ∙ sym back;
       others = λ n other lt. ap (λ w. value_at w n) c.as_mut_slice-3.ensures.value ∙ (value-here s.values.items s.sources (row_value ds) n i.resolving
@@ -94,8 +77,6 @@ pub invariant_of-self-2 : goal.invariant_of-self-2
 invariant_of-self-2 c =
     let s = c.self.inside in
     let ds = joined s.drivers in
-    let now = joined c.take_due-told.new.drivers in
-    let es : now ≡ map (taken c.args.time) ds = ap joined c.take_due-told.ensures.drivers ∙ joined-map (taken c.args.time) s.drivers in
     let next : next_time ds ≡ Some c.args.time = ap next_time (sym (drivers-by c.self.view_is c.self.invariant.lists)) ∙ c.requires.next in
     let values = written_back c.resolve_touched.new.values s.values.items s.values.len
     (omega (arith, c.resolve_touched.auto.values, ap length c.as_mut_slice-3.ensures.value, s.values.ok)) in
@@ -104,16 +85,14 @@ invariant_of-self-2 c =
     let driving = written_back c.take_due-told.new.driving s.driving.items s.driving.len
     (omega (arith, c.take_due-told.auto.driving, ap length c.as_mut_slice-2.ensures.value, s.driving.ok)) in
     let held = update-keeps c.self.invariant c.args.time _ _ _ c.take_due-told.new.drivers c.bring_up_to_date.new.queue c.take.new.self c.take.new.taken
-    c.take_due-told.new.touched c.follow.new.self next c.in_ok-bring_up_to_date.ensures.ok
+    c.take_due-told.new.touched c.take_due-told.new.tallies next c.in_ok-bring_up_to_date.ensures.ok
     (values_before ∙ (c.settle.ensures ∙ c.as_slice.ensures.value)) c.take.ensures.taken c.take.ensures.queue c.take_due-told.ensures.drivers
     c.take_due-told.ensures.reached
     (c.take_due-told.ensures.sized ∙ (ap length c.clear.ensures ∙ length-replicate (length s.touched) false)) (driving ∙ c.take_due-told.ensures.driving)
-    (values ∙ (c.resolve_touched.ensures ∙ ap (λ (w : List Logic). map (row_from w) s.sources) c.as_slice-3.ensures.value))
-    (subst (λ (w : List Logic). AreTallied s.sources w c.follow.new.self) c.as_slice-2.ensures.value
-    (driving-followed s.sources ds now s.driving.items c.as_slice-2.result.now c.take.new.taken c.args.time s.tallies c.follow.new.self
-    c.self.invariant.valued (c.as_slice-2.ensures.value ∙ (driving ∙ c.take_due-told.ensures.driving)) es
-    (others-keep ds c.bring_up_to_date.new.queue c.take.new.taken c.args.time next c.in_ok-bring_up_to_date.ensures.ok c.take.ensures.taken)
-    c.self.invariant.tallied c.follow.ensures)) in
+    (values ∙ (c.resolve_touched.ensures ∙ ap (λ (w : List Logic). map (row_from w) s.sources) c.as_slice-2.ensures.value))
+    (subst (λ (w : List Logic). AreTallied s.sources w c.take_due-told.new.tallies) (sym driving)
+    (c.take_due-told.ensures.tallied s.sources (subst (λ (w : List Logic). AreTallied s.sources w s.tallies) (sym c.as_mut_slice-2.ensures.value)
+    c.self.invariant.tallied))) in
     times-keep held c.take_due-told.new.queue c.forget.new.stale (told-times c.take_due-told.result held.timed c.take_due-told.ensures.told
     c.forget.ensures.sized c.forget.ensures.same)
 
@@ -125,10 +104,10 @@ returns c =
     (omega (arith, c.resolve_touched.auto.values, ap length c.as_mut_slice-3.ensures.value, s.values.ok)) in
     let values_before = written_back c.settle.new.values_before s.values_before.items s.values_before.len
     (omega (arith, c.settle.auto.values_before, ap length c.as_mut_slice.ensures.value, s.values_before.ok)) in
-    let driving : c.as_slice-3.result.now ≡ driver_values (joined c.take_due-told.new.drivers) =
-    c.as_slice-3.ensures.value ∙ (written_back c.take_due-told.new.driving s.driving.items s.driving.len
+    let driving : c.as_slice-2.result.now ≡ driver_values (joined c.take_due-told.new.drivers) =
+    c.as_slice-2.ensures.value ∙ (written_back c.take_due-told.new.driving s.driving.items s.driving.len
     (omega (arith, c.take_due-told.auto.driving, ap length c.as_mut_slice-2.ensures.value, s.driving.ok)) ∙ c.take_due-told.ensures.driving) in
-    let nets : map (row_from c.as_slice-3.result.now) s.sources ≡ map (row_value (joined c.take_due-told.new.drivers)) s.sources =
+    let nets : map (row_from c.as_slice-2.result.now) s.sources ≡ map (row_value (joined c.take_due-told.new.drivers)) s.sources =
     ap (λ (w : List Logic). map (row_from w) s.sources) driving ∙ rows-from (joined c.take_due-told.new.drivers) s.sources in
     record {
       ok = λ design state is. held-updated c.self.view_is i.lists c.args.time _ _ c.take_due-told.new.drivers (joined c.take_due-told.new.drivers)
