@@ -12,6 +12,7 @@ use Rattle.sim_standard.proofs.Names.{no_driver, nothing_owned}
 use Rattle.sim_containers.specs.Numbers.{is_in}
 use Rattle.sim_containers.specs.RowArray.{joined}
 use Rattle.sim_store_state.specs.Changes.{AreTimes, IsHeld}
+use Rattle.sim_store_state.specs.Tallies.{TallyLists}
 use Rattle.sim_store_state.specs.FlatState.{owned_lists}
 use Rattle.sim_store_state.specs.Lending.{HaveValues, IsOfRow, drivers_of, variables_of}
 use Rattle.sim_store_state.proofs.Contents.{length-owned, owned-at}
@@ -33,8 +34,9 @@ variables-of (ds ∷ dss) (vs ∷ vss) l = ap (λ w. vs ∷ w) (variables-of dss
 -- what the lists of a state hold, in terms of what processes own
 pub held-split : {values values_before driving : List Logic} {dss : List (List DriverState)} {vss : List (List Held)} {sources : List (List Source)}
     {fan_out : List (List ℕ)}
-    {times : List (Option ℕ)} {stale touched : List Bool} → IsHeld values values_before driving dss vss sources fan_out times stale touched
-    → IsHeld values values_before driving (drivers_of (owned_lists dss vss)) (variables_of (owned_lists dss vss)) sources fan_out times stale touched
+    {times : List (Option ℕ)} {stale touched : List Bool} {tallies : TallyLists}
+    → IsHeld values values_before driving dss vss sources fan_out times stale touched tallies
+    → IsHeld values values_before driving (drivers_of (owned_lists dss vss)) (variables_of (owned_lists dss vss)) sources fan_out times stale touched tallies
 held-split {dss = dss} {vss = vss} i = rw (drivers-of dss vss i.lists.owned, variables-of dss vss i.lists.owned) i
 
 -- the drivers of each process have the values that they had, and so have all
@@ -170,11 +172,11 @@ module _ (owned : List Owned) (dss : List (List DriverState)) (vss : List (List 
 
 -- Other lists hold the state in which the same processes own something else, their drivers having the values that they had.
 pub back-held : {values values_before driving : List Logic} (owned : List Owned) {sources : List (List Source)} {fan_out : List (List ℕ)}
-    {times : List (Option ℕ)} {stale touched : List Bool}
-    → IsHeld values values_before driving (drivers_of owned) (variables_of owned) sources fan_out times stale touched
+    {times : List (Option ℕ)} {stale touched : List Bool} {tallies : TallyLists}
+    → IsHeld values values_before driving (drivers_of owned) (variables_of owned) sources fan_out times stale touched tallies
     → (dss : List (List DriverState)) (vss : List (List Held)) (stale' : List Bool) → length dss ≡ length vss
     → driver_values (joined dss) ≡ driver_values (joined (drivers_of owned)) → AreTimes times stale' (joined dss)
-    → IsHeld values values_before driving dss vss sources fan_out times stale' touched
+    → IsHeld values values_before driving dss vss sources fan_out times stale' touched tallies
 back-held {values} {values_before} {driving} owned {sources} i dss vss stale' long same timed =
     let count : length (joined dss) ≡ length (joined (drivers_of owned)) = values-count (joined dss) (joined (drivers_of owned)) same in
     record {
@@ -186,4 +188,5 @@ back-held {values} {values_before} {driving} owned {sources} i dss vss stale' lo
       resolving = i.resolving
           ∙ same_rows (joined (drivers_of owned)) (joined dss) sources (values-each (joined (drivers_of owned)) (joined dss) (sym same));
       touching = i.touching;
+      tallied = i.tallied;
     }

@@ -22,3 +22,7 @@ pub mod Placed
 pub mod Sharing
 pub mod WithoutValue
 pub mod Lent
+pub mod Counts
+pub mod Resolving
+pub mod Noting
+pub mod Counted

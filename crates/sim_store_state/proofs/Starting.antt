@@ -18,7 +18,8 @@ use Rattle.sim_flat_design.specs.declared.design.Source.{Source}
 use Rattle.sim_standard.specs.Drivers.{Transaction, DriverState, next_time}
 use Rattle.sim_standard.specs.State.{Owned, driver_at, driver_values, all_drivers}
 use Rattle.sim_containers.specs.Times.{time_of}
-use Rattle.sim_store_state.specs.Changes.{AreFanOut, IsHeld, row_from, row_value, value_at}
+use Rattle.sim_store_state.specs.Changes.{AreFanOut, AreTallied, IsHeld, row_from, row_value, value_at}
+use Rattle.sim_store_state.specs.Tallies.{TallyLists}
 use Rattle.sim_store_state.proofs.Values.{rows-from}
 use Rattle.sim_containers.specs.RowArray.{joined}
 use Rattle.sim_standard.specs.Nets.{net_value}
@@ -171,13 +172,15 @@ count-values ws driving count ed ec = omega (arith, ec, ap length ed, length-map
 
 pub first-kept : (design : Design) (sources : List (List Source)) (dss : List (List DriverState)) (vss : List (List Held))
     (values values_before driving : List Logic)
-    (fan_out : List (List ℕ)) (times : List (Option ℕ)) (stale touched : List Bool) (count many : ℕ)
+    (fan_out : List (List ℕ)) (times : List (Option ℕ)) (stale touched : List Bool) (tallies : TallyLists) (count many : ℕ)
     → sources ≡ sources_of design.nets → dss ≡ map (drivers_of design.drivers) design.processes → vss ≡ map variables_of design.processes
     → driving ≡ driver_values (joined dss) → values ≡ map (net_value (joined dss)) design.nets → values_before ≡ values → count ≡ length (joined dss)
     → many ≡ length values
     → AreFanOut sources fan_out → length fan_out ≡ count → times ≡ replicate count None → stale ≡ replicate count false → touched ≡ replicate many false
-    → IsHeld values values_before driving dss vss sources fan_out times stale touched
-first-kept design sources dss vss values values_before driving fan_out times stale touched count many er es ev eg eu el ec em ad ld et est eto =
+    → AreTallied sources driving tallies
+    → IsHeld values values_before driving dss vss sources fan_out times stale touched tallies
+first-kept design sources dss vss values values_before driving fan_out times stale touched tallies count many er es ev eg eu el ec em ad ld
+    et est eto tallied =
     let here : (d : ℕ) → (driver_at (joined dss) d).pending ≡ [] =
     λ d. ap (λ w. (driver_at (joined w) d).pending) es ∙ idle-first design.drivers design.processes d in
     record {
@@ -198,4 +201,5 @@ first-kept design sources dss vss values values_before driving fan_out times sta
         sized = omega (arith, ap length eto, length-replicate many false, em);
         still = λ n _. ap (λ w. value_at w n) (sym el);
       };
+      tallied = tallied;
     }

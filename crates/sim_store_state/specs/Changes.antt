@@ -15,6 +15,7 @@ use Rattle.sim_standard.specs.State.{driver_at, driver_values}
 use Rattle.sim_standard.specs.Nets.{source_value}
 use Rattle.sim_standard.specs.Orders.{is_among}
 use Rattle.sim_store_state.specs.FlatState.{AreLists}
+use Rattle.sim_store_state.specs.Tallies.{TallyLists, is_placed, many, source_at}
 
 -- ---- the times of the drivers
 
@@ -74,6 +75,16 @@ value_from driving (source.Constant value) = value
 abbrev pub row_from : List Logic → List Source → Logic
 row_from driving row = resolved (map (value_from driving) row)
 
+-- the values of these sources, if they are many
+abbrev pub tally_of : List Logic → List Source → List Logic
+tally_of driving row = map (value_from driving) (many row)
+
+-- The values kept of a net are those of its sources, and the places of each driver are where it is their source.
+pub record AreTallied (sources : List (List Source)) (driving : List Logic) (t : TallyLists) : Type 0 where
+  pub kept : (n : ℕ) → 0 < length (slice_index_or t.rows n []) → slice_index_or t.rows n [] ≡ map (value_from driving) (slice_index_or sources n [])
+  pub placed : (n p d : ℕ) → d < length driving → p < length (slice_index_or t.rows n [])
+      → is_placed (slice_index_or t.places d []) n p ≡ is_driver (source_at (slice_index_or sources n []) p) d
+
 -- A net that is not touched has the value it had before: it has no event.
 pub record AreTouched (values values_before : List Logic) (touched : List Bool) : Type 0 where
   pub sized : length touched ≡ length values
@@ -87,7 +98,7 @@ AreReached touched nets before now = (n : ℕ) → n < length touched → is_in 
 
 -- These lists hold a state: each net has the value of its sources, and what is kept beside the state is right.
 pub record IsHeld (values values_before driving : List Logic) (drivers : List (List DriverState)) (variables : List (List Held)) (sources : List (List Source))
-    (fan_out : List (List ℕ)) (times : List (Option ℕ)) (stale touched : List Bool) : Type 0 where
+    (fan_out : List (List ℕ)) (times : List (Option ℕ)) (stale touched : List Bool) (tallies : TallyLists) : Type 0 where
   pub lists : AreLists values values_before drivers variables
   pub valued : driving ≡ driver_values (joined drivers)
   pub timed : AreTimes times stale (joined drivers)
@@ -95,3 +106,4 @@ pub record IsHeld (values values_before driving : List Logic) (drivers : List (L
   pub fanned : AreFanOut sources fan_out
   pub resolving : values ≡ map (row_value (joined drivers)) sources
   pub touching : AreTouched values values_before touched
+  pub tallied : AreTallied sources driving tallies

@@ -7,10 +7,12 @@ ghost use Rattle.sim_containers.specs.RowArray.{joined};
 ghost use Rattle.sim_containers.specs.Numbers.{is_in};
 ghost use Rattle.sim_standard.specs.State.{driver_at, driver_values};
 ghost use Rattle.sim_containers.specs.Times.{time_of};
-ghost use Rattle.sim_store_state.specs.Changes.{AreReached, AreTimes, AreTold, first_times, time_at, value_at};
+ghost use Rattle.sim_store_state.specs.Changes.{AreReached, AreTallied, AreTimes, AreTold, first_times, time_at, value_at};
+ghost use Rattle.sim_flat_design.specs.declared.design.Source.{Source};
 ghost use Rattle.sim_standard.specs.Drivers as spec;
 
 use crate::sets::{insert_each, insert_range};
+use crate::tallies::Tallies;
 use sim_containers::{DividedRows, NumberSet, RowArray, TimeQueue, item_place};
 use sim_logic::Logic;
 use sim_wave::Driver;
@@ -192,23 +194,27 @@ fn take_driver(drivers: &mut DividedRows<Driver>, number: usize, time: u64) -> (
     take_at(drivers.parts.as_mut_slice(), part, place, time)
 }
 
-/// Notes the value of a driver. If it is a new one, the nets of the driver are touched (14.7.3.2).
+/// Notes the value of a driver. If it is a new one, the nets of the driver are touched (14.7.3.2),
+/// and the values kept of nets of many sources follow.
 fn note_value(
     driving: &mut [Logic],
     number: usize,
     value: Logic,
     nets: &[usize],
     touched: &mut NumberSet,
+    tallies: &mut Tallies,
 )
     requires { number < length driving.old }
     ensures driving { driving.new ≡ slice_set driving.old number value }
     ensures sized { length touched.new ≡ length touched.old }
     ensures kept { (n : ℕ) → is_in touched.new n ≡ false → is_in touched.old n ≡ false }
     ensures reached { AreReached touched.new nets.now (value_at driving.old number) value }
+    ensures tallied { (sources : List (List Source)) → AreTallied sources driving.old tallies.old → AreTallied sources driving.new tallies.new }
 {
     if driving[number] != value {
         driving[number] = value;
         insert_each(touched, nets);
+        tallies.note(number, value);
     }
 }
 
@@ -245,6 +251,7 @@ fn take_one(
     nets: &[usize],
     queue: &mut TimeQueue,
     touched: &mut NumberSet,
+    tallies: &mut Tallies,
 ) -> bool
     requires at { number < length (joined drivers.old) }
     requires queue { length queue.old ≡ length (joined drivers.old) }
@@ -256,12 +263,13 @@ fn take_one(
     ensures kept { (n : ℕ) → is_in touched.new n ≡ false → is_in touched.old n ≡ false }
     ensures reached { AreReached touched.new nets.now (driver_at (joined drivers.old) number).value
         (taken time (driver_at (joined drivers.old) number)).value }
+    ensures tallied { (sources : List (List Source)) → AreTallied sources driving.old tallies.old → AreTallied sources driving.new tallies.new }
     ensures times { length queue.new ≡ length queue.old }
     ensures told { result ≡ true → time_of queue.new number ≡ time_at (joined drivers.new) number }
     ensures untold { (d : ℕ) → d ≢ number → time_of queue.new d ≡ time_of queue.old d }
 {
     let (value, next) = take_driver(drivers, number, time);
-    note_value(driving, number, value, nets, touched);
+    note_value(driving, number, value, nets, touched, tallies);
     is_told(queue, number, next)
 }
 
@@ -276,6 +284,7 @@ pub fn take_due(
     fan_out: &RowArray<usize>,
     queue: &mut TimeQueue,
     touched: &mut NumberSet,
+    tallies: &mut Tallies,
 ) -> bool
     requires due { length due.now ≡ length (joined drivers.old) }
     requires fan_out { length fan_out.now ≡ length (joined drivers.old) }
@@ -287,6 +296,7 @@ pub fn take_due(
     ensures sized { length touched.new ≡ length touched.old }
     ensures reached { (d : ℕ) → AreReached touched.new (slice_index_or fan_out.now d []) (driver_at (joined drivers.old) d).value
         (taken time (driver_at (joined drivers.old) d)).value }
+    ensures tallied { (sources : List (List Source)) → AreTallied sources driving.old tallies.old → AreTallied sources driving.new tallies.new }
     ensures told { AreTold result due.now queue.old queue.new (joined drivers.new) }
 {
     let _count = due.len();
@@ -295,7 +305,9 @@ pub fn take_due(
     let mut from = 0;
     while let Some(number) = due.next_at(place, from) {
         let nets = fan_out.row(number);
-        let is_known = take_one(drivers, driving, number, time, nets, queue, touched);
+        let is_known = take_one(
+            drivers, driving, number, time, nets, queue, touched, tallies,
+        );
         told = is_known & told;
         place = place.wrapping_add(1);
         from = number + 1;

@@ -37,6 +37,7 @@ use crate::in_turn::execute_in_one_part;
 use crate::log::Log;
 use crate::nets::{ByNumber, Seen, SeenBy, are_views, resolve_touched, settle, views_at};
 use crate::start::{connections, first_contents, nothing_pending};
+use crate::tallies::Tallies;
 use sim_containers::{DividedRows, NumberSet, RowArray, TimeQueue};
 use sim_exec::NetView;
 use sim_exec_code::{Codes, Frame, SingleAssignment};
@@ -67,6 +68,8 @@ pub struct FlatState {
     stale: NumberSet,
     /// The nets that may have an event.
     touched: NumberSet,
+    /// The values of the sources of nets that have many.
+    tallies: Tallies,
 }
 
 /// Written by hand so that code which drops it needs no proof about its contents.
@@ -83,6 +86,7 @@ impl Drop for FlatState {
             queue,
             stale,
             touched,
+            tallies,
         } = self;
         drop(values);
         drop(values_before);
@@ -94,6 +98,7 @@ impl Drop for FlatState {
         drop(queue);
         drop(stale);
         drop(touched);
+        drop(tallies);
     }
 }
 
@@ -105,7 +110,8 @@ impl Model for FlatState {
 
     ghost view = { λ s. held s.sources s.values.items s.values_before.items s.drivers s.variables };
 
-    ghost invariant = { λ s. IsHeld s.values.items s.values_before.items s.driving.items s.drivers s.variables s.sources s.fan_out s.queue s.stale s.touched };
+    ghost invariant = { λ s. IsHeld s.values.items s.values_before.items s.driving.items s.drivers s.variables s.sources s.fan_out s.queue s.stale
+        s.touched s.tallies };
 }
 
 /// The lists of a state, by themselves, so that a part of one can be given away and put back.
@@ -121,6 +127,7 @@ pub struct Lists {
     pub queue: TimeQueue,
     pub stale: NumberSet,
     pub touched: NumberSet,
+    pub tallies: Tallies,
 }
 
 /// The part of a state that a process sees: the nets that it reads, and what it owns.
@@ -161,7 +168,7 @@ impl FlatState {
     {
         let first = first_contents(alloc, design)?;
         let count = first.driving.len();
-        let (sources, fan_out) = connections(alloc, design, count)?;
+        let (sources, fan_out, tallies) = connections(alloc, design, first.driving.as_slice())?;
         let (queue, stale, touched) = nothing_pending(alloc, count, first.values.len())?;
         Ok(FlatState {
             values: first.values,
@@ -174,13 +181,14 @@ impl FlatState {
             queue,
             stale,
             touched,
+            tallies,
         })
     }
 
     /// The lists that hold it.
     pub fn into_lists(self) -> Lists
         ensures held { IsHeld result.values.items result.values_before.items result.driving.items result.drivers result.variables result.sources
-            result.fan_out result.queue result.stale result.touched }
+            result.fan_out result.queue result.stale result.touched result.tallies }
         ensures state { self ≡ held result.sources result.values.items result.values_before.items result.drivers result.variables }
     {
         let FlatState {
@@ -194,6 +202,7 @@ impl FlatState {
             queue,
             stale,
             touched,
+            tallies,
         } = self;
         Lists {
             values,
@@ -206,13 +215,14 @@ impl FlatState {
             queue,
             stale,
             touched,
+            tallies,
         }
     }
 
     /// The state that these lists hold.
     pub fn of_lists(lists: Lists) -> FlatState
         requires { IsHeld lists.values.items lists.values_before.items lists.driving.items lists.drivers lists.variables lists.sources
-            lists.fan_out lists.queue lists.stale lists.touched }
+            lists.fan_out lists.queue lists.stale lists.touched lists.tallies }
         ensures { result ≡ held lists.sources lists.values.items lists.values_before.items lists.drivers lists.variables }
     {
         let Lists {
@@ -226,6 +236,7 @@ impl FlatState {
             queue,
             stale,
             touched,
+            tallies,
         } = lists;
         FlatState {
             values,
@@ -238,6 +249,7 @@ impl FlatState {
             queue,
             stale,
             touched,
+            tallies,
         }
     }
 
@@ -257,6 +269,7 @@ impl FlatState {
             queue,
             stale,
             touched,
+            tallies,
         } = self;
         let (drivers, variables) = divided(alloc, drivers, variables, parts)?;
         Ok(FlatState {
@@ -270,6 +283,7 @@ impl FlatState {
             queue,
             stale,
             touched,
+            tallies,
         })
     }
 
@@ -391,6 +405,7 @@ impl FlatState {
             &self.fan_out,
             &mut self.queue,
             &mut self.touched,
+            &mut self.tallies,
         );
         forget(&mut self.stale, told);
         // d) Nets of changed drivers take the values of their sources.
@@ -399,6 +414,7 @@ impl FlatState {
             &self.touched,
             &self.sources,
             self.driving.as_slice(),
+            &self.tallies,
         );
         Ok(())
     }

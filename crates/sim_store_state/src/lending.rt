@@ -11,6 +11,7 @@ ghost use Rattle.sim_store_state.specs.Lending.{AreShares, HaveValues, IsOfRow, 
 use crate::flat_state::{FlatState, Lists};
 use crate::sets::insert_range;
 use crate::shares::Shares;
+use crate::tallies::Tallies;
 use sim_containers::{DividedRows, NumberSet, RowArray, TimeQueue};
 use sim_flat_design::Source;
 use sim_logic::Logic;
@@ -26,6 +27,7 @@ pub struct UpdateLists {
     pub queue: TimeQueue,
     pub stale: NumberSet,
     pub touched: NumberSet,
+    pub tallies: Tallies,
     /// The number of processes of each share but the last.
     pub each: usize,
 }
@@ -87,6 +89,7 @@ pub fn take_apart(alloc: Global, state: FlatState) -> Result<SplitState, AllocEr
         queue,
         stale,
         touched,
+        tallies,
     } = state.into_lists();
     let (drivers, each) = drivers.into_parts();
     let (variables, variables_each) = variables.into_parts();
@@ -102,6 +105,7 @@ pub fn take_apart(alloc: Global, state: FlatState) -> Result<SplitState, AllocEr
             queue,
             stale,
             touched,
+            tallies,
             each,
         },
     })
@@ -133,6 +137,7 @@ pub fn put_together(split: SplitState, changed: &NumberSet) -> FlatState
         queue,
         stale,
         touched,
+        tallies,
         each,
     } = update_lists;
     let (drivers, variables) = shares.into_parts();
@@ -151,5 +156,6 @@ pub fn put_together(split: SplitState, changed: &NumberSet) -> FlatState
         queue,
         stale,
         touched,
+        tallies,
     })
 }

@@ -2,6 +2,7 @@
 #![tactic(auto)]
 
 mod assignment;
+mod counting;
 mod drivers;
 mod execution;
 mod flat_state;
@@ -16,6 +17,8 @@ mod sets;
 mod share;
 mod shares;
 mod start;
+mod tallies;
+mod tally;
 
 pub use execution::execute_at;
 pub use flat_state::{FlatState, Lists, Part};

@@ -5,15 +5,19 @@ ghost use Rattle.sim_logic.specs.declared.logic.Logic as logic;
 ghost use Rattle.sim_logic.specs.Tables.{resolution_table};
 ghost use Rattle.sim_standard.specs.State.{net_at};
 ghost use Rattle.sim_containers.specs.Numbers.{is_in};
-ghost use Rattle.sim_store_state.specs.Changes.{AreTouched, row_from, value_at, value_from};
+ghost use Rattle.sim_store_state.specs.Changes.{AreTallied, AreTouched, row_from, value_at, value_from};
 ghost use Rattle.sim_store_state.specs.FlatState as spec;
 ghost use Rattle.sim_store_state.specs.FlatState.{views_of};
 
+use crate::tallies::Tallies;
 use sim_containers::{NumberSet, RowArray};
 use sim_exec::{NetView, Nets};
 use sim_flat_design::{Process, Source};
 use sim_logic::{Logic, resolve_two};
 use std::alloc::{AllocError, Global};
+
+/// The least number of sources of a net that has many. With fewer, looking at each is as fast.
+pub const MANY: usize = 16;
 
 /// The value of the driver with a number.
 fn driver_value(driving: &[Logic], number: usize) -> Logic
@@ -26,7 +30,7 @@ fn driver_value(driving: &[Logic], number: usize) -> Logic
 }
 
 /// The value of a source.
-fn source_value(source: Source, driving: &[Logic]) -> Logic
+pub fn source_value(source: Source, driving: &[Logic]) -> Logic
     ensures { result ≡ value_from driving.now source }
 {
     match source {
@@ -57,6 +61,32 @@ pub fn net_value(sources: &[Source], driving: &[Logic]) -> Logic
     }
 }
 
+/// The value of the net with a number, which has these sources. If they are many and their values
+/// kept, it looks at the counts of these alone.
+fn several_value(tallies: &Tallies, net: usize, sources: &[Source], driving: &[Logic]) -> Logic
+    requires { 0 < length (slice_index_or tallies.now.rows net []) → slice_index_or tallies.now.rows net [] ≡ map (value_from driving.now) sources.now }
+    ensures { result ≡ row_from driving.now sources.now }
+{
+    if sources.len() < MANY {
+        return net_value(sources, driving);
+    }
+    match tallies.resolved(net) {
+        Some(value) => value,
+        None => net_value(sources, driving),
+    }
+}
+
+/// The same; a net of one source costs no more than a look at it.
+fn resolved_value(tallies: &Tallies, net: usize, sources: &[Source], driving: &[Logic]) -> Logic
+    requires { 0 < length (slice_index_or tallies.now.rows net []) → slice_index_or tallies.now.rows net [] ≡ map (value_from driving.now) sources.now }
+    ensures { result ≡ row_from driving.now sources.now }
+{
+    match sources {
+        [only] => source_value(*only, driving),
+        sources => several_value(tallies, net, sources, driving),
+    }
+}
+
 /// The values before the cycle of touched nets become their values; those of other nets are already
 /// equal.
 pub fn settle(values_before: &mut [Logic], values: &[Logic], touched: &NumberSet)
@@ -73,15 +103,18 @@ pub fn settle(values_before: &mut [Logic], values: &[Logic], touched: &NumberSet
     }
 }
 
-/// Touched nets take the values of their sources (14.7.5.3 d); other nets have them already.
+/// Touched nets take the values of their sources (14.7.5.3 d); other nets have them already. A net
+/// of many sources costs no look at each.
 pub fn resolve_touched(
     values: &mut [Logic],
     touched: &NumberSet,
     sources: &RowArray<Source>,
     driving: &[Logic],
+    tallies: &Tallies,
 )
     requires touched { length touched.now ≡ length values.old }
     requires sources { length sources.now ≡ length values.old }
+    requires tallied { AreTallied sources.now driving.now tallies.now }
     requires others { (n : ℕ) → is_in touched.now n ≡ false → n < length values.old
         → value_at values.old n ≡ row_from driving.now (slice_index_or sources.now n []) }
     ensures { values.new ≡ map (row_from driving.now) sources.now }
@@ -89,7 +122,7 @@ pub fn resolve_touched(
     let mut place = 0;
     let mut from = 0;
     while let Some(net) = touched.next_at(place, from) {
-        values[net] = net_value(sources.row(net), driving);
+        values[net] = resolved_value(tallies, net, sources.row(net), driving);
         place = place.wrapping_add(1);
         from = net + 1;
     }

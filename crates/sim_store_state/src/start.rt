@@ -6,13 +6,15 @@ ghost use Rattle.std.specs.List.{All};
 ghost use Rattle.sim_flat_design.specs.declared.design.DriverOf.{DriverOf as driver_of};
 ghost use Rattle.sim_standard.specs.Initialization as at_start;
 ghost use Rattle.sim_standard.specs.State.{driver_values};
-ghost use Rattle.sim_store_state.specs.Changes.{AreFanOut, is_source, is_driver, row_from};
+ghost use Rattle.sim_store_state.specs.Changes.{AreFanOut, AreTallied, is_source, is_driver, row_from};
 ghost use Rattle.sim_store_state.specs.FlatState.{sources_of};
 ghost use Rattle.sim_standard.specs.Orders.{is_among};
 ghost use Rattle.sim_containers.specs.RowArray.{joined};
 
+use crate::counting::tallies;
 use crate::lists::{add, empty_lists, in_rows};
 use crate::nets::net_value;
+use crate::tallies::Tallies;
 use sim_containers::{DividedRows, NumberSet, RowArray, TimeQueue};
 use sim_flat_design::{Design, DriverOf, Held, Net, Process, Source};
 use sim_logic::Logic;
@@ -244,20 +246,22 @@ fn fan_out(
     in_rows(alloc, lists.as_slice())
 }
 
-/// The sources of each net of a design, and the nets of each of its drivers, of which there are so
-/// many.
+/// The sources of each net of a design, the nets of each of its drivers, which have these values,
+/// and what is kept of nets with many sources.
 pub fn connections(
     alloc: Global,
     design: &Design,
-    drivers: usize,
-) -> Result<(RowArray<Source>, RowArray<usize>), AllocError>
+    driving: &[Logic],
+) -> Result<(RowArray<Source>, RowArray<usize>, Tallies), AllocError>
     ensures sources { IfOk result (λ r. r.0 ≡ sources_of design.now.nets) }
     ensures fan_out { IfOk result (λ r. AreFanOut r.0 r.1) }
-    ensures drivers { IfOk result (λ r. length r.1 ≡ drivers) }
+    ensures drivers { IfOk result (λ r. length r.1 ≡ length driving.now) }
+    ensures tallied { IfOk result (λ r. AreTallied r.0 driving.now r.2) }
 {
     let sources = sources(alloc, design)?;
-    let fan_out = fan_out(alloc, &sources, drivers)?;
-    Ok((sources, fan_out))
+    let fan_out = fan_out(alloc, &sources, driving.len())?;
+    let tallies = tallies(alloc, &sources, driving)?;
+    Ok((sources, fan_out, tallies))
 }
 
 /// An empty queue, no stale drivers and no touched nets, for so many drivers and nets.

@@ -16,6 +16,7 @@ loop-number-init c = record {
   valued = c.requires.driving;
   within = omega arith;
   rest = λ d le. refl;
+  tallied = λ sources before. before;
   told = none-told true c.args.due.now c.args.queue.now (joined c.args.drivers.now);
   walked = none-taken c.args.time (joined c.args.drivers.now) c.args.fan_out.now c.args.touched.now c.args.due.now c.requires.others;
 }
@@ -51,6 +52,7 @@ loop-number-preserved c =
       valued = e.driving;
       within = omega (arith, within, c.requires.due);
       rest = rest-more c.args.time old now new c.loop-number.from k c.in-Some.ensures.further i.rest e.drivers;
+      tallied = λ sources before. e.tallied sources (i.tallied sources before);
       told = told-more k c.take_one-is_known.result _ c.take_one-is_known.new.queue new (taken c.args.time (driver_at now k)) i.told c.in-Some.ensures refl
           e.drivers e.times e.told e.untold;
       walked = taken-more c.args.time old c.args.fan_out.now now new c.loop-number.touched c.take_one-is_known.new.touched c.args.due.now
@@ -68,5 +70,6 @@ returns c =
       driving = i.valued;
       sized = ap length c.arrange.ensures ∙ i.sized;
       reached = λ d. rw c.arrange.ensures ((each d).nets);
+      tallied = i.tallied;
       told = all-told i.told c.in_default.ensures;
     }

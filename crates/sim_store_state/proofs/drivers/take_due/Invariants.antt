@@ -1,4 +1,6 @@
-use Rattle.std.proofs.Common.{ℕ, ◌≡◌, ◌≤◌, ◌-◌, length, map}
+use Rattle.std.proofs.Common.{ℕ, ◌≡◌, ◌≤◌, ◌-◌, List, length, map}
+use Rattle.sim_flat_design.specs.declared.design.Source.{Source}
+use Rattle.sim_store_state.specs.Changes.{AreTallied}
 use Rattle.sim_containers.specs.RowArray.{joined}
 use Rattle.sim_standard.specs.State.{driver_at, driver_values}
 use Rattle.sim_store_state.proofs.Walks.{Walked}
@@ -14,6 +16,7 @@ invariant-loop-number l = record {
   within : l.from ≤ length (joined l.initial.drivers);
   rest : (d : ℕ) → l.from ≤ d → driver_at (joined l.drivers) d ≡ driver_at (joined l.initial.drivers) d;
   told : IsTold l.told l.due l.from l.initial.queue l.queue (joined l.drivers);
+  tallied : (sources : List (List Source)) → AreTallied sources l.initial.driving l.initial.tallies → AreTallied sources l.driving l.tallies;
   walked : Walked l.due l.from (IsTaken l.time (joined l.initial.drivers) l.fan_out (joined l.drivers) l.touched);
 }
 

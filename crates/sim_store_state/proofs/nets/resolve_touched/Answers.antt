@@ -1,6 +1,6 @@
 use Rattle.std.proofs.Common.{◌<◌, [], refl, set, ap, sym, length, map, get_or, arith, ◌∙◌}
 use Rattle.std.proofs.lemmas.List.{length-map, length-set}
-use Rattle.sim_store_state.specs.Changes.{row_from}
+use Rattle.sim_store_state.specs.Changes.{row_from, value_from}
 use Rattle.sim_store_state.proofs.Walks.{member_within, walk_start, walk_done}
 use Rattle.sim_store_state.proofs.Values.{same-everywhere, value-here, walk-value}
 use Rattle.sim_store_state.proofs.nets.resolve_touched.Goals as goal
@@ -15,6 +15,9 @@ loop-net-init c = record {
 pub row-requires : goal.row-requires
 row-requires c = omega (arith, member_within c.args.touched.now c.in-Some.net c.in-Some.ensures.passes, c.requires.touched, c.requires.sources)
 
+pub resolved_value-requires : goal.resolved_value-requires
+resolved_value-requires c some = c.requires.tallied.kept c.in-Some.net some ∙ ap (map (value_from c.args.driving.now)) (sym c.row.ensures)
+
 pub loop-net-preserved : goal.loop-net-preserved
 loop-net-preserved c =
     let n = c.in-Some.net in
@@ -22,12 +25,12 @@ loop-net-preserved c =
     let rows = c.args.sources.now in
     let within = member_within c.args.touched.now n c.in-Some.ensures.passes in
     record {
-      long = length-set c.loop-net.values n c.net_value.result ∙ c.loop-net.invariant.long;
+      long = length-set c.loop-net.values n c.resolved_value.result ∙ c.loop-net.invariant.long;
       within = omega (arith, within, c.requires.touched);
-      walked = walk-value c.loop-net.values (set c.loop-net.values n c.net_value.result) c.net_value.result (λ k. k < length c.args.values.now)
+      walked = walk-value c.loop-net.values (set c.loop-net.values n c.resolved_value.result) c.resolved_value.result (λ k. k < length c.args.values.now)
           (λ k. row_from driving (get_or rows k [])) c.loop-net.invariant.walked
           c.in-Some.ensures (omega (arith, within, c.requires.touched, c.loop-net.invariant.long)) refl
-          (c.net_value.ensures ∙ ap (row_from driving) c.row.ensures);
+          (c.resolved_value.ensures ∙ ap (row_from driving) c.row.ensures);
     }
 
 pub returns : goal.returns

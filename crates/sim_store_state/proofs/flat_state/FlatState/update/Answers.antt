@@ -1,4 +1,4 @@
-use Rattle.std.proofs.Common.{◌≡◌, List, [], Some, get_or, length, map, refl, ap, sym, arith, ◌∙◌}
+use Rattle.std.proofs.Common.{◌≡◌, List, [], Some, get_or, length, map, refl, ap, sym, subst, arith, ◌∙◌}
 use Rattle.sim_logic.specs.declared.logic.Logic.{Logic}
 use Rattle.sim_standard.specs.State.{driver_values}
 use Rattle.std.proofs.lemmas.List.{length-map, length-replicate}
@@ -7,7 +7,7 @@ use Rattle.sim_standard.specs.Drivers.{taken, next_time}
 use Rattle.sim_containers.specs.RowArray.{joined}
 use Rattle.sim_containers.proofs.Flat.{joined-map, written_back}
 use Rattle.sim_containers.specs.Times.{clear, earliest, is_at}
-use Rattle.sim_store_state.specs.Changes.{row_from, row_value, value_at}
+use Rattle.sim_store_state.specs.Changes.{AreTallied, row_from, row_value, value_at}
 use Rattle.sim_store_state.proofs.Contents.{drivers-by, held-updated}
 use Rattle.sim_store_state.proofs.Due.{earliest-next, others-keep}
 use Rattle.sim_store_state.proofs.Putting.{times-keep}
@@ -58,10 +58,13 @@ resolve_touched-requires c =
     c.take_due-told.ensures.sized ∙ (ap length c.clear.ensures ∙ (length-replicate (length s.touched) false ∙ i.touching.sized)) in
     let nets : length s.values.items ≡ length s.sources = ap length i.resolving ∙ length-map s.sources (row_value ds) in
     let back : length c.as_mut_slice-3.result.now ≡ length s.values.items = ap length c.as_mut_slice-3.ensures.value in
-    let driving : c.as_slice-2.result.now ≡ driver_values now =
-    c.as_slice-2.ensures.value ∙ (written_back c.take_due-told.new.driving s.driving.items s.driving.len
-    (omega (arith, c.take_due-told.auto.driving, ap length c.as_mut_slice-2.ensures.value, s.driving.ok)) ∙ c.take_due-told.ensures.driving) in
+    let written = written_back c.take_due-told.new.driving s.driving.items s.driving.len
+    (omega (arith, c.take_due-told.auto.driving, ap length c.as_mut_slice-2.ensures.value, s.driving.ok)) in
+    let driving : c.as_slice-2.result.now ≡ driver_values now = c.as_slice-2.ensures.value ∙ (written ∙ c.take_due-told.ensures.driving) in
     record {
+      tallied = subst (λ (w : List Logic). AreTallied s.sources w c.take_due-told.new.tallies) (sym (c.as_slice-2.ensures.value ∙ written))
+          (c.take_due-told.ensures.tallied s.sources (subst (λ (w : List Logic). AreTallied s.sources w s.tallies) (sym c.as_mut_slice-2.ensures.value)
+          i.tallied));
       touched = long ∙ sym back;
       sources = sym nets ∙ sym back;
       others = λ n other lt. ap (λ w. value_at w n) c.as_mut_slice-3.ensures.value ∙ (value-here s.values.items s.sources (row_value ds) n i.resolving
@@ -82,11 +85,14 @@ invariant_of-self-2 c =
     let driving = written_back c.take_due-told.new.driving s.driving.items s.driving.len
     (omega (arith, c.take_due-told.auto.driving, ap length c.as_mut_slice-2.ensures.value, s.driving.ok)) in
     let held = update-keeps c.self.invariant c.args.time _ _ _ c.take_due-told.new.drivers c.bring_up_to_date.new.queue c.take.new.self c.take.new.taken
-    c.take_due-told.new.touched next c.in_ok-bring_up_to_date.ensures.ok
+    c.take_due-told.new.touched c.take_due-told.new.tallies next c.in_ok-bring_up_to_date.ensures.ok
     (values_before ∙ (c.settle.ensures ∙ c.as_slice.ensures.value)) c.take.ensures.taken c.take.ensures.queue c.take_due-told.ensures.drivers
     c.take_due-told.ensures.reached
     (c.take_due-told.ensures.sized ∙ (ap length c.clear.ensures ∙ length-replicate (length s.touched) false)) (driving ∙ c.take_due-told.ensures.driving)
-    (values ∙ (c.resolve_touched.ensures ∙ ap (λ (w : List Logic). map (row_from w) s.sources) c.as_slice-2.ensures.value)) in
+    (values ∙ (c.resolve_touched.ensures ∙ ap (λ (w : List Logic). map (row_from w) s.sources) c.as_slice-2.ensures.value))
+    (subst (λ (w : List Logic). AreTallied s.sources w c.take_due-told.new.tallies) (sym driving)
+    (c.take_due-told.ensures.tallied s.sources (subst (λ (w : List Logic). AreTallied s.sources w s.tallies) (sym c.as_mut_slice-2.ensures.value)
+    c.self.invariant.tallied))) in
     times-keep held c.take_due-told.new.queue c.forget.new.stale (told-times c.take_due-told.result held.timed c.take_due-told.ensures.told
     c.forget.ensures.sized c.forget.ensures.same)
 
