@@ -4,7 +4,8 @@ use crate::command::Options;
 use crate::delay_list::{read_delays, read_hold};
 use anyhow::{Context, Result};
 use std::alloc::{AllocError, Global};
-use vsim_netlist_cells::{Netlist, read_netlist};
+use vsim_netlist_cells::read_netlist;
+use vsim_netlist_design::Netlist;
 use vsim_netlist_stimuli::{Input, Stimuli, read_stimuli};
 use vsim_netlist_text::{Request, Written, write_text};
 

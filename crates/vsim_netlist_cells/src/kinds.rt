@@ -1,19 +1,10 @@
 //! The cells of a module, by their types.
 
-use crate::bits::Bit;
-use crate::gates::{Gate, GateCell};
 use crate::nets::Nets;
-use crate::registers::{Control, Register, Style, letters};
 use anyhow::{Context, Result, anyhow, bail};
 use std::alloc::Global;
+use vsim_netlist_design::{Bit, Cell, Control, Gate, GateCell, Level, Register, Style, letters};
 use vsim_netlist_document::{WrittenBit, WrittenCell};
-
-/// A cell.
-#[derive(Drop)]
-pub enum Cell {
-    Gate(GateCell),
-    Register(Register),
-}
 
 /// The maximum number of inputs of a look-up table.
 const MOST_INPUTS: usize = 6;
@@ -118,17 +109,6 @@ fn gate(alloc: Global, cell: &WrittenCell, nets: &mut Nets, gate: Gate) -> Resul
     }))
 }
 
-/// The bits of a look-up table.
-fn table(cell: &WrittenCell) -> Option<&String> {
-    match &cell.parameters {
-        None => None,
-        Some(parameters) => match &parameters.table {
-            None => None,
-            Some(text) => text.0.as_ref(),
-        },
-    }
-}
-
 /// Whether a table has one bit for each combination of this number of inputs.
 fn is_table(table: &str, inputs: usize) -> bool {
     inputs <= MOST_INPUTS
@@ -140,8 +120,12 @@ fn is_table(table: &str, inputs: usize) -> bool {
 fn lookup(alloc: Global, cell: &WrittenCell, nets: &mut Nets) -> Result<Cell> {
     let output = output(cell, nets, "Y")?;
     let written = pins(cell, "A").context("its pin A is not connected")?;
-    let table = table(cell).context("it has no parameter LUT")?;
-    if !is_table(table.as_str(), written.len()) {
+    let table = cell
+        .parameters
+        .table
+        .as_str()
+        .context("it has no parameter LUT")?;
+    if !is_table(table, written.len()) {
         bail!("its LUT is no table of at most {MOST_INPUTS} inputs, of 0 and 1");
     }
     lookup_of(alloc, nets, written, table, output)
@@ -152,10 +136,10 @@ fn lookup_of(
     alloc: Global,
     nets: &mut Nets,
     written: &[WrittenBit],
-    table: &String,
+    table: &str,
     output: usize,
 ) -> Result<Cell> {
-    let table = table.clone()?;
+    let table = String::from_str(alloc, table)?;
     let inputs = nets.bits(alloc, written)?;
     Ok(Cell::Gate(GateCell {
         gate: Gate::Lut,
@@ -186,9 +170,7 @@ fn connect(
     given: u8,
 ) -> Result<()> {
     if letter == b'v' {
-        register.value = crate::bits::Level::from_byte(given).context(
-            "its type has no such reset",
-        )?;
+        register.value = Level::from_byte(given).context("its type has no such reset")?;
         return Ok(());
     }
     if given != b'P' && given != b'N' {

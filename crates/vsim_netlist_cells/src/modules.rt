@@ -1,55 +1,16 @@
 //! The simulated module of a netlist.
 
-use crate::bits::Bit;
-use crate::kinds::{Cell, make_cell};
-use crate::nets::{Net, Nets, Variable};
+use crate::kinds::make_cell;
+use crate::nets::Nets;
 use anyhow::{Context, Result, anyhow, bail};
 use indexmap::IndexSet;
 use std::alloc::Global;
-use vsim_netlist_document::{
-    Attributes, Document, Members, Module, WrittenCell, WrittenName, WrittenPort,
-};
-
-/// A port of the module, with its bits, lowest index first.
-#[derive(Drop)]
-pub struct Port {
-    pub name: String,
-    pub is_input: bool,
-    pub bits: Vec<Bit>,
-}
-
-/// A module of gates.
-#[derive(Drop)]
-pub struct Netlist {
-    pub name: String,
-    pub ports: Vec<Port>,
-    pub cells: Vec<Cell>,
-    pub variables: Vec<Variable>,
-    pub nets: Vec<Net>,
-}
-
-/// The text of the attribute that a function selects.
-fn text_of(attributes: &Option<Attributes>, is_src: bool) -> Option<&str> {
-    let Some(attributes) = attributes else {
-        return None;
-    };
-    let text = if is_src {
-        &attributes.src
-    } else {
-        &attributes.top
-    };
-    match text {
-        None => None,
-        Some(text) => match &text.0 {
-            None => None,
-            Some(text) => Some(text.as_str()),
-        },
-    }
-}
+use vsim_netlist_design::{Cell, Netlist, Port, Variable};
+use vsim_netlist_document::{Document, Members, Module, WrittenCell, WrittenName, WrittenPort};
 
 /// Whether a module is marked as the top.
 fn is_top(module: &Module) -> bool {
-    match text_of(&module.attributes, false) {
+    match module.attributes.top.as_str() {
         Some(text) => text.ends_with("1"),
         None => false,
     }
@@ -119,7 +80,7 @@ fn placed_cell(
     written: &WrittenCell,
 ) -> Result<Option<Cell>> {
     let kind = written.kind.as_str();
-    match text_of(&written.attributes, true) {
+    match written.attributes.src.as_str() {
         Some(src) => make_cell(alloc, written, nets).context(format_args!("{src}: cell {kind}")),
         None => make_cell(alloc, written, nets).context(format_args!("cell {name} of type {kind}")),
     }

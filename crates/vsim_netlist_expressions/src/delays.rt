@@ -4,8 +4,7 @@ use crate::expressions::{Expression, negation};
 use std::alloc::{AllocError, Global};
 use std::fmt;
 use std::fmt::Write;
-use vsim_netlist_cells::Level;
-use vsim_netlist_stimuli::Time;
+use vsim_netlist_design::{Level, Time};
 
 /// The time that a gate takes to rise and to fall, in femtoseconds.
 #[derive(Clone, Copy)]
@@ -50,14 +49,6 @@ impl fmt::Display for After {
         let time = Time(self.0);
         write!(f, " after {time}")
     }
-}
-
-/// Adds parts.
-pub fn push_all(text: &mut String, parts: &[&str]) -> Result<(), AllocError> {
-    for part in parts {
-        text.push_str(part)?;
-    }
-    Ok(())
 }
 
 impl Delay {

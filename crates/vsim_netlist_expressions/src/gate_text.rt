@@ -2,7 +2,7 @@
 
 use crate::expressions::{Expression, Outside, binary, negation, primary};
 use std::alloc::{AllocError, Global};
-use vsim_netlist_cells::Gate;
+use vsim_netlist_design::Gate;
 
 /// Selects one of two expressions, the second by `1`. If both agree, the value is theirs even for
 /// an unknown selection, as in Verilog.

@@ -1,7 +1,7 @@
 //! The changes of input bits.
 
 use std::alloc::{AllocError, Global};
-use vsim_netlist_cells::Level;
+use vsim_netlist_design::Level;
 
 /// An input and its number of bits.
 #[derive(Drop)]

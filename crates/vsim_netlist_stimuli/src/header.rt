@@ -1,8 +1,8 @@
 //! The header of a VCD: its scopes and variables.
 
-use crate::times::{femtoseconds, number_and_unit};
 use anyhow::{Context, Result, bail};
 use std::alloc::{AllocError, Global};
+use vsim_netlist_design::{femtoseconds, number_and_unit};
 
 /// A variable: the index of its scope, its name, its number of bits, and its code.
 #[derive(Clone, Copy)]

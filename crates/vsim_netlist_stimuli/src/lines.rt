@@ -1,9 +1,9 @@
 //! Stimuli as lines: `TIME INPUT VALUE`, and `end TIME`.
 
 use crate::changes::{Input, Stimuli, starts};
-use crate::times::read_time;
 use anyhow::{Context, Result, anyhow, bail};
 use std::alloc::{AllocError, Global};
+use vsim_netlist_design::read_time;
 
 /// The stimuli of the lines read so far.
 #[derive(Drop)]

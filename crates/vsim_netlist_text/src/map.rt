@@ -1,10 +1,9 @@
 //! The map from the signals of a text to the scopes and names of the source.
 
-use crate::signals::Signals;
 use std::alloc::{AllocError, Global};
 use std::fmt::Write;
-use vsim_netlist_cells::{Bit, Netlist, Variable};
-use vsim_netlist_expressions::push_all;
+use vsim_netlist_design::{Bit, Netlist, Variable, push_all};
+use vsim_netlist_signals::Signals;
 
 /// Adds a bit of a variable: the name of its signal, a literal, or a dash if there is no signal.
 fn push_bit(text: &mut String, signals: &Signals, bit: Bit) -> Result<(), AllocError> {

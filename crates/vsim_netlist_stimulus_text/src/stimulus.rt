@@ -1,13 +1,11 @@
 //! Stimuli as statements.
 
-use crate::builder::Builder;
 use crate::tables::{Clock, Tables, later_changes};
 use std::alloc::{AllocError, Global};
 use std::fmt::Write;
-use vsim_netlist_cells::{Bit, Level, Netlist};
-use vsim_netlist_expressions::push_all;
-use vsim_netlist_stimuli::{Change, Stimuli, Time};
-use vsim_netlist_uses::Clocks;
+use vsim_netlist_design::{Bit, Level, Netlist, Time, push_all};
+use vsim_netlist_signals::Statements;
+use vsim_netlist_stimuli::{Change, Stimuli};
 
 /// The maximum number of elements of a waveform.
 const ELEMENTS: usize = 16;
@@ -116,19 +114,6 @@ fn leave_whole_clocks(nets: &mut Vec<Driven<'_>>, end: u64) {
     }
 }
 
-/// How stimuli are written.
-#[derive(Clone, Copy)]
-pub(crate) struct Manner {
-    /// The hold time of inputs other than clocks, in femtoseconds.
-    pub(crate) hold: u64,
-}
-
-/// The statements of the process that is executed once.
-#[derive(Drop)]
-struct Parts {
-    once: String,
-}
-
 /// Adds an element of a waveform.
 fn push_element(text: &mut String, change: &Change, later: u64) -> Result<(), AllocError> {
     let (value, time) = (
@@ -173,10 +158,10 @@ fn push_changes(
 
 /// The first change of a net is its initial value, if it is at time 0. Returns the changes after
 /// it.
-fn begin<'a>(builder: &mut Builder<'_>, net: &Driven<'a>) -> &'a [Change] {
+fn begin<'a>(statements: &mut Statements, net: &Driven<'a>) -> &'a [Change] {
     if let Some(first) = net.changes.first() {
         if first.time == 0 {
-            builder.signals.begin(net.place, first.level);
+            statements.signals.begin(net.place, first.level);
         }
     }
     later_changes(net.changes)
@@ -184,62 +169,62 @@ fn begin<'a>(builder: &mut Builder<'_>, net: &Driven<'a>) -> &'a [Change] {
 
 /// Writes a clock that stops when a signal falls.
 fn put_clock(
-    builder: &mut Builder<'_>,
+    statements: &mut Statements,
     net: &Driven<'_>,
     half: u64,
     running: usize,
 ) -> Result<(), AllocError> {
-    let name = builder.signals.named(net.place)?;
-    let run = builder.signals.named(running)?;
-    let _ = begin(builder, net);
-    builder.count();
+    let name = statements.signals.named(net.place)?;
+    let run = statements.signals.named(running)?;
+    let _ = begin(statements, net);
+    statements.count();
     let half = Time(half);
     write!(
-        &mut builder.body,
+        &mut statements.body,
         "{name}<={name} xor {run} after {half};\n"
     )
 }
 
 /// Writes that a net follows another one delta cycle later.
-fn put_copy(builder: &mut Builder<'_>, from: &str, place: usize) -> Result<(), AllocError> {
-    let to = builder.signals.named(place)?;
-    builder.count();
-    write!(&mut builder.body, "{to}<={from};\n")
+fn put_copy(statements: &mut Statements, from: &str, place: usize) -> Result<(), AllocError> {
+    let to = statements.signals.named(place)?;
+    statements.count();
+    write!(&mut statements.body, "{to}<={from};\n")
 }
 
 /// The signal that a net follows one delta cycle later.
-fn put_relay(builder: &mut Builder<'_>, net: &Driven<'_>) -> Result<String, AllocError> {
+fn put_relay(statements: &mut Statements, net: &Driven<'_>) -> Result<String, AllocError> {
     let initial = match net.changes.first() {
         Some(first) if first.time == 0 => Some(first.level),
         _ => None,
     };
-    let relay = builder.signals.add(initial)?;
-    let from = builder.signals.named(relay)?;
-    put_copy(builder, from.as_str(), net.place)?;
+    let relay = statements.signals.add(initial)?;
+    let from = statements.signals.named(relay)?;
+    put_copy(statements, from.as_str(), net.place)?;
     Ok(from)
 }
 
 /// Writes the changes of an input other than a clock of constant period.
 fn put_changes(
-    builder: &mut Builder<'_>,
-    parts: &mut Parts,
+    statements: &mut Statements,
+    once: &mut String,
     net: &Driven<'_>,
     is_clock: bool,
-    manner: Manner,
+    hold: u64,
 ) -> Result<(), AllocError> {
-    let rest = begin(builder, net);
+    let rest = begin(statements, net);
     if rest.is_empty() {
-        return builder.signals.ensure(net.place);
+        return statements.signals.ensure(net.place);
     }
-    let is_relayed = !is_clock && manner.hold == 0;
+    let is_relayed = !is_clock && hold == 0;
     let target = if is_relayed {
-        put_relay(builder, net)?
+        put_relay(statements, net)?
     } else {
-        builder.signals.named(net.place)?
+        statements.signals.named(net.place)?
     };
-    builder.drivers = builder.drivers.saturating_add(1);
-    let later = if is_clock { 0 } else { manner.hold };
-    push_changes(&mut parts.once, target.as_str(), rest, later)
+    statements.count_driver();
+    let later = if is_clock { 0 } else { hold };
+    push_changes(once, target.as_str(), rest, later)
 }
 
 /// The clock of the tables: the first one.
@@ -257,16 +242,16 @@ fn first_clock(nets: &[Driven<'_>], end: u64) -> Option<Clock> {
     None
 }
 
-/// Whether a clock depends on a net.
-fn is_clock(clocks: &Clocks, net: &Driven<'_>) -> bool {
-    clocks.is_before.get(net.place).copied() == Some(true)
+/// Whether a clock depends on a net, given the same of all nets.
+fn is_clock(clocks: &[bool], net: &Driven<'_>) -> bool {
+    clocks.get(net.place).copied() == Some(true)
 }
 
 /// The inputs that may be in a table: those on which no clock depends.
 fn table_inputs<'a>(
     alloc: Global,
     nets: &[Driven<'a>],
-    clocks: &Clocks,
+    clocks: &[bool],
 ) -> Result<Vec<(usize, &'a [Change])>, AllocError> {
     let mut inputs = Vec::new(alloc);
     for net in nets {
@@ -280,48 +265,48 @@ fn table_inputs<'a>(
 /// The tables of the inputs that change with the first clock, one delta cycle after its edges;
 /// none if inputs change later.
 fn tables(
-    builder: &Builder<'_>,
+    statements: &Statements,
     nets: &[Driven<'_>],
-    clocks: &Clocks,
-    manner: Manner,
+    clocks: &[bool],
+    hold: u64,
     end: u64,
 ) -> Result<Option<Tables>, AllocError> {
     let Some(clock) = first_clock(nets, end) else {
         return Ok(None);
     };
-    if manner.hold != 0 {
+    if hold != 0 {
         return Ok(None);
     }
-    let inputs = table_inputs(builder.alloc, nets, clocks)?;
-    let tables = Tables::of(builder.alloc, clock, inputs.as_slice())?;
+    let inputs = table_inputs(statements.alloc, nets, clocks)?;
+    let tables = Tables::of(statements.alloc, clock, inputs.as_slice())?;
     Ok(Some(tables))
 }
 
 /// Prepares an input whose changes are in a table.
-fn put_in_table(builder: &mut Builder<'_>, net: &Driven<'_>) -> Result<(), AllocError> {
-    let _ = begin(builder, net);
-    builder.drivers = builder.drivers.saturating_add(1);
-    builder.signals.ensure(net.place)
+fn put_in_table(statements: &mut Statements, net: &Driven<'_>) -> Result<(), AllocError> {
+    let _ = begin(statements, net);
+    statements.count_driver();
+    statements.signals.ensure(net.place)
 }
 
 /// Writes the drivers of the inputs that are not in tables.
 fn put_nets(
-    builder: &mut Builder<'_>,
-    parts: &mut Parts,
+    statements: &mut Statements,
+    once: &mut String,
     nets: &[Driven<'_>],
-    clocks: &Clocks,
-    manner: Manner,
+    clocks: &[bool],
+    hold: u64,
     running: Option<usize>,
     tables: &Option<Tables>,
 ) -> Result<(), AllocError> {
     for net in nets {
         let is_clock = is_clock(clocks, net);
         match (net.half, running, tables) {
-            (Some(half), Some(running), _) => put_clock(builder, net, half, running)?,
+            (Some(half), Some(running), _) => put_clock(statements, net, half, running)?,
             (_, _, Some(tables)) if !is_clock && tables.has(net.changes) => {
-                put_in_table(builder, net)?;
+                put_in_table(statements, net)?;
             }
-            _ => put_changes(builder, parts, net, is_clock, manner)?,
+            _ => put_changes(statements, once, net, is_clock, hold)?,
         }
     }
     Ok(())
@@ -329,33 +314,32 @@ fn put_nets(
 
 /// Writes the drivers of the inputs.
 fn put_inputs(
-    builder: &mut Builder<'_>,
-    parts: &mut Parts,
+    statements: &mut Statements,
+    once: &mut String,
     nets: &[Driven<'_>],
-    clocks: &Clocks,
-    manner: Manner,
+    clocks: &[bool],
+    hold: u64,
     running: Option<usize>,
     end: u64,
 ) -> Result<(), AllocError> {
-    let tables = tables(builder, nets, clocks, manner, end)?;
-    put_nets(builder, parts, nets, clocks, manner, running, &tables)?;
+    let tables = tables(statements, nets, clocks, hold, end)?;
+    put_nets(statements, once, nets, clocks, hold, running, &tables)?;
     match &tables {
-        Some(tables) => tables.put(builder),
+        Some(tables) => tables.put(statements),
         None => Ok(()),
     }
 }
 
-/// Writes the process that is executed once.
-fn put_once(builder: &mut Builder<'_>, parts: &Parts) -> Result<(), AllocError> {
-    if parts.once.is_empty() {
+/// Writes the process that is executed once, with these statements.
+fn put_once(statements: &mut Statements, once: &str) -> Result<(), AllocError> {
+    if once.is_empty() {
         return Ok(());
     }
-    let never = builder.signals.constant(Level::Zero)?;
-    let never = builder.signals.named(never)?;
-    builder.processes = builder.processes.saturating_add(1);
-    let once = parts.once.as_str();
+    let never = statements.signals.constant(Level::Zero)?;
+    let never = statements.signals.named(never)?;
+    statements.count_process();
     push_all(
-        &mut builder.body,
+        &mut statements.body,
         &[
             "process(",
             never.as_str(),
@@ -367,49 +351,48 @@ fn put_once(builder: &mut Builder<'_>, parts: &Parts) -> Result<(), AllocError> 
 }
 
 /// The signal that stops the clocks at a time.
-fn put_run(builder: &mut Builder<'_>, parts: &mut Parts, end: u64) -> Result<usize, AllocError> {
-    let running = builder.signals.add(Some(Level::One))?;
-    let name = builder.signals.named(running)?;
-    builder.drivers = builder.drivers.saturating_add(1);
+fn put_run(statements: &mut Statements, once: &mut String, end: u64) -> Result<usize, AllocError> {
+    let running = statements.signals.add(Some(Level::One))?;
+    let name = statements.signals.named(running)?;
+    statements.count_driver();
     let stop = Change {
         time: end,
         level: Level::Zero,
     };
-    push_changes(&mut parts.once, name.as_str(), &[stop], 0)?;
+    push_changes(once, name.as_str(), &[stop], 0)?;
     Ok(running)
 }
 
-/// Writes stimuli.
-pub(crate) fn put_stimuli(
-    builder: &mut Builder<'_>,
+/// Writes stimuli, given for each net whether a clock depends on it, and the hold time of inputs
+/// other than clocks, in femtoseconds.
+pub fn put_stimuli(
+    statements: &mut Statements,
     netlist: &Netlist,
     stimuli: &Stimuli,
-    clocks: &Clocks,
-    manner: Manner,
+    clocks: &[bool],
+    hold: u64,
 ) -> Result<(), AllocError> {
-    let alloc = builder.alloc;
+    let alloc = statements.alloc;
     let mut nets = driven_nets(alloc, netlist, stimuli)?;
     let end = last_edge(nets.as_slice());
     leave_whole_clocks(&mut nets, end);
-    put_driven(builder, nets.as_slice(), clocks, manner, end)
+    put_driven(statements, nets.as_slice(), clocks, hold, end)
 }
 
 /// Writes the drivers of the inputs, and the clocks.
 fn put_driven(
-    builder: &mut Builder<'_>,
+    statements: &mut Statements,
     nets: &[Driven<'_>],
-    clocks: &Clocks,
-    manner: Manner,
+    clocks: &[bool],
+    hold: u64,
     end: u64,
 ) -> Result<(), AllocError> {
-    let mut parts = Parts {
-        once: String::new(builder.alloc),
-    };
+    let mut once = String::new(statements.alloc);
     let running = if nets.iter().any(|net| net.half.is_some()) {
-        Some(put_run(builder, &mut parts, end)?)
+        Some(put_run(statements, &mut once, end)?)
     } else {
         None
     };
-    put_inputs(builder, &mut parts, nets, clocks, manner, running, end)?;
-    put_once(builder, &parts)
+    put_inputs(statements, &mut once, nets, clocks, hold, running, end)?;
+    put_once(statements, once.as_str())
 }

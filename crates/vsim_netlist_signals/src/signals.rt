@@ -1,9 +1,8 @@
 //! The signals of a text.
 
+use crate::names::{Names, plain_name};
 use std::alloc::{AllocError, Global};
-use vsim_netlist_cells::{Bit, Level, Netlist, Port};
-use vsim_netlist_expressions::{Names, push_all};
-use vsim_netlist_uses::Uses;
+use vsim_netlist_design::{Bit, Level, Netlist, Port, push_all};
 
 /// A signal: its name, once it has one, and its initial value.
 #[derive(Drop)]
@@ -21,9 +20,11 @@ struct Constant {
 
 /// The signals of a text: one for each net of a netlist, by its index, then further ones.
 #[derive(Drop)]
-pub(crate) struct Signals {
+pub struct Signals {
     alloc: Global,
-    pub(crate) names: Names,
+    /// The name of the entity.
+    pub entity: String,
+    pub names: Names,
     signals: Vec<Signal>,
     constants: Vec<Constant>,
 }
@@ -37,27 +38,42 @@ const INITIALS: [(Option<Level>, &str); 5] = [
     (Some(Level::HighImpedance), ":='Z'"),
 ];
 
+/// The name of the entity.
+fn entity_name(alloc: Global, names: &mut Names, source: &str) -> Result<String, AllocError> {
+    let name = plain_name(alloc, source)?;
+    names.like(name.as_str())
+}
+
+/// A nameless signal for each net of a netlist.
+fn nameless(alloc: Global, netlist: &Netlist) -> Result<Vec<Signal>, AllocError> {
+    let mut signals = Vec::new(alloc);
+    for net in netlist.nets.iter() {
+        let initial = net.initial;
+        signals.push(Signal {
+            name: None,
+            initial,
+        })?;
+    }
+    Ok(signals)
+}
+
 impl Signals {
-    /// A nameless signal for each net of a netlist.
-    pub(crate) fn new(alloc: Global, netlist: &Netlist) -> Result<Signals, AllocError> {
-        let mut signals = Vec::new(alloc);
-        for net in netlist.nets.iter() {
-            let initial = net.initial;
-            signals.push(Signal {
-                name: None,
-                initial,
-            })?;
-        }
+    /// A nameless signal for each net of a netlist, whose name the entity has.
+    fn new(alloc: Global, netlist: &Netlist) -> Result<Signals, AllocError> {
+        let mut names = Names::new(alloc)?;
+        let entity = entity_name(alloc, &mut names, netlist.name.as_str())?;
+        let signals = nameless(alloc, netlist)?;
         Ok(Signals {
             alloc,
-            names: Names::new(alloc)?,
+            entity,
+            names,
             signals,
             constants: Vec::new(alloc),
         })
     }
 
     /// The name of a signal, if it has one.
-    pub(crate) fn name(&self, place: usize) -> Option<&str> {
+    pub fn name(&self, place: usize) -> Option<&str> {
         match self.signals.get(place) {
             Some(signal) => match &signal.name {
                 Some(name) => Some(name.as_str()),
@@ -68,7 +84,7 @@ impl Signals {
     }
 
     /// The number of signals with names.
-    pub(crate) fn count(&self) -> usize {
+    pub fn count(&self) -> usize {
         self.signals.iter().filter(|it| it.name.is_some()).count()
     }
 
@@ -82,7 +98,7 @@ impl Signals {
     }
 
     /// Gives a short name to a signal without one.
-    pub(crate) fn ensure(&mut self, place: usize) -> Result<(), AllocError> {
+    pub fn ensure(&mut self, place: usize) -> Result<(), AllocError> {
         if self.name(place).is_none() {
             let name = self.names.fresh()?;
             self.put_name(place, name);
@@ -91,20 +107,20 @@ impl Signals {
     }
 
     /// A copy of the name of a signal. A signal without a name gets one.
-    pub(crate) fn named(&mut self, place: usize) -> Result<String, AllocError> {
+    pub fn named(&mut self, place: usize) -> Result<String, AllocError> {
         self.ensure(place)?;
         String::from_str(self.alloc, self.name(place).unwrap_or(""))
     }
 
     /// Sets the initial value of a signal.
-    pub(crate) fn begin(&mut self, place: usize, level: Level) {
+    pub fn begin(&mut self, place: usize, level: Level) {
         if let Some(signal) = self.signals.get_mut(place) {
             signal.initial = Some(level);
         }
     }
 
     /// Adds a signal.
-    pub(crate) fn add(&mut self, initial: Option<Level>) -> Result<usize, AllocError> {
+    pub fn add(&mut self, initial: Option<Level>) -> Result<usize, AllocError> {
         let place = self.signals.len();
         let name = Some(self.names.fresh()?);
         self.signals.push(Signal { name, initial })?;
@@ -112,7 +128,7 @@ impl Signals {
     }
 
     /// The signal that always has a level.
-    pub(crate) fn constant(&mut self, level: Level) -> Result<usize, AllocError> {
+    pub fn constant(&mut self, level: Level) -> Result<usize, AllocError> {
         for each in self.constants.iter() {
             if each.level == level {
                 return Ok(each.place);
@@ -124,7 +140,7 @@ impl Signals {
     }
 
     /// A copy of the name of a bit's signal.
-    pub(crate) fn of_bit(&mut self, bit: Bit) -> Result<String, AllocError> {
+    pub fn of_bit(&mut self, bit: Bit) -> Result<String, AllocError> {
         let place = match bit {
             Bit::Net(place) => place,
             Bit::Constant(level) => self.constant(level)?,
@@ -162,7 +178,7 @@ impl Signals {
     }
 
     /// Names the bits of all ports.
-    pub(crate) fn name_ports(&mut self, netlist: &Netlist) -> Result<(), AllocError> {
+    fn name_ports(&mut self, netlist: &Netlist) -> Result<(), AllocError> {
         for port in netlist.ports.iter() {
             self.name_port(port)?;
         }
@@ -170,7 +186,7 @@ impl Signals {
     }
 
     /// Names the nets that need names; the most read ones get the shortest.
-    pub(crate) fn name_nets(&mut self, wanted: Vec<(usize, usize)>) -> Result<(), AllocError> {
+    fn name_nets(&mut self, wanted: Vec<(usize, usize)>) -> Result<(), AllocError> {
         let mut wanted = wanted;
         wanted.sort()?;
         for (_, place) in wanted {
@@ -203,7 +219,7 @@ impl Signals {
     }
 
     /// Adds the declarations of all signals.
-    pub(crate) fn push_declarations(&self, text: &mut String) -> Result<(), AllocError> {
+    pub fn push_declarations(&self, text: &mut String) -> Result<(), AllocError> {
         for (initial, literal) in INITIALS {
             self.push_declaration(text, initial, literal)?;
         }
@@ -211,18 +227,15 @@ impl Signals {
     }
 }
 
-/// The nets that need names, each with a number that is smaller the more it is read.
-pub(crate) fn wanted(
+/// The signals of a netlist, with names for those of its ports and for these nets, each with a
+/// number that is smaller the more it is read.
+pub fn make_signals(
     alloc: Global,
-    uses: &Uses,
-    is_within: &[bool],
-) -> Result<Vec<(usize, usize)>, AllocError> {
-    let mut wanted = Vec::new(alloc);
-    for (place, (net, within)) in uses.nets.iter().zip(is_within.iter()).enumerate() {
-        let is_used = net.is_kept || net.readers > 0;
-        if is_used && !*within {
-            wanted.push((usize::MAX.saturating_sub(net.readers), place))?;
-        }
-    }
-    Ok(wanted)
+    netlist: &Netlist,
+    wanted: Vec<(usize, usize)>,
+) -> Result<Signals, AllocError> {
+    let mut signals = Signals::new(alloc, netlist)?;
+    signals.name_ports(netlist)?;
+    signals.name_nets(wanted)?;
+    Ok(signals)
 }

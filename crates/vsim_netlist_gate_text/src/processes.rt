@@ -1,8 +1,7 @@
 //! Registers as processes: one process for all with the same clock, enable and reset.
 
 use std::alloc::{AllocError, Global};
-use vsim_netlist_cells::Style;
-use vsim_netlist_expressions::push_all;
+use vsim_netlist_design::{Style, push_all};
 
 /// The conditions of a process. Missing ones are empty.
 #[derive(Drop)]

@@ -6,7 +6,7 @@ use std::fmt;
 pub const LATEST: u64 = 4_611_686_018_427_387_903;
 
 /// A unit in femtoseconds.
-pub(crate) fn femtoseconds(unit: &str) -> Option<u64> {
+pub fn femtoseconds(unit: &str) -> Option<u64> {
     Some(match unit {
         "fs" => 1,
         "ps" => 1_000,
@@ -30,7 +30,7 @@ pub fn read_time(text: &str) -> Option<u64> {
 }
 
 /// The digits at the start of a text, and the rest.
-pub(crate) fn number_and_unit(text: &str) -> (&str, &str) {
+pub fn number_and_unit(text: &str) -> (&str, &str) {
     match text.find(|letter: char| !letter.is_ascii_digit()) {
         Some(at) => match (text.get(..at), text.get(at..)) {
             (Some(number), Some(unit)) => (number, unit),

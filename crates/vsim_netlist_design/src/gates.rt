@@ -40,7 +40,7 @@ pub struct GateCell {
 
 impl Gate {
     /// The gate of a type, given by its name without `$_` and `_`, as in `AND`.
-    pub(crate) fn from_name(name: &str) -> Option<Gate> {
+    pub fn from_name(name: &str) -> Option<Gate> {
         Some(match name {
             "BUF" => Gate::Buf,
             "NOT" => Gate::Not,
@@ -75,7 +75,7 @@ impl Gate {
 
     /// The names of the gate's inputs, one letter each; the data inputs of a multiplexer come
     /// first.
-    pub(crate) fn pins(self) -> &'static str {
+    pub fn pins(self) -> &'static str {
         match self {
             Gate::Buf | Gate::Not | Gate::Lut => "A",
             Gate::Mux | Gate::Nmux => "ABS",

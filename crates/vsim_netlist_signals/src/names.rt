@@ -1,7 +1,7 @@
 //! The names of signals in a text.
 
-use indexmap::IndexSet;
 use std::alloc::{AllocError, Global};
+use std::collections::HashSet;
 
 /// Names that no signal may have: reserved words of VHDL, and predeclared names.
 const RESERVED: [&str; 113] = [
@@ -163,12 +163,12 @@ const PREDEFINED: [&str; 35] = [
 #[derive(Drop)]
 pub struct Names {
     alloc: Global,
-    taken: IndexSet<String>,
+    taken: HashSet<String>,
     next: u64,
 }
 
 /// Adds names to those in use.
-fn reserve(alloc: Global, taken: &mut IndexSet<String>, words: &[&str]) -> Result<(), AllocError> {
+fn reserve(alloc: Global, taken: &mut HashSet<String>, words: &[&str]) -> Result<(), AllocError> {
     for word in words {
         taken.insert(String::from_str(alloc, word)?)?;
     }
@@ -201,7 +201,7 @@ fn short(alloc: Global, number: u64) -> Result<String, AllocError> {
 }
 
 /// A name of the source in VHDL: letters and digits, with an underscore for any other character.
-pub fn plain_name(alloc: Global, source: &str) -> Result<String, AllocError> {
+pub(crate) fn plain_name(alloc: Global, source: &str) -> Result<String, AllocError> {
     let mut name = String::from_str(alloc, if starts_plain(source) { "" } else { "s" })?;
     let mut has_gap = false;
     for byte in source.bytes() {
@@ -229,7 +229,7 @@ fn starts_plain(source: &str) -> bool {
 impl Names {
     /// Only reserved names are in use.
     pub fn new(alloc: Global) -> Result<Names, AllocError> {
-        let mut taken = IndexSet::new(alloc);
+        let mut taken = HashSet::new(alloc);
         reserve(alloc, &mut taken, &RESERVED)?;
         reserve(alloc, &mut taken, &PREDEFINED)?;
         Ok(Names {

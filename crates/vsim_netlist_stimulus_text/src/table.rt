@@ -2,12 +2,10 @@
 
 ghost use Rattle.std.specs.Prelude.{◌≤◌, length};
 
-use crate::builder::Builder;
-use crate::signals::Signals;
 use std::alloc::{AllocError, Global};
 use std::fmt::Write;
-use vsim_netlist_cells::Level;
-use vsim_netlist_expressions::{Names, push_all};
+use vsim_netlist_design::{Level, push_all};
+use vsim_netlist_signals::{Names, Signals, Statements};
 
 /// The changes of inputs at the edges of a clock in one direction, by the number of the edge, from
 /// 0.
@@ -325,16 +323,16 @@ fn push_tail(text: &mut String, bits: &[CounterBit]) -> Result<(), AllocError> {
 /// Writes the process of a table. It counts the edges of a clock for which `condition` holds, of
 /// which there are at most `edges`.
 pub(crate) fn put_table(
-    builder: &mut Builder<'_>,
+    statements: &mut Statements,
     table: &Table,
     clock: &str,
     condition: &str,
     edges: usize,
 ) -> Result<(), AllocError> {
-    let bits = counter(builder.alloc, &mut builder.signals.names, edges)?;
-    builder.processes = builder.processes.saturating_add(1);
-    let text = &mut builder.body;
+    let bits = counter(statements.alloc, &mut statements.signals.names, edges)?;
+    statements.count_process();
+    let text = &mut statements.body;
     push_head(text, clock, condition, bits.as_slice())?;
-    push_edges(text, bits.as_slice(), &builder.signals, table)?;
+    push_edges(text, bits.as_slice(), &statements.signals, table)?;
     push_tail(text, bits.as_slice())
 }

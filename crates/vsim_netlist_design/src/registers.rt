@@ -1,6 +1,7 @@
 //! The registers and latches of Yosys' library.
 
-use crate::bits::{Bit, Level};
+use crate::bits::Bit;
+use crate::level::Level;
 
 /// The kinds of registers in Yosys' library, by how they are set.
 #[derive(Clone, Copy, PartialEq, Eq)]
@@ -48,7 +49,7 @@ pub struct Register {
 
 /// The letters of a register's pins, in the order of those in its type, as `CE` for `$_DFFE_PN_`;
 /// `v` stands for the reset value.
-pub(crate) fn letters(name: &str, count: usize) -> Option<(&'static str, Style)> {
+pub fn letters(name: &str, count: usize) -> Option<(&'static str, Style)> {
     Some(match name {
         "DFF" if count == 1 => ("C", Style::Plain),
         "DFF" if count == 3 => ("CRv", Style::Asynchronous),
@@ -71,7 +72,7 @@ pub(crate) fn letters(name: &str, count: usize) -> Option<(&'static str, Style)>
 
 impl Register {
     /// A register without connections.
-    pub(crate) fn new(style: Style, output: usize) -> Register {
+    pub fn new(style: Style, output: usize) -> Register {
         Register {
             style,
             clock: None,
@@ -87,7 +88,7 @@ impl Register {
     }
 
     /// Connects the pin with a letter.
-    pub(crate) fn connect(&mut self, pin: u8, control: Control) {
+    pub fn connect(&mut self, pin: u8, control: Control) {
         let control = Some(control);
         match pin {
             b'C' => self.clock = control,

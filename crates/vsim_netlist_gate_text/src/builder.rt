@@ -1,35 +1,34 @@
 //! The gates and registers of a netlist as statements.
 
 use crate::processes::{Conditions, Process};
-use crate::signals::Signals;
 use indexmap::IndexSet;
 use std::alloc::{AllocError, Global};
-use vsim_netlist_cells::{Bit, Cell, Control, Gate, GateCell, Level, Netlist, Register, Style};
+use vsim_netlist_design::{
+    Bit, Cell, Control, Gate, GateCell, Level, Netlist, Register, Style, push_all,
+};
 use vsim_netlist_expressions::{
-    Delay, Expression, NamedDelay, delay_of, gate_expression, primary, push_all, push_assignment,
+    Delay, Expression, NamedDelay, delay_of, gate_expression, primary, push_assignment,
     push_literal, push_stored, push_tristate,
 };
+use vsim_netlist_signals::Statements;
 use vsim_netlist_uses::{Uses, longest_within, writing_order};
 
 /// The maximum depth of parentheses in a nested gate.
 const DEEPEST: usize = 30;
 
-/// The text of a netlist, as far as it has been written.
+/// The cells of a netlist, as far as they have been written.
 #[derive(Drop)]
-pub(crate) struct Builder<'a> {
-    pub(crate) alloc: Global,
+struct Builder<'a> {
+    alloc: Global,
     netlist: &'a Netlist,
     delays: &'a [NamedDelay],
     uses: &'a Uses,
     within: &'a [bool],
-    pub(crate) signals: Signals,
+    statements: Statements,
     /// The expressions of nets whose gates are nested.
     expressions: Vec<Option<Expression>>,
     keys: IndexSet<String>,
     groups: Vec<Process>,
-    pub(crate) body: String,
-    pub(crate) processes: usize,
-    pub(crate) drivers: usize,
 }
 
 /// This number of nets without an expression.
@@ -42,15 +41,15 @@ fn no_expressions(alloc: Global, count: usize) -> Result<Vec<Option<Expression>>
 }
 
 impl<'a> Builder<'a> {
-    /// Nothing has been written. The signals have their names.
-    pub(crate) fn new(
-        alloc: Global,
+    /// No cell has been added to these statements.
+    fn new(
+        statements: Statements,
         netlist: &'a Netlist,
         delays: &'a [NamedDelay],
         uses: &'a Uses,
         within: &'a [bool],
-        signals: Signals,
     ) -> Result<Builder<'a>, AllocError> {
+        let alloc = statements.alloc;
         let expressions = no_expressions(alloc, uses.nets.len())?;
         Ok(Builder {
             alloc,
@@ -58,20 +57,11 @@ impl<'a> Builder<'a> {
             delays,
             uses,
             within,
-            signals,
+            statements,
             expressions,
             keys: IndexSet::new(alloc),
             groups: Vec::new(alloc),
-            body: String::new(alloc),
-            processes: 0,
-            drivers: 0,
         })
-    }
-
-    /// Counts a process that drives one signal.
-    pub(crate) fn count(&mut self) {
-        self.processes = self.processes.saturating_add(1);
-        self.drivers = self.drivers.saturating_add(1);
     }
 
     /// The expression of a net whose gate is nested in the cell that reads it.
@@ -95,8 +85,11 @@ impl<'a> Builder<'a> {
 
     /// The name of a net as an expression.
     fn name(&mut self, place: usize) -> Result<Expression, AllocError> {
-        self.signals.ensure(place)?;
-        primary(self.alloc, self.signals.name(place).unwrap_or(""))
+        self.statements.signals.ensure(place)?;
+        primary(
+            self.alloc,
+            self.statements.signals.name(place).unwrap_or(""),
+        )
     }
 
     /// The inputs of a gate as expressions.
@@ -111,7 +104,9 @@ impl<'a> Builder<'a> {
     /// The maximum length, in bytes, at which the gate of a net is nested in the cell that reads
     /// it; 0 if it may not be nested.
     fn room_within(&self, place: usize) -> usize {
-        if self.within.get(place).copied() != Some(true) || self.signals.name(place).is_some() {
+        if self.within.get(place).copied() != Some(true)
+            || self.statements.signals.name(place).is_some()
+        {
             return 0;
         }
         let Some(net) = self.uses.nets.get(place) else {
@@ -147,11 +142,11 @@ impl<'a> Builder<'a> {
         expression: &Expression,
         delay: Delay,
     ) -> Result<(), AllocError> {
-        let target = self.signals.named(place)?;
-        self.count();
+        let target = self.statements.signals.named(place)?;
+        self.statements.count();
         push_assignment(
             self.alloc,
-            &mut self.body,
+            &mut self.statements.body,
             target.as_str(),
             expression,
             delay,
@@ -164,7 +159,7 @@ impl<'a> Builder<'a> {
             return Ok(());
         };
         let value = self.operand(*data)?;
-        let enable = self.signals.of_bit(*enable)?;
+        let enable = self.statements.signals.of_bit(*enable)?;
         self.push_tristate(gate.output, &value, enable.as_str(), delay)
     }
 
@@ -176,9 +171,15 @@ impl<'a> Builder<'a> {
         enable: &str,
         delay: Delay,
     ) -> Result<(), AllocError> {
-        let target = self.signals.named(output)?;
-        self.count();
-        push_tristate(&mut self.body, target.as_str(), value, enable, delay)
+        let target = self.statements.signals.named(output)?;
+        self.statements.count();
+        push_tristate(
+            &mut self.statements.body,
+            target.as_str(),
+            value,
+            enable,
+            delay,
+        )
     }
 
     /// Adds a gate.
@@ -198,7 +199,7 @@ impl<'a> Builder<'a> {
         let Some(control) = control else {
             return Ok(String::new(self.alloc));
         };
-        let name = self.signals.of_bit(control.bit)?;
+        let name = self.statements.signals.of_bit(control.bit)?;
         let value = if control.is_high { '1' } else { '0' };
         format!(in self.alloc; "{name}='{value}'")
     }
@@ -208,7 +209,7 @@ impl<'a> Builder<'a> {
         let Some(control) = control else {
             return Ok(String::new(self.alloc));
         };
-        let name = self.signals.of_bit(control.bit)?;
+        let name = self.statements.signals.of_bit(control.bit)?;
         let edge = if control.is_high { "rising" } else { "falling" };
         format!(in self.alloc; "{edge}_edge({name})")
     }
@@ -255,7 +256,7 @@ impl<'a> Builder<'a> {
         let [first, second] = others;
         for control in [clock, first, second] {
             if let Some(control) = control {
-                names.insert(self.signals.of_bit(control.bit)?)?;
+                names.insert(self.statements.signals.of_bit(control.bit)?)?;
             }
         }
         self.joined(&names)
@@ -309,7 +310,7 @@ impl<'a> Builder<'a> {
     ) -> Result<usize, AllocError> {
         let place = self.groups.len();
         let process = self.process(register, conditions)?;
-        self.processes = self.processes.saturating_add(1);
+        self.statements.count_process();
         self.groups.push(process)?;
         Ok(place)
     }
@@ -326,8 +327,8 @@ impl<'a> Builder<'a> {
     fn take_register(&mut self, register: &Register) -> Result<(), AllocError> {
         let is_latch = register.clock.is_none();
         let delay = delay_of(self.delays, if is_latch { "latch" } else { "dff" });
-        let target = self.signals.named(register.output)?;
-        self.drivers = self.drivers.saturating_add(1);
+        let target = self.statements.signals.named(register.output)?;
+        self.statements.count_driver();
         self.put_register(register, target.as_str(), delay)
     }
 
@@ -357,7 +358,7 @@ impl<'a> Builder<'a> {
     }
 
     /// Adds all cells, nested ones first.
-    pub(crate) fn take_cells(&mut self) -> Result<(), AllocError> {
+    fn take_cells(&mut self) -> Result<(), AllocError> {
         let order = writing_order(self.alloc, self.netlist, self.uses, self.within)?;
         for place in order.iter() {
             self.take_cell(*place)?;
@@ -366,9 +367,9 @@ impl<'a> Builder<'a> {
     }
 
     /// Writes the processes.
-    pub(crate) fn put_processes(&mut self) -> Result<(), AllocError> {
+    fn put_processes(&mut self) -> Result<(), AllocError> {
         for process in self.groups.iter() {
-            process.push(self.alloc, &mut self.body)?;
+            process.push(self.alloc, &mut self.statements.body)?;
         }
         Ok(())
     }
@@ -419,4 +420,18 @@ fn fill_levels(
         push_literal(&mut process.set, target, level.literal(), delay.to(level))?;
     }
     Ok(())
+}
+
+/// Writes the cells of a netlist, given the uses of its nets and which of them may be nested.
+pub fn put_cells(
+    statements: Statements,
+    netlist: &Netlist,
+    delays: &[NamedDelay],
+    uses: &Uses,
+    within: &[bool],
+) -> Result<Statements, AllocError> {
+    let mut builder = Builder::new(statements, netlist, delays, uses, within)?;
+    builder.take_cells()?;
+    builder.put_processes()?;
+    Ok(builder.statements)
 }

@@ -1,0 +1,44 @@
+//! The statements of a text, as far as they have been written.
+
+use crate::signals::Signals;
+use std::alloc::Global;
+
+/// The statements written so far, the signals that they name, and the number of their processes and
+/// drivers.
+#[derive(Drop)]
+pub struct Statements {
+    pub alloc: Global,
+    pub signals: Signals,
+    pub body: String,
+    pub processes: usize,
+    pub drivers: usize,
+}
+
+impl Statements {
+    /// Nothing has been written. The signals have their names.
+    pub fn new(alloc: Global, signals: Signals) -> Statements {
+        Statements {
+            alloc,
+            signals,
+            body: String::new(alloc),
+            processes: 0,
+            drivers: 0,
+        }
+    }
+
+    /// Counts a process that drives one signal.
+    pub fn count(&mut self) {
+        self.count_process();
+        self.count_driver();
+    }
+
+    /// Counts a process.
+    pub fn count_process(&mut self) {
+        self.processes = self.processes.saturating_add(1);
+    }
+
+    /// Counts a signal that a process drives.
+    pub fn count_driver(&mut self) {
+        self.drivers = self.drivers.saturating_add(1);
+    }
+}
