@@ -96,7 +96,7 @@ impl Nets {
     pub(crate) fn take_name(
         &mut self,
         alloc: Global,
-        name: String,
+        name: &str,
         written: &WrittenName,
     ) -> Result<Option<Variable>, AllocError> {
         let bits = self.bits(alloc, written.bits.as_slice())?;
@@ -108,7 +108,7 @@ impl Nets {
         }
         self.name_all(bits.as_slice());
         Ok(Some(Variable {
-            name,
+            name: String::from_str(alloc, name)?,
             bits,
             offset: written.offset,
             is_up: written.upto != 0,

@@ -14,5 +14,5 @@ pub use gates::{Gate, GateCell};
 pub use level::Level;
 pub use netlist::{Cell, Net, Netlist, Port, Variable};
 pub use registers::{Control, Register, Style, letters};
-pub use times::{LATEST, Time, femtoseconds, number_and_unit, read_time};
-pub use writing::push_all;
+pub use times::{LATEST, femtoseconds, number_and_unit, push_time, read_time};
+pub use writing::Draft;

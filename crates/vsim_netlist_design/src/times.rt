@@ -1,6 +1,6 @@
 //! Times: a number and its unit.
 
-use std::fmt;
+use crate::writing::Draft;
 
 /// The latest time of a simulation, in femtoseconds.
 pub const LATEST: u64 = 4_611_686_018_427_387_903;
@@ -55,13 +55,9 @@ fn in_units(time: u64) -> (u64, &'static str) {
     }
 }
 
-/// A time in femtoseconds, displayed in the largest unit of which it is a multiple, as `40ps`.
-#[derive(Clone, Copy)]
-pub struct Time(pub u64);
-
-impl fmt::Display for Time {
-    fn fmt<W: fmt::Write>(&self, f: &mut fmt::Formatter<W>) -> fmt::Result {
-        let (number, unit) = in_units(self.0);
-        write!(f, "{number}{unit}")
-    }
+/// Adds a time, given in femtoseconds, in the largest unit of which it is a multiple, as `40ps`.
+pub fn push_time(text: &mut Draft, time: u64) {
+    let (number, unit) = in_units(time);
+    text.push_shown(&number);
+    text.push(unit);
 }

@@ -1,7 +1,7 @@
 //! The parts of a netlist's JSON that are read.
 
 use crate::object::{FromObject, read_object, read_value};
-use serde::{Deserialize, Deserializer, Format, Kind, Name};
+use serde::{Case, Deserialize, Deserializer, Format, Kind, Name, NameKind};
 use std::alloc::Global;
 use std::default::MadeWith;
 use vsim_netlist_design::Level;
@@ -179,24 +179,15 @@ macro_rules! read_by_members {
         }
 
         impl<'de> FromObject<'de> for $type {
+            const NAMES: &'static [Name<'static>] = &[$(Name {
+                name: $name,
+                kind: NameKind::Field,
+                case: Case::AsIs,
+                aliases: &[],
+                skipped: false,
+            }),*];
+
             const REQUIRED: usize = $required;
-
-            fn start(alloc: Global) -> $type {
-                MadeWith::made_with(alloc)
-            }
-
-            fn name(member: usize) -> &'static str {
-                match member {
-                    $($place => $name,)*
-                    _ => "",
-                }
-            }
-
-            fn next_member<F: Format>(
-                from: &mut Deserializer<'de, '_, F>,
-            ) -> Result<Option<usize>, F::Error> {
-                from.next_key(&[$(Name::exact($name)),*])
-            }
 
             fn read_member<F: Format>(
                 &mut self,

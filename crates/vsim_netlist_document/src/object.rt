@@ -1,27 +1,19 @@
 //! Reading an object whose members have names that are known.
 
-use serde::{Deserialize, Deserializer, Format};
+use serde::{Deserialize, Deserializer, Format, Name};
 use std::alloc::Global;
+use std::default::MadeWith;
 
 /// A value that is read from an object: first it has no member, then one after another is put into
 /// it.
-pub(crate) trait FromObject<'de>: Drop {
+pub(crate) trait FromObject<'de>: MadeWith<Global> + Drop {
+    /// The names of the members.
+    const NAMES: &'static [Name<'static>];
+
     /// The number of members that have to be there. They come first.
     const REQUIRED: usize;
 
-    /// The value without members.
-    fn start(alloc: Global) -> Self;
-
-    /// The name of a member.
-    fn name(member: usize) -> &'static str;
-
-    /// Reads the name of the next member. Returns its place, or a larger number for a name that is
-    /// not known; `None` at the end of the object.
-    fn next_member<F: Format>(
-        from: &mut Deserializer<'de, '_, F>,
-    ) -> Result<Option<usize>, F::Error>;
-
-    /// Reads a member.
+    /// Reads a member, given its place among the names, or a larger number for another member.
     fn read_member<F: Format>(
         &mut self,
         member: usize,
@@ -38,6 +30,14 @@ pub(crate) fn read_value<'de, T: Deserialize<'de>, F: Format>(
 ) -> Result<(), F::Error> {
     *place = T::deserialize(alloc, from)?;
     Ok(())
+}
+
+/// The name of a member.
+fn name_of<'a>(names: &[Name<'a>], member: usize) -> &'a str {
+    match names.get(member) {
+        Some(name) => name.name,
+        None => "",
+    }
 }
 
 /// The bit of a member among those that have been read; 0 for a name that is not known.
@@ -65,7 +65,7 @@ fn demand_all<'de, T: FromObject<'de>, F: Format>(
 ) -> Result<(), F::Error> {
     for member in 0..T::REQUIRED {
         if seen & bit_of(member) == 0 {
-            return Err(from.missing(T::name(member)));
+            return Err(from.missing(name_of(T::NAMES, member)));
         }
     }
     Ok(())
@@ -79,11 +79,11 @@ fn read_members<'de, T: FromObject<'de>, F: Format>(
 ) -> Result<(), F::Error> {
     let mut seen = 0u64;
     for _ in 0..u64::MAX {
-        let Some(member) = T::next_member(from)? else {
+        let Some(member) = from.next_key(T::NAMES)? else {
             break;
         };
         if seen & bit_of(member) != 0 {
-            return Err(from.duplicate(T::name(member)));
+            return Err(from.duplicate(name_of(T::NAMES, member)));
         }
         seen |= bit_of(member);
         read_one(object, member, alloc, from)?;
@@ -97,7 +97,7 @@ pub(crate) fn read_object<'de, T: FromObject<'de>, F: Format>(
     from: &mut Deserializer<'de, '_, F>,
 ) -> Result<T, F::Error> {
     from.begin_map()?;
-    let mut object = T::start(alloc);
+    let mut object = T::made_with(alloc);
     read_members(&mut object, alloc, from)?;
     Ok(object)
 }

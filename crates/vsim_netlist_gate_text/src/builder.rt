@@ -4,7 +4,7 @@ use crate::processes::{Conditions, Process};
 use indexmap::IndexSet;
 use std::alloc::{AllocError, Global};
 use vsim_netlist_design::{
-    Bit, Cell, Control, Gate, GateCell, Level, Netlist, Register, Style, push_all,
+    Bit, Cell, Control, Draft, Gate, GateCell, Level, Netlist, Register, Style,
 };
 use vsim_netlist_expressions::{
     Delay, Expression, NamedDelay, delay_of, gate_expression, primary, push_assignment,
@@ -73,30 +73,27 @@ impl<'a> Builder<'a> {
     }
 
     /// A bit as an expression.
-    fn operand(&mut self, bit: Bit) -> Result<Expression, AllocError> {
+    fn operand(&mut self, bit: Bit) -> Expression {
         match bit {
             Bit::Constant(level) => primary(self.alloc, level.literal()),
             Bit::Net(place) => match self.take_expression(place) {
-                Some(expression) => Ok(expression),
+                Some(expression) => expression,
                 None => self.name(place),
             },
         }
     }
 
     /// The name of a net as an expression.
-    fn name(&mut self, place: usize) -> Result<Expression, AllocError> {
-        self.statements.signals.ensure(place)?;
-        primary(
-            self.alloc,
-            self.statements.signals.name(place).unwrap_or(""),
-        )
+    fn name(&mut self, place: usize) -> Expression {
+        self.statements.signals.ensure(place);
+        primary(self.alloc, self.statements.signals.text(place))
     }
 
     /// The inputs of a gate as expressions.
     fn operands(&mut self, bits: &[Bit]) -> Result<Vec<Expression>, AllocError> {
         let mut operands = Vec::new(self.alloc);
         for bit in bits {
-            operands.push(self.operand(*bit)?)?;
+            operands.push(self.operand(*bit))?;
         }
         Ok(operands)
     }
@@ -104,9 +101,8 @@ impl<'a> Builder<'a> {
     /// The maximum length, in bytes, at which the gate of a net is nested in the cell that reads
     /// it; 0 if it may not be nested.
     fn room_within(&self, place: usize) -> usize {
-        if self.within.get(place).copied() != Some(true)
-            || self.statements.signals.name(place).is_some()
-        {
+        let may_nest = self.within.get(place).copied() == Some(true);
+        if !may_nest || self.statements.signals.name(place).is_some() {
             return 0;
         }
         let Some(net) = self.uses.nets.get(place) else {
@@ -119,207 +115,174 @@ impl<'a> Builder<'a> {
     }
 
     /// Keeps the expression of a net, or writes it.
-    fn put(
-        &mut self,
-        place: usize,
-        expression: Expression,
-        delay: Delay,
-    ) -> Result<(), AllocError> {
-        let fits = expression.text.len() <= self.room_within(place);
+    fn put(&mut self, place: usize, expression: Expression, delay: Delay) {
+        let fits = expression.text.as_str().len() <= self.room_within(place);
         if fits && expression.depth < DEEPEST {
             if let Some(kept) = self.expressions.get_mut(place) {
                 *kept = Some(expression);
-                return Ok(());
+                return;
             }
         }
         self.assign(place, &expression, delay)
     }
 
     /// Writes the assignment of a net.
-    fn assign(
-        &mut self,
-        place: usize,
-        expression: &Expression,
-        delay: Delay,
-    ) -> Result<(), AllocError> {
-        let target = self.statements.signals.named(place)?;
+    fn assign(&mut self, place: usize, expression: &Expression, delay: Delay) {
+        self.statements.signals.ensure(place);
         self.statements.count();
+        let target = self.statements.signals.text(place);
         push_assignment(
             self.alloc,
             &mut self.statements.body,
-            target.as_str(),
+            target,
             expression,
             delay,
         )
     }
 
     /// Writes a three-state buffer.
-    fn put_tristate(&mut self, gate: &GateCell, delay: Delay) -> Result<(), AllocError> {
+    fn put_tristate(&mut self, gate: &GateCell, delay: Delay) {
         let (Some(data), Some(enable)) = (gate.inputs.first(), gate.inputs.last()) else {
-            return Ok(());
+            return;
         };
-        let value = self.operand(*data)?;
-        let enable = self.statements.signals.of_bit(*enable)?;
-        self.push_tristate(gate.output, &value, enable.as_str(), delay)
+        let value = self.operand(*data);
+        let enable = self.statements.signals.of_bit(*enable);
+        self.statements.signals.ensure(gate.output);
+        self.statements.count();
+        let signals = &self.statements.signals;
+        let (target, enable) = (signals.text(gate.output), signals.text(enable));
+        push_tristate(&mut self.statements.body, target, &value, enable, delay)
     }
 
-    /// The same, by its parts.
-    fn push_tristate(
-        &mut self,
-        output: usize,
-        value: &Expression,
-        enable: &str,
-        delay: Delay,
-    ) -> Result<(), AllocError> {
-        let target = self.statements.signals.named(output)?;
-        self.statements.count();
-        push_tristate(
-            &mut self.statements.body,
-            target.as_str(),
-            value,
-            enable,
-            delay,
-        )
+    /// The expression of a gate.
+    fn expression(&mut self, gate: &GateCell) -> Result<Expression, AllocError> {
+        let operands = self.operands(gate.inputs.as_slice())?;
+        let table = match &gate.table {
+            Some(table) => table.as_str(),
+            None => "",
+        };
+        gate_expression(self.alloc, gate.gate, table, operands.as_slice())
     }
 
     /// Adds a gate.
     fn take_gate(&mut self, gate: &GateCell) -> Result<(), AllocError> {
         let delay = delay_of(self.delays, gate.gate.name());
         if gate.gate == Gate::Tristate {
-            return self.put_tristate(gate, delay);
+            self.put_tristate(gate, delay);
+            return Ok(());
         }
-        let operands = self.operands(gate.inputs.as_slice())?;
-        let table = gate.table.as_ref().map_or("", |it| it.as_str());
-        let expression = gate_expression(self.alloc, gate.gate, table, operands)?;
-        self.put(gate.output, expression, delay)
+        let expression = self.expression(gate)?;
+        self.put(gate.output, expression, delay);
+        Ok(())
     }
 
     /// The condition under which a control is active; empty if there is none.
-    fn condition(&mut self, control: Option<Control>) -> Result<String, AllocError> {
-        let Some(control) = control else {
-            return Ok(String::new(self.alloc));
-        };
-        let name = self.statements.signals.of_bit(control.bit)?;
-        let value = if control.is_high { '1' } else { '0' };
-        format!(in self.alloc; "{name}='{value}'")
+    fn condition(&mut self, control: Option<Control>) -> Draft {
+        let mut text = Draft::new(self.alloc);
+        if let Some(control) = control {
+            let place = self.statements.signals.of_bit(control.bit);
+            text.push(self.statements.signals.text(place));
+            text.push(if control.is_high { "='1'" } else { "='0'" });
+        }
+        text
     }
 
     /// The condition of an edge of a clock.
-    fn edge(&mut self, control: Option<Control>) -> Result<String, AllocError> {
-        let Some(control) = control else {
-            return Ok(String::new(self.alloc));
-        };
-        let name = self.statements.signals.of_bit(control.bit)?;
-        let edge = if control.is_high { "rising" } else { "falling" };
-        format!(in self.alloc; "{edge}_edge({name})")
+    fn edge(&mut self, control: Option<Control>) -> Draft {
+        let mut text = Draft::new(self.alloc);
+        if let Some(control) = control {
+            let place = self.statements.signals.of_bit(control.bit);
+            text.push(if control.is_high { "rising" } else { "falling" });
+            text.push("_edge(");
+            text.push(self.statements.signals.text(place));
+            text.push(")");
+        }
+        text
     }
 
     /// The conditions of a register.
-    fn conditions(&mut self, register: &Register) -> Result<Conditions, AllocError> {
-        let (edge, enable) = (self.edge(register.clock)?, self.condition(register.enable)?);
-        let resets = self.resets(register)?;
-        let [reset, set, load] = resets;
-        Ok(Conditions {
+    fn conditions(&mut self, register: &Register) -> Conditions {
+        let (edge, enable) = (self.edge(register.clock), self.condition(register.enable));
+        let (reset, set) = (self.condition(register.reset), self.condition(register.set));
+        let load = self.condition(register.load);
+        Conditions {
             edge,
             enable,
             reset,
             set,
             load,
-        })
+        }
     }
 
-    /// The asynchronous conditions of a register.
-    fn resets(&mut self, register: &Register) -> Result<[String; 3], AllocError> {
-        let reset = self.condition(register.reset)?;
-        let set = self.condition(register.set)?;
-        let load = self.condition(register.load)?;
-        Ok([reset, set, load])
-    }
-
-    /// The sensitivity list of a register with an asynchronous reset, or without one.
-    fn sensitivity(&mut self, register: &Register) -> Result<String, AllocError> {
-        let controls = match register.style {
-            Style::Plain | Style::Synchronous | Style::SynchronousEnabled => [None, None],
-            Style::Asynchronous | Style::SetReset => [register.reset, register.set],
-            _ => return String::from_str(self.alloc, "all"),
+    /// Adds the name of a control signal to a list, unless one of those before it is the same.
+    fn push_listed(
+        &mut self,
+        list: &mut Draft,
+        control: Option<Control>,
+        before: [Option<Control>; 2],
+    ) {
+        let Some(control) = control else {
+            return;
         };
-        self.listed(register.clock, controls)
-    }
-
-    /// The names of a clock and of other control signals, each once.
-    fn listed(
-        &mut self,
-        clock: Option<Control>,
-        others: [Option<Control>; 2],
-    ) -> Result<String, AllocError> {
-        let mut names = IndexSet::new(self.alloc);
-        let [first, second] = others;
-        for control in [clock, first, second] {
-            if let Some(control) = control {
-                names.insert(self.statements.signals.of_bit(control.bit)?)?;
-            }
+        let [first, second] = before;
+        if is_at(first, control.bit) || is_at(second, control.bit) {
+            return;
         }
-        self.joined(&names)
-    }
-
-    /// Names, separated by commas.
-    fn joined(&self, names: &IndexSet<String>) -> Result<String, AllocError> {
-        let mut list = String::new(self.alloc);
-        for name in names.iter() {
-            let comma = if list.is_empty() { "" } else { "," };
-            push_all(&mut list, &[comma, name.as_str()])?;
+        let place = self.statements.signals.of_bit(control.bit);
+        if !list.as_str().is_empty() {
+            list.push(",");
         }
-        Ok(list)
+        list.push(self.statements.signals.text(place));
     }
 
-    /// An empty process for the registers like this one.
-    fn process(
+    /// The sensitivity list of a register: its clock and its asynchronous resets, each once.
+    fn sensitivity(&mut self, register: &Register) -> Draft {
+        let (reset, set) = match register.style {
+            Style::Plain | Style::Synchronous | Style::SynchronousEnabled => (None, None),
+            Style::Asynchronous | Style::SetReset => (register.reset, register.set),
+            _ => return Draft::of(self.alloc, "all"),
+        };
+        let mut list = Draft::new(self.alloc);
+        self.push_listed(&mut list, register.clock, [None, None]);
+        self.push_listed(&mut list, reset, [register.clock, None]);
+        self.push_listed(&mut list, set, [register.clock, reset]);
+        list
+    }
+
+    /// The index of the process for registers with these conditions, and whether it is new.
+    fn find_group(
         &mut self,
-        register: &Register,
-        conditions: Conditions,
-    ) -> Result<Process, AllocError> {
-        let sensitivity = self.sensitivity(register)?;
-        let alloc = self.alloc;
-        Ok(Process {
-            style: register.style,
-            sensitivity,
-            conditions,
-            reset: String::new(alloc),
-            set: String::new(alloc),
-            load: String::new(alloc),
-            data: String::new(alloc),
-        })
+        style: Style,
+        conditions: &Conditions,
+    ) -> Result<(usize, bool), AllocError> {
+        let key = conditions.key(self.alloc, style).finish()?;
+        Ok(self.keys.insert_full(key)?)
     }
 
     /// The index of the process for the registers like this one.
     fn group(&mut self, register: &Register) -> Result<usize, AllocError> {
-        let conditions = self.conditions(register)?;
-        let key = key_of(self.alloc, register.style, &conditions)?;
-        let (place, is_new) = self.keys.insert_full(key)?;
+        let conditions = self.conditions(register);
+        let (place, is_new) = self.find_group(register.style, &conditions)?;
         if is_new {
-            return self.add_group(register, conditions);
+            self.add_group(register, conditions)?;
         }
         Ok(place)
     }
 
-    /// Adds a process and returns its index.
-    fn add_group(
-        &mut self,
-        register: &Register,
-        conditions: Conditions,
-    ) -> Result<usize, AllocError> {
-        let place = self.groups.len();
-        let process = self.process(register, conditions)?;
+    /// Adds a process for the registers like this one.
+    fn add_group(&mut self, register: &Register, conditions: Conditions) -> Result<(), AllocError> {
+        let sensitivity = self.sensitivity(register);
         self.statements.count_process();
+        let process = Process::new(self.alloc, register.style, sensitivity, conditions);
         self.groups.push(process)?;
-        Ok(place)
+        Ok(())
     }
 
     /// The expression of a register's data, if it is connected.
-    fn stored(&mut self, bit: Option<Bit>) -> Result<Option<Expression>, AllocError> {
+    fn stored(&mut self, bit: Option<Bit>) -> Option<Expression> {
         match bit {
-            Some(bit) => Ok(Some(self.operand(bit)?)),
-            None => Ok(None),
+            Some(bit) => Some(self.operand(bit)),
+            None => None,
         }
     }
 
@@ -327,24 +290,21 @@ impl<'a> Builder<'a> {
     fn take_register(&mut self, register: &Register) -> Result<(), AllocError> {
         let is_latch = register.clock.is_none();
         let delay = delay_of(self.delays, if is_latch { "latch" } else { "dff" });
-        let target = self.statements.signals.named(register.output)?;
+        self.statements.signals.ensure(register.output);
         self.statements.count_driver();
-        self.put_register(register, target.as_str(), delay)
+        let place = self.group(register)?;
+        self.put_register(register, place, delay);
+        Ok(())
     }
 
-    /// Adds a register to the process of those like it.
-    fn put_register(
-        &mut self,
-        register: &Register,
-        target: &str,
-        delay: Delay,
-    ) -> Result<(), AllocError> {
-        let place = self.group(register)?;
-        let data = self.stored(register.data)?;
-        let loaded = self.stored(register.loaded)?;
-        match self.groups.get_mut(place) {
-            Some(process) => fill(self.alloc, process, register, target, &data, &loaded, delay),
-            None => Ok(()),
+    /// Adds a register to the process at an index.
+    fn put_register(&mut self, register: &Register, place: usize, delay: Delay) {
+        let (data, loaded) = (self.stored(register.data), self.stored(register.loaded));
+        let target = self.statements.signals.text(register.output);
+        if let Some(process) = self.groups.get_mut(place) {
+            fill_levels(process, register, target, delay);
+            fill(self.alloc, &mut process.data, target, &data, delay);
+            fill(self.alloc, &mut process.load, target, &loaded, delay);
         }
     }
 
@@ -367,59 +327,38 @@ impl<'a> Builder<'a> {
     }
 
     /// Writes the processes.
-    fn put_processes(&mut self) -> Result<(), AllocError> {
+    fn put_processes(&mut self) {
         for process in self.groups.iter() {
-            process.push(self.alloc, &mut self.statements.body)?;
+            process.push(self.alloc, &mut self.statements.body);
         }
-        Ok(())
     }
 }
 
-/// What the registers of one process have in common.
-fn key_of(alloc: Global, style: Style, conditions: &Conditions) -> Result<String, AllocError> {
-    let style = style as u8;
-    let (edge, enable) = (conditions.edge.as_str(), conditions.enable.as_str());
-    let (reset, set) = (conditions.reset.as_str(), conditions.set.as_str());
-    let load = conditions.load.as_str();
-    format!(in alloc; "{style}{edge};{enable};{reset};{set};{load}")
+/// Whether a control is connected with a bit.
+fn is_at(control: Option<Control>, bit: Bit) -> bool {
+    match control {
+        Some(control) => control.bit == bit,
+        None => false,
+    }
 }
 
-/// Adds the assignments of a register to its process.
-fn fill(
-    alloc: Global,
-    process: &mut Process,
-    register: &Register,
-    target: &str,
-    data: &Option<Expression>,
-    loaded: &Option<Expression>,
-    delay: Delay,
-) -> Result<(), AllocError> {
-    fill_levels(process, register, target, delay)?;
-    if let Some(value) = data {
-        push_stored(alloc, &mut process.data, target, value, delay)?;
+/// Adds the assignment of a register, if it is connected.
+fn fill(alloc: Global, text: &mut Draft, target: &str, value: &Option<Expression>, delay: Delay) {
+    if let Some(value) = value {
+        push_stored(alloc, text, target, value, delay);
     }
-    if let Some(value) = loaded {
-        push_stored(alloc, &mut process.load, target, value, delay)?;
-    }
-    Ok(())
 }
 
 /// Adds the set and reset of a register.
-fn fill_levels(
-    process: &mut Process,
-    register: &Register,
-    target: &str,
-    delay: Delay,
-) -> Result<(), AllocError> {
+fn fill_levels(process: &mut Process, register: &Register, target: &str, delay: Delay) {
     if register.reset.is_some() {
         let level = register.value;
-        push_literal(&mut process.reset, target, level.literal(), delay.to(level))?;
+        push_literal(&mut process.reset, target, level.literal(), delay.to(level));
     }
     if register.set.is_some() {
         let level = Level::One;
-        push_literal(&mut process.set, target, level.literal(), delay.to(level))?;
+        push_literal(&mut process.set, target, level.literal(), delay.to(level));
     }
-    Ok(())
 }
 
 /// Writes the cells of a netlist, given the uses of its nets and which of them may be nested.
@@ -432,6 +371,6 @@ pub fn put_cells(
 ) -> Result<Statements, AllocError> {
     let mut builder = Builder::new(statements, netlist, delays, uses, within)?;
     builder.take_cells()?;
-    builder.put_processes()?;
+    builder.put_processes();
     Ok(builder.statements)
 }

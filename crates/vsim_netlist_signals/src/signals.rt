@@ -1,13 +1,13 @@
 //! The signals of a text.
 
 use crate::names::{Names, plain_name};
-use std::alloc::{AllocError, Global};
-use vsim_netlist_design::{Bit, Level, Netlist, Port, push_all};
+use std::alloc::Global;
+use vsim_netlist_design::{Bit, Draft, Level, Netlist, Port};
 
 /// A signal: its name, once it has one, and its initial value.
 #[derive(Drop)]
 struct Signal {
-    name: Option<String>,
+    name: Option<Draft>,
     initial: Option<Level>,
 }
 
@@ -23,7 +23,7 @@ struct Constant {
 pub struct Signals {
     alloc: Global,
     /// The name of the entity.
-    pub entity: String,
+    pub entity: Draft,
     pub names: Names,
     signals: Vec<Signal>,
     constants: Vec<Constant>,
@@ -39,37 +39,37 @@ const INITIALS: [(Option<Level>, &str); 5] = [
 ];
 
 /// The name of the entity.
-fn entity_name(alloc: Global, names: &mut Names, source: &str) -> Result<String, AllocError> {
-    let name = plain_name(alloc, source)?;
-    names.like(name.as_str())
-}
-
-/// A nameless signal for each net of a netlist.
-fn nameless(alloc: Global, netlist: &Netlist) -> Result<Vec<Signal>, AllocError> {
-    let mut signals = Vec::new(alloc);
-    for net in netlist.nets.iter() {
-        let initial = net.initial;
-        signals.push(Signal {
-            name: None,
-            initial,
-        })?;
-    }
-    Ok(signals)
+fn entity_name(alloc: Global, names: &mut Names, source: &str) -> Draft {
+    let name = plain_name(alloc, &Draft::of(alloc, source));
+    names.like(&name)
 }
 
 impl Signals {
-    /// A nameless signal for each net of a netlist, whose name the entity has.
-    fn new(alloc: Global, netlist: &Netlist) -> Result<Signals, AllocError> {
-        let mut names = Names::new(alloc)?;
-        let entity = entity_name(alloc, &mut names, netlist.name.as_str())?;
-        let signals = nameless(alloc, netlist)?;
-        Ok(Signals {
+    /// No signals. The entity has the name of the netlist.
+    fn new(alloc: Global, netlist: &Netlist) -> Signals {
+        let mut names = Names::new(alloc);
+        let entity = entity_name(alloc, &mut names, netlist.name.as_str());
+        Signals {
             alloc,
             entity,
             names,
-            signals,
+            signals: Vec::new(alloc),
             constants: Vec::new(alloc),
-        })
+        }
+    }
+
+    /// Adds a signal at the end.
+    fn push(&mut self, name: Option<Draft>, initial: Option<Level>) {
+        if self.signals.push(Signal { name, initial }).is_err() {
+            self.names.lack();
+        }
+    }
+
+    /// Adds a nameless signal for each net of a netlist.
+    fn push_nets(&mut self, netlist: &Netlist) {
+        for net in netlist.nets.iter() {
+            self.push(None, net.initial);
+        }
     }
 
     /// The name of a signal, if it has one.
@@ -83,33 +83,29 @@ impl Signals {
         }
     }
 
+    /// The name of a signal; empty if it has none.
+    pub fn text(&self, place: usize) -> &str {
+        self.name(place).unwrap_or("")
+    }
+
     /// The number of signals with names.
     pub fn count(&self) -> usize {
         self.signals.iter().filter(|it| it.name.is_some()).count()
     }
 
-    /// Gives a name to a signal without one.
-    fn put_name(&mut self, place: usize, name: String) {
+    /// Gives a name to a signal.
+    fn put_name(&mut self, place: usize, name: Draft) {
         if let Some(signal) = self.signals.get_mut(place) {
-            if signal.name.is_none() {
-                signal.name = Some(name);
-            }
+            signal.name = Some(name);
         }
     }
 
     /// Gives a short name to a signal without one.
-    pub fn ensure(&mut self, place: usize) -> Result<(), AllocError> {
+    pub fn ensure(&mut self, place: usize) {
         if self.name(place).is_none() {
-            let name = self.names.fresh()?;
+            let name = self.names.fresh();
             self.put_name(place, name);
         }
-        Ok(())
-    }
-
-    /// A copy of the name of a signal. A signal without a name gets one.
-    pub fn named(&mut self, place: usize) -> Result<String, AllocError> {
-        self.ensure(place)?;
-        String::from_str(self.alloc, self.name(place).unwrap_or(""))
     }
 
     /// Sets the initial value of a signal.
@@ -119,123 +115,116 @@ impl Signals {
         }
     }
 
-    /// Adds a signal.
-    pub fn add(&mut self, initial: Option<Level>) -> Result<usize, AllocError> {
+    /// Adds a signal with a short name, and returns its place.
+    pub fn add(&mut self, initial: Option<Level>) -> usize {
         let place = self.signals.len();
-        let name = Some(self.names.fresh()?);
-        self.signals.push(Signal { name, initial })?;
-        Ok(place)
+        let name = self.names.fresh();
+        self.push(Some(name), initial);
+        place
+    }
+
+    /// The signal that always has a level, if there is one.
+    fn known_constant(&self, level: Level) -> Option<usize> {
+        for each in self.constants.iter() {
+            if each.level == level {
+                return Some(each.place);
+            }
+        }
+        None
     }
 
     /// The signal that always has a level.
-    pub fn constant(&mut self, level: Level) -> Result<usize, AllocError> {
-        for each in self.constants.iter() {
-            if each.level == level {
-                return Ok(each.place);
-            }
+    pub fn constant(&mut self, level: Level) -> usize {
+        if let Some(place) = self.known_constant(level) {
+            return place;
         }
-        let place = self.add(Some(level))?;
-        self.constants.push(Constant { level, place })?;
-        Ok(place)
+        let place = self.add(Some(level));
+        if self.constants.push(Constant { level, place }).is_err() {
+            self.names.lack();
+        }
+        place
     }
 
-    /// A copy of the name of a bit's signal.
-    pub fn of_bit(&mut self, bit: Bit) -> Result<String, AllocError> {
-        let place = match bit {
-            Bit::Net(place) => place,
-            Bit::Constant(level) => self.constant(level)?,
-        };
-        self.named(place)
+    /// The signal of a bit, which has a name.
+    pub fn of_bit(&mut self, bit: Bit) -> usize {
+        match bit {
+            Bit::Constant(level) => self.constant(level),
+            Bit::Net(place) => {
+                self.ensure(place);
+                place
+            }
+        }
     }
 
     /// Names the bits of a port as in the source.
-    fn name_port(&mut self, port: &Port) -> Result<(), AllocError> {
+    fn name_port(&mut self, port: &Port) {
         let is_vector = port.bits.len() > 1;
         for (index, bit) in port.bits.iter().enumerate() {
-            let Bit::Net(place) = bit else {
-                continue;
-            };
-            if self.name(*place).is_none() {
-                let name = self.port_name(port.name.as_str(), index, is_vector)?;
-                self.put_name(*place, name);
+            if let Bit::Net(place) = bit {
+                self.name_bit(port, *place, index, is_vector);
             }
         }
-        Ok(())
     }
 
-    /// A name for a bit of a port.
-    fn port_name(
-        &mut self,
-        source: &str,
-        index: usize,
-        is_vector: bool,
-    ) -> Result<String, AllocError> {
-        if !is_vector {
-            return self.names.like(source);
+    /// Names a bit of a port, unless it has a name.
+    fn name_bit(&mut self, port: &Port, place: usize, index: usize, is_vector: bool) {
+        if self.name(place).is_some() {
+            return;
         }
-        let indexed = format!(in self.alloc; "{source}_{index}")?;
-        self.names.like(indexed.as_str())
+        let mut source = Draft::of(self.alloc, port.name.as_str());
+        if is_vector {
+            source.push("_");
+            source.push_shown(&index);
+        }
+        let name = self.names.like(&source);
+        self.put_name(place, name);
     }
 
     /// Names the bits of all ports.
-    fn name_ports(&mut self, netlist: &Netlist) -> Result<(), AllocError> {
+    fn name_ports(&mut self, netlist: &Netlist) {
         for port in netlist.ports.iter() {
-            self.name_port(port)?;
+            self.name_port(port);
         }
-        Ok(())
-    }
-
-    /// Names the nets that need names; the most read ones get the shortest.
-    fn name_nets(&mut self, wanted: Vec<(usize, usize)>) -> Result<(), AllocError> {
-        let mut wanted = wanted;
-        wanted.sort()?;
-        for (_, place) in wanted {
-            self.ensure(place)?;
-        }
-        Ok(())
     }
 
     /// Adds the declaration of the signals with one initial value.
-    fn push_declaration(
-        &self,
-        text: &mut String,
-        initial: Option<Level>,
-        literal: &str,
-    ) -> Result<(), AllocError> {
+    fn push_declaration(&self, text: &mut Draft, initial: Option<Level>, literal: &str) {
         let mut before = "signal ";
         for signal in self.signals.iter() {
-            if signal.initial != initial {
-                continue;
-            }
-            if let Some(name) = &signal.name {
-                push_all(text, &[before, name.as_str()])?;
+            if let Some(name) = named_with(signal, initial) {
+                text.push_all(&[before, name]);
                 before = ",";
             }
         }
         if before == "," {
-            push_all(text, &[":std_logic", literal, ";\n"])?;
+            text.push_all(&[":std_logic", literal, ";\n"]);
         }
-        Ok(())
     }
 
     /// Adds the declarations of all signals.
-    pub fn push_declarations(&self, text: &mut String) -> Result<(), AllocError> {
+    pub fn push_declarations(&self, text: &mut Draft) {
         for (initial, literal) in INITIALS {
-            self.push_declaration(text, initial, literal)?;
+            self.push_declaration(text, initial, literal);
         }
-        Ok(())
     }
 }
 
-/// The signals of a netlist, with names for those of its ports and for these nets, each with a
-/// number that is smaller the more it is read.
-pub fn make_signals(
-    alloc: Global,
-    netlist: &Netlist,
-    wanted: Vec<(usize, usize)>,
-) -> Result<Signals, AllocError> {
-    let mut signals = Signals::new(alloc, netlist)?;
-    signals.name_ports(netlist)?;
-    signals.name_nets(wanted)?;
-    Ok(signals)
+/// The name of a signal, if it has one and this initial value.
+fn named_with(signal: &Signal, initial: Option<Level>) -> Option<&str> {
+    match &signal.name {
+        Some(name) if signal.initial == initial => Some(name.as_str()),
+        _ => None,
+    }
+}
+
+/// The signals of a netlist, with names for those of its ports, and short ones for these nets, each
+/// given after the number by which it is sorted.
+pub fn make_signals(alloc: Global, netlist: &Netlist, wanted: &[(usize, usize)]) -> Signals {
+    let mut signals = Signals::new(alloc, netlist);
+    signals.push_nets(netlist);
+    signals.name_ports(netlist);
+    for (_, place) in wanted {
+        signals.ensure(*place);
+    }
+    signals
 }

@@ -2,6 +2,7 @@
 
 use crate::signals::Signals;
 use std::alloc::Global;
+use vsim_netlist_design::Draft;
 
 /// The statements written so far, the signals that they name, and the number of their processes and
 /// drivers.
@@ -9,7 +10,7 @@ use std::alloc::Global;
 pub struct Statements {
     pub alloc: Global,
     pub signals: Signals,
-    pub body: String,
+    pub body: Draft,
     pub processes: usize,
     pub drivers: usize,
 }
@@ -20,10 +21,15 @@ impl Statements {
         Statements {
             alloc,
             signals,
-            body: String::new(alloc),
+            body: Draft::new(alloc),
             processes: 0,
             drivers: 0,
         }
+    }
+
+    /// Adds the name of a signal.
+    pub fn push_name(&mut self, place: usize) {
+        self.body.push(self.signals.text(place));
     }
 
     /// Counts a process that drives one signal.

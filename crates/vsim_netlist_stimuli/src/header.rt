@@ -21,7 +21,6 @@ pub(crate) struct Scope {
 }
 
 /// The header of a VCD, as far as it has been read.
-#[derive(Drop)]
 pub(crate) struct Header<'a> {
     alloc: Global,
     /// The words of the present section.
@@ -33,6 +32,21 @@ pub(crate) struct Header<'a> {
     /// The unit of time, in femtoseconds.
     pub(crate) scale: u64,
     pub(crate) is_done: bool,
+}
+
+impl Drop for Header<'_> {
+    fn drop(self) {
+        let Header {
+            alloc: _,
+            words,
+            open,
+            scopes,
+            variables,
+            scale: _,
+            is_done: _,
+        } = self;
+        drop((words, open, scopes, variables));
+    }
 }
 
 /// A name without a range after it, and without the backslash of an escaped name.

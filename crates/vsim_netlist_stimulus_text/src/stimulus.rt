@@ -2,8 +2,8 @@
 
 use crate::tables::{Clock, Tables, later_changes};
 use std::alloc::{AllocError, Global};
-use std::fmt::Write;
-use vsim_netlist_design::{Bit, Level, Netlist, Time, push_all};
+use std::slice::Iter;
+use vsim_netlist_design::{Bit, Draft, Level, Netlist, Port, push_time};
 use vsim_netlist_signals::Statements;
 use vsim_netlist_stimuli::{Change, Stimuli};
 
@@ -50,6 +50,23 @@ fn half_period(changes: &[Change]) -> Option<u64> {
     Some(half)
 }
 
+/// Adds the nets of an input, with the next lists of changes.
+fn push_nets<'a>(
+    nets: &mut Vec<Driven<'a>>,
+    lists: &mut Iter<'a, Vec<Change>>,
+    port: &Port,
+) -> Result<(), AllocError> {
+    for bit in port.bits.iter() {
+        let Some(changes) = lists.next() else {
+            break;
+        };
+        if let Bit::Net(place) = bit {
+            nets.push(one(*place, changes.as_slice()))?;
+        }
+    }
+    Ok(())
+}
+
 /// The nets of the inputs, in the order of the stimulus bits.
 fn driven_nets<'a>(
     alloc: Global,
@@ -58,14 +75,9 @@ fn driven_nets<'a>(
 ) -> Result<Vec<Driven<'a>>, AllocError> {
     let mut nets = Vec::new(alloc);
     let mut lists = stimuli.bits.iter();
-    for port in netlist.ports.iter().filter(|port| port.is_input) {
-        for bit in port.bits.iter() {
-            let Some(changes) = lists.next() else {
-                break;
-            };
-            if let Bit::Net(place) = bit {
-                nets.push(one(*place, changes.as_slice()))?;
-            }
+    for port in netlist.ports.iter() {
+        if port.is_input {
+            push_nets(&mut nets, &mut lists, port)?;
         }
     }
     Ok(nets)
@@ -114,46 +126,44 @@ fn leave_whole_clocks(nets: &mut Vec<Driven<'_>>, end: u64) {
     }
 }
 
+/// How stimuli are written.
+#[derive(Clone, Copy)]
+struct Manner<'a> {
+    /// For each net, whether a clock depends on it.
+    clocks: &'a [bool],
+    /// The hold time of inputs other than clocks, in femtoseconds.
+    hold: u64,
+    /// The time of the last change of any clock.
+    end: u64,
+    /// The signal that stops the clocks, if there are any.
+    running: Option<usize>,
+}
+
 /// Adds an element of a waveform.
-fn push_element(text: &mut String, change: &Change, later: u64) -> Result<(), AllocError> {
-    let (value, time) = (
-        change.level.literal(),
-        Time(change.time.saturating_add(later)),
-    );
-    write!(text, "{value}after {time}")
+fn push_element(text: &mut Draft, change: &Change, later: u64) {
+    text.push_all(&[change.level.literal(), "after "]);
+    push_time(text, change.time.saturating_add(later));
 }
 
 /// Adds the assignment of some changes.
-fn push_waveform(
-    text: &mut String,
-    target: &str,
-    changes: &[Change],
-    later: u64,
-    is_first: bool,
-) -> Result<(), AllocError> {
+fn push_waveform(text: &mut Draft, target: &str, changes: &[Change], later: u64, is_first: bool) {
     let mut before = if is_first { "" } else { "transport" };
-    push_all(text, &[target, "<="])?;
+    text.push_all(&[target, "<="]);
     for change in changes {
-        text.push_str(before)?;
-        push_element(text, change, later)?;
+        text.push(before);
+        push_element(text, change, later);
         before = ",";
     }
-    text.push_str(";\n")
+    text.push(";\n");
 }
 
 /// Adds the assignments of all changes of a signal.
-fn push_changes(
-    text: &mut String,
-    target: &str,
-    changes: &[Change],
-    later: u64,
-) -> Result<(), AllocError> {
+fn push_changes(text: &mut Draft, target: &str, changes: &[Change], later: u64) {
     let mut is_first = true;
     for some in changes.chunks(ELEMENTS) {
-        push_waveform(text, target, some, later, is_first)?;
+        push_waveform(text, target, some, later, is_first);
         is_first = false;
     }
-    Ok(())
 }
 
 /// The first change of a net is its initial value, if it is at time 0. Returns the changes after
@@ -168,63 +178,62 @@ fn begin<'a>(statements: &mut Statements, net: &Driven<'a>) -> &'a [Change] {
 }
 
 /// Writes a clock that stops when a signal falls.
-fn put_clock(
-    statements: &mut Statements,
-    net: &Driven<'_>,
-    half: u64,
-    running: usize,
-) -> Result<(), AllocError> {
-    let name = statements.signals.named(net.place)?;
-    let run = statements.signals.named(running)?;
+fn put_clock(statements: &mut Statements, net: &Driven<'_>, half: u64, running: usize) {
+    statements.signals.ensure(net.place);
     let _ = begin(statements, net);
     statements.count();
-    let half = Time(half);
-    write!(
-        &mut statements.body,
-        "{name}<={name} xor {run} after {half};\n"
-    )
+    statements.push_name(net.place);
+    statements.body.push("<=");
+    statements.push_name(net.place);
+    statements.body.push(" xor ");
+    statements.push_name(running);
+    statements.body.push(" after ");
+    push_time(&mut statements.body, half);
+    statements.body.push(";\n");
 }
 
 /// Writes that a net follows another one delta cycle later.
-fn put_copy(statements: &mut Statements, from: &str, place: usize) -> Result<(), AllocError> {
-    let to = statements.signals.named(place)?;
+fn put_copy(statements: &mut Statements, from: usize, place: usize) {
+    statements.signals.ensure(place);
     statements.count();
-    write!(&mut statements.body, "{to}<={from};\n")
+    statements.push_name(place);
+    statements.body.push("<=");
+    statements.push_name(from);
+    statements.body.push(";\n");
 }
 
 /// The signal that a net follows one delta cycle later.
-fn put_relay(statements: &mut Statements, net: &Driven<'_>) -> Result<String, AllocError> {
+fn put_relay(statements: &mut Statements, net: &Driven<'_>) -> usize {
     let initial = match net.changes.first() {
         Some(first) if first.time == 0 => Some(first.level),
         _ => None,
     };
-    let relay = statements.signals.add(initial)?;
-    let from = statements.signals.named(relay)?;
-    put_copy(statements, from.as_str(), net.place)?;
-    Ok(from)
+    let relay = statements.signals.add(initial);
+    put_copy(statements, relay, net.place);
+    relay
 }
 
 /// Writes the changes of an input other than a clock of constant period.
 fn put_changes(
     statements: &mut Statements,
-    once: &mut String,
+    once: &mut Draft,
     net: &Driven<'_>,
     is_clock: bool,
     hold: u64,
-) -> Result<(), AllocError> {
+) {
     let rest = begin(statements, net);
     if rest.is_empty() {
         return statements.signals.ensure(net.place);
     }
-    let is_relayed = !is_clock && hold == 0;
-    let target = if is_relayed {
-        put_relay(statements, net)?
+    let target = if !is_clock && hold == 0 {
+        put_relay(statements, net)
     } else {
-        statements.signals.named(net.place)?
+        statements.signals.ensure(net.place);
+        net.place
     };
     statements.count_driver();
     let later = if is_clock { 0 } else { hold };
-    push_changes(once, target.as_str(), rest, later)
+    push_changes(once, statements.signals.text(target), rest, later);
 }
 
 /// The clock of the tables: the first one.
@@ -265,65 +274,62 @@ fn table_inputs<'a>(
 /// The tables of the inputs that change with the first clock, one delta cycle after its edges;
 /// none if inputs change later.
 fn tables(
-    statements: &Statements,
+    alloc: Global,
     nets: &[Driven<'_>],
-    clocks: &[bool],
-    hold: u64,
-    end: u64,
+    manner: Manner<'_>,
 ) -> Result<Option<Tables>, AllocError> {
-    let Some(clock) = first_clock(nets, end) else {
+    let Some(clock) = first_clock(nets, manner.end) else {
         return Ok(None);
     };
-    if hold != 0 {
+    if manner.hold != 0 {
         return Ok(None);
     }
-    let inputs = table_inputs(statements.alloc, nets, clocks)?;
-    let tables = Tables::of(statements.alloc, clock, inputs.as_slice())?;
-    Ok(Some(tables))
+    let inputs = table_inputs(alloc, nets, manner.clocks)?;
+    Ok(Some(Tables::of(alloc, clock, inputs.as_slice())?))
+}
+
+/// Whether a table has the changes of a net.
+fn is_in_table(tables: &Option<Tables>, net: &Driven<'_>) -> bool {
+    match tables {
+        Some(tables) => tables.has(net.changes),
+        None => false,
+    }
 }
 
 /// Prepares an input whose changes are in a table.
-fn put_in_table(statements: &mut Statements, net: &Driven<'_>) -> Result<(), AllocError> {
+fn put_in_table(statements: &mut Statements, net: &Driven<'_>) {
     let _ = begin(statements, net);
     statements.count_driver();
-    statements.signals.ensure(net.place)
+    statements.signals.ensure(net.place);
 }
 
-/// Writes the drivers of the inputs that are not in tables.
-fn put_nets(
+/// Writes the driver of an input.
+fn put_net(
     statements: &mut Statements,
-    once: &mut String,
-    nets: &[Driven<'_>],
-    clocks: &[bool],
-    hold: u64,
-    running: Option<usize>,
+    once: &mut Draft,
+    net: &Driven<'_>,
+    manner: Manner<'_>,
     tables: &Option<Tables>,
-) -> Result<(), AllocError> {
-    for net in nets {
-        let is_clock = is_clock(clocks, net);
-        match (net.half, running, tables) {
-            (Some(half), Some(running), _) => put_clock(statements, net, half, running)?,
-            (_, _, Some(tables)) if !is_clock && tables.has(net.changes) => {
-                put_in_table(statements, net)?;
-            }
-            _ => put_changes(statements, once, net, is_clock, hold)?,
-        }
+) {
+    let is_clock = is_clock(manner.clocks, net);
+    match (net.half, manner.running) {
+        (Some(half), Some(running)) => put_clock(statements, net, half, running),
+        _ if !is_clock && is_in_table(tables, net) => put_in_table(statements, net),
+        _ => put_changes(statements, once, net, is_clock, manner.hold),
     }
-    Ok(())
 }
 
 /// Writes the drivers of the inputs.
 fn put_inputs(
     statements: &mut Statements,
-    once: &mut String,
+    once: &mut Draft,
     nets: &[Driven<'_>],
-    clocks: &[bool],
-    hold: u64,
-    running: Option<usize>,
-    end: u64,
+    manner: Manner<'_>,
 ) -> Result<(), AllocError> {
-    let tables = tables(statements, nets, clocks, hold, end)?;
-    put_nets(statements, once, nets, clocks, hold, running, &tables)?;
+    let tables = tables(statements.alloc, nets, manner)?;
+    for net in nets {
+        put_net(statements, once, net, manner, &tables);
+    }
     match &tables {
         Some(tables) => tables.put(statements),
         None => Ok(()),
@@ -331,36 +337,39 @@ fn put_inputs(
 }
 
 /// Writes the process that is executed once, with these statements.
-fn put_once(statements: &mut Statements, once: &str) -> Result<(), AllocError> {
-    if once.is_empty() {
-        return Ok(());
+fn put_once(statements: &mut Statements, once: &Draft) {
+    if once.as_str().is_empty() {
+        return;
     }
-    let never = statements.signals.constant(Level::Zero)?;
-    let never = statements.signals.named(never)?;
+    let never = statements.signals.constant(Level::Zero);
     statements.count_process();
-    push_all(
-        &mut statements.body,
-        &[
-            "process(",
-            never.as_str(),
-            ")begin\n",
-            once,
-            "end process;\n",
-        ],
-    )
+    statements.body.push("process(");
+    statements.push_name(never);
+    statements.body.push(")begin\n");
+    statements.body.push_draft(once);
+    statements.body.push("end process;\n");
 }
 
 /// The signal that stops the clocks at a time.
-fn put_run(statements: &mut Statements, once: &mut String, end: u64) -> Result<usize, AllocError> {
-    let running = statements.signals.add(Some(Level::One))?;
-    let name = statements.signals.named(running)?;
+fn put_run(statements: &mut Statements, once: &mut Draft, end: u64) -> usize {
+    let running = statements.signals.add(Some(Level::One));
     statements.count_driver();
     let stop = Change {
         time: end,
         level: Level::Zero,
     };
-    push_changes(once, name.as_str(), &[stop], 0)?;
-    Ok(running)
+    push_changes(once, statements.signals.text(running), &[stop], 0);
+    running
+}
+
+/// Whether any net is a clock.
+fn has_clock(nets: &[Driven<'_>]) -> bool {
+    for net in nets {
+        if net.half.is_some() {
+            return true;
+        }
+    }
+    false
 }
 
 /// Writes stimuli, given for each net whether a clock depends on it, and the hold time of inputs
@@ -372,8 +381,7 @@ pub fn put_stimuli(
     clocks: &[bool],
     hold: u64,
 ) -> Result<(), AllocError> {
-    let alloc = statements.alloc;
-    let mut nets = driven_nets(alloc, netlist, stimuli)?;
+    let mut nets = driven_nets(statements.alloc, netlist, stimuli)?;
     let end = last_edge(nets.as_slice());
     leave_whole_clocks(&mut nets, end);
     put_driven(statements, nets.as_slice(), clocks, hold, end)
@@ -387,12 +395,19 @@ fn put_driven(
     hold: u64,
     end: u64,
 ) -> Result<(), AllocError> {
-    let mut once = String::new(statements.alloc);
-    let running = if nets.iter().any(|net| net.half.is_some()) {
-        Some(put_run(statements, &mut once, end)?)
+    let mut once = Draft::new(statements.alloc);
+    let running = if has_clock(nets) {
+        Some(put_run(statements, &mut once, end))
     } else {
         None
     };
-    put_inputs(statements, &mut once, nets, clocks, hold, running, end)?;
-    put_once(statements, once.as_str())
+    let manner = Manner {
+        clocks,
+        hold,
+        end,
+        running,
+    };
+    put_inputs(statements, &mut once, nets, manner)?;
+    put_once(statements, &once);
+    Ok(())
 }

@@ -128,9 +128,9 @@ impl Tables {
 
     /// Writes the processes of the tables.
     pub(crate) fn put(&self, statements: &mut Statements) -> Result<(), AllocError> {
-        let clock = statements.signals.named(self.clock.net)?;
-        let clock = clock.as_str();
+        let clock = self.clock.net;
         let edges = edges_in_direction(&self.clock);
+        statements.signals.ensure(clock);
         if let Some(table) = &self.rising {
             put_table(statements, table, clock, "rising_edge", edges)?;
         }

@@ -3,7 +3,7 @@
 use crate::map::make_map;
 use anyhow::{Result, bail};
 use std::alloc::{AllocError, Global};
-use vsim_netlist_design::{Netlist, push_all};
+use vsim_netlist_design::{Draft, Netlist};
 use vsim_netlist_expressions::NamedDelay;
 use vsim_netlist_gate_text::put_cells;
 use vsim_netlist_signals::{Signals, Statements, make_signals};
@@ -62,21 +62,25 @@ fn demand_limits(statements: &Statements, bytes: usize) -> Result<()> {
 }
 
 /// Adds the part before the statements.
-fn push_head(text: &mut String, signals: &Signals) -> Result<(), AllocError> {
+fn push_head(text: &mut Draft, signals: &Signals) {
     let head = "library ieee;\nuse ieee.std_logic_1164.all;\nentity ";
     let middle = " is end;\narchitecture netlist of ";
     let name = signals.entity.as_str();
-    push_all(text, &[head, name, middle, name, " is\n"])?;
-    signals.push_declarations(text)?;
-    text.push_str("begin\n")
+    text.push_all(&[head, name, middle, name, " is\n"]);
+    signals.push_declarations(text);
+    text.push("begin\n");
 }
 
 /// The whole text.
 fn whole(statements: &Statements) -> Result<String, AllocError> {
-    let mut text = String::new(statements.alloc);
-    push_head(&mut text, &statements.signals)?;
-    push_all(&mut text, &[statements.body.as_str(), "end;\n"])?;
-    Ok(text)
+    let mut text = Draft::new(statements.alloc);
+    push_head(&mut text, &statements.signals);
+    text.push_draft(&statements.body);
+    text.push("end;\n");
+    if !statements.signals.names.is_whole() {
+        text.lack();
+    }
+    text.finish()
 }
 
 /// The whole text, within the limits.
@@ -127,7 +131,7 @@ fn cell_statements(
     within: &[bool],
 ) -> Result<Statements, AllocError> {
     let wanted = wanted_nets(alloc, uses, within)?;
-    let signals = make_signals(alloc, request.netlist, wanted)?;
+    let signals = make_signals(alloc, request.netlist, wanted.as_slice());
     let statements = Statements::new(alloc, signals);
     put_cells(statements, request.netlist, request.delays, uses, within)
 }

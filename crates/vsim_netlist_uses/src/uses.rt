@@ -149,7 +149,8 @@ impl Uses {
     }
 }
 
-/// The nets that need names, each with a number that is smaller the more it is read.
+/// The nets that need names, each after a number that is smaller the more it is read, the smallest
+/// first.
 pub fn wanted_nets(
     alloc: Global,
     uses: &Uses,
@@ -162,6 +163,7 @@ pub fn wanted_nets(
             wanted.push((usize::MAX.saturating_sub(net.readers), place))?;
         }
     }
+    wanted.sort()?;
     Ok(wanted)
 }
 
