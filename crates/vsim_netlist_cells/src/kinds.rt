@@ -18,16 +18,13 @@ enum Kind<'a> {
     Other,
 }
 
-/// The name of a gate type of Yosys without `$_` and `_`.
+/// The name of a type of Yosys' gate library without `$_` and `_`.
 fn inner(kind: &str) -> Option<&str> {
     kind.strip_prefix("$_")?.strip_suffix("_")
 }
 
-/// The kind of a gate type of Yosys, by its name without `$_` and `_`.
-fn kind_of_inner(inner: &str) -> Kind<'_> {
-    if let Some(gate) = Gate::from_name(inner) {
-        return Kind::Gate(gate);
-    }
+/// The kind of a register's type, given by its name without `$_` and `_`.
+fn kind_of_register(inner: &str) -> Kind<'_> {
     let Some((name, given)) = inner.split_once('_') else {
         return Kind::Other;
     };
@@ -39,11 +36,13 @@ fn kind_of_inner(inner: &str) -> Kind<'_> {
 
 /// The kind of a cell type.
 fn kind_of(kind: &str) -> Kind<'_> {
+    if let Some(gate) = Gate::from_kind(kind) {
+        return Kind::Gate(gate);
+    }
     match kind {
-        "$lut" => Kind::Gate(Gate::Lut),
         "$scopeinfo" | "$print" | "$check" => Kind::Note,
         _ => match inner(kind) {
-            Some(inner) => kind_of_inner(inner),
+            Some(inner) => kind_of_register(inner),
             None => Kind::Other,
         },
     }

@@ -38,88 +38,60 @@ pub struct GateCell {
     pub table: Option<String>,
 }
 
+/// The gates: each with the name of its type in a netlist, its name in `--delays`, and the names of
+/// its inputs, one letter each; the data inputs of a multiplexer come first.
+static GATES: [(Gate, &str, &str, &str); 21] = [
+    (Gate::Buf, "$_BUF_", "buf", "A"),
+    (Gate::Not, "$_NOT_", "not", "A"),
+    (Gate::And, "$_AND_", "and", "AB"),
+    (Gate::Nand, "$_NAND_", "nand", "AB"),
+    (Gate::Or, "$_OR_", "or", "AB"),
+    (Gate::Nor, "$_NOR_", "nor", "AB"),
+    (Gate::Xor, "$_XOR_", "xor", "AB"),
+    (Gate::Xnor, "$_XNOR_", "xnor", "AB"),
+    (Gate::AndNot, "$_ANDNOT_", "andnot", "AB"),
+    (Gate::OrNot, "$_ORNOT_", "ornot", "AB"),
+    (Gate::Mux, "$_MUX_", "mux", "ABS"),
+    (Gate::Nmux, "$_NMUX_", "nmux", "ABS"),
+    (Gate::Mux4, "$_MUX4_", "mux4", "ABCDST"),
+    (Gate::Mux8, "$_MUX8_", "mux8", "ABCDEFGHSTU"),
+    (Gate::Mux16, "$_MUX16_", "mux16", "ABCDEFGHIJKLMNOPSTUV"),
+    (Gate::Aoi3, "$_AOI3_", "aoi3", "ABC"),
+    (Gate::Oai3, "$_OAI3_", "oai3", "ABC"),
+    (Gate::Aoi4, "$_AOI4_", "aoi4", "ABCD"),
+    (Gate::Oai4, "$_OAI4_", "oai4", "ABCD"),
+    (Gate::Lut, "$lut", "lut", "A"),
+    (Gate::Tristate, "$_TBUF_", "tbuf", "AE"),
+];
+
 impl Gate {
-    /// The gate of a type, given by its name without `$_` and `_`, as in `AND`.
-    pub fn from_name(name: &str) -> Option<Gate> {
-        Some(match name {
-            "BUF" => Gate::Buf,
-            "NOT" => Gate::Not,
-            "AND" => Gate::And,
-            "NAND" => Gate::Nand,
-            "OR" => Gate::Or,
-            "NOR" => Gate::Nor,
-            "XOR" => Gate::Xor,
-            "XNOR" => Gate::Xnor,
-            "ANDNOT" => Gate::AndNot,
-            "ORNOT" => Gate::OrNot,
-            _ => return Gate::larger_from_name(name),
-        })
-    }
-
-    /// The same, for gates of more than two inputs.
-    fn larger_from_name(name: &str) -> Option<Gate> {
-        Some(match name {
-            "MUX" => Gate::Mux,
-            "NMUX" => Gate::Nmux,
-            "MUX4" => Gate::Mux4,
-            "MUX8" => Gate::Mux8,
-            "MUX16" => Gate::Mux16,
-            "AOI3" => Gate::Aoi3,
-            "OAI3" => Gate::Oai3,
-            "AOI4" => Gate::Aoi4,
-            "OAI4" => Gate::Oai4,
-            "TBUF" => Gate::Tristate,
-            _ => return None,
-        })
-    }
-
-    /// The names of the gate's inputs, one letter each; the data inputs of a multiplexer come
-    /// first.
-    pub fn pins(self) -> &'static str {
-        match self {
-            Gate::Buf | Gate::Not | Gate::Lut => "A",
-            Gate::Mux | Gate::Nmux => "ABS",
-            Gate::Mux4 => "ABCDST",
-            Gate::Mux8 => "ABCDEFGHSTU",
-            Gate::Mux16 => "ABCDEFGHIJKLMNOPSTUV",
-            Gate::Aoi3 | Gate::Oai3 => "ABC",
-            Gate::Aoi4 | Gate::Oai4 => "ABCD",
-            Gate::Tristate => "AE",
-            _ => "AB",
+    /// The gate of a type, given by its name in a netlist, as in `$_AND_`.
+    pub fn from_kind(kind: &str) -> Option<Gate> {
+        for (gate, name, _, _) in &GATES {
+            if *name == kind {
+                return Some(*gate);
+            }
         }
+        None
+    }
+
+    /// The names of the gate's inputs, one letter each.
+    pub fn pins(self) -> &'static str {
+        for (gate, _, _, pins) in &GATES {
+            if *gate == self {
+                return *pins;
+            }
+        }
+        ""
     }
 
     /// The name of the gate in `--delays`.
     pub fn name(self) -> &'static str {
-        match self {
-            Gate::Buf => "buf",
-            Gate::Not => "not",
-            Gate::And => "and",
-            Gate::Nand => "nand",
-            Gate::Or => "or",
-            Gate::Nor => "nor",
-            Gate::Xor => "xor",
-            Gate::Xnor => "xnor",
-            Gate::AndNot => "andnot",
-            Gate::OrNot => "ornot",
-            _ => self.larger_name(),
+        for (gate, _, name, _) in &GATES {
+            if *gate == self {
+                return *name;
+            }
         }
-    }
-
-    /// The same, for gates of more than two inputs.
-    fn larger_name(self) -> &'static str {
-        match self {
-            Gate::Mux => "mux",
-            Gate::Nmux => "nmux",
-            Gate::Mux4 => "mux4",
-            Gate::Mux8 => "mux8",
-            Gate::Mux16 => "mux16",
-            Gate::Aoi3 => "aoi3",
-            Gate::Oai3 => "oai3",
-            Gate::Aoi4 => "aoi4",
-            Gate::Oai4 => "oai4",
-            Gate::Lut => "lut",
-            _ => "tbuf",
-        }
+        ""
     }
 }

@@ -47,27 +47,35 @@ pub struct Register {
     pub output: usize,
 }
 
-/// The letters of a register's pins, in the order of those in its type, as `CE` for `$_DFFE_PN_`;
-/// `v` stands for the reset value.
+/// The registers: each with the first part of its type's name, and the letters of its pins in the
+/// order of those in the second part, as `CE` for `$_DFFE_PN_`; `v` stands for the reset value.
+static REGISTERS: [(&str, &str, Style); 15] = [
+    ("DFF", "C", Style::Plain),
+    ("DFF", "CRv", Style::Asynchronous),
+    ("DFFE", "CE", Style::Plain),
+    ("DFFE", "CRvE", Style::Asynchronous),
+    ("SDFF", "CRv", Style::Synchronous),
+    ("SDFFE", "CRvE", Style::Synchronous),
+    ("SDFFCE", "CRvE", Style::SynchronousEnabled),
+    ("ALDFF", "CL", Style::Loaded),
+    ("ALDFFE", "CLE", Style::Loaded),
+    ("DFFSR", "CSR", Style::SetReset),
+    ("DFFSRE", "CSRE", Style::SetReset),
+    ("DLATCH", "E", Style::Latch),
+    ("DLATCH", "ERv", Style::Latch),
+    ("DLATCHSR", "ESR", Style::Latch),
+    ("SR", "SR", Style::Bare),
+];
+
+/// The letters and the style of a register, given the first part of its type's name and the number
+/// of letters in the second.
 pub fn letters(name: &str, count: usize) -> Option<(&'static str, Style)> {
-    Some(match name {
-        "DFF" if count == 1 => ("C", Style::Plain),
-        "DFF" if count == 3 => ("CRv", Style::Asynchronous),
-        "DFFE" if count == 2 => ("CE", Style::Plain),
-        "DFFE" if count == 4 => ("CRvE", Style::Asynchronous),
-        "SDFF" if count == 3 => ("CRv", Style::Synchronous),
-        "SDFFE" if count == 4 => ("CRvE", Style::Synchronous),
-        "SDFFCE" if count == 4 => ("CRvE", Style::SynchronousEnabled),
-        "ALDFF" if count == 2 => ("CL", Style::Loaded),
-        "ALDFFE" if count == 3 => ("CLE", Style::Loaded),
-        "DFFSR" if count == 3 => ("CSR", Style::SetReset),
-        "DFFSRE" if count == 4 => ("CSRE", Style::SetReset),
-        "DLATCH" if count == 1 => ("E", Style::Latch),
-        "DLATCH" if count == 3 => ("ERv", Style::Latch),
-        "DLATCHSR" if count == 3 => ("ESR", Style::Latch),
-        "SR" if count == 2 => ("SR", Style::Bare),
-        _ => return None,
-    })
+    for (known, pins, style) in &REGISTERS {
+        if *known == name && pins.len() == count {
+            return Some((*pins, *style));
+        }
+    }
+    None
 }
 
 impl Register {

@@ -17,7 +17,6 @@ use vsim_netlist_uses::{Uses, longest_within, writing_order};
 const DEEPEST: usize = 30;
 
 /// The cells of a netlist, as far as they have been written.
-#[derive(Drop)]
 struct Builder<'a> {
     alloc: Global,
     netlist: &'a Netlist,
@@ -29,6 +28,12 @@ struct Builder<'a> {
     expressions: Vec<Option<Expression>>,
     keys: IndexSet<String>,
     groups: Vec<Process>,
+}
+
+impl Drop for Builder<'_> {
+    fn drop(self) {
+        drop(self.into_statements());
+    }
 }
 
 /// This number of nets without an expression.
@@ -62,6 +67,23 @@ impl<'a> Builder<'a> {
             keys: IndexSet::new(alloc),
             groups: Vec::new(alloc),
         })
+    }
+
+    /// The statements that have been written.
+    fn into_statements(self) -> Statements {
+        let Builder {
+            alloc: _,
+            netlist: _,
+            delays: _,
+            uses: _,
+            within: _,
+            statements,
+            expressions,
+            keys,
+            groups,
+        } = self;
+        drop((expressions, keys, groups));
+        statements
     }
 
     /// The expression of a net whose gate is nested in the cell that reads it.
@@ -372,5 +394,5 @@ pub fn put_cells(
     let mut builder = Builder::new(statements, netlist, delays, uses, within)?;
     builder.take_cells()?;
     builder.put_processes();
-    Ok(builder.statements)
+    Ok(builder.into_statements())
 }

@@ -6,13 +6,26 @@ use vsim_netlist_design::Draft;
 
 /// The statements written so far, the signals that they name, and the number of their processes and
 /// drivers.
-#[derive(Drop)]
 pub struct Statements {
     pub alloc: Global,
     pub signals: Signals,
     pub body: Draft,
     pub processes: usize,
     pub drivers: usize,
+}
+
+/// Written by hand so that code which drops it needs no proof about its contents.
+impl Drop for Statements {
+    fn drop(self) {
+        let Statements {
+            alloc: _,
+            signals,
+            body,
+            processes: _,
+            drivers: _,
+        } = self;
+        drop((signals, body));
+    }
 }
 
 impl Statements {
