@@ -2,8 +2,8 @@
 
 use anyhow::{Context, Result, anyhow, bail};
 use std::alloc::Global;
-use vsim_netlist_design::{LATEST, read_time};
 use vsim_netlist_expressions::{Delay, NamedDelay};
+use vsim_netlist_stimuli::{LATEST, read_time};
 
 /// The names that may have a delay.
 const NAMES: [&str; 24] = [

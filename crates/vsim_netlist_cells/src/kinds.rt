@@ -1,9 +1,10 @@
 //! The cells of a module, by their types.
 
 use crate::nets::Nets;
+use crate::registers::letters;
 use anyhow::{Context, Result, anyhow, bail};
 use std::alloc::Global;
-use vsim_netlist_design::{Bit, Cell, Control, Gate, GateCell, Level, Register, Style, letters};
+use vsim_netlist_design::{Bit, Cell, Control, Gate, GateCell, Level, Register, Style};
 use vsim_netlist_document::{WrittenBit, WrittenCell};
 
 /// The maximum number of inputs of a look-up table.
@@ -97,15 +98,15 @@ fn inputs(alloc: Global, cell: &WrittenCell, nets: &mut Nets, names: &str) -> Re
 }
 
 /// Reads a gate other than a look-up table.
-fn gate(alloc: Global, cell: &WrittenCell, nets: &mut Nets, gate: Gate) -> Result<Cell> {
+fn gate(alloc: Global, cell: &WrittenCell, nets: &mut Nets, gate: Gate) -> Result<Option<Cell>> {
     let output = output(cell, nets, "Y")?;
     let inputs = inputs(alloc, cell, nets, gate.pins())?;
-    Ok(Cell::Gate(GateCell {
+    Ok(Some(Cell::Gate(GateCell {
         gate,
         inputs,
         output,
         table: None,
-    }))
+    })))
 }
 
 /// Whether a table has one bit for each combination of this number of inputs.
@@ -116,7 +117,7 @@ fn is_table(table: &str, inputs: usize) -> bool {
 }
 
 /// Reads a look-up table.
-fn lookup(alloc: Global, cell: &WrittenCell, nets: &mut Nets) -> Result<Cell> {
+fn lookup(alloc: Global, cell: &WrittenCell, nets: &mut Nets) -> Result<Option<Cell>> {
     let output = output(cell, nets, "Y")?;
     let written = pins(cell, "A").context("its pin A is not connected")?;
     let table = cell
@@ -137,15 +138,15 @@ fn lookup_of(
     written: &[WrittenBit],
     table: &str,
     output: usize,
-) -> Result<Cell> {
+) -> Result<Option<Cell>> {
     let table = String::from_str(alloc, table)?;
     let inputs = nets.bits(alloc, written)?;
-    Ok(Cell::Gate(GateCell {
+    Ok(Some(Cell::Gate(GateCell {
         gate: Gate::Lut,
         inputs,
         output,
         table: Some(table),
-    }))
+    })))
 }
 
 /// The name of the pin for a letter.
@@ -200,13 +201,13 @@ fn register(
     given: &str,
     pins: &str,
     style: Style,
-) -> Result<Cell> {
+) -> Result<Option<Cell>> {
     let mut register = Register::new(style, output(cell, nets, "Q")?);
     for (letter, given) in pins.bytes().zip(given.bytes()) {
         connect(cell, nets, &mut register, letter, given)?;
     }
     connect_data(cell, nets, &mut register)?;
-    Ok(Cell::Register(register))
+    Ok(Some(Cell::Register(register)))
 }
 
 /// Reads a cell; `None` if it has no effect in a simulation.
@@ -216,11 +217,11 @@ pub(crate) fn make_cell(
     nets: &mut Nets,
 ) -> Result<Option<Cell>> {
     let kind = cell.kind.as_str();
-    Ok(Some(match kind_of(kind) {
-        Kind::Note => return Ok(None),
-        Kind::Other => return Err(anyhow!("{}", advice(kind))),
-        Kind::Gate(Gate::Lut) => lookup(alloc, cell, nets)?,
-        Kind::Gate(found) => gate(alloc, cell, nets, found)?,
-        Kind::Register(given, pins, style) => register(cell, nets, given, pins, style)?,
-    }))
+    match kind_of(kind) {
+        Kind::Note => Ok(None),
+        Kind::Other => Err(anyhow!("{}", advice(kind))),
+        Kind::Gate(Gate::Lut) => lookup(alloc, cell, nets),
+        Kind::Gate(found) => gate(alloc, cell, nets, found),
+        Kind::Register(given, pins, style) => register(cell, nets, given, pins, style),
+    }
 }

@@ -4,5 +4,6 @@
 mod kinds;
 mod modules;
 mod nets;
+mod registers;
 
 pub use modules::read_netlist;

@@ -1,4 +1,4 @@
-//! A module of gates: its ports, cells, nets and the names of its source; and times.
+//! A module of gates: its ports, cells, nets and the names of its source; and texts.
 #![tactic(auto)]
 
 mod bits;
@@ -13,6 +13,6 @@ pub use bits::Bit;
 pub use gates::{Gate, GateCell};
 pub use level::Level;
 pub use netlist::{Cell, Net, Netlist, Port, Variable};
-pub use registers::{Control, Register, Style, letters};
-pub use times::{LATEST, femtoseconds, number_and_unit, push_time, read_time};
+pub use registers::{Control, Register, Style};
+pub use times::push_time;
 pub use writing::Draft;

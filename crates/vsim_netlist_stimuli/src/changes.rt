@@ -104,3 +104,13 @@ pub(crate) fn starts(alloc: Global, inputs: &[Input]) -> Result<Vec<usize>, Allo
     }
     Ok(starts)
 }
+
+/// The index of the input with a name, and its number of bits.
+pub(crate) fn find(inputs: &[Input], name: &str) -> Option<(usize, usize)> {
+    for (place, input) in inputs.iter().enumerate() {
+        if input.name.as_str() == name {
+            return Some((place, input.width));
+        }
+    }
+    None
+}

@@ -1,8 +1,8 @@
 //! The header of a VCD: its scopes and variables.
 
+use crate::times::{femtoseconds, number_and_unit};
 use anyhow::{Context, Result, bail};
 use std::alloc::{AllocError, Global};
-use vsim_netlist_design::{femtoseconds, number_and_unit};
 
 /// A variable: the index of its scope, its name, its number of bits, and its code.
 #[derive(Clone, Copy)]
@@ -92,7 +92,7 @@ impl<'a> Header<'a> {
     }
 
     /// Enters a scope.
-    fn enter(&mut self, name: &str) -> Result<(), AllocError> {
+    fn enter(&mut self, name: &str) -> Result<()> {
         let path = self.path(name)?;
         let depth = self.open.len();
         self.open.push(self.scopes.len())?;
@@ -133,25 +133,30 @@ impl<'a> Header<'a> {
     }
 
     /// Reads the time scale.
-    fn take_scale(&mut self) -> Result<()> {
-        self.scale = scale(self.word(1), self.word(2)).context("the time scale is none")?;
+    fn take_scale(&mut self, first: &str, second: &str) -> Result<()> {
+        self.scale = scale(first, second).context("the time scale is none")?;
         Ok(())
     }
 
     /// Reads a section.
     fn close(&mut self) -> Result<()> {
-        let (first, third) = (self.word(0), self.word(2));
+        let (first, second, third) = (self.word(0), self.word(1), self.word(2));
         let (fourth, fifth) = (self.word(3), self.word(4));
-        match first {
-            "$scope" => self.enter(third)?,
-            "$upscope" => self.leave(),
-            "$var" => self.declare(third, fourth, fifth)?,
-            "$timescale" => self.take_scale()?,
-            "$enddefinitions" => self.is_done = true,
-            _ => {}
-        }
         self.words.clear();
-        Ok(())
+        match first {
+            "$scope" => self.enter(third),
+            "$var" => self.declare(third, fourth, fifth),
+            "$timescale" => self.take_scale(second, third),
+            "$upscope" => {
+                self.leave();
+                Ok(())
+            }
+            "$enddefinitions" => {
+                self.is_done = true;
+                Ok(())
+            }
+            _ => Ok(()),
+        }
     }
 
     /// Reads the next word.

@@ -5,8 +5,10 @@ mod changes;
 mod header;
 mod lines;
 mod scopes;
+mod times;
 mod values;
 mod vcd;
 
 pub use changes::{Change, Input, Stimuli};
+pub use times::{LATEST, read_time};
 pub use vcd::read_stimuli;

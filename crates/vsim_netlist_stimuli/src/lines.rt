@@ -1,9 +1,9 @@
 //! Stimuli as lines: `TIME INPUT VALUE`, and `end TIME`.
 
-use crate::changes::{Input, Stimuli, starts};
+use crate::changes::{Input, Stimuli, find, starts};
+use crate::times::read_time;
 use anyhow::{Context, Result, anyhow, bail};
 use std::alloc::{AllocError, Global};
-use vsim_netlist_design::read_time;
 
 /// The stimuli of the lines read so far.
 struct Lines<'a> {
@@ -59,16 +59,6 @@ fn bits(alloc: Global, value: &str) -> Result<String, AllocError> {
         Some(digits) => bits_of_digits(alloc, digits),
         None => String::from_str(alloc, value),
     }
-}
-
-/// The index of the input with a name, and its number of bits.
-fn find(inputs: &[Input], name: &str) -> Option<(usize, usize)> {
-    for (place, input) in inputs.iter().enumerate() {
-        if input.name.as_str() == name {
-            return Some((place, input.width));
-        }
-    }
-    None
 }
 
 /// A line up to a comment.

@@ -1,9 +1,8 @@
 //! The scope of a VCD with the inputs of a design.
 
-use crate::changes::Input;
+use crate::changes::{Input, find};
 use crate::header::{Header, Scope, Variable};
 use anyhow::{Context, Result, anyhow};
-use indexmap::IndexSet;
 use std::alloc::{AllocError, Global};
 
 /// An input and its variable, by their indices.
@@ -14,27 +13,11 @@ pub(crate) struct Match {
 }
 
 /// The index of the input that has the name and the number of bits of a variable.
-fn input_of(names: &IndexSet<String>, inputs: &[Input], variable: &Variable<'_>) -> Option<usize> {
-    let place = names.get_index_of(variable.name)?;
-    match inputs.get(place) {
-        Some(input) if input.width == variable.width => Some(place),
+fn input_of(inputs: &[Input], variable: &Variable<'_>) -> Option<usize> {
+    match find(inputs, variable.name) {
+        Some((place, width)) if width == variable.width => Some(place),
         _ => None,
     }
-}
-
-/// Adds to each scope the inputs that it has with the right number of bits.
-fn match_all(
-    found: &mut Vec<Vec<Match>>,
-    header: &Header<'_>,
-    inputs: &[Input],
-    names: &IndexSet<String>,
-) -> Result<(), AllocError> {
-    for (variable, each) in header.variables.iter().enumerate() {
-        if let Some(input) = input_of(names, inputs, each) {
-            add(found, each.scope, Match { input, variable })?;
-        }
-    }
-    Ok(())
 }
 
 /// For each scope, the inputs that it has with the right number of bits.
@@ -43,19 +26,13 @@ fn matches(
     header: &Header<'_>,
     inputs: &[Input],
 ) -> Result<Vec<Vec<Match>>, AllocError> {
-    let names = names(alloc, inputs)?;
     let mut found = empty(alloc, header.scopes.len())?;
-    match_all(&mut found, header, inputs, &names)?;
-    Ok(found)
-}
-
-/// The names of inputs.
-fn names(alloc: Global, inputs: &[Input]) -> Result<IndexSet<String>, AllocError> {
-    let mut names = IndexSet::new(alloc);
-    for input in inputs {
-        names.insert(input.name.clone()?)?;
+    for (variable, each) in header.variables.iter().enumerate() {
+        if let Some(input) = input_of(inputs, each) {
+            add(&mut found, each.scope, Match { input, variable })?;
+        }
     }
-    Ok(names)
+    Ok(found)
 }
 
 /// This number of empty lists.

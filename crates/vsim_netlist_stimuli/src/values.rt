@@ -3,10 +3,10 @@
 use crate::changes::{Input, Stimuli, starts};
 use crate::header::Header;
 use crate::scopes::Match;
+use crate::times::LATEST;
 use anyhow::{Context, Result, anyhow, bail};
 use indexmap::IndexSet;
 use std::alloc::{AllocError, Global};
-use vsim_netlist_design::LATEST;
 
 /// The bits of the variables with one code.
 #[derive(Clone, Copy)]
