@@ -45,14 +45,15 @@ fn bit_of(member: usize) -> u64 {
     if member < 64 { 1u64 << member } else { 0 }
 }
 
-/// Reads a member. If it does not have to be there, it may be `null`.
+/// Reads a member. One that is known and does not have to be there may be `null`.
 fn read_one<'de, T: FromObject<'de>, F: Format>(
     object: &mut T,
     member: usize,
     alloc: Global,
     from: &mut Deserializer<'de, '_, F>,
 ) -> Result<(), F::Error> {
-    if member >= T::REQUIRED && from.take_none()? {
+    let is_optional = T::REQUIRED <= member && member < T::NAMES.len();
+    if is_optional && from.take_none()? {
         return Ok(());
     }
     object.read_member(member, alloc, from)
