@@ -35,7 +35,6 @@ Example:
   vsim_waves --map uart.map < uart.listing > gates.vcd";
 
 /// The options. Those that are not given are empty.
-#[derive(Drop)]
 pub(crate) struct Options {
     pub(crate) top: String,
     pub(crate) stimuli: String,
@@ -63,7 +62,33 @@ fn given(word: &String) -> Option<&str> {
     }
 }
 
+impl Drop for Options {
+    fn drop(self) {
+        let Options {
+            top,
+            stimuli,
+            scope,
+            delays,
+            hold,
+            map,
+        } = self;
+        drop((top, stimuli, scope, delays, hold, map));
+    }
+}
+
 impl Options {
+    /// No options.
+    fn none(alloc: Global) -> Options {
+        Options {
+            top: String::new(alloc),
+            stimuli: String::new(alloc),
+            scope: String::new(alloc),
+            delays: String::new(alloc),
+            hold: String::new(alloc),
+            map: String::new(alloc),
+        }
+    }
+
     /// The module to simulate.
     pub(crate) fn top(&self) -> Option<&str> {
         given(&self.top)
@@ -90,13 +115,21 @@ impl Options {
     }
 }
 
-/// An option with a value.
-fn valued<'a>(alloc: Global, name: &'a str, value: &'a str, help: &'a str) -> Arg<'a> {
-    Arg::new(alloc, name)
-        .long(name)
-        .action(ArgAction::Set)
-        .value_name(value)
-        .help(help)
+/// Adds an option with a value.
+fn with_valued<'a>(
+    alloc: Global,
+    command: Command<'a>,
+    name: &'a str,
+    value: &'a str,
+    help: &'a str,
+) -> Result<Command<'a>, AllocError> {
+    command.arg(
+        Arg::new(alloc, name)
+            .long(name)
+            .action(ArgAction::Set)
+            .value_name(value)
+            .help(help),
+    )
 }
 
 /// The option of the version.
@@ -110,43 +143,22 @@ fn version<'a>(alloc: Global) -> Arg<'a> {
 
 /// Adds the options about what to simulate.
 fn with_design<'a>(alloc: Global, command: Command<'a>) -> Result<Command<'a>, AllocError> {
-    let top = valued(
-        alloc,
-        "top",
-        "NAME",
-        "The module, if not the one that is marked as the top",
-    );
-    let stimuli = valued(
-        alloc,
-        "stimuli",
-        "FILE",
-        "How the inputs change: a VCD, or lines",
-    );
-    let scope = valued(
-        alloc,
-        "scope",
-        "SCOPE",
-        "The scope of the VCD, else the deepest that fits",
-    );
-    command.arg(top)?.arg(stimuli)?.arg(scope)
+    let help = "The module, if not the one that is marked as the top";
+    let command = with_valued(alloc, command, "top", "NAME", help)?;
+    let help = "How the inputs change: a VCD, or lines";
+    let command = with_valued(alloc, command, "stimuli", "FILE", help)?;
+    let help = "The scope of the VCD, else the deepest that fits";
+    with_valued(alloc, command, "scope", "SCOPE", help)
 }
 
 /// Adds the options about how to write it.
 fn with_times<'a>(alloc: Global, command: Command<'a>) -> Result<Command<'a>, AllocError> {
-    let delays = valued(
-        alloc,
-        "delays",
-        "LIST",
-        "As nand=40ps,dff=200ps/180ps,others=60ps",
-    );
-    let hold = valued(
-        alloc,
-        "hold",
-        "TIME",
-        "How much later inputs that are no clocks change",
-    );
-    let map = valued(alloc, "map", "FILE", "Write the map for vsim_waves --map");
-    command.arg(delays)?.arg(hold)?.arg(map)
+    let help = "As nand=40ps,dff=200ps/180ps,others=60ps";
+    let command = with_valued(alloc, command, "delays", "LIST", help)?;
+    let help = "How much later inputs that are no clocks change";
+    let command = with_valued(alloc, command, "hold", "TIME", help)?;
+    let help = "Write the map for vsim_waves --map";
+    with_valued(alloc, command, "map", "FILE", help)
 }
 
 /// The command line of the program, without its name.
@@ -159,35 +171,31 @@ fn command_line<'a>(alloc: Global) -> Result<Command<'a>, AllocError> {
     with_times(alloc, command)?.arg(version(alloc))
 }
 
-/// The value of an option.
-fn value(alloc: Global, matches: &ArgMatches<'_>, name: &str) -> Result<String, AllocError> {
-    String::from_str(alloc, matches.get_str(name).unwrap_or(""))
+/// Puts the value of an option into its place.
+fn put(place: &mut String, matches: &ArgMatches<'_>, name: &str) -> Result<(), AllocError> {
+    place.push_str(matches.get_str(name).unwrap_or(""))
 }
 
-/// The values of two options.
-fn values(
-    alloc: Global,
-    matches: &ArgMatches<'_>,
-    names: [&str; 2],
-) -> Result<(String, String), AllocError> {
-    let [first, second] = names;
-    let first = value(alloc, matches, first)?;
-    Ok((first, value(alloc, matches, second)?))
+/// Puts the values of the options about what to simulate.
+fn put_design(options: &mut Options, matches: &ArgMatches<'_>) -> Result<(), AllocError> {
+    put(&mut options.top, matches, "top")?;
+    put(&mut options.stimuli, matches, "stimuli")?;
+    put(&mut options.scope, matches, "scope")
+}
+
+/// Puts the values of the options about how to write it.
+fn put_times(options: &mut Options, matches: &ArgMatches<'_>) -> Result<(), AllocError> {
+    put(&mut options.delays, matches, "delays")?;
+    put(&mut options.hold, matches, "hold")?;
+    put(&mut options.map, matches, "map")
 }
 
 /// The options in the arguments.
 fn make_options(alloc: Global, matches: &ArgMatches<'_>) -> Result<Options, AllocError> {
-    let (top, stimuli) = values(alloc, matches, ["top", "stimuli"])?;
-    let (scope, delays) = values(alloc, matches, ["scope", "delays"])?;
-    let (hold, map) = values(alloc, matches, ["hold", "map"])?;
-    Ok(Options {
-        top,
-        stimuli,
-        scope,
-        delays,
-        hold,
-        map,
-    })
+    let mut options = Options::none(alloc);
+    put_design(&mut options, matches)?;
+    put_times(&mut options, matches)?;
+    Ok(options)
 }
 
 /// The meaning of valid arguments.

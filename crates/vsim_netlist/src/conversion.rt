@@ -4,7 +4,8 @@ use crate::command::Options;
 use crate::delay_list::{read_delays, read_hold};
 use anyhow::{Context, Result};
 use std::alloc::{AllocError, Global};
-use vsim_netlist_cells::{Netlist, read_netlist};
+use vsim_netlist_cells::read_netlist;
+use vsim_netlist_design::Netlist;
 use vsim_netlist_stimuli::{Input, Stimuli, read_stimuli};
 use vsim_netlist_text::{Request, Written, write_text};
 
@@ -24,32 +25,27 @@ fn stimuli(
     alloc: Global,
     options: &Options,
     netlist: &Netlist,
-    text: Option<String>,
+    text: Option<&str>,
 ) -> Result<Option<Stimuli>> {
     let Some(text) = text else {
         return Ok(None);
     };
     let inputs = inputs(alloc, netlist)?;
     let path = options.stimuli().unwrap_or("");
-    let stimuli = read_stimuli(alloc, text.as_str(), inputs.as_slice(), options.scope());
+    let stimuli = read_stimuli(alloc, text, inputs.as_slice(), options.scope());
     Ok(Some(stimuli.context(format_args!("{path}"))?))
-}
-
-/// The requested netlist.
-fn netlist(alloc: Global, options: &Options, text: String) -> Result<Netlist> {
-    read_netlist(alloc, text.as_str(), options.top()).context("the netlist")
 }
 
 /// Makes the text of a netlist, with the text of its stimuli, if there are any.
 pub(crate) fn convert(
     alloc: Global,
     options: &Options,
-    text: String,
-    of_stimuli: Option<String>,
+    text: &str,
+    of_stimuli: Option<&str>,
 ) -> Result<Written> {
-    let netlist = netlist(alloc, options, text)?;
+    let netlist = read_netlist(alloc, text, options.top()).context("the netlist")?;
     let stimuli = stimuli(alloc, options, &netlist, of_stimuli)?;
-    write_netlist(alloc, options, &netlist, stimuli)
+    write_netlist(alloc, options, &netlist, stimuli.as_ref())
 }
 
 /// Writes a netlist and its stimuli, with delays.
@@ -57,15 +53,14 @@ fn write_netlist(
     alloc: Global,
     options: &Options,
     netlist: &Netlist,
-    stimuli: Option<Stimuli>,
+    stimuli: Option<&Stimuli>,
 ) -> Result<Written> {
     let delays = read_delays(alloc, options.delays.as_str())?;
-    let hold = read_hold(options.hold.as_str())?;
     let request = Request {
         netlist,
-        stimuli: stimuli.as_ref(),
+        stimuli,
         delays: delays.as_slice(),
-        hold,
+        hold: read_hold(options.hold.as_str())?,
     };
     write_text(alloc, &request)
 }

@@ -53,15 +53,29 @@ fn write_all(rt: &HostRuntime, options: &Options, written: &Written) -> Result<(
     write_text(rt, written.text.as_str())
 }
 
+/// The text of the stimuli, if they are given.
+fn read_stimuli(rt: &HostRuntime, options: &Options) -> Result<Option<String>> {
+    match options.stimuli() {
+        Some(path) => Ok(Some(read_file(rt, path)?)),
+        None => Ok(None),
+    }
+}
+
+/// Makes the text of a netlist.
+fn answer_text(rt: &HostRuntime, options: &Options, netlist: &str) -> Result<()> {
+    let stimuli = read_stimuli(rt, options)?;
+    let of_stimuli = match &stimuli {
+        Some(text) => Some(text.as_str()),
+        None => None,
+    };
+    let written = convert(rt.alloc(), options, netlist, of_stimuli)?;
+    write_all(rt, options, &written)
+}
+
 /// Makes the text of the netlist on standard input.
 fn answer_netlist(rt: &HostRuntime, options: &Options) -> Result<()> {
     let netlist = io::read_to_string(rt.alloc(), rt.reader()).context("standard input")?;
-    let stimuli = match options.stimuli() {
-        Some(path) => Some(read_file(rt, path)?),
-        None => None,
-    };
-    let written = convert(rt.alloc(), options, netlist, stimuli)?;
-    write_all(rt, options, &written)
+    answer_text(rt, options, netlist.as_str())
 }
 
 /// Writes the help or the version.

@@ -1,19 +1,11 @@
 //! The cells of a module, by their types.
 
-use crate::bits::Bit;
-use crate::gates::{Gate, GateCell};
 use crate::nets::Nets;
-use crate::registers::{Control, Register, Style, letters};
+use crate::registers::letters;
 use anyhow::{Context, Result, anyhow, bail};
 use std::alloc::Global;
+use vsim_netlist_design::{Bit, Cell, Control, Gate, GateCell, Level, Register, Style};
 use vsim_netlist_document::{WrittenBit, WrittenCell};
-
-/// A cell.
-#[derive(Drop)]
-pub enum Cell {
-    Gate(GateCell),
-    Register(Register),
-}
 
 /// The maximum number of inputs of a look-up table.
 const MOST_INPUTS: usize = 6;
@@ -27,16 +19,13 @@ enum Kind<'a> {
     Other,
 }
 
-/// The name of a gate type of Yosys without `$_` and `_`.
+/// The name of a type of Yosys' gate library without `$_` and `_`.
 fn inner(kind: &str) -> Option<&str> {
     kind.strip_prefix("$_")?.strip_suffix("_")
 }
 
-/// The kind of a gate type of Yosys, by its name without `$_` and `_`.
-fn kind_of_inner(inner: &str) -> Kind<'_> {
-    if let Some(gate) = Gate::from_name(inner) {
-        return Kind::Gate(gate);
-    }
+/// The kind of a register's type, given by its name without `$_` and `_`.
+fn kind_of_register(inner: &str) -> Kind<'_> {
     let Some((name, given)) = inner.split_once('_') else {
         return Kind::Other;
     };
@@ -48,11 +37,13 @@ fn kind_of_inner(inner: &str) -> Kind<'_> {
 
 /// The kind of a cell type.
 fn kind_of(kind: &str) -> Kind<'_> {
+    if let Some(gate) = Gate::from_kind(kind) {
+        return Kind::Gate(gate);
+    }
     match kind {
-        "$lut" => Kind::Gate(Gate::Lut),
         "$scopeinfo" | "$print" | "$check" => Kind::Note,
         _ => match inner(kind) {
-            Some(inner) => kind_of_inner(inner),
+            Some(inner) => kind_of_register(inner),
             None => Kind::Other,
         },
     }
@@ -107,26 +98,15 @@ fn inputs(alloc: Global, cell: &WrittenCell, nets: &mut Nets, names: &str) -> Re
 }
 
 /// Reads a gate other than a look-up table.
-fn gate(alloc: Global, cell: &WrittenCell, nets: &mut Nets, gate: Gate) -> Result<Cell> {
+fn gate(alloc: Global, cell: &WrittenCell, nets: &mut Nets, gate: Gate) -> Result<Option<Cell>> {
     let output = output(cell, nets, "Y")?;
     let inputs = inputs(alloc, cell, nets, gate.pins())?;
-    Ok(Cell::Gate(GateCell {
+    Ok(Some(Cell::Gate(GateCell {
         gate,
         inputs,
         output,
         table: None,
-    }))
-}
-
-/// The bits of a look-up table.
-fn table(cell: &WrittenCell) -> Option<&String> {
-    match &cell.parameters {
-        None => None,
-        Some(parameters) => match &parameters.table {
-            None => None,
-            Some(text) => text.0.as_ref(),
-        },
-    }
+    })))
 }
 
 /// Whether a table has one bit for each combination of this number of inputs.
@@ -137,11 +117,15 @@ fn is_table(table: &str, inputs: usize) -> bool {
 }
 
 /// Reads a look-up table.
-fn lookup(alloc: Global, cell: &WrittenCell, nets: &mut Nets) -> Result<Cell> {
+fn lookup(alloc: Global, cell: &WrittenCell, nets: &mut Nets) -> Result<Option<Cell>> {
     let output = output(cell, nets, "Y")?;
     let written = pins(cell, "A").context("its pin A is not connected")?;
-    let table = table(cell).context("it has no parameter LUT")?;
-    if !is_table(table.as_str(), written.len()) {
+    let table = cell
+        .parameters
+        .table
+        .as_str()
+        .context("it has no parameter LUT")?;
+    if !is_table(table, written.len()) {
         bail!("its LUT is no table of at most {MOST_INPUTS} inputs, of 0 and 1");
     }
     lookup_of(alloc, nets, written, table, output)
@@ -152,17 +136,17 @@ fn lookup_of(
     alloc: Global,
     nets: &mut Nets,
     written: &[WrittenBit],
-    table: &String,
+    table: &str,
     output: usize,
-) -> Result<Cell> {
-    let table = table.clone()?;
+) -> Result<Option<Cell>> {
+    let table = String::from_str(alloc, table)?;
     let inputs = nets.bits(alloc, written)?;
-    Ok(Cell::Gate(GateCell {
+    Ok(Some(Cell::Gate(GateCell {
         gate: Gate::Lut,
         inputs,
         output,
         table: Some(table),
-    }))
+    })))
 }
 
 /// The name of the pin for a letter.
@@ -186,9 +170,7 @@ fn connect(
     given: u8,
 ) -> Result<()> {
     if letter == b'v' {
-        register.value = crate::bits::Level::from_byte(given).context(
-            "its type has no such reset",
-        )?;
+        register.value = Level::from_byte(given).context("its type has no such reset")?;
         return Ok(());
     }
     if given != b'P' && given != b'N' {
@@ -219,13 +201,13 @@ fn register(
     given: &str,
     pins: &str,
     style: Style,
-) -> Result<Cell> {
+) -> Result<Option<Cell>> {
     let mut register = Register::new(style, output(cell, nets, "Q")?);
     for (letter, given) in pins.bytes().zip(given.bytes()) {
         connect(cell, nets, &mut register, letter, given)?;
     }
     connect_data(cell, nets, &mut register)?;
-    Ok(Cell::Register(register))
+    Ok(Some(Cell::Register(register)))
 }
 
 /// Reads a cell; `None` if it has no effect in a simulation.
@@ -235,11 +217,11 @@ pub(crate) fn make_cell(
     nets: &mut Nets,
 ) -> Result<Option<Cell>> {
     let kind = cell.kind.as_str();
-    Ok(Some(match kind_of(kind) {
-        Kind::Note => return Ok(None),
-        Kind::Other => return Err(anyhow!("{}", advice(kind))),
-        Kind::Gate(Gate::Lut) => lookup(alloc, cell, nets)?,
-        Kind::Gate(found) => gate(alloc, cell, nets, found)?,
-        Kind::Register(given, pins, style) => register(cell, nets, given, pins, style)?,
-    }))
+    match kind_of(kind) {
+        Kind::Note => Ok(None),
+        Kind::Other => Err(anyhow!("{}", advice(kind))),
+        Kind::Gate(Gate::Lut) => lookup(alloc, cell, nets),
+        Kind::Gate(found) => gate(alloc, cell, nets, found),
+        Kind::Register(given, pins, style) => register(cell, nets, given, pins, style),
+    }
 }

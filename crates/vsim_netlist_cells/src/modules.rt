@@ -1,55 +1,16 @@
 //! The simulated module of a netlist.
 
-use crate::bits::Bit;
-use crate::kinds::{Cell, make_cell};
-use crate::nets::{Net, Nets, Variable};
+use crate::kinds::make_cell;
+use crate::nets::Nets;
 use anyhow::{Context, Result, anyhow, bail};
 use indexmap::IndexSet;
-use std::alloc::Global;
-use vsim_netlist_document::{
-    Attributes, Document, Members, Module, WrittenCell, WrittenName, WrittenPort,
-};
-
-/// A port of the module, with its bits, lowest index first.
-#[derive(Drop)]
-pub struct Port {
-    pub name: String,
-    pub is_input: bool,
-    pub bits: Vec<Bit>,
-}
-
-/// A module of gates.
-#[derive(Drop)]
-pub struct Netlist {
-    pub name: String,
-    pub ports: Vec<Port>,
-    pub cells: Vec<Cell>,
-    pub variables: Vec<Variable>,
-    pub nets: Vec<Net>,
-}
-
-/// The text of the attribute that a function selects.
-fn text_of(attributes: &Option<Attributes>, is_src: bool) -> Option<&str> {
-    let Some(attributes) = attributes else {
-        return None;
-    };
-    let text = if is_src {
-        &attributes.src
-    } else {
-        &attributes.top
-    };
-    match text {
-        None => None,
-        Some(text) => match &text.0 {
-            None => None,
-            Some(text) => Some(text.as_str()),
-        },
-    }
-}
+use std::alloc::{AllocError, Global};
+use vsim_netlist_design::{Cell, Netlist, Port, Variable};
+use vsim_netlist_document::{Document, Members, Module, WrittenCell, WrittenName, WrittenPort};
 
 /// Whether a module is marked as the top.
 fn is_top(module: &Module) -> bool {
-    match text_of(&module.attributes, false) {
+    match module.attributes.top.as_str() {
         Some(text) => text.ends_with("1"),
         None => false,
     }
@@ -63,12 +24,12 @@ fn is_wanted(name: &str, module: &Module, top: Option<&str>, is_only: bool) -> b
     }
 }
 
-/// The requested module.
-fn wanted(document: Document, top: Option<&str>) -> Result<(String, Module)> {
+/// The requested module, and its name.
+fn wanted<'a>(document: &'a Document, top: Option<&str>) -> Result<(&'a str, &'a Module)> {
     let is_only = document.modules.entries.len() == 1;
-    for (name, module) in document.modules.entries {
-        if is_wanted(name.as_str(), &module, top, is_only) {
-            return Ok((name, module));
+    for (name, module) in document.modules.entries.iter() {
+        if is_wanted(name.as_str(), module, top, is_only) {
+            return Ok((name.as_str(), module));
         }
     }
     match top {
@@ -77,22 +38,28 @@ fn wanted(document: Document, top: Option<&str>) -> Result<(String, Module)> {
     }
 }
 
-/// Refuses a duplicate name.
-fn note(names: &mut IndexSet<String>, name: &String) -> Result<()> {
+/// Refuses a duplicate name, of which `what` tells.
+fn note(names: &mut IndexSet<String>, name: &String, what: &str) -> Result<()> {
     if !names.insert(name.clone()?)? {
-        bail!("{name} is there twice");
+        bail!("{what} is there twice");
     }
     Ok(())
 }
 
+/// Whether a port is an input.
+fn is_input(name: &str, written: &WrittenPort) -> Result<bool> {
+    match written.direction.as_str() {
+        "input" | "inout" => Ok(true),
+        "output" => Ok(false),
+        _ => Err(anyhow!("port {name} has no direction")),
+    }
+}
+
 /// Reads a port.
-fn make_port(alloc: Global, nets: &mut Nets, name: String, written: &WrittenPort) -> Result<Port> {
-    let is_input = match written.direction.as_str() {
-        "input" | "inout" => true,
-        "output" => false,
-        _ => bail!("port {name} has no direction"),
-    };
+fn make_port(alloc: Global, nets: &mut Nets, name: &str, written: &WrittenPort) -> Result<Port> {
+    let is_input = is_input(name, written)?;
     let bits = nets.bits(alloc, written.bits.as_slice())?;
+    let name = String::from_str(alloc, name)?;
     Ok(Port {
         name,
         is_input,
@@ -100,15 +67,31 @@ fn make_port(alloc: Global, nets: &mut Nets, name: String, written: &WrittenPort
     })
 }
 
-/// The ports of a module.
-fn ports(alloc: Global, nets: &mut Nets, written: Members<WrittenPort>) -> Result<Vec<Port>> {
+/// Adds a port.
+fn put_port(
+    alloc: Global,
+    nets: &mut Nets,
+    ports: &mut Vec<Port>,
+    name: &str,
+    written: &WrittenPort,
+) -> Result<()> {
+    ports.push(make_port(alloc, nets, name, written)?)?;
+    Ok(())
+}
+
+/// Adds the ports of a module.
+fn put_ports(
+    alloc: Global,
+    nets: &mut Nets,
+    ports: &mut Vec<Port>,
+    written: &Members<WrittenPort>,
+) -> Result<()> {
     let mut names = IndexSet::new(alloc);
-    let mut ports = Vec::new(alloc);
-    for (name, written) in written.entries {
-        note(&mut names, &name)?;
-        ports.push(make_port(alloc, nets, name, &written)?)?;
+    for (name, written) in written.entries.iter() {
+        note(&mut names, name, name.as_str())?;
+        put_port(alloc, nets, ports, name.as_str(), written)?;
     }
-    Ok(ports)
+    Ok(())
 }
 
 /// Reads a cell. The error names its place in the source.
@@ -119,55 +102,89 @@ fn placed_cell(
     written: &WrittenCell,
 ) -> Result<Option<Cell>> {
     let kind = written.kind.as_str();
-    match text_of(&written.attributes, true) {
+    match written.attributes.src.as_str() {
         Some(src) => make_cell(alloc, written, nets).context(format_args!("{src}: cell {kind}")),
         None => make_cell(alloc, written, nets).context(format_args!("cell {name} of type {kind}")),
     }
 }
 
-/// The cells of a module.
-fn cells(alloc: Global, nets: &mut Nets, written: Members<WrittenCell>) -> Result<Vec<Cell>> {
-    let mut names = IndexSet::new(alloc);
-    let mut cells = Vec::new(alloc);
-    for (name, written) in written.entries {
-        if let Some(cell) = placed_cell(alloc, nets, name.as_str(), &written)? {
-            cells.push(cell)?;
-        }
-        if !names.insert(name)? {
-            bail!("a cell is there twice");
-        }
-    }
-    Ok(cells)
-}
-
-/// The source's names of nets.
-fn variables(
+/// Adds a cell, unless it has no effect in a simulation.
+fn put_cell(
     alloc: Global,
     nets: &mut Nets,
-    written: Members<WrittenName>,
-) -> Result<Vec<Variable>> {
-    let mut variables = Vec::new(alloc);
-    for (name, written) in written.entries {
-        if let Some(variable) = nets.take_name(alloc, name, &written)? {
-            variables.push(variable)?;
-        }
+    cells: &mut Vec<Cell>,
+    name: &str,
+    written: &WrittenCell,
+) -> Result<()> {
+    if let Some(cell) = placed_cell(alloc, nets, name, written)? {
+        cells.push(cell)?;
     }
-    Ok(variables)
+    Ok(())
+}
+
+/// Adds the cells of a module.
+fn put_cells(
+    alloc: Global,
+    nets: &mut Nets,
+    cells: &mut Vec<Cell>,
+    written: &Members<WrittenCell>,
+) -> Result<()> {
+    let mut names = IndexSet::new(alloc);
+    for (name, written) in written.entries.iter() {
+        put_cell(alloc, nets, cells, name.as_str(), written)?;
+        note(&mut names, name, "a cell")?;
+    }
+    Ok(())
+}
+
+/// Adds a name of the source, if it is one.
+fn put_variable(
+    alloc: Global,
+    nets: &mut Nets,
+    variables: &mut Vec<Variable>,
+    name: &str,
+    written: &WrittenName,
+) -> Result<(), AllocError> {
+    if let Some(variable) = nets.take_name(alloc, name, written)? {
+        variables.push(variable)?;
+    }
+    Ok(())
+}
+
+/// Adds the source's names of nets.
+fn put_variables(
+    alloc: Global,
+    nets: &mut Nets,
+    variables: &mut Vec<Variable>,
+    written: &Members<WrittenName>,
+) -> Result<(), AllocError> {
+    for (name, written) in written.entries.iter() {
+        put_variable(alloc, nets, variables, name.as_str(), written)?;
+    }
+    Ok(())
+}
+
+/// Adds all parts of a module.
+fn put_module(alloc: Global, netlist: &mut Netlist, module: &Module) -> Result<()> {
+    let mut nets = Nets::new(alloc);
+    put_ports(alloc, &mut nets, &mut netlist.ports, &module.ports)?;
+    put_cells(alloc, &mut nets, &mut netlist.cells, &module.cells)?;
+    put_variables(alloc, &mut nets, &mut netlist.variables, &module.netnames)?;
+    netlist.nets = nets.nets;
+    Ok(())
 }
 
 /// Reads the netlist of a module.
-fn make_netlist(alloc: Global, name: String, module: Module) -> Result<Netlist> {
-    let mut nets = Nets::new(alloc);
-    let ports = ports(alloc, &mut nets, module.ports)?;
-    let cells = cells(alloc, &mut nets, module.cells)?;
-    let variables = variables(alloc, &mut nets, module.netnames)?;
-    Ok(Netlist {
-        name,
-        ports,
-        cells,
-        variables,
-        nets: nets.nets,
-    })
+fn make_netlist(alloc: Global, name: &str, module: &Module) -> Result<Netlist> {
+    let mut netlist = Netlist {
+        name: String::from_str(alloc, name)?,
+        ports: Vec::new(alloc),
+        cells: Vec::new(alloc),
+        variables: Vec::new(alloc),
+        nets: Vec::new(alloc),
+    };
+    put_module(alloc, &mut netlist, module)?;
+    Ok(netlist)
 }
 
 /// Reads the netlist of the module with this name, or of the one marked as the top.
@@ -175,6 +192,6 @@ pub fn read_netlist(alloc: Global, text: &str, top: Option<&str>) -> Result<Netl
     let document = serde_json::from_str::<Document>(alloc, text).context(
         "no netlist that Yosys' write_json writes",
     )?;
-    let (name, module) = wanted(document, top)?;
+    let (name, module) = wanted(&document, top)?;
     make_netlist(alloc, name, module)
 }

@@ -1,26 +1,10 @@
 //! The nets of a netlist and their names in the source.
 
-use crate::bits::{Bit, Level};
 use anyhow::Result;
 use indexmap::IndexSet;
 use std::alloc::{AllocError, Global};
+use vsim_netlist_design::{Bit, Level, Net, Variable};
 use vsim_netlist_document::{WrittenBit, WrittenName};
-
-/// A net: its initial level, and whether the source has a name for it.
-#[derive(Clone, Copy)]
-pub struct Net {
-    pub initial: Option<Level>,
-    pub is_named: bool,
-}
-
-/// A name in the source, with its bits, lowest index first.
-#[derive(Drop)]
-pub struct Variable {
-    pub name: String,
-    pub bits: Vec<Bit>,
-    pub offset: i64,
-    pub is_up: bool,
-}
 
 /// The nets, by their numbers in the netlist.
 #[derive(Drop)]
@@ -112,36 +96,22 @@ impl Nets {
     pub(crate) fn take_name(
         &mut self,
         alloc: Global,
-        name: String,
+        name: &str,
         written: &WrittenName,
     ) -> Result<Option<Variable>, AllocError> {
         let bits = self.bits(alloc, written.bits.as_slice())?;
-        if let Some(levels) = initial(written) {
+        if let Some(levels) = written.attributes.init.as_str() {
             self.begin_all(bits.as_slice(), levels);
         }
-        if written.hide_name.unwrap_or(0) != 0 {
+        if written.hide_name != 0 {
             return Ok(None);
         }
         self.name_all(bits.as_slice());
         Ok(Some(Variable {
-            name,
+            name: String::from_str(alloc, name)?,
             bits,
-            offset: written.offset.unwrap_or(0),
-            is_up: written.upto.unwrap_or(0) != 0,
+            offset: written.offset,
+            is_up: written.upto != 0,
         }))
-    }
-}
-
-/// The initial levels that a name gives to its nets.
-fn initial(written: &WrittenName) -> Option<&str> {
-    match &written.attributes {
-        None => None,
-        Some(attributes) => match &attributes.init {
-            Some(text) => match &text.0 {
-                Some(levels) => Some(levels.as_str()),
-                None => None,
-            },
-            None => None,
-        },
     }
 }

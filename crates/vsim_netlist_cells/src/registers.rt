@@ -1,100 +1,34 @@
-//! The registers and latches of Yosys' library.
+//! The types of registers and latches in Yosys' library.
 
-use crate::bits::{Bit, Level};
+use vsim_netlist_design::Style;
 
-/// The kinds of registers in Yosys' library, by how they are set.
-#[derive(Clone, Copy, PartialEq, Eq)]
-pub enum Style {
-    /// `$_DFF_` and `$_DFFE_`, without a reset.
-    Plain,
-    /// `$_SDFF_` and `$_SDFFE_`: the reset is taken at the edge, before the enable.
-    Synchronous,
-    /// `$_SDFFCE_`: the reset is taken at the edge, if enabled.
-    SynchronousEnabled,
-    /// `$_DFF_` and `$_DFFE_` with a reset at any time.
-    Asynchronous,
-    /// `$_ALDFF_` and `$_ALDFFE_`, which load at any time.
-    Loaded,
-    /// `$_DFFSR_` and `$_DFFSRE_`, which are set and reset at any time.
-    SetReset,
-    /// `$_DLATCH_` and `$_DLATCHSR_`.
-    Latch,
-    /// `$_SR_`.
-    Bare,
-}
+/// The registers: each with the first part of its type's name, and the letters of its pins in the
+/// order of those in the second part, as `CE` for `$_DFFE_PN_`; `v` stands for the reset value.
+static REGISTERS: [(&str, &str, Style); 15] = [
+    ("DFF", "C", Style::Plain),
+    ("DFF", "CRv", Style::Asynchronous),
+    ("DFFE", "CE", Style::Plain),
+    ("DFFE", "CRvE", Style::Asynchronous),
+    ("SDFF", "CRv", Style::Synchronous),
+    ("SDFFE", "CRvE", Style::Synchronous),
+    ("SDFFCE", "CRvE", Style::SynchronousEnabled),
+    ("ALDFF", "CL", Style::Loaded),
+    ("ALDFFE", "CLE", Style::Loaded),
+    ("DFFSR", "CSR", Style::SetReset),
+    ("DFFSRE", "CSRE", Style::SetReset),
+    ("DLATCH", "E", Style::Latch),
+    ("DLATCH", "ERv", Style::Latch),
+    ("DLATCHSR", "ESR", Style::Latch),
+    ("SR", "SR", Style::Bare),
+];
 
-/// A control pin: its connection, and whether it is active at `1` or at `0`.
-#[derive(Clone, Copy, PartialEq, Eq)]
-pub struct Control {
-    pub bit: Bit,
-    pub is_high: bool,
-}
-
-/// A register or latch, with its pins.
-#[derive(Clone, Copy)]
-pub struct Register {
-    pub style: Style,
-    pub clock: Option<Control>,
-    pub enable: Option<Control>,
-    pub reset: Option<Control>,
-    pub set: Option<Control>,
-    pub load: Option<Control>,
-    pub data: Option<Bit>,
-    pub loaded: Option<Bit>,
-    /// The reset value.
-    pub value: Level,
-    pub output: usize,
-}
-
-/// The letters of a register's pins, in the order of those in its type, as `CE` for `$_DFFE_PN_`;
-/// `v` stands for the reset value.
+/// The letters and the style of a register, given the first part of its type's name and the number
+/// of letters in the second.
 pub(crate) fn letters(name: &str, count: usize) -> Option<(&'static str, Style)> {
-    Some(match name {
-        "DFF" if count == 1 => ("C", Style::Plain),
-        "DFF" if count == 3 => ("CRv", Style::Asynchronous),
-        "DFFE" if count == 2 => ("CE", Style::Plain),
-        "DFFE" if count == 4 => ("CRvE", Style::Asynchronous),
-        "SDFF" if count == 3 => ("CRv", Style::Synchronous),
-        "SDFFE" if count == 4 => ("CRvE", Style::Synchronous),
-        "SDFFCE" if count == 4 => ("CRvE", Style::SynchronousEnabled),
-        "ALDFF" if count == 2 => ("CL", Style::Loaded),
-        "ALDFFE" if count == 3 => ("CLE", Style::Loaded),
-        "DFFSR" if count == 3 => ("CSR", Style::SetReset),
-        "DFFSRE" if count == 4 => ("CSRE", Style::SetReset),
-        "DLATCH" if count == 1 => ("E", Style::Latch),
-        "DLATCH" if count == 3 => ("ERv", Style::Latch),
-        "DLATCHSR" if count == 3 => ("ESR", Style::Latch),
-        "SR" if count == 2 => ("SR", Style::Bare),
-        _ => return None,
-    })
-}
-
-impl Register {
-    /// A register without connections.
-    pub(crate) fn new(style: Style, output: usize) -> Register {
-        Register {
-            style,
-            clock: None,
-            enable: None,
-            reset: None,
-            set: None,
-            load: None,
-            data: None,
-            loaded: None,
-            value: Level::Zero,
-            output,
+    for (known, pins, style) in &REGISTERS {
+        if *known == name && pins.len() == count {
+            return Some((*pins, *style));
         }
     }
-
-    /// Connects the pin with a letter.
-    pub(crate) fn connect(&mut self, pin: u8, control: Control) {
-        let control = Some(control);
-        match pin {
-            b'C' => self.clock = control,
-            b'E' => self.enable = control,
-            b'R' => self.reset = control,
-            b'S' => self.set = control,
-            _ => self.load = control,
-        }
-    }
+    None
 }

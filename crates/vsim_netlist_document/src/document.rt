@@ -1,8 +1,10 @@
 //! The parts of a netlist's JSON that are read.
 
-use crate::level::Level;
-use serde::{Deserialize, Deserializer, Format, Kind};
+use crate::object::{FromObject, read_object, read_value};
+use serde::{Case, Deserialize, Deserializer, Format, Kind, Name, NameKind};
 use std::alloc::Global;
+use std::default::MadeWith;
+use vsim_netlist_design::Level;
 
 /// The members of an object, in order.
 #[derive(Drop)]
@@ -37,6 +39,13 @@ impl<'de, T: Deserialize<'de>> Deserialize<'de> for Members<T> {
             }
         }
         Ok(Members { entries })
+    }
+}
+
+impl<T> MadeWith<Global> for Members<T> {
+    fn made_with(alloc: Global) -> Members<T> {
+        let entries = Vec::new(alloc);
+        Members { entries }
     }
 }
 
@@ -88,59 +97,141 @@ impl<'de> Deserialize<'de> for Text {
     }
 }
 
+impl Text {
+    /// The text, if it is one.
+    pub fn as_str(&self) -> Option<&str> {
+        match &self.0 {
+            Some(text) => Some(text.as_str()),
+            None => None,
+        }
+    }
+}
+
+impl MadeWith<Global> for Text {
+    fn made_with(_alloc: Global) -> Text {
+        Text(None)
+    }
+}
+
 /// The attributes that matter here.
-#[derive(Drop, Deserialize)]
+#[derive(Drop)]
 pub struct Attributes {
-    pub src: Option<Text>,
-    pub top: Option<Text>,
-    pub init: Option<Text>,
+    pub src: Text,
+    pub top: Text,
+    pub init: Text,
 }
 
 /// The parameters that matter here.
-#[derive(Drop, Deserialize)]
+#[derive(Drop)]
 pub struct Parameters {
-    #[serde(rename = "LUT")]
-    pub table: Option<Text>,
+    pub table: Text,
 }
 
 /// A port of a module.
-#[derive(Drop, Deserialize)]
+#[derive(Drop)]
 pub struct WrittenPort {
     pub direction: String,
     pub bits: Vec<WrittenBit>,
 }
 
 /// A cell of a module.
-#[derive(Drop, Deserialize)]
+#[derive(Drop)]
 pub struct WrittenCell {
-    #[serde(rename = "type")]
     pub kind: String,
-    pub parameters: Option<Parameters>,
-    pub attributes: Option<Attributes>,
     pub connections: Members<Vec<WrittenBit>>,
+    pub parameters: Parameters,
+    pub attributes: Attributes,
 }
 
 /// A name and the bits that it stands for.
-#[derive(Drop, Deserialize)]
+#[derive(Drop)]
 pub struct WrittenName {
-    pub hide_name: Option<u64>,
     pub bits: Vec<WrittenBit>,
-    pub offset: Option<i64>,
-    pub upto: Option<u64>,
-    pub attributes: Option<Attributes>,
+    pub hide_name: u64,
+    pub offset: i64,
+    pub upto: u64,
+    pub attributes: Attributes,
 }
 
 /// A module.
-#[derive(Drop, Deserialize)]
+#[derive(Drop)]
 pub struct Module {
-    pub attributes: Option<Attributes>,
     pub ports: Members<WrittenPort>,
     pub cells: Members<WrittenCell>,
     pub netnames: Members<WrittenName>,
+    pub attributes: Attributes,
 }
 
 /// A netlist.
-#[derive(Drop, Deserialize)]
+#[derive(Drop)]
 pub struct Document {
     pub modules: Members<Module>,
 }
+
+/// Makes a type readable from an object. Its members are listed with their places from 0 on, their
+/// names and their fields; first come those that have to be there, whose number is given.
+macro_rules! read_by_members {
+    ($type:ident, $required:literal, $($place:literal $name:literal $field:ident)*) => {
+        impl MadeWith<Global> for $type {
+            fn made_with(alloc: Global) -> $type {
+                $type { $($field: MadeWith::made_with(alloc)),* }
+            }
+        }
+
+        impl<'de> FromObject<'de> for $type {
+            const NAMES: &'static [Name<'static>] = &[$(Name {
+                name: $name,
+                kind: NameKind::Field,
+                case: Case::AsIs,
+                aliases: &[],
+                skipped: false,
+            }),*];
+
+            const REQUIRED: usize = $required;
+
+            fn read_member<F: Format>(
+                &mut self,
+                member: usize,
+                alloc: Global,
+                from: &mut Deserializer<'de, '_, F>,
+            ) -> Result<(), F::Error> {
+                match member {
+                    $($place => read_value(&mut self.$field, alloc, from),)*
+                    _ => from.skip(),
+                }
+            }
+        }
+
+        impl<'de> Deserialize<'de> for $type {
+            fn deserialize<F: Format>(
+                alloc: Global,
+                from: &mut Deserializer<'de, '_, F>,
+            ) -> Result<$type, F::Error> {
+                read_object(alloc, from)
+            }
+        }
+    };
+}
+
+read_by_members!(Attributes, 0, 0 "src" src 1 "top" top 2 "init" init);
+
+read_by_members!(Parameters, 0, 0 "LUT" table);
+
+read_by_members!(WrittenPort, 2, 0 "direction" direction 1 "bits" bits);
+
+read_by_members!(
+    WrittenCell, 2,
+    0 "type" kind 1 "connections" connections 2 "parameters" parameters 3 "attributes" attributes
+);
+
+read_by_members!(
+    WrittenName, 1,
+    0 "bits" bits 1 "hide_name" hide_name 2 "offset" offset 3 "upto" upto 4 "attributes" attributes
+);
+
+read_by_members!(
+    Module, 3,
+    0 "ports" ports 1 "cells" cells 2 "netnames" netnames 3 "attributes" attributes
+);
+
+read_by_members!(Document, 1, 0 "modules" modules);

@@ -2,10 +2,9 @@
 #![tactic(auto)]
 
 mod document;
-mod level;
+mod object;
 
 pub use document::{
     Attributes, Document, Members, Module, Parameters, Text, WrittenBit, WrittenCell, WrittenName,
     WrittenPort,
 };
-pub use level::Level;

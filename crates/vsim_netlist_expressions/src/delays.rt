@@ -1,11 +1,8 @@
 //! Delays of gates, and assignments with them.
 
 use crate::expressions::{Expression, negation};
-use std::alloc::{AllocError, Global};
-use std::fmt;
-use std::fmt::Write;
-use vsim_netlist_cells::Level;
-use vsim_netlist_stimuli::Time;
+use std::alloc::Global;
+use vsim_netlist_design::{Draft, Level, push_time};
 
 /// The time that a gate takes to rise and to fall, in femtoseconds.
 #[derive(Clone, Copy)]
@@ -38,26 +35,12 @@ pub fn delay_of(delays: &[NamedDelay], name: &str) -> Delay {
     others
 }
 
-/// The delay after a value; it is omitted if it is 0.
-#[derive(Clone, Copy)]
-pub struct After(pub u64);
-
-impl fmt::Display for After {
-    fn fmt<W: fmt::Write>(&self, f: &mut fmt::Formatter<W>) -> fmt::Result {
-        if self.0 == 0 {
-            return Ok(());
-        }
-        let time = Time(self.0);
-        write!(f, " after {time}")
+/// Adds the delay after a value; nothing if it is 0.
+fn push_after(text: &mut Draft, time: u64) {
+    if time != 0 {
+        text.push(" after ");
+        push_time(text, time);
     }
-}
-
-/// Adds parts.
-pub fn push_all(text: &mut String, parts: &[&str]) -> Result<(), AllocError> {
-    for part in parts {
-        text.push_str(part)?;
-    }
-    Ok(())
 }
 
 impl Delay {
@@ -81,82 +64,97 @@ impl Delay {
     }
 }
 
+/// Adds a value with its delay, and the condition under which it is taken.
+fn push_choice(text: &mut Draft, value: &str, time: u64, condition: &Draft) {
+    text.push(value);
+    push_after(text, time);
+    text.push(" when ");
+    text.push_draft(condition);
+}
+
 /// Adds the concurrent assignment of an expression with different times to rise and to fall.
-fn push_choices(
-    alloc: Global,
-    text: &mut String,
-    target: &str,
-    value: &Expression,
-    delay: Delay,
-) -> Result<(), AllocError> {
-    let refused = negation(alloc, value)?;
-    let (rises, falls) = (value.text.as_str(), refused.text.as_str());
-    let (rise, fall, longest) = (After(delay.rise), After(delay.fall), After(delay.longest()));
-    write!(
-        text,
-        "{target}<='1'{rise} when {rises} else'0'{fall} when {falls} else'X'{longest};\n"
-    )
+fn push_choices(alloc: Global, text: &mut Draft, target: &str, value: &Expression, delay: Delay) {
+    let refused = negation(alloc, value);
+    text.push_all(&[target, "<="]);
+    push_choice(text, "'1'", delay.rise, &value.text);
+    text.push(" else");
+    push_choice(text, "'0'", delay.fall, &refused.text);
+    text.push(" else'X'");
+    push_after(text, delay.longest());
+    text.push(";\n");
+}
+
+/// Adds the assignment of an expression to a net, up to its end.
+fn push_value(text: &mut Draft, target: &str, value: &Expression, time: u64) {
+    text.push_all(&[target, "<="]);
+    text.push_draft(&value.text);
+    push_after(text, time);
 }
 
 /// Adds the concurrent assignment of an expression to a net.
 pub fn push_assignment(
     alloc: Global,
-    text: &mut String,
+    text: &mut Draft,
     target: &str,
     value: &Expression,
     delay: Delay,
-) -> Result<(), AllocError> {
+) {
     if delay.differs(value) {
         return push_choices(alloc, text, target, value, delay);
     }
-    let (value, after) = (value.text.as_str(), After(delay.longest()));
-    write!(text, "{target}<={value}{after};\n")
+    push_value(text, target, value, delay.longest());
+    text.push(";\n");
 }
 
-/// Adds the assignment of a value to a net in a process.
-pub fn push_literal(
-    text: &mut String,
-    target: &str,
-    value: &str,
-    time: u64,
-) -> Result<(), AllocError> {
-    let after = After(time);
-    write!(text, "{target}<={value}{after};")
+/// Adds the assignment of a literal to a net in a process.
+pub fn push_literal(text: &mut Draft, target: &str, literal: &str, time: u64) {
+    text.push_all(&[target, "<=", literal]);
+    push_after(text, time);
+    text.push(";");
+}
+
+/// Adds the beginning of a branch.
+fn push_branch(text: &mut Draft, word: &str, condition: &Draft) {
+    text.push(word);
+    text.push_draft(condition);
+    text.push(" then ");
 }
 
 /// Adds the assignment of an expression to a net in a process.
 pub fn push_stored(
     alloc: Global,
-    text: &mut String,
+    text: &mut Draft,
     target: &str,
     value: &Expression,
     delay: Delay,
-) -> Result<(), AllocError> {
+) {
     if !delay.differs(value) {
-        return push_literal(text, target, value.text.as_str(), delay.longest());
+        push_value(text, target, value, delay.longest());
+        return text.push(";");
     }
-    let refused = negation(alloc, value)?;
-    let (rises, falls) = (value.text.as_str(), refused.text.as_str());
-    let (rise, fall, longest) = (After(delay.rise), After(delay.fall), After(delay.longest()));
-    write!(text, "if {rises} then {target}<='1'{rise};")?;
-    write!(
-        text,
-        "elsif {falls} then {target}<='0'{fall};else {target}<='X'{longest};end if;"
-    )
+    let refused = negation(alloc, value);
+    push_branch(text, "if ", &value.text);
+    push_literal(text, target, "'1'", delay.rise);
+    push_branch(text, "elsif ", &refused.text);
+    push_literal(text, target, "'0'", delay.fall);
+    text.push("else ");
+    push_literal(text, target, "'X'", delay.longest());
+    text.push("end if;");
 }
 
 /// Adds a buffer that drives only while a net enables it.
 pub fn push_tristate(
-    text: &mut String,
+    text: &mut Draft,
     target: &str,
     value: &Expression,
     enable: &str,
     delay: Delay,
-) -> Result<(), AllocError> {
-    let (value, after) = (value.text.as_str(), After(delay.longest()));
-    write!(
-        text,
-        "{target}<={value}{after} when {enable}='1'else'Z'{after}"
-    )?;
-    write!(text, " when {enable}='0'else'X'{after};\n")
+) {
+    let time = delay.longest();
+    push_value(text, target, value, time);
+    text.push_all(&[" when ", enable, "='1'else'Z'"]);
+    push_after(text, time);
+    text.push_all(&[" when ", enable, "='0'else'X'"]);
+    push_after(text, time);
+    text.push(";\n");
 }

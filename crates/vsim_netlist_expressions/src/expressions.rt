@@ -1,7 +1,7 @@
 //! Expressions as text.
 
-use std::alloc::{AllocError, Global};
-use std::fmt::Write;
+use std::alloc::Global;
+use vsim_netlist_design::Draft;
 
 /// The outermost form of an expression.
 #[derive(Clone, Copy, PartialEq, Eq)]
@@ -20,7 +20,7 @@ pub enum Outside {
 /// An expression: its text, its outermost form, and the depth of its parentheses.
 #[derive(Drop)]
 pub struct Expression {
-    pub text: String,
+    pub text: Draft,
     pub outside: Outside,
     pub depth: usize,
 }
@@ -51,47 +51,44 @@ impl Outside {
 }
 
 /// A name or a literal.
-pub fn primary(alloc: Global, text: &str) -> Result<Expression, AllocError> {
-    Ok(Expression {
-        text: String::from_str(alloc, text)?,
+pub fn primary(alloc: Global, text: &str) -> Expression {
+    Expression {
+        text: Draft::of(alloc, text),
         outside: Outside::Primary,
         depth: 0,
-    })
-}
-
-/// Adds an operand of an operator, in parentheses if needed.
-fn push_operand(
-    text: &mut String,
-    operand: &Expression,
-    operator: Outside,
-) -> Result<usize, AllocError> {
-    if operand.outside.fits(operator) {
-        push_apart(text, operand.text.as_str())?;
-        return Ok(operand.depth);
     }
-    let inner = operand.text.as_str();
-    write!(text, "({inner})")?;
-    Ok(operand.depth.saturating_add(1))
 }
 
-/// Adds a part, after a space if it would otherwise join the word before it.
-fn push_apart(text: &mut String, part: &str) -> Result<(), AllocError> {
+/// Adds a space if the next part would otherwise join the word before it.
+fn push_space(text: &mut Draft, next: &str) {
     let is_word = |byte: Option<u8>| byte.is_some_and(|it| it.is_ascii_alphanumeric());
-    if is_word(text.bytes().last()) && is_word(part.bytes().next()) {
-        text.push_str(" ")?;
+    if is_word(text.as_str().bytes().last()) && is_word(next.bytes().next()) {
+        text.push(" ");
     }
-    text.push_str(part)
+}
+
+/// Adds an operand of an operator, in parentheses if needed. Returns its depth.
+fn push_operand(text: &mut Draft, operand: &Expression, operator: Outside) -> usize {
+    if operand.outside.fits(operator) {
+        push_space(text, operand.text.as_str());
+        text.push_draft(&operand.text);
+        return operand.depth;
+    }
+    text.push("(");
+    text.push_draft(&operand.text);
+    text.push(")");
+    operand.depth.saturating_add(1)
 }
 
 /// The negation of an expression.
-pub fn negation(alloc: Global, operand: &Expression) -> Result<Expression, AllocError> {
-    let mut text = String::from_str(alloc, "not")?;
-    let depth = push_operand(&mut text, operand, Outside::Not)?;
-    Ok(Expression {
+pub fn negation(alloc: Global, operand: &Expression) -> Expression {
+    let mut text = Draft::of(alloc, "not");
+    let depth = push_operand(&mut text, operand, Outside::Not);
+    Expression {
         text,
         outside: Outside::Not,
         depth,
-    })
+    }
 }
 
 /// A binary operation.
@@ -100,14 +97,16 @@ pub fn binary(
     left: &Expression,
     operator: Outside,
     right: &Expression,
-) -> Result<Expression, AllocError> {
-    let mut text = String::new(alloc);
-    let left_depth = push_operand(&mut text, left, operator)?;
-    push_apart(&mut text, operator.word())?;
-    let right_depth = push_operand(&mut text, right, operator)?;
-    Ok(Expression {
+) -> Expression {
+    let mut text = Draft::new(alloc);
+    let left_depth = push_operand(&mut text, left, operator);
+    let word = operator.word();
+    push_space(&mut text, word);
+    text.push(word);
+    let right_depth = push_operand(&mut text, right, operator);
+    Expression {
         text,
         outside: operator,
         depth: left_depth.max(right_depth),
-    })
+    }
 }

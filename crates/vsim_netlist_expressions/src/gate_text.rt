@@ -2,29 +2,20 @@
 
 use crate::expressions::{Expression, Outside, binary, negation, primary};
 use std::alloc::{AllocError, Global};
-use vsim_netlist_cells::Gate;
+use vsim_netlist_design::{Draft, Gate};
 
 /// Selects one of two expressions, the second by `1`. If both agree, the value is theirs even for
 /// an unknown selection, as in Verilog.
-fn selected(
-    alloc: Global,
-    low: &Expression,
-    high: &Expression,
-    select: &Expression,
-) -> Result<Expression, AllocError> {
-    let either = binary(alloc, select, Outside::Or, low)?;
-    let by_one = binary(alloc, high, Outside::And, &either)?;
-    let by_zero = kept_by_zero(alloc, low, select)?;
+fn selected(alloc: Global, low: &Expression, high: &Expression, select: &Expression) -> Expression {
+    let either = binary(alloc, select, Outside::Or, low);
+    let by_one = binary(alloc, high, Outside::And, &either);
+    let by_zero = kept_by_zero(alloc, low, select);
     binary(alloc, &by_one, Outside::Or, &by_zero)
 }
 
 /// An expression if a selection is `0`, and otherwise `0`.
-fn kept_by_zero(
-    alloc: Global,
-    low: &Expression,
-    select: &Expression,
-) -> Result<Expression, AllocError> {
-    let refused = negation(alloc, select)?;
+fn kept_by_zero(alloc: Global, low: &Expression, select: &Expression) -> Expression {
+    let refused = negation(alloc, select);
     binary(alloc, low, Outside::And, &refused)
 }
 
@@ -34,12 +25,14 @@ fn is(expression: &Expression, literal: &str) -> bool {
 }
 
 /// A copy of an expression.
-fn copy(expression: &Expression) -> Result<Expression, AllocError> {
-    Ok(Expression {
-        text: expression.text.clone()?,
+fn copy(alloc: Global, expression: &Expression) -> Expression {
+    let mut text = Draft::new(alloc);
+    text.push_draft(&expression.text);
+    Expression {
+        text,
         outside: expression.outside,
         depth: expression.depth,
-    })
+    }
 }
 
 /// Like `selected`, for two parts of a table, which are often literals.
@@ -48,9 +41,9 @@ fn looked_up(
     low: &Expression,
     high: &Expression,
     select: &Expression,
-) -> Result<Expression, AllocError> {
-    if low.text == high.text {
-        return copy(low);
+) -> Expression {
+    if low.text.as_str() == high.text.as_str() {
+        return copy(alloc, low);
     }
     match (
         is(low, "'0'"),
@@ -58,7 +51,7 @@ fn looked_up(
         is(high, "'0'"),
         is(high, "'1'"),
     ) {
-        (true, _, _, true) => copy(select),
+        (true, _, _, true) => copy(alloc, select),
         (_, true, true, _) => negation(alloc, select),
         (true, _, _, _) => binary(alloc, select, Outside::And, high),
         (_, _, true, _) => kept_by_zero(alloc, low, select),
@@ -69,9 +62,24 @@ fn looked_up(
 }
 
 /// An expression if a selection is `1`, and otherwise `1`.
-fn opened(alloc: Global, high: &Expression, select: &Expression) -> Result<Expression, AllocError> {
-    let refused = negation(alloc, select)?;
+fn opened(alloc: Global, high: &Expression, select: &Expression) -> Expression {
+    let refused = negation(alloc, select);
     binary(alloc, &refused, Outside::Or, high)
+}
+
+/// One of two expressions.
+fn choice(
+    alloc: Global,
+    low: &Expression,
+    high: &Expression,
+    select: &Expression,
+    is_table: bool,
+) -> Expression {
+    if is_table {
+        looked_up(alloc, low, high, select)
+    } else {
+        selected(alloc, low, high, select)
+    }
 }
 
 /// Selects one of each two expressions.
@@ -83,85 +91,79 @@ fn halved(
 ) -> Result<Vec<Expression>, AllocError> {
     let mut half = Vec::new(alloc);
     for pair in items.chunks(2) {
-        let [low, high] = pair else {
-            break;
-        };
-        half.push(if is_table {
-            looked_up(alloc, low, high, select)?
-        } else {
-            selected(alloc, low, high, select)?
-        })?;
+        if let [low, high] = pair {
+            half.push(choice(alloc, low, high, select, is_table))?;
+        }
     }
     Ok(half)
+}
+
+/// The last of these expressions.
+fn last(alloc: Global, items: &[Expression]) -> Expression {
+    match items.last() {
+        Some(last) => copy(alloc, last),
+        None => primary(alloc, "'X'"),
+    }
 }
 
 /// Selects one of these expressions. The first selection is between neighbours.
 fn chosen(
     alloc: Global,
-    items: Vec<Expression>,
+    items: &[Expression],
     selects: &[Expression],
     is_table: bool,
 ) -> Result<Expression, AllocError> {
-    let mut items = items;
-    for select in selects {
-        items = halved(alloc, items.as_slice(), select, is_table)?;
+    let [first, others @ ..] = selects else {
+        return Ok(last(alloc, items));
+    };
+    let mut half = halved(alloc, items, first, is_table)?;
+    for select in others {
+        half = halved(alloc, half.as_slice(), select, is_table)?;
     }
-    match items.pop() {
-        Some(last) => Ok(last),
-        None => primary(alloc, "'X'"),
-    }
-}
-
-/// Divides expressions into the first ones and the others.
-fn split(
-    alloc: Global,
-    operands: Vec<Expression>,
-    data: usize,
-) -> Result<(Vec<Expression>, Vec<Expression>), AllocError> {
-    let (mut items, mut selects) = (Vec::new(alloc), Vec::new(alloc));
-    for (place, operand) in operands.into_iter().enumerate() {
-        if place < data {
-            items.push(operand)?;
-        } else {
-            selects.push(operand)?;
-        }
-    }
-    Ok((items, selects))
+    Ok(last(alloc, half.as_slice()))
 }
 
 /// A multiplexer of this number of data inputs.
 fn multiplexer(
     alloc: Global,
-    operands: Vec<Expression>,
+    operands: &[Expression],
     data: usize,
 ) -> Result<Expression, AllocError> {
-    let (items, selects) = split(alloc, operands, data)?;
-    chosen(alloc, items, selects.as_slice(), false)
+    match (operands.get(..data), operands.get(data..)) {
+        (Some(items), Some(selects)) => chosen(alloc, items, selects, false),
+        _ => Ok(primary(alloc, "'X'")),
+    }
 }
 
 /// The literals of a table, lowest first.
 fn literals(alloc: Global, table: &str) -> Result<Vec<Expression>, AllocError> {
     let mut items = Vec::new(alloc);
     for bit in table.bytes().rev() {
-        items.push(primary(alloc, if bit == b'1' { "'1'" } else { "'0'" })?)?;
+        let literal = if bit == b'1' { "'1'" } else { "'0'" };
+        items.push(primary(alloc, literal))?;
     }
     Ok(items)
 }
 
-/// Two binary operations, joined by a third operator.
-fn pairs(
+/// A look-up table.
+fn looked_up_in(
     alloc: Global,
+    table: &str,
     operands: &[Expression],
-    inner: Outside,
-    outer: Outside,
 ) -> Result<Expression, AllocError> {
+    let items = literals(alloc, table)?;
+    chosen(alloc, items.as_slice(), operands, true)
+}
+
+/// Two binary operations, joined by a third operator.
+fn pairs(alloc: Global, operands: &[Expression], inner: Outside, outer: Outside) -> Expression {
     match operands {
         [a, b, c] => {
-            let first = binary(alloc, a, inner, b)?;
+            let first = binary(alloc, a, inner, b);
             binary(alloc, &first, outer, c)
         }
         [a, b, c, d] => {
-            let (first, second) = (binary(alloc, a, inner, b)?, binary(alloc, c, inner, d)?);
+            let (first, second) = (binary(alloc, a, inner, b), binary(alloc, c, inner, d));
             binary(alloc, &first, outer, &second)
         }
         _ => primary(alloc, "'X'"),
@@ -169,11 +171,7 @@ fn pairs(
 }
 
 /// An operation on two operands.
-fn two(
-    alloc: Global,
-    operands: &[Expression],
-    operator: Outside,
-) -> Result<Expression, AllocError> {
+fn two(alloc: Global, operands: &[Expression], operator: Outside) -> Expression {
     match operands {
         [left, right] => binary(alloc, left, operator, right),
         _ => primary(alloc, "'X'"),
@@ -181,14 +179,10 @@ fn two(
 }
 
 /// An operation on an operand and the negation of another.
-fn with_negation(
-    alloc: Global,
-    operands: &[Expression],
-    operator: Outside,
-) -> Result<Expression, AllocError> {
+fn with_negation(alloc: Global, operands: &[Expression], operator: Outside) -> Expression {
     match operands {
         [left, right] => {
-            let refused = negation(alloc, right)?;
+            let refused = negation(alloc, right);
             binary(alloc, left, operator, &refused)
         }
         _ => primary(alloc, "'X'"),
@@ -196,16 +190,16 @@ fn with_negation(
 }
 
 /// One operand, negated or not.
-fn one(alloc: Global, operands: &[Expression], is_not: bool) -> Result<Expression, AllocError> {
+fn one(alloc: Global, operands: &[Expression], is_not: bool) -> Expression {
     match operands {
         [operand] if is_not => negation(alloc, operand),
-        [operand] => copy(operand),
+        [operand] => copy(alloc, operand),
         _ => primary(alloc, "'X'"),
     }
 }
 
 /// The expression of a gate with two operands, or with few operators.
-fn plain(alloc: Global, gate: Gate, operands: &[Expression]) -> Result<Expression, AllocError> {
+fn plain(alloc: Global, gate: Gate, operands: &[Expression]) -> Expression {
     match gate {
         Gate::Buf => one(alloc, operands, false),
         Gate::Not => one(alloc, operands, true),
@@ -227,7 +221,7 @@ pub fn gate_expression(
     alloc: Global,
     gate: Gate,
     table: &str,
-    operands: Vec<Expression>,
+    operands: &[Expression],
 ) -> Result<Expression, AllocError> {
     match gate {
         Gate::Mux => multiplexer(alloc, operands, 2),
@@ -236,9 +230,9 @@ pub fn gate_expression(
         Gate::Mux16 => multiplexer(alloc, operands, 16),
         Gate::Nmux => {
             let selected = multiplexer(alloc, operands, 2)?;
-            negation(alloc, &selected)
+            Ok(negation(alloc, &selected))
         }
-        Gate::Lut => chosen(alloc, literals(alloc, table)?, operands.as_slice(), true),
-        _ => plain(alloc, gate, operands.as_slice()),
+        Gate::Lut => looked_up_in(alloc, table, operands),
+        _ => Ok(plain(alloc, gate, operands)),
     }
 }

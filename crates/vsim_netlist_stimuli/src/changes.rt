@@ -1,7 +1,7 @@
 //! The changes of input bits.
 
 use std::alloc::{AllocError, Global};
-use vsim_netlist_cells::Level;
+use vsim_netlist_design::Level;
 
 /// An input and its number of bits.
 #[derive(Drop)]
@@ -103,4 +103,14 @@ pub(crate) fn starts(alloc: Global, inputs: &[Input]) -> Result<Vec<usize>, Allo
         next = next.saturating_add(input.width);
     }
     Ok(starts)
+}
+
+/// The index of the input with a name, and its number of bits.
+pub(crate) fn find(inputs: &[Input], name: &str) -> Option<(usize, usize)> {
+    for (place, input) in inputs.iter().enumerate() {
+        if input.name.as_str() == name {
+            return Some((place, input.width));
+        }
+    }
+    None
 }

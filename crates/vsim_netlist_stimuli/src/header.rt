@@ -21,7 +21,6 @@ pub(crate) struct Scope {
 }
 
 /// The header of a VCD, as far as it has been read.
-#[derive(Drop)]
 pub(crate) struct Header<'a> {
     alloc: Global,
     /// The words of the present section.
@@ -33,6 +32,21 @@ pub(crate) struct Header<'a> {
     /// The unit of time, in femtoseconds.
     pub(crate) scale: u64,
     pub(crate) is_done: bool,
+}
+
+impl Drop for Header<'_> {
+    fn drop(self) {
+        let Header {
+            alloc: _,
+            words,
+            open,
+            scopes,
+            variables,
+            scale: _,
+            is_done: _,
+        } = self;
+        drop((words, open, scopes, variables));
+    }
 }
 
 /// A name without a range after it, and without the backslash of an escaped name.
@@ -78,7 +92,7 @@ impl<'a> Header<'a> {
     }
 
     /// Enters a scope.
-    fn enter(&mut self, name: &str) -> Result<(), AllocError> {
+    fn enter(&mut self, name: &str) -> Result<()> {
         let path = self.path(name)?;
         let depth = self.open.len();
         self.open.push(self.scopes.len())?;
@@ -119,25 +133,30 @@ impl<'a> Header<'a> {
     }
 
     /// Reads the time scale.
-    fn take_scale(&mut self) -> Result<()> {
-        self.scale = scale(self.word(1), self.word(2)).context("the time scale is none")?;
+    fn take_scale(&mut self, first: &str, second: &str) -> Result<()> {
+        self.scale = scale(first, second).context("the time scale is none")?;
         Ok(())
     }
 
     /// Reads a section.
     fn close(&mut self) -> Result<()> {
-        let (first, third) = (self.word(0), self.word(2));
+        let (first, second, third) = (self.word(0), self.word(1), self.word(2));
         let (fourth, fifth) = (self.word(3), self.word(4));
-        match first {
-            "$scope" => self.enter(third)?,
-            "$upscope" => self.leave(),
-            "$var" => self.declare(third, fourth, fifth)?,
-            "$timescale" => self.take_scale()?,
-            "$enddefinitions" => self.is_done = true,
-            _ => {}
-        }
         self.words.clear();
-        Ok(())
+        match first {
+            "$scope" => self.enter(third),
+            "$var" => self.declare(third, fourth, fifth),
+            "$timescale" => self.take_scale(second, third),
+            "$upscope" => {
+                self.leave();
+                Ok(())
+            }
+            "$enddefinitions" => {
+                self.is_done = true;
+                Ok(())
+            }
+            _ => Ok(()),
+        }
     }
 
     /// Reads the next word.

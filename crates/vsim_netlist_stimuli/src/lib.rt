@@ -10,5 +10,5 @@ mod values;
 mod vcd;
 
 pub use changes::{Change, Input, Stimuli};
-pub use times::{LATEST, Time, read_time};
+pub use times::{LATEST, read_time};
 pub use vcd::read_stimuli;

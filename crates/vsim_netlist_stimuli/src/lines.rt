@@ -1,12 +1,11 @@
 //! Stimuli as lines: `TIME INPUT VALUE`, and `end TIME`.
 
-use crate::changes::{Input, Stimuli, starts};
+use crate::changes::{Input, Stimuli, find, starts};
 use crate::times::read_time;
 use anyhow::{Context, Result, anyhow, bail};
 use std::alloc::{AllocError, Global};
 
 /// The stimuli of the lines read so far.
-#[derive(Drop)]
 struct Lines<'a> {
     alloc: Global,
     inputs: &'a [Input],
@@ -62,14 +61,25 @@ fn bits(alloc: Global, value: &str) -> Result<String, AllocError> {
     }
 }
 
-/// The index of the input with a name, and its number of bits.
-fn find(inputs: &[Input], name: &str) -> Option<(usize, usize)> {
-    for (place, input) in inputs.iter().enumerate() {
-        if input.name.as_str() == name {
-            return Some((place, input.width));
-        }
+/// A line up to a comment.
+fn without_comment(line: &str) -> &str {
+    match line.split_once('#') {
+        Some((text, _)) => text,
+        None => line,
     }
-    None
+}
+
+impl Drop for Lines<'_> {
+    fn drop(self) {
+        let Lines {
+            alloc: _,
+            inputs: _,
+            starts,
+            time: _,
+            stimuli,
+        } = self;
+        drop((starts, stimuli));
+    }
 }
 
 impl Lines<'_> {
@@ -84,36 +94,64 @@ impl Lines<'_> {
         Ok(())
     }
 
-    /// Gives a value to an input from now on.
-    fn set(&mut self, name: &str, value: &str) -> Result<()> {
-        let (place, width) = find(self.inputs, name).ok_or_else(|| anyhow!(
-            "there is no input {name}"
-        ))?;
-        let start = self.starts.get(place).copied().unwrap_or(0);
-        let bits = bits(self.alloc, value)?;
-        let bytes = bits.as_str().as_bytes();
-        if bytes.is_empty() || !self.stimuli.set(start, width, self.time, bytes)? {
+    /// Gives a value to the bits from an index on, from now on.
+    fn set_bits(&mut self, start: usize, width: usize, value: &[u8]) -> Result<()> {
+        if value.is_empty() || !self.stimuli.set(start, width, self.time, value)? {
             bail!("the value is neither bits nor a number as 0xA5");
         }
         Ok(())
     }
 
+    /// Gives a value to an input from now on.
+    fn set(&mut self, name: &str, value: &str) -> Result<()> {
+        let Some((place, width)) = find(self.inputs, name) else {
+            return Err(anyhow!("there is no input {name}"));
+        };
+        let start = self.starts.get(place).copied().unwrap_or(0);
+        let bits = bits(self.alloc, value)?;
+        self.set_bits(start, width, bits.as_str().as_bytes())
+    }
+
+    /// Gives a value to an input from a time on.
+    fn set_at(&mut self, time: &str, name: &str, value: &str) -> Result<()> {
+        self.go_to(time)?;
+        self.set(name, value)
+    }
+
     /// Reads a line.
     fn take(&mut self, line: &str) -> Result<()> {
-        let text = line.split_once('#').map_or(line, |(text, _)| text);
-        let mut words = text.split_ascii_whitespace();
+        let mut words = without_comment(line).split_ascii_whitespace();
         let Some(first) = words.next() else {
             return Ok(());
         };
         let (second, third) = (words.next(), words.next());
         match (second, third, words.next()) {
             (Some(time), None, None) if first == "end" => self.go_to(time),
-            (Some(name), Some(value), None) => {
-                self.go_to(first)?;
-                self.set(name, value)
-            }
+            (Some(name), Some(value), None) => self.set_at(first, name, value),
             _ => Err(anyhow!("'TIME INPUT VALUE' or 'end TIME' is wanted")),
         }
+    }
+
+    /// Reads lines. An error names its line.
+    fn take_all(&mut self, text: &str) -> Result<()> {
+        for (index, line) in text.lines().enumerate() {
+            let number = index.saturating_add(1);
+            self.take(line).context(format_args!("line {number}"))?;
+        }
+        Ok(())
+    }
+
+    /// The stimuli that have been read.
+    fn into_stimuli(self) -> Stimuli {
+        let Lines {
+            alloc: _,
+            inputs: _,
+            starts,
+            time: _,
+            stimuli,
+        } = self;
+        drop(starts);
+        stimuli
     }
 }
 
@@ -126,9 +164,6 @@ pub(crate) fn read_lines(alloc: Global, text: &str, inputs: &[Input]) -> Result<
         time: 0,
         stimuli: Stimuli::new(alloc, inputs)?,
     };
-    for (index, line) in text.lines().enumerate() {
-        let number = index.saturating_add(1);
-        lines.take(line).context(format_args!("line {number}"))?;
-    }
-    Ok(lines.stimuli)
+    lines.take_all(text)?;
+    Ok(lines.into_stimuli())
 }

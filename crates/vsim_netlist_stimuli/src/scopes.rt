@@ -1,9 +1,8 @@
 //! The scope of a VCD with the inputs of a design.
 
-use crate::changes::Input;
-use crate::header::{Header, Scope};
-use anyhow::{Result, anyhow};
-use indexmap::IndexSet;
+use crate::changes::{Input, find};
+use crate::header::{Header, Scope, Variable};
+use anyhow::{Context, Result, anyhow};
 use std::alloc::{AllocError, Global};
 
 /// An input and its variable, by their indices.
@@ -13,33 +12,27 @@ pub(crate) struct Match {
     pub(crate) variable: usize,
 }
 
+/// The index of the input that has the name and the number of bits of a variable.
+fn input_of(inputs: &[Input], variable: &Variable<'_>) -> Option<usize> {
+    match find(inputs, variable.name) {
+        Some((place, width)) if width == variable.width => Some(place),
+        _ => None,
+    }
+}
+
 /// For each scope, the inputs that it has with the right number of bits.
 fn matches(
     alloc: Global,
     header: &Header<'_>,
     inputs: &[Input],
 ) -> Result<Vec<Vec<Match>>, AllocError> {
-    let names = names(alloc, inputs)?;
     let mut found = empty(alloc, header.scopes.len())?;
     for (variable, each) in header.variables.iter().enumerate() {
-        let Some(input) = names.get_index_of(each.name) else {
-            continue;
-        };
-        let is_same = inputs.get(input).is_some_and(|it| it.width == each.width);
-        if is_same {
+        if let Some(input) = input_of(inputs, each) {
             add(&mut found, each.scope, Match { input, variable })?;
         }
     }
     Ok(found)
-}
-
-/// The names of inputs.
-fn names(alloc: Global, inputs: &[Input]) -> Result<IndexSet<String>, AllocError> {
-    let mut names = IndexSet::new(alloc);
-    for input in inputs {
-        names.insert(input.name.clone()?)?;
-    }
-    Ok(names)
 }
 
 /// This number of empty lists.
@@ -56,25 +49,33 @@ fn add(found: &mut Vec<Vec<Match>>, scope: usize, new: Match) -> Result<(), Allo
     let Some(list) = found.get_mut(scope) else {
         return Ok(());
     };
-    if list.iter().all(|it| it.input != new.input) {
+    if !has(list.as_slice(), new.input) {
         list.push(new)?;
     }
     Ok(())
 }
 
-/// The index of the deepest scope that has this number of inputs; the first, if there are several.
-fn deepest(scopes: &[Scope], found: &[Vec<Match>], count: usize) -> Option<usize> {
-    let mut best: Option<(usize, usize)> = None;
-    for (place, (scope, list)) in scopes.iter().zip(found.iter()).enumerate() {
-        let is_deeper = best.is_none_or(|(_, depth)| depth < scope.depth);
-        if list.len() == count && is_deeper {
-            best = Some((place, scope.depth));
+/// Whether an input is among some.
+fn has(list: &[Match], input: usize) -> bool {
+    for each in list {
+        if each.input == input {
+            return true;
         }
     }
-    match best {
-        Some((place, _)) => Some(place),
-        None => None,
+    false
+}
+
+/// The index of the deepest scope that has this number of inputs; the first, if there are several.
+fn deepest(scopes: &[Scope], found: &[Vec<Match>], count: usize) -> Option<usize> {
+    let (mut best, mut deepest) = (None, 0usize);
+    for (place, (scope, list)) in scopes.iter().zip(found.iter()).enumerate() {
+        let is_deeper = best.is_none() || deepest < scope.depth;
+        if list.len() == count && is_deeper {
+            best = Some(place);
+            deepest = scope.depth;
+        }
     }
+    best
 }
 
 /// The index of the scope with a path.
@@ -90,7 +91,7 @@ fn at_path(scopes: &[Scope], path: &str) -> Option<usize> {
 /// The first input that is missing from a list.
 fn missing<'a>(inputs: &'a [Input], list: &[Match]) -> Option<&'a str> {
     for (place, input) in inputs.iter().enumerate() {
-        if list.iter().all(|it| it.input != place) {
+        if !has(list, place) {
             return Some(input.name.as_str());
         }
     }
@@ -104,13 +105,15 @@ fn place(
     count: usize,
     path: Option<&str>,
 ) -> Result<usize> {
-    match path {
-        Some(path) => at_path(header.scopes.as_slice(), path).ok_or_else(|| anyhow!(
-            "there is no scope {path}"
-        )),
-        None => deepest(header.scopes.as_slice(), found, count).ok_or_else(|| anyhow!(
-            "no scope has all inputs, each with its width: --scope names one"
-        )),
+    let scopes = header.scopes.as_slice();
+    let Some(path) = path else {
+        return deepest(scopes, found, count).context(
+            "no scope has all inputs, each with its width: --scope names one",
+        );
+    };
+    match at_path(scopes, path) {
+        Some(place) => Ok(place),
+        None => Err(anyhow!("there is no scope {path}")),
     }
 }
 

@@ -1,7 +1,5 @@
 //! Times: a number and its unit.
 
-use std::fmt;
-
 /// The latest time of a simulation, in femtoseconds.
 pub const LATEST: u64 = 4_611_686_018_427_387_903;
 
@@ -29,39 +27,21 @@ pub fn read_time(text: &str) -> Option<u64> {
     if time <= LATEST { Some(time) } else { None }
 }
 
+/// The number of digits at the start of a text.
+fn count_digits(text: &str) -> usize {
+    for (place, byte) in text.bytes().enumerate() {
+        if !byte.is_ascii_digit() {
+            return place;
+        }
+    }
+    text.len()
+}
+
 /// The digits at the start of a text, and the rest.
 pub(crate) fn number_and_unit(text: &str) -> (&str, &str) {
-    match text.find(|letter: char| !letter.is_ascii_digit()) {
-        Some(at) => match (text.get(..at), text.get(at..)) {
-            (Some(number), Some(unit)) => (number, unit),
-            _ => (text, ""),
-        },
-        None => (text, ""),
-    }
-}
-
-/// The largest unit of which a time is a multiple, and the multiple.
-fn in_units(time: u64) -> (u64, &'static str) {
-    if time == 0 || time % 1_000 != 0 {
-        (time, "fs")
-    } else if time % 1_000_000 != 0 {
-        (time / 1_000, "ps")
-    } else if time % 1_000_000_000 != 0 {
-        (time / 1_000_000, "ns")
-    } else if time % 1_000_000_000_000 != 0 {
-        (time / 1_000_000_000, "us")
-    } else {
-        (time / 1_000_000_000_000, "ms")
-    }
-}
-
-/// A time in femtoseconds, displayed in the largest unit of which it is a multiple, as `40ps`.
-#[derive(Clone, Copy)]
-pub struct Time(pub u64);
-
-impl fmt::Display for Time {
-    fn fmt<W: fmt::Write>(&self, f: &mut fmt::Formatter<W>) -> fmt::Result {
-        let (number, unit) = in_units(self.0);
-        write!(f, "{number}{unit}")
+    let at = count_digits(text);
+    match (text.get(..at), text.get(at..)) {
+        (Some(number), Some(unit)) => (number, unit),
+        _ => (text, ""),
     }
 }

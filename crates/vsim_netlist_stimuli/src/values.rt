@@ -16,7 +16,6 @@ struct Bits {
 }
 
 /// The values of a VCD, as far as it has been read.
-#[derive(Drop)]
 pub(crate) struct Values<'a> {
     codes: IndexSet<String>,
     users: Vec<Vec<Bits>>,
@@ -25,34 +24,7 @@ pub(crate) struct Values<'a> {
     /// A value of several bits whose code comes next.
     value: Option<&'a str>,
     is_comment: bool,
-    pub(crate) stimuli: Stimuli,
-}
-
-/// Adds bits to those of a code.
-fn add(
-    alloc: Global,
-    codes: &mut IndexSet<String>,
-    users: &mut Vec<Vec<Bits>>,
-    code: &str,
-    bits: Bits,
-) -> Result<(), AllocError> {
-    let code = String::from_str(alloc, code)?;
-    let (place, is_new) = codes.insert_full(code)?;
-    if is_new {
-        return add_first(alloc, users, bits);
-    }
-    if let Some(list) = users.get_mut(place) {
-        list.push(bits)?;
-    }
-    Ok(())
-}
-
-/// Adds the bits of a new code.
-fn add_first(alloc: Global, users: &mut Vec<Vec<Bits>>, bits: Bits) -> Result<(), AllocError> {
-    let mut list = Vec::new(alloc);
-    list.push(bits)?;
-    users.push(list)?;
-    Ok(())
+    stimuli: Stimuli,
 }
 
 /// The first byte of a word, and the rest.
@@ -61,38 +33,105 @@ fn split_first(word: &str) -> (u8, &str) {
     (first, word.get(1..).unwrap_or(""))
 }
 
+impl Drop for Values<'_> {
+    fn drop(self) {
+        let Values {
+            codes,
+            users,
+            scale: _,
+            time: _,
+            value: _,
+            is_comment: _,
+            stimuli,
+        } = self;
+        drop((codes, users, stimuli));
+    }
+}
+
+/// A list of some bits.
+fn list_of(alloc: Global, bits: Bits) -> Result<Vec<Bits>, AllocError> {
+    let mut list = Vec::new(alloc);
+    list.push(bits)?;
+    Ok(list)
+}
+
+/// No values yet, for inputs that are variables of a header.
+pub(crate) fn make_values<'a>(
+    alloc: Global,
+    header: &Header<'_>,
+    inputs: &[Input],
+    matches: &[Match],
+) -> Result<Values<'a>, AllocError> {
+    let stimuli = Stimuli::new(alloc, inputs)?;
+    let mut values = Values::new(alloc, header.scale, stimuli);
+    values.connect(alloc, header, inputs, matches)?;
+    Ok(values)
+}
+
 impl<'a> Values<'a> {
-    /// No values yet, for inputs that are variables of a header.
-    pub(crate) fn new(
+    /// No values, and no variables.
+    fn new(alloc: Global, scale: u64, stimuli: Stimuli) -> Values<'a> {
+        Values {
+            codes: IndexSet::new(alloc),
+            users: Vec::new(alloc),
+            scale,
+            time: 0,
+            value: None,
+            is_comment: false,
+            stimuli,
+        }
+    }
+
+    /// Adds bits to those of a code.
+    fn add(&mut self, alloc: Global, code: &str, bits: Bits) -> Result<(), AllocError> {
+        let (place, is_new) = self.codes.insert_full(String::from_str(alloc, code)?)?;
+        if is_new {
+            return self.add_first(alloc, bits);
+        }
+        if let Some(list) = self.users.get_mut(place) {
+            list.push(bits)?;
+        }
+        Ok(())
+    }
+
+    /// Adds the bits of a new code.
+    fn add_first(&mut self, alloc: Global, bits: Bits) -> Result<(), AllocError> {
+        self.users.push(list_of(alloc, bits)?)?;
+        Ok(())
+    }
+
+    /// Connects the variables of a header with the inputs.
+    fn connect(
+        &mut self,
         alloc: Global,
         header: &Header<'_>,
         inputs: &[Input],
         matches: &[Match],
-    ) -> Result<Values<'a>, AllocError> {
+    ) -> Result<(), AllocError> {
         let starts = starts(alloc, inputs)?;
-        let (mut codes, mut users) = (IndexSet::new(alloc), Vec::new(alloc));
         for each in matches {
             let start = starts.get(each.input).copied().unwrap_or(0);
             if let Some(variable) = header.variables.get(each.variable) {
                 let width = variable.width;
-                add(
-                    alloc,
-                    &mut codes,
-                    &mut users,
-                    variable.code,
-                    Bits { start, width },
-                )?;
+                self.add(alloc, variable.code, Bits { start, width })?;
             }
         }
-        Ok(Values {
+        Ok(())
+    }
+
+    /// The stimuli that have been read.
+    pub(crate) fn into_stimuli(self) -> Stimuli {
+        let Values {
             codes,
             users,
-            scale: header.scale,
-            time: 0,
-            value: None,
-            is_comment: false,
-            stimuli: Stimuli::new(alloc, inputs)?,
-        })
+            scale: _,
+            time: _,
+            value: _,
+            is_comment: _,
+            stimuli,
+        } = self;
+        drop((codes, users));
+        stimuli
     }
 
     /// Gives a value to the bits of a code from now on.

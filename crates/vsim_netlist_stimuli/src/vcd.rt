@@ -1,56 +1,94 @@
 //! Reading stimuli.
 
-use crate::changes::{Input, Stimuli};
+use crate::changes::{Change, Input, Stimuli};
 use crate::header::Header;
 use crate::lines::read_lines;
 use crate::scopes::choose;
-use crate::values::Values;
+use crate::values::{Values, make_values};
 use anyhow::{Context, Result, anyhow, bail};
 use std::alloc::Global;
+use std::str::SplitAsciiWhitespace;
 
-/// Reads the values after the header of a VCD.
-fn values<'a>(
+/// The refusal of a VCD that ends too early.
+fn cut_off() -> anyhow::Error {
+    anyhow!("the VCD is cut off")
+}
+
+/// Reads the header of a VCD.
+fn read_header<'a>(alloc: Global, words: &mut SplitAsciiWhitespace<'a>) -> Result<Header<'a>> {
+    let mut header = Header::new(alloc);
+    for _ in 0..u64::MAX {
+        let Some(word) = words.next() else {
+            return Err(cut_off());
+        };
+        header.take(word)?;
+        if header.is_done {
+            break;
+        }
+    }
+    Ok(header)
+}
+
+/// Reads the header of a VCD. Returns its inputs, without values yet.
+fn begin_values<'a>(
     alloc: Global,
-    header: &Header<'a>,
+    words: &mut SplitAsciiWhitespace<'a>,
     inputs: &[Input],
     scope: Option<&str>,
 ) -> Result<Values<'a>> {
-    let matches = choose(alloc, header, inputs, scope)?;
-    Ok(Values::new(alloc, header, inputs, matches.as_slice())?)
+    let header = read_header(alloc, words)?;
+    let matches = choose(alloc, &header, inputs, scope)?;
+    Ok(make_values(alloc, &header, inputs, matches.as_slice())?)
 }
 
 /// Reads a VCD: its header, then its values.
 fn read_vcd(alloc: Global, text: &str, inputs: &[Input], scope: Option<&str>) -> Result<Stimuli> {
-    let mut header = Header::new(alloc);
-    let mut found: Option<Values<'_>> = None;
-    for word in text.split_ascii_whitespace() {
-        match &mut found {
-            Some(values) => values.take(word)?,
-            None => header.take(word)?,
-        }
-        if header.is_done && found.is_none() {
-            found = Some(values(alloc, &header, inputs, scope)?);
-        }
+    let mut words = text.split_ascii_whitespace();
+    let mut values = begin_values(alloc, &mut words, inputs, scope)?;
+    for word in words {
+        values.take(word)?;
     }
-    match found {
-        Some(values) if !values.is_cut() && text.ends_with("\n") => Ok(values.stimuli),
-        _ => Err(anyhow!("the VCD is cut off")),
+    if values.is_cut() || !text.ends_with("\n") {
+        return Err(cut_off());
     }
+    Ok(values.into_stimuli())
 }
 
 /// Refuses an input without a value.
+fn demand_input(bits: &[Vec<Change>], input: &Input) -> Result<()> {
+    for changes in bits {
+        if changes.is_empty() {
+            let name = input.name.as_str();
+            bail!("input {name} has no value");
+        }
+    }
+    Ok(())
+}
+
+/// Refuses inputs without a value.
 fn demand_all(stimuli: &Stimuli, inputs: &[Input]) -> Result<()> {
     let mut start = 0usize;
     for input in inputs {
         let end = start.saturating_add(input.width);
         let bits = stimuli.bits.get(start..end).context("the bits of inputs")?;
-        if bits.iter().any(|changes| changes.is_empty()) {
-            let name = input.name.as_str();
-            bail!("input {name} has no value");
-        }
+        demand_input(bits, input)?;
         start = end;
     }
     Ok(())
+}
+
+/// Reads a VCD, or lines.
+fn read_either(
+    alloc: Global,
+    text: &str,
+    inputs: &[Input],
+    scope: Option<&str>,
+) -> Result<Stimuli> {
+    if text.trim_ascii_start().starts_with("$") {
+        read_vcd(alloc, text, inputs, scope)
+    } else {
+        read_lines(alloc, text, inputs)
+    }
 }
 
 /// Reads the stimuli of these inputs: from the variables of one scope of a VCD, or from lines.
@@ -60,11 +98,7 @@ pub fn read_stimuli(
     inputs: &[Input],
     scope: Option<&str>,
 ) -> Result<Stimuli> {
-    let stimuli = if text.trim_ascii_start().starts_with("$") {
-        read_vcd(alloc, text, inputs, scope)?
-    } else {
-        read_lines(alloc, text, inputs)?
-    };
+    let stimuli = read_either(alloc, text, inputs, scope)?;
     demand_all(&stimuli, inputs)?;
     Ok(stimuli)
 }

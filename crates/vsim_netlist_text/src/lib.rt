@@ -1,13 +1,7 @@
 //! The text for vsim of a netlist, its stimuli and delays, and the map back to its source.
 #![tactic(auto)]
 
-mod builder;
 mod map;
-mod processes;
-mod signals;
-mod stimulus;
-mod table;
-mod tables;
 mod text;
 
 pub use text::{Request, Written, write_text};

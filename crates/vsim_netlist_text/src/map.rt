@@ -1,34 +1,27 @@
 //! The map from the signals of a text to the scopes and names of the source.
 
-use crate::signals::Signals;
 use std::alloc::{AllocError, Global};
-use std::fmt::Write;
-use vsim_netlist_cells::{Bit, Netlist, Variable};
-use vsim_netlist_expressions::push_all;
+use vsim_netlist_design::{Bit, Draft, Netlist, Variable};
+use vsim_netlist_signals::Signals;
 
 /// Adds a bit of a variable: the name of its signal, a literal, or a dash if there is no signal.
-fn push_bit(text: &mut String, signals: &Signals, bit: Bit) -> Result<(), AllocError> {
+fn push_bit(text: &mut Draft, signals: &Signals, bit: Bit) {
     let name = match bit {
         Bit::Constant(level) => level.literal(),
         Bit::Net(place) => signals.name(place).unwrap_or("-"),
     };
-    push_all(text, &[" ", name])
+    text.push_all(&[" ", name]);
 }
 
 /// Adds a variable: its name, its lowest index, `to` or `downto`, and its bits, lowest first.
-fn push_variable(
-    text: &mut String,
-    signals: &Signals,
-    variable: &Variable,
-) -> Result<(), AllocError> {
-    let name = variable.name.as_str();
-    let offset = variable.offset;
-    let direction = if variable.is_up { "to" } else { "downto" };
-    write!(text, "var {name} {offset} {direction}")?;
+fn push_variable(text: &mut Draft, signals: &Signals, variable: &Variable) {
+    text.push_all(&["var ", variable.name.as_str(), " "]);
+    text.push_shown(&variable.offset);
+    text.push(if variable.is_up { " to" } else { " downto" });
     for bit in variable.bits.iter() {
-        push_bit(text, signals, *bit)?;
+        push_bit(text, signals, *bit);
     }
-    text.push_str("\n")
+    text.push("\n");
 }
 
 /// The map of a netlist whose signals have these names.
@@ -38,11 +31,11 @@ pub(crate) fn make_map(
     signals: &Signals,
     end: u64,
 ) -> Result<String, AllocError> {
-    let mut text = String::new(alloc);
-    let name = netlist.name.as_str();
-    write!(&mut text, "vsim_netlist map 1\nend {end}\ntop {name}\n")?;
+    let mut text = Draft::of(alloc, "vsim_netlist map 1\nend ");
+    text.push_shown(&end);
+    text.push_all(&["\ntop ", netlist.name.as_str(), "\n"]);
     for variable in netlist.variables.iter() {
-        push_variable(&mut text, signals, variable)?;
+        push_variable(&mut text, signals, variable);
     }
-    Ok(text)
+    text.finish()
 }

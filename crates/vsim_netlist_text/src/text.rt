@@ -1,15 +1,15 @@
 //! The text of a netlist.
 
-use crate::builder::Builder;
 use crate::map::make_map;
-use crate::signals::{Signals, wanted};
-use crate::stimulus::{Manner, put_stimuli};
 use anyhow::{Result, bail};
 use std::alloc::{AllocError, Global};
-use vsim_netlist_cells::Netlist;
-use vsim_netlist_expressions::{NamedDelay, plain_name, push_all};
+use vsim_netlist_design::{Draft, Netlist};
+use vsim_netlist_expressions::NamedDelay;
+use vsim_netlist_gate_text::put_cells;
+use vsim_netlist_signals::{Signals, Statements, make_signals};
 use vsim_netlist_stimuli::Stimuli;
-use vsim_netlist_uses::{Clocks, Uses, all_within, refuse_loops};
+use vsim_netlist_stimulus_text::put_stimuli;
+use vsim_netlist_uses::{Clocks, Uses, all_within, refuse_loops, wanted_nets};
 
 /// The maximum size of a text of vsim, in bytes.
 const MOST_BYTES: usize = 1_048_576;
@@ -44,7 +44,7 @@ fn demand(count: usize, most: usize, what: &str, advice: &str) -> Result<()> {
 }
 
 /// Refuses a text that exceeds a limit of vsim.
-fn demand_limits(builder: &Builder<'_>, bytes: usize) -> Result<()> {
+fn demand_limits(statements: &Statements, bytes: usize) -> Result<()> {
     let smaller = "a smaller part of the design helps";
     demand(
         bytes,
@@ -52,86 +52,53 @@ fn demand_limits(builder: &Builder<'_>, bytes: usize) -> Result<()> {
         "bytes",
         "shorter stimuli or a smaller part of the design help",
     )?;
-    demand(builder.signals.count(), MOST, "nets", smaller)?;
+    demand(statements.signals.count(), MOST, "nets", smaller)?;
     demand(
-        builder.processes.max(builder.drivers),
+        statements.processes.max(statements.drivers),
         MOST,
         "processes or drivers",
         smaller,
     )
 }
 
-/// The name of the entity.
-fn entity_name(alloc: Global, signals: &mut Signals, source: &str) -> Result<String, AllocError> {
-    let name = plain_name(alloc, source)?;
-    signals.names.like(name.as_str())
-}
-
 /// Adds the part before the statements.
-fn push_head(text: &mut String, name: &str, signals: &Signals) -> Result<(), AllocError> {
+fn push_head(text: &mut Draft, signals: &Signals) {
     let head = "library ieee;\nuse ieee.std_logic_1164.all;\nentity ";
     let middle = " is end;\narchitecture netlist of ";
-    push_all(text, &[head, name, middle, name, " is\n"])?;
-    signals.push_declarations(text)?;
-    text.push_str("begin\n")
+    let name = signals.entity.as_str();
+    text.push_all(&[head, name, middle, name, " is\n"]);
+    signals.push_declarations(text);
+    text.push("begin\n");
 }
 
 /// The whole text.
-fn whole(builder: &Builder<'_>, name: &str) -> Result<String, AllocError> {
-    let mut text = String::new(builder.alloc);
-    push_head(&mut text, name, &builder.signals)?;
-    push_all(&mut text, &[builder.body.as_str(), "end;\n"])?;
+fn whole(statements: &Statements) -> Result<String, AllocError> {
+    let mut text = Draft::new(statements.alloc);
+    push_head(&mut text, &statements.signals);
+    text.push_draft(&statements.body);
+    text.push("end;\n");
+    if !statements.signals.names.is_whole() {
+        text.lack();
+    }
+    text.finish()
+}
+
+/// The whole text, within the limits.
+fn limited(statements: &Statements) -> Result<String> {
+    let text = whole(statements)?;
+    demand_limits(statements, text.len())?;
     Ok(text)
 }
 
-/// Names the ports and these nets.
-fn name_all(
-    signals: &mut Signals,
-    netlist: &Netlist,
-    wanted: Vec<(usize, usize)>,
-) -> Result<(), AllocError> {
-    signals.name_ports(netlist)?;
-    signals.name_nets(wanted)
-}
-
-/// The signals of a netlist, with names for those that need one, and the name of the entity.
-fn signals(
-    alloc: Global,
-    netlist: &Netlist,
-    wanted: Vec<(usize, usize)>,
-) -> Result<(String, Signals), AllocError> {
-    let mut signals = Signals::new(alloc, netlist)?;
-    let name = entity_name(alloc, &mut signals, netlist.name.as_str())?;
-    name_all(&mut signals, netlist, wanted)?;
-    Ok((name, signals))
-}
-
-/// Builds the statements of a netlist.
-fn build(
-    builder: &mut Builder<'_>,
-    request: &Request<'_>,
-    clocks: &Clocks,
-) -> Result<(), AllocError> {
-    builder.take_cells()?;
-    builder.put_processes()?;
-    let manner = Manner { hold: request.hold };
-    match request.stimuli {
-        Some(stimuli) => put_stimuli(builder, request.netlist, stimuli, clocks, manner),
-        None => Ok(()),
-    }
-}
-
 /// The finished text and map.
-fn limited(
-    builder: &Builder<'_>,
+fn finished(
+    statements: &Statements,
     request: &Request<'_>,
-    name: &str,
     derived_clocks: usize,
 ) -> Result<Written> {
-    let text = whole(builder, name)?;
-    demand_limits(builder, text.len())?;
+    let text = limited(statements)?;
     let end = request.stimuli.map_or(0, |it| it.end);
-    let map = make_map(builder.alloc, request.netlist, &builder.signals, end)?;
+    let map = make_map(statements.alloc, request.netlist, &statements.signals, end)?;
     Ok(Written {
         text,
         map,
@@ -156,36 +123,46 @@ fn uses(alloc: Global, request: &Request<'_>) -> Result<(Uses, Clocks)> {
     Ok((Uses::of(alloc, request.netlist, true)?, clocks))
 }
 
-/// Writes the text of a netlist.
-pub fn write_text(alloc: Global, request: &Request<'_>) -> Result<Written> {
-    let (uses, clocks) = uses(alloc, request)?;
-    let has_delays = !request.delays.is_empty();
-    let within = all_within(alloc, request.netlist, &uses, has_delays)?;
-    write_with(alloc, request, &uses, &clocks, within.as_slice())
+/// The statements of the cells, which name those signals that need a name.
+fn cell_statements(
+    alloc: Global,
+    request: &Request<'_>,
+    uses: &Uses,
+    within: &[bool],
+) -> Result<Statements, AllocError> {
+    let wanted = wanted_nets(alloc, uses, within)?;
+    let signals = make_signals(alloc, request.netlist, wanted.as_slice());
+    let statements = Statements::new(alloc, signals);
+    put_cells(statements, request.netlist, request.delays, uses, within)
 }
 
-/// The same, given the uses of the nets.
+/// Adds the statements of the stimuli, if there are any.
+fn put_inputs(
+    statements: &mut Statements,
+    request: &Request<'_>,
+    clocks: &[bool],
+) -> Result<(), AllocError> {
+    match request.stimuli {
+        Some(stimuli) => put_stimuli(statements, request.netlist, stimuli, clocks, request.hold),
+        None => Ok(()),
+    }
+}
+
+/// Writes the text of a netlist, given the uses of its nets.
 fn write_with(
     alloc: Global,
     request: &Request<'_>,
     uses: &Uses,
     clocks: &Clocks,
-    within: &[bool],
 ) -> Result<Written> {
-    let (netlist, wanted) = (request.netlist, wanted(alloc, uses, within)?);
-    let (name, signals) = signals(alloc, netlist, wanted)?;
-    let builder = Builder::new(alloc, netlist, request.delays, uses, within, signals)?;
-    write_built(builder, request, name.as_str(), clocks)
+    let within = all_within(alloc, request.netlist, uses, !request.delays.is_empty())?;
+    let mut statements = cell_statements(alloc, request, uses, within.as_slice())?;
+    put_inputs(&mut statements, request, clocks.is_before.as_slice())?;
+    finished(&statements, request, clocks.derived)
 }
 
-/// The same, given the names of the signals.
-fn write_built(
-    builder: Builder<'_>,
-    request: &Request<'_>,
-    name: &str,
-    clocks: &Clocks,
-) -> Result<Written> {
-    let mut builder = builder;
-    build(&mut builder, request, clocks)?;
-    limited(&builder, request, name, clocks.derived)
+/// Writes the text of a netlist.
+pub fn write_text(alloc: Global, request: &Request<'_>) -> Result<Written> {
+    let (uses, clocks) = uses(alloc, request)?;
+    write_with(alloc, request, &uses, &clocks)
 }

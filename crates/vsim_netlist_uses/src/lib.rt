@@ -7,4 +7,4 @@ mod uses;
 
 pub use loops::{Clocks, refuse_loops};
 pub use order::{all_within, writing_order};
-pub use uses::{Use, Uses, longest_within};
+pub use uses::{Use, Uses, longest_within, wanted_nets};

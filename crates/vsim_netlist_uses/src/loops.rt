@@ -3,7 +3,7 @@
 use crate::uses::Uses;
 use anyhow::{Result, anyhow};
 use std::alloc::{AllocError, Global};
-use vsim_netlist_cells::{Bit, Cell, Gate, Netlist, Variable};
+use vsim_netlist_design::{Bit, Cell, Gate, Netlist, Variable};
 
 /// The net at the input of a buffer.
 fn source(netlist: &Netlist, uses: &Uses, place: usize) -> Option<usize> {

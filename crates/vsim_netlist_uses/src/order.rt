@@ -2,7 +2,7 @@
 
 use crate::uses::{Uses, longest_within, may_stand_within};
 use std::alloc::{AllocError, Global};
-use vsim_netlist_cells::{Cell, Netlist};
+use vsim_netlist_design::{Cell, Netlist};
 
 /// Whether the gate that drives a net may be nested in the cell that reads it.
 fn is_within(netlist: &Netlist, uses: &Uses, place: usize) -> bool {

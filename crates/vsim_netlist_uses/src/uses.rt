@@ -1,7 +1,7 @@
 //! Which cells read and drive the nets of a netlist.
 
 use std::alloc::{AllocError, Global};
-use vsim_netlist_cells::{Bit, Cell, Control, Gate, GateCell, Netlist, Register, Style};
+use vsim_netlist_design::{Bit, Cell, Control, Gate, GateCell, Netlist, Register, Style};
 
 /// The cells that read and drive a net: their number, and the last of each.
 #[derive(Clone, Copy)]
@@ -147,6 +147,24 @@ impl Uses {
         uses.take_cells(netlist, may_nest);
         Ok(uses)
     }
+}
+
+/// The nets that need names, each after a number that is smaller the more it is read, the smallest
+/// first.
+pub fn wanted_nets(
+    alloc: Global,
+    uses: &Uses,
+    is_within: &[bool],
+) -> Result<Vec<(usize, usize)>, AllocError> {
+    let mut wanted = Vec::new(alloc);
+    for (place, (net, within)) in uses.nets.iter().zip(is_within.iter()).enumerate() {
+        let is_used = net.is_kept || net.readers > 0;
+        if is_used && !*within {
+            wanted.push((usize::MAX.saturating_sub(net.readers), place))?;
+        }
+    }
+    wanted.sort()?;
+    Ok(wanted)
 }
 
 /// The maximum length of a gate nested at a pin of another cell, in bytes.

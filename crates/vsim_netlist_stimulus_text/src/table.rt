@@ -2,12 +2,9 @@
 
 ghost use Rattle.std.specs.Prelude.{◌≤◌, length};
 
-use crate::builder::Builder;
-use crate::signals::Signals;
 use std::alloc::{AllocError, Global};
-use std::fmt::Write;
-use vsim_netlist_cells::Level;
-use vsim_netlist_expressions::{Names, push_all};
+use vsim_netlist_design::{Draft, Level};
+use vsim_netlist_signals::{Names, Signals, Statements};
 
 /// The changes of inputs at the edges of a clock in one direction, by the number of the edge, from
 /// 0.
@@ -22,7 +19,7 @@ pub(crate) struct Table {
 /// A bit of the counter of edges: its variable, and what it stands for.
 #[derive(Drop)]
 struct CounterBit {
-    name: String,
+    name: Draft,
     weight: usize,
 }
 
@@ -77,7 +74,7 @@ fn counter(alloc: Global, names: &mut Names, edges: usize) -> Result<Vec<Counter
         if weight == 0 {
             break;
         }
-        let name = names.fresh()?;
+        let name = names.fresh();
         bits.push(CounterBit { name, weight })?;
         weight /= 2;
     }
@@ -118,77 +115,54 @@ fn equal_bits(bits: &[CounterBit], number: usize, other: usize) -> usize {
 }
 
 /// Adds the condition that a bit is as in a number.
-fn push_test(
-    text: &mut String,
-    word: &str,
-    bit: &CounterBit,
-    number: usize,
-) -> Result<(), AllocError> {
+fn push_test(text: &mut Draft, word: &str, bit: &CounterBit, number: usize) {
     let literal = if is_set(bit, number) { "='1'" } else { "='0'" };
-    push_all(text, &[word, bit.name.as_str(), literal])
+    text.push_all(&[word, bit.name.as_str(), literal]);
 }
 
 /// Begins an `if` for each bit of a range.
-fn push_ifs(
-    text: &mut String,
-    bits: &[CounterBit],
-    number: usize,
-    from: usize,
-    to: usize,
-) -> Result<(), AllocError> {
+fn push_ifs(text: &mut Draft, bits: &[CounterBit], number: usize, from: usize, to: usize) {
     for (place, bit) in bits.iter().enumerate() {
         if from <= place && place < to {
-            push_test(text, "if ", bit, number)?;
-            text.push_str("then ")?;
+            push_test(text, "if ", bit, number);
+            text.push("then ");
         }
     }
-    Ok(())
 }
 
 /// Begins one `if` for all bits from an index on.
-fn push_last_if(
-    text: &mut String,
-    bits: &[CounterBit],
-    number: usize,
-    from: usize,
-) -> Result<(), AllocError> {
+fn push_last_if(text: &mut Draft, bits: &[CounterBit], number: usize, from: usize) {
     let mut word = "if ";
     for (place, bit) in bits.iter().enumerate() {
         if from <= place {
-            push_test(text, word, bit, number)?;
+            push_test(text, word, bit, number);
             word = "and ";
         }
     }
-    text.push_str("then ")
+    text.push("then ");
 }
 
 /// Ends this number of `if` statements.
-fn push_ends(text: &mut String, count: usize) -> Result<(), AllocError> {
+fn push_ends(text: &mut Draft, count: usize) {
     for _ in 0..count {
-        text.push_str("end if;")?;
+        text.push("end if;");
     }
-    Ok(())
 }
 
 /// Adds the assignment of a level.
-fn push_assignment(text: &mut String, name: &str, level: Level) -> Result<(), AllocError> {
-    let value = level.literal();
-    write!(text, "{name}<={value};")
+fn push_assignment(text: &mut Draft, name: &str, level: Level) {
+    text.push_all(&[name, "<="]);
+    text.push_all(&[level.literal(), ";"]);
 }
 
 /// Adds the assignments of changes.
-fn push_assignments(
-    text: &mut String,
-    signals: &Signals,
-    table: &Table,
-    order: &[(usize, usize)],
-) -> Result<(), AllocError> {
+fn push_assignments(text: &mut Draft, signals: &Signals, table: &Table, order: &[(usize, usize)]) {
     for (_, at) in order {
         if let Some((net, level)) = table.changes.get(*at) {
-            push_assignment(text, signals.name(*net).unwrap_or(""), *level)?;
+            push_assignment(text, signals.text(*net), *level);
         }
     }
-    text.push_str("\n")
+    text.push("\n");
 }
 
 /// The end of the changes at the same edge as the first of a list.
@@ -205,26 +179,26 @@ fn end_of_edge(order: &[(usize, usize)], edge: usize) -> usize
 
 /// Adds changes under one `if` for all bits from an index on.
 fn push_tested(
-    text: &mut String,
+    text: &mut Draft,
     bits: &[CounterBit],
     signals: &Signals,
     table: &Table,
     changes: &[(usize, usize)],
     number: usize,
     tested: usize,
-) -> Result<(), AllocError> {
+) {
     if tested >= bits.len() {
         return push_assignments(text, signals, table, changes);
     }
-    push_last_if(text, bits, number, tested)?;
-    push_assignments(text, signals, table, changes)?;
+    push_last_if(text, bits, number, tested);
+    push_assignments(text, signals, table, changes);
     push_ends(text, 1)
 }
 
 /// Adds the changes at one edge, which is `number`, under the tests of those bits that are not
 /// tested yet. `from` bits have been tested, and `to` are tested for the next edge as well.
 fn push_edge(
-    text: &mut String,
+    text: &mut Draft,
     bits: &[CounterBit],
     signals: &Signals,
     table: &Table,
@@ -232,21 +206,16 @@ fn push_edge(
     number: usize,
     from: usize,
     to: usize,
-) -> Result<(), AllocError> {
-    push_ifs(text, bits, number, from, to)?;
+) {
+    push_ifs(text, bits, number, from, to);
     let tested = from.max(to);
-    push_tested(text, bits, signals, table, changes, number, tested)?;
+    push_tested(text, bits, signals, table, changes, number, tested);
     push_ends(text, from.saturating_sub(to))
 }
 
 /// Adds the changes of a table, edge by edge. The bits in which an edge is equal to the next one
 /// are tested once for both.
-fn push_edges(
-    text: &mut String,
-    bits: &[CounterBit],
-    signals: &Signals,
-    table: &Table,
-) -> Result<(), AllocError> {
+fn push_edges(text: &mut Draft, bits: &[CounterBit], signals: &Signals, table: &Table) {
     let mut rest = table.order.as_slice();
     let mut from = 0;
     for _ in 0..table.order.len() {
@@ -256,13 +225,12 @@ fn push_edges(
         let (changes, others) = rest.split_at(end_of_edge(rest, *number));
         let to = shared(bits, *number, others);
         if from > 0 {
-            text.push_str("else ")?;
+            text.push("else ");
         }
-        push_edge(text, bits, signals, table, changes, *number, from, to)?;
+        push_edge(text, bits, signals, table, changes, *number, from, to);
         from = to;
         rest = others;
     }
-    Ok(())
 }
 
 /// The number of bits to be tested for an edge and the next one together: those in which they are
@@ -275,66 +243,64 @@ fn shared(bits: &[CounterBit], number: usize, others: &[(usize, usize)]) -> usiz
 }
 
 /// Adds one to the counter.
-fn push_increment(text: &mut String, bits: &[CounterBit]) -> Result<(), AllocError> {
+fn push_increment(text: &mut Draft, bits: &[CounterBit]) {
     for bit in bits.iter().rev() {
         let name = bit.name.as_str();
-        push_all(
-            text,
-            &[
-                "if ",
-                name,
-                "='0'then ",
-                name,
-                ":='1';else ",
-                name,
-                ":='0';",
-            ],
-        )?;
+        text.push_all(&[
+            "if ",
+            name,
+            "='0'then ",
+            name,
+            ":='1';else ",
+            name,
+            ":='0';",
+        ]);
     }
     push_ends(text, bits.len())
 }
 
 /// Adds the declaration of the counter.
-fn push_declaration(text: &mut String, bits: &[CounterBit]) -> Result<(), AllocError> {
+fn push_declaration(text: &mut Draft, bits: &[CounterBit]) {
     let mut before = "variable ";
     for bit in bits {
-        push_all(text, &[before, bit.name.as_str()])?;
+        text.push_all(&[before, bit.name.as_str()]);
         before = ",";
     }
-    text.push_str(":std_logic:='0';")
+    text.push(":std_logic:='0';")
 }
 
 /// Adds the part of the process before the changes.
-fn push_head(
-    text: &mut String,
-    clock: &str,
-    condition: &str,
-    bits: &[CounterBit],
-) -> Result<(), AllocError> {
-    push_all(text, &["process(", clock, ")"])?;
-    push_declaration(text, bits)?;
-    push_all(text, &["begin if ", condition, "(", clock, ")then\n"])
+fn push_head(text: &mut Draft, clock: &str, condition: &str, bits: &[CounterBit]) {
+    text.push_all(&["process(", clock, ")"]);
+    push_declaration(text, bits);
+    text.push_all(&["begin if ", condition, "(", clock, ")then\n"])
 }
 
 /// Adds the part of the process after the changes.
-fn push_tail(text: &mut String, bits: &[CounterBit]) -> Result<(), AllocError> {
-    push_increment(text, bits)?;
-    text.push_str("end if;end process;\n")
+fn push_tail(text: &mut Draft, bits: &[CounterBit]) {
+    push_increment(text, bits);
+    text.push("end if;end process;\n")
 }
 
 /// Writes the process of a table. It counts the edges of a clock for which `condition` holds, of
 /// which there are at most `edges`.
 pub(crate) fn put_table(
-    builder: &mut Builder<'_>,
+    statements: &mut Statements,
     table: &Table,
-    clock: &str,
+    clock: usize,
     condition: &str,
     edges: usize,
 ) -> Result<(), AllocError> {
-    let bits = counter(builder.alloc, &mut builder.signals.names, edges)?;
-    builder.processes = builder.processes.saturating_add(1);
-    let text = &mut builder.body;
-    push_head(text, clock, condition, bits.as_slice())?;
-    push_edges(text, bits.as_slice(), &builder.signals, table)?;
-    push_tail(text, bits.as_slice())
+    let bits = counter(statements.alloc, &mut statements.signals.names, edges)?;
+    statements.count_process();
+    let text = &mut statements.body;
+    push_head(
+        text,
+        statements.signals.text(clock),
+        condition,
+        bits.as_slice(),
+    );
+    push_edges(text, bits.as_slice(), &statements.signals, table);
+    push_tail(text, bits.as_slice());
+    Ok(())
 }

@@ -1,9 +1,9 @@
 //! Which inputs are written as tables of their changes at the edges of a clock.
 
-use crate::builder::Builder;
 use crate::table::{Table, put_table};
 use std::alloc::{AllocError, Global};
-use vsim_netlist_cells::Level;
+use vsim_netlist_design::Level;
+use vsim_netlist_signals::Statements;
 use vsim_netlist_stimuli::Change;
 
 /// A clock: its net, its initial level, half its period, and the time of its last edge.
@@ -127,15 +127,15 @@ impl Tables {
     }
 
     /// Writes the processes of the tables.
-    pub(crate) fn put(&self, builder: &mut Builder<'_>) -> Result<(), AllocError> {
-        let clock = builder.signals.named(self.clock.net)?;
-        let clock = clock.as_str();
+    pub(crate) fn put(&self, statements: &mut Statements) -> Result<(), AllocError> {
+        let clock = self.clock.net;
         let edges = edges_in_direction(&self.clock);
+        statements.signals.ensure(clock);
         if let Some(table) = &self.rising {
-            put_table(builder, table, clock, "rising_edge", edges)?;
+            put_table(statements, table, clock, "rising_edge", edges)?;
         }
         if let Some(table) = &self.falling {
-            put_table(builder, table, clock, "falling_edge", edges)?;
+            put_table(statements, table, clock, "falling_edge", edges)?;
         }
         Ok(())
     }

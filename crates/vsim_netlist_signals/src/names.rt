@@ -1,7 +1,8 @@
 //! The names of signals in a text.
 
-use indexmap::IndexSet;
 use std::alloc::{AllocError, Global};
+use std::collections::HashSet;
+use vsim_netlist_design::Draft;
 
 /// Names that no signal may have: reserved words of VHDL, and predeclared names.
 const RESERVED: [&str; 113] = [
@@ -163,16 +164,10 @@ const PREDEFINED: [&str; 35] = [
 #[derive(Drop)]
 pub struct Names {
     alloc: Global,
-    taken: IndexSet<String>,
+    taken: HashSet<String>,
     next: u64,
-}
-
-/// Adds names to those in use.
-fn reserve(alloc: Global, taken: &mut IndexSet<String>, words: &[&str]) -> Result<(), AllocError> {
-    for word in words {
-        taken.insert(String::from_str(alloc, word)?)?;
-    }
-    Ok(())
+    /// Whether memory sufficed so far.
+    is_whole: bool,
 }
 
 /// The letter or digit with a number below 36.
@@ -186,36 +181,38 @@ fn digit(number: u64) -> char {
 }
 
 /// The short name with a number: a letter, then letters and digits.
-fn short(alloc: Global, number: u64) -> Result<String, AllocError> {
-    let mut name = String::new(alloc);
-    name.push(digit(number % 26))?;
+fn short(alloc: Global, number: u64) -> Draft {
+    let mut name = Draft::new(alloc);
+    name.push_char(digit(number % 26));
     let mut left = number / 26;
     for _ in 0..u64::BITS {
         if left == 0 {
             break;
         }
-        name.push(digit((left - 1) % 36))?;
+        name.push_char(digit((left - 1) % 36));
         left = (left - 1) / 36;
     }
-    Ok(name)
+    name
 }
 
 /// A name of the source in VHDL: letters and digits, with an underscore for any other character.
-pub fn plain_name(alloc: Global, source: &str) -> Result<String, AllocError> {
-    let mut name = String::from_str(alloc, if starts_plain(source) { "" } else { "s" })?;
+pub(crate) fn plain_name(alloc: Global, source: &Draft) -> Draft {
+    let text = source.as_str();
+    let mut name = Draft::of(alloc, if starts_plain(text) { "" } else { "s" });
+    name.lack_with(source);
     let mut has_gap = false;
-    for byte in source.bytes() {
+    for byte in text.bytes() {
         if !byte.is_ascii_alphanumeric() {
             has_gap = true;
             continue;
         }
-        if has_gap && !name.is_empty() {
-            name.push('_')?;
+        if has_gap && !name.as_str().is_empty() {
+            name.push("_");
         }
         has_gap = false;
-        name.push(char::from(byte.to_ascii_lowercase()))?;
+        name.push_char(char::from(byte.to_ascii_lowercase()));
     }
-    Ok(name)
+    name
 }
 
 /// Whether a name begins with a letter.
@@ -228,51 +225,92 @@ fn starts_plain(source: &str) -> bool {
 
 impl Names {
     /// Only reserved names are in use.
-    pub fn new(alloc: Global) -> Result<Names, AllocError> {
-        let mut taken = IndexSet::new(alloc);
-        reserve(alloc, &mut taken, &RESERVED)?;
-        reserve(alloc, &mut taken, &PREDEFINED)?;
-        Ok(Names {
+    pub fn new(alloc: Global) -> Names {
+        let mut names = Names {
             alloc,
-            taken,
+            taken: HashSet::new(alloc),
             next: 0,
-        })
+            is_whole: true,
+        };
+        names.reserve(&RESERVED);
+        names.reserve(&PREDEFINED);
+        names
+    }
+
+    /// Adds names to those in use.
+    fn reserve(&mut self, words: &[&str]) {
+        for word in words {
+            let _ = self.take(word);
+        }
+    }
+
+    /// Notes that memory did not suffice.
+    pub fn lack(&mut self) {
+        self.is_whole = false;
+    }
+
+    /// Whether memory sufficed for all names.
+    pub fn is_whole(&self) -> bool {
+        self.is_whole
+    }
+
+    /// Reserves a name, if there is memory. Returns `false` if it is in use.
+    fn try_take(&mut self, name: &str) -> Result<bool, AllocError> {
+        let name = String::from_str(self.alloc, name)?;
+        Ok(self.taken.insert(name)?)
     }
 
     /// Reserves a name. Returns `false` if it is in use.
-    fn take(&mut self, name: &String) -> Result<bool, AllocError> {
-        Ok(self.taken.insert(name.clone()?)?)
+    fn take(&mut self, name: &str) -> bool {
+        match self.try_take(name) {
+            Ok(is_new) => is_new,
+            Err(_) => {
+                self.lack();
+                true
+            }
+        }
+    }
+
+    /// Reserves a name that was put together. Returns `false` if it is in use.
+    fn take_draft(&mut self, name: &Draft) -> bool {
+        if !name.is_whole() {
+            self.lack();
+        }
+        self.take(name.as_str())
     }
 
     /// A new short name.
-    pub fn fresh(&mut self) -> Result<String, AllocError> {
+    pub fn fresh(&mut self) -> Draft {
         for _ in 0..u64::MAX {
-            let name = short(self.alloc, self.next)?;
+            let name = short(self.alloc, self.next);
             self.next = self.next.saturating_add(1);
-            if self.take(&name)? {
-                return Ok(name);
+            if self.take_draft(&name) {
+                return name;
             }
         }
-        Ok(String::new(self.alloc))
+        Draft::new(self.alloc)
     }
 
     /// A new name, as near as possible to one of the source.
-    pub fn like(&mut self, source: &str) -> Result<String, AllocError> {
-        let name = plain_name(self.alloc, source)?;
-        if self.take(&name)? {
-            return Ok(name);
+    pub fn like(&mut self, source: &Draft) -> Draft {
+        let name = plain_name(self.alloc, source);
+        if self.take_draft(&name) {
+            return name;
         }
-        self.numbered(name)
+        self.numbered(&name)
     }
 
     /// A new name that ends in a number.
-    fn numbered(&mut self, name: String) -> Result<String, AllocError> {
+    fn numbered(&mut self, name: &Draft) -> Draft {
         for number in 2..u64::MAX {
-            let other = format!(in self.alloc; "{name}_{number}")?;
-            if self.take(&other)? {
-                return Ok(other);
+            let mut other = Draft::new(self.alloc);
+            other.push_draft(name);
+            other.push("_");
+            other.push_shown(&number);
+            if self.take_draft(&other) {
+                return other;
             }
         }
-        Ok(name)
+        Draft::new(self.alloc)
     }
 }

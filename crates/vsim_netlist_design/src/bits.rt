@@ -1,6 +1,6 @@
 //! The bits that pins and ports are connected to.
 
-pub use vsim_netlist_document::Level;
+use crate::level::Level;
 
 /// The connection of a pin: a net, by its index among the nets, or a constant.
 #[derive(Clone, Copy, PartialEq, Eq)]

@@ -1,0 +1,63 @@
+//! The statements of a text, as far as they have been written.
+
+use crate::signals::Signals;
+use std::alloc::Global;
+use vsim_netlist_design::Draft;
+
+/// The statements written so far, the signals that they name, and the number of their processes and
+/// drivers.
+pub struct Statements {
+    pub alloc: Global,
+    pub signals: Signals,
+    pub body: Draft,
+    pub processes: usize,
+    pub drivers: usize,
+}
+
+/// Written by hand so that code which drops it needs no proof about its contents.
+impl Drop for Statements {
+    fn drop(self) {
+        let Statements {
+            alloc: _,
+            signals,
+            body,
+            processes: _,
+            drivers: _,
+        } = self;
+        drop((signals, body));
+    }
+}
+
+impl Statements {
+    /// Nothing has been written. The signals have their names.
+    pub fn new(alloc: Global, signals: Signals) -> Statements {
+        Statements {
+            alloc,
+            signals,
+            body: Draft::new(alloc),
+            processes: 0,
+            drivers: 0,
+        }
+    }
+
+    /// Adds the name of a signal.
+    pub fn push_name(&mut self, place: usize) {
+        self.body.push(self.signals.text(place));
+    }
+
+    /// Counts a process that drives one signal.
+    pub fn count(&mut self) {
+        self.count_process();
+        self.count_driver();
+    }
+
+    /// Counts a process.
+    pub fn count_process(&mut self) {
+        self.processes = self.processes.saturating_add(1);
+    }
+
+    /// Counts a signal that a process drives.
+    pub fn count_driver(&mut self) {
+        self.drivers = self.drivers.saturating_add(1);
+    }
+}

@@ -1,0 +1,413 @@
+//! Stimuli as statements.
+
+use crate::tables::{Clock, Tables, later_changes};
+use std::alloc::{AllocError, Global};
+use std::slice::Iter;
+use vsim_netlist_design::{Bit, Draft, Level, Netlist, Port, push_time};
+use vsim_netlist_signals::Statements;
+use vsim_netlist_stimuli::{Change, Stimuli};
+
+/// The maximum number of elements of a waveform.
+const ELEMENTS: usize = 16;
+
+/// The minimum number of changes of a clock.
+const CLOCK_CHANGES: usize = 6;
+
+/// A net of an input, and its changes.
+#[derive(Clone, Copy)]
+struct Driven<'a> {
+    place: usize,
+    changes: &'a [Change],
+    /// Half the period, if the net is a clock.
+    half: Option<u64>,
+}
+
+/// Whether a change is the one with this number of a clock.
+fn is_edge(change: &Change, first: Level, half: u64, number: usize) -> bool {
+    let level = match (first, number % 2) {
+        (Level::Zero, 0) | (Level::One, 1) => Level::Zero,
+        _ => Level::One,
+    };
+    change.level == level && Some(change.time) == half.checked_mul(number as u64)
+}
+
+/// Half the period, if these are the changes of a clock that begins at time 0.
+fn half_period(changes: &[Change]) -> Option<u64> {
+    let [first, second, ..] = changes else {
+        return None;
+    };
+    let is_level = first.level == Level::Zero || first.level == Level::One;
+    let half = second.time;
+    if changes.len() < CLOCK_CHANGES || !is_level || half == 0 {
+        return None;
+    }
+    let level = first.level;
+    for (number, change) in changes.iter().enumerate() {
+        if !is_edge(change, level, half, number) {
+            return None;
+        }
+    }
+    Some(half)
+}
+
+/// Adds the nets of an input, with the next lists of changes.
+fn push_nets<'a>(
+    nets: &mut Vec<Driven<'a>>,
+    lists: &mut Iter<'a, Vec<Change>>,
+    port: &Port,
+) -> Result<(), AllocError> {
+    for bit in port.bits.iter() {
+        let Some(changes) = lists.next() else {
+            break;
+        };
+        if let Bit::Net(place) = bit {
+            nets.push(one(*place, changes.as_slice()))?;
+        }
+    }
+    Ok(())
+}
+
+/// The nets of the inputs, in the order of the stimulus bits.
+fn driven_nets<'a>(
+    alloc: Global,
+    netlist: &Netlist,
+    stimuli: &'a Stimuli,
+) -> Result<Vec<Driven<'a>>, AllocError> {
+    let mut nets = Vec::new(alloc);
+    let mut lists = stimuli.bits.iter();
+    for port in netlist.ports.iter() {
+        if port.is_input {
+            push_nets(&mut nets, &mut lists, port)?;
+        }
+    }
+    Ok(nets)
+}
+
+/// A net with its changes.
+fn one(place: usize, changes: &[Change]) -> Driven<'_> {
+    Driven {
+        place,
+        changes,
+        half: half_period(changes),
+    }
+}
+
+/// The time of the last change of a net.
+fn last(net: &Driven<'_>) -> u64 {
+    match net.changes.last() {
+        Some(change) => change.time,
+        None => 0,
+    }
+}
+
+/// The time of the last change of any clock.
+fn last_edge(nets: &[Driven<'_>]) -> u64 {
+    let mut latest = 0;
+    for net in nets {
+        if net.half.is_some() {
+            latest = last(net).max(latest);
+        }
+    }
+    latest
+}
+
+/// Clocks that end before others are not written as clocks.
+fn leave_whole_clocks(nets: &mut Vec<Driven<'_>>, end: u64) {
+    for net in nets.iter_mut() {
+        if let Some(half) = net.half {
+            let next = match net.changes.last() {
+                Some(change) => change.time.saturating_add(half),
+                None => 0,
+            };
+            if next <= end {
+                net.half = None;
+            }
+        }
+    }
+}
+
+/// How stimuli are written.
+#[derive(Clone, Copy)]
+struct Manner<'a> {
+    /// For each net, whether a clock depends on it.
+    clocks: &'a [bool],
+    /// The hold time of inputs other than clocks, in femtoseconds.
+    hold: u64,
+    /// The time of the last change of any clock.
+    end: u64,
+    /// The signal that stops the clocks, if there are any.
+    running: Option<usize>,
+}
+
+/// Adds an element of a waveform.
+fn push_element(text: &mut Draft, change: &Change, later: u64) {
+    text.push_all(&[change.level.literal(), "after "]);
+    push_time(text, change.time.saturating_add(later));
+}
+
+/// Adds the assignment of some changes.
+fn push_waveform(text: &mut Draft, target: &str, changes: &[Change], later: u64, is_first: bool) {
+    let mut before = if is_first { "" } else { "transport" };
+    text.push_all(&[target, "<="]);
+    for change in changes {
+        text.push(before);
+        push_element(text, change, later);
+        before = ",";
+    }
+    text.push(";\n");
+}
+
+/// Adds the assignments of all changes of a signal.
+fn push_changes(text: &mut Draft, target: &str, changes: &[Change], later: u64) {
+    let mut is_first = true;
+    for some in changes.chunks(ELEMENTS) {
+        push_waveform(text, target, some, later, is_first);
+        is_first = false;
+    }
+}
+
+/// The first change of a net is its initial value, if it is at time 0. Returns the changes after
+/// it.
+fn begin<'a>(statements: &mut Statements, net: &Driven<'a>) -> &'a [Change] {
+    if let Some(first) = net.changes.first() {
+        if first.time == 0 {
+            statements.signals.begin(net.place, first.level);
+        }
+    }
+    later_changes(net.changes)
+}
+
+/// Writes a clock that stops when a signal falls.
+fn put_clock(statements: &mut Statements, net: &Driven<'_>, half: u64, running: usize) {
+    statements.signals.ensure(net.place);
+    let _ = begin(statements, net);
+    statements.count();
+    statements.push_name(net.place);
+    statements.body.push("<=");
+    statements.push_name(net.place);
+    statements.body.push(" xor ");
+    statements.push_name(running);
+    statements.body.push(" after ");
+    push_time(&mut statements.body, half);
+    statements.body.push(";\n");
+}
+
+/// Writes that a net follows another one delta cycle later.
+fn put_copy(statements: &mut Statements, from: usize, place: usize) {
+    statements.signals.ensure(place);
+    statements.count();
+    statements.push_name(place);
+    statements.body.push("<=");
+    statements.push_name(from);
+    statements.body.push(";\n");
+}
+
+/// The signal that a net follows one delta cycle later.
+fn put_relay(statements: &mut Statements, net: &Driven<'_>) -> usize {
+    let initial = match net.changes.first() {
+        Some(first) if first.time == 0 => Some(first.level),
+        _ => None,
+    };
+    let relay = statements.signals.add(initial);
+    put_copy(statements, relay, net.place);
+    relay
+}
+
+/// Writes the changes of an input other than a clock of constant period.
+fn put_changes(
+    statements: &mut Statements,
+    once: &mut Draft,
+    net: &Driven<'_>,
+    is_clock: bool,
+    hold: u64,
+) {
+    let rest = begin(statements, net);
+    if rest.is_empty() {
+        return statements.signals.ensure(net.place);
+    }
+    let target = if !is_clock && hold == 0 {
+        put_relay(statements, net)
+    } else {
+        statements.signals.ensure(net.place);
+        net.place
+    };
+    statements.count_driver();
+    let later = if is_clock { 0 } else { hold };
+    push_changes(once, statements.signals.text(target), rest, later);
+}
+
+/// The clock of the tables: the first one.
+fn first_clock(nets: &[Driven<'_>], end: u64) -> Option<Clock> {
+    for net in nets {
+        if let (Some(half), Some(first)) = (net.half, net.changes.first()) {
+            return Some(Clock {
+                net: net.place,
+                first: first.level,
+                half,
+                end,
+            });
+        }
+    }
+    None
+}
+
+/// Whether a clock depends on a net, given the same of all nets.
+fn is_clock(clocks: &[bool], net: &Driven<'_>) -> bool {
+    clocks.get(net.place).copied() == Some(true)
+}
+
+/// The inputs that may be in a table: those on which no clock depends.
+fn table_inputs<'a>(
+    alloc: Global,
+    nets: &[Driven<'a>],
+    clocks: &[bool],
+) -> Result<Vec<(usize, &'a [Change])>, AllocError> {
+    let mut inputs = Vec::new(alloc);
+    for net in nets {
+        if net.half.is_none() && !is_clock(clocks, net) {
+            inputs.push((net.place, net.changes))?;
+        }
+    }
+    Ok(inputs)
+}
+
+/// The tables of the inputs that change with the first clock, one delta cycle after its edges;
+/// none if inputs change later.
+fn tables(
+    alloc: Global,
+    nets: &[Driven<'_>],
+    manner: Manner<'_>,
+) -> Result<Option<Tables>, AllocError> {
+    let Some(clock) = first_clock(nets, manner.end) else {
+        return Ok(None);
+    };
+    if manner.hold != 0 {
+        return Ok(None);
+    }
+    let inputs = table_inputs(alloc, nets, manner.clocks)?;
+    Ok(Some(Tables::of(alloc, clock, inputs.as_slice())?))
+}
+
+/// Whether a table has the changes of a net.
+fn is_in_table(tables: &Option<Tables>, net: &Driven<'_>) -> bool {
+    match tables {
+        Some(tables) => tables.has(net.changes),
+        None => false,
+    }
+}
+
+/// Prepares an input whose changes are in a table.
+fn put_in_table(statements: &mut Statements, net: &Driven<'_>) {
+    let _ = begin(statements, net);
+    statements.count_driver();
+    statements.signals.ensure(net.place);
+}
+
+/// Writes the driver of an input.
+fn put_net(
+    statements: &mut Statements,
+    once: &mut Draft,
+    net: &Driven<'_>,
+    manner: Manner<'_>,
+    tables: &Option<Tables>,
+) {
+    let is_clock = is_clock(manner.clocks, net);
+    match (net.half, manner.running) {
+        (Some(half), Some(running)) => put_clock(statements, net, half, running),
+        _ if !is_clock && is_in_table(tables, net) => put_in_table(statements, net),
+        _ => put_changes(statements, once, net, is_clock, manner.hold),
+    }
+}
+
+/// Writes the drivers of the inputs.
+fn put_inputs(
+    statements: &mut Statements,
+    once: &mut Draft,
+    nets: &[Driven<'_>],
+    manner: Manner<'_>,
+) -> Result<(), AllocError> {
+    let tables = tables(statements.alloc, nets, manner)?;
+    for net in nets {
+        put_net(statements, once, net, manner, &tables);
+    }
+    match &tables {
+        Some(tables) => tables.put(statements),
+        None => Ok(()),
+    }
+}
+
+/// Writes the process that is executed once, with these statements.
+fn put_once(statements: &mut Statements, once: &Draft) {
+    if once.as_str().is_empty() {
+        return;
+    }
+    let never = statements.signals.constant(Level::Zero);
+    statements.count_process();
+    statements.body.push("process(");
+    statements.push_name(never);
+    statements.body.push(")begin\n");
+    statements.body.push_draft(once);
+    statements.body.push("end process;\n");
+}
+
+/// The signal that stops the clocks at a time.
+fn put_run(statements: &mut Statements, once: &mut Draft, end: u64) -> usize {
+    let running = statements.signals.add(Some(Level::One));
+    statements.count_driver();
+    let stop = Change {
+        time: end,
+        level: Level::Zero,
+    };
+    push_changes(once, statements.signals.text(running), &[stop], 0);
+    running
+}
+
+/// Whether any net is a clock.
+fn has_clock(nets: &[Driven<'_>]) -> bool {
+    for net in nets {
+        if net.half.is_some() {
+            return true;
+        }
+    }
+    false
+}
+
+/// Writes stimuli, given for each net whether a clock depends on it, and the hold time of inputs
+/// other than clocks, in femtoseconds.
+pub fn put_stimuli(
+    statements: &mut Statements,
+    netlist: &Netlist,
+    stimuli: &Stimuli,
+    clocks: &[bool],
+    hold: u64,
+) -> Result<(), AllocError> {
+    let mut nets = driven_nets(statements.alloc, netlist, stimuli)?;
+    let end = last_edge(nets.as_slice());
+    leave_whole_clocks(&mut nets, end);
+    put_driven(statements, nets.as_slice(), clocks, hold, end)
+}
+
+/// Writes the drivers of the inputs, and the clocks.
+fn put_driven(
+    statements: &mut Statements,
+    nets: &[Driven<'_>],
+    clocks: &[bool],
+    hold: u64,
+    end: u64,
+) -> Result<(), AllocError> {
+    let mut once = Draft::new(statements.alloc);
+    let running = if has_clock(nets) {
+        Some(put_run(statements, &mut once, end))
+    } else {
+        None
+    };
+    let manner = Manner {
+        clocks,
+        hold,
+        end,
+        running,
+    };
+    put_inputs(statements, &mut once, nets, manner)?;
+    put_once(statements, &once);
+    Ok(())
+}
