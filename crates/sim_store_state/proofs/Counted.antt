@@ -1,11 +1,10 @@
 -- The places of drivers among the sources of nets, as they are found.
-use Rattle.std.proofs.Common.{ℕ, zero, suc, ◌+◌, ◌<◌, ◌≤◌, ◌≡◌, ◌≢◌, ◌==◌, ◌++◌, ◌||◌, ◌&&◌, eqb, Bool, true, false, List, [], ◌∷◌, length, get_or, set, map}
+use Rattle.std.proofs.Common.{ℕ, zero, suc, ◌+◌, ◌<◌, ◌≡◌, ◌≢◌, ◌==◌, ◌++◌, ◌||◌, ◌&&◌, eqb, Bool, true, false, List, [], ◌∷◌, length, get_or, set, map}
 use Rattle.std.proofs.Common.{take, add-one, refl, ap, sym, ◌∙◌, arith}
 use Rattle.std.specs.Prelude.{if◌then◌else◌}
 use Rattle.std.proofs.lemmas.Bool.Decides.{nat_tests}
-use Rattle.std.proofs.lemmas.List.{get_or-set_same, get_or-set_other, get_or-map, get_or_past, length-map}
+use Rattle.std.proofs.lemmas.List.{get_or-set_same, get_or-set_other}
 use Rattle.sim_logic.specs.declared.logic.Logic.{Logic}
-use Rattle.sim_logic.specs.declared.logic.Logic.TheVariants.{U}
 use Rattle.sim_flat_design.specs.declared.design.Source.{Source}
 use Rattle.sim_flat_design.specs.declared.design.Source.TheVariants as source
 use Rattle.sim_store_state.specs.Changes.{AreTallied, is_driver, tally_of, value_from}
@@ -39,12 +38,6 @@ placed-added places driver net place n p d lt = go (eqb driver d) refl
         let apart : d ≢ driver = grind (arith, nat_tests) in
         ap (λ w. is_placed w n p) (get_or-set_other places driver d more [] apart)
         ∙ sym (or_false (is_placed (get_or places d []) n p))
-
--- there is no such driver
-pub placed-past : (places : List (List (ℕ × ℕ))) (driver net place n p d : ℕ) → d < length places → length places ≤ driver
-    → is_placed (get_or places d []) n p ≡ (is_placed (get_or places d []) n p || ((driver == d) && ((net == n) && (place == p))))
-placed-past places driver net place n p d lt le =
-    let apart : eqb driver d ≡ false = grind (arith, nat_tests) in rw apart (sym (or_false (is_placed (get_or places d []) n p)))
 
 -- ---- the sources of a net, one after another
 
@@ -139,7 +132,3 @@ tallied-none sources driving t e = rw e (record {
   kept = λ n some. absurd (omega (arith, some));
   placed = λ n p d below within. absurd (omega (arith, within));
 })
-
--- no places at first
-pub none-placed : (places : List (List (ℕ × ℕ))) → ((d : ℕ) → get_or places d [] ≡ []) → (n p d : ℕ) → is_placed (get_or places d []) n p ≡ false
-none-placed places none n p d = ap (λ w. is_placed w n p) (none d)

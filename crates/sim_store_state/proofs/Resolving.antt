@@ -6,7 +6,7 @@ use Rattle.sim_logic.specs.declared.logic.Logic.TheVariants.{U, X, Zero, One, Z,
 use Rattle.sim_logic.specs.Resolution.{resolved}
 use Rattle.sim_logic.specs.Tables.{resolution_table}
 use Rattle.sim_logic.proofs.TableLaws.{resolution_table-assoc, resolution_table-comm}
-use Rattle.sim_store_state.specs.Tallies.{IsTally, count_at, is_positive, resolution_by, resolution_of, times}
+use Rattle.sim_store_state.specs.Tallies.{IsTally, is_positive, resolution_by, resolution_of, times}
 
 -- ---- one more value
 
