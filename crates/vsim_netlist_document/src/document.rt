@@ -6,6 +6,19 @@ use std::alloc::Global;
 use std::default::MadeWith;
 use vsim_netlist_design::Level;
 
+/// The name of a member, spelled exactly so.
+macro_rules! exact {
+    ($name:literal) => {
+        Name {
+            name: $name,
+            kind: NameKind::Field,
+            case: Case::AsIs,
+            aliases: &[],
+            skipped: false,
+        }
+    };
+}
+
 /// The members of an object, in order.
 #[derive(Drop)]
 pub struct Members<T> {
@@ -121,10 +134,84 @@ pub struct Attributes {
     pub init: Text,
 }
 
+impl MadeWith<Global> for Attributes {
+    fn made_with(alloc: Global) -> Attributes {
+        Attributes {
+            src: MadeWith::made_with(alloc),
+            top: MadeWith::made_with(alloc),
+            init: MadeWith::made_with(alloc),
+        }
+    }
+}
+
+impl<'de> FromObject<'de> for Attributes {
+    const NAMES: &'static [Name<'static>] = &[exact!("src"), exact!("top"), exact!("init")];
+
+    const REQUIRED: usize = 0;
+
+    fn read_member<F: Format>(
+        &mut self,
+        member: usize,
+        alloc: Global,
+        from: &mut Deserializer<'de, '_, F>,
+    ) -> Result<(), F::Error> {
+        match member {
+            0 => read_value(&mut self.src, alloc, from),
+            1 => read_value(&mut self.top, alloc, from),
+            2 => read_value(&mut self.init, alloc, from),
+            _ => from.skip(),
+        }
+    }
+}
+
+impl<'de> Deserialize<'de> for Attributes {
+    fn deserialize<F: Format>(
+        alloc: Global,
+        from: &mut Deserializer<'de, '_, F>,
+    ) -> Result<Attributes, F::Error> {
+        read_object(alloc, from)
+    }
+}
+
 /// The parameters that matter here.
 #[derive(Drop)]
 pub struct Parameters {
     pub table: Text,
+}
+
+impl MadeWith<Global> for Parameters {
+    fn made_with(alloc: Global) -> Parameters {
+        Parameters {
+            table: MadeWith::made_with(alloc),
+        }
+    }
+}
+
+impl<'de> FromObject<'de> for Parameters {
+    const NAMES: &'static [Name<'static>] = &[exact!("LUT")];
+
+    const REQUIRED: usize = 0;
+
+    fn read_member<F: Format>(
+        &mut self,
+        member: usize,
+        alloc: Global,
+        from: &mut Deserializer<'de, '_, F>,
+    ) -> Result<(), F::Error> {
+        match member {
+            0 => read_value(&mut self.table, alloc, from),
+            _ => from.skip(),
+        }
+    }
+}
+
+impl<'de> Deserialize<'de> for Parameters {
+    fn deserialize<F: Format>(
+        alloc: Global,
+        from: &mut Deserializer<'de, '_, F>,
+    ) -> Result<Parameters, F::Error> {
+        read_object(alloc, from)
+    }
 }
 
 /// A port of a module.
@@ -134,6 +221,43 @@ pub struct WrittenPort {
     pub bits: Vec<WrittenBit>,
 }
 
+impl MadeWith<Global> for WrittenPort {
+    fn made_with(alloc: Global) -> WrittenPort {
+        WrittenPort {
+            direction: MadeWith::made_with(alloc),
+            bits: MadeWith::made_with(alloc),
+        }
+    }
+}
+
+impl<'de> FromObject<'de> for WrittenPort {
+    const NAMES: &'static [Name<'static>] = &[exact!("direction"), exact!("bits")];
+
+    const REQUIRED: usize = 2;
+
+    fn read_member<F: Format>(
+        &mut self,
+        member: usize,
+        alloc: Global,
+        from: &mut Deserializer<'de, '_, F>,
+    ) -> Result<(), F::Error> {
+        match member {
+            0 => read_value(&mut self.direction, alloc, from),
+            1 => read_value(&mut self.bits, alloc, from),
+            _ => from.skip(),
+        }
+    }
+}
+
+impl<'de> Deserialize<'de> for WrittenPort {
+    fn deserialize<F: Format>(
+        alloc: Global,
+        from: &mut Deserializer<'de, '_, F>,
+    ) -> Result<WrittenPort, F::Error> {
+        read_object(alloc, from)
+    }
+}
+
 /// A cell of a module.
 #[derive(Drop)]
 pub struct WrittenCell {
@@ -141,6 +265,52 @@ pub struct WrittenCell {
     pub connections: Members<Vec<WrittenBit>>,
     pub parameters: Parameters,
     pub attributes: Attributes,
+}
+
+impl MadeWith<Global> for WrittenCell {
+    fn made_with(alloc: Global) -> WrittenCell {
+        WrittenCell {
+            kind: MadeWith::made_with(alloc),
+            connections: MadeWith::made_with(alloc),
+            parameters: MadeWith::made_with(alloc),
+            attributes: MadeWith::made_with(alloc),
+        }
+    }
+}
+
+impl<'de> FromObject<'de> for WrittenCell {
+    const NAMES: &'static [Name<'static>] = &[
+        exact!("type"),
+        exact!("connections"),
+        exact!("parameters"),
+        exact!("attributes"),
+    ];
+
+    const REQUIRED: usize = 2;
+
+    fn read_member<F: Format>(
+        &mut self,
+        member: usize,
+        alloc: Global,
+        from: &mut Deserializer<'de, '_, F>,
+    ) -> Result<(), F::Error> {
+        match member {
+            0 => read_value(&mut self.kind, alloc, from),
+            1 => read_value(&mut self.connections, alloc, from),
+            2 => read_value(&mut self.parameters, alloc, from),
+            3 => read_value(&mut self.attributes, alloc, from),
+            _ => from.skip(),
+        }
+    }
+}
+
+impl<'de> Deserialize<'de> for WrittenCell {
+    fn deserialize<F: Format>(
+        alloc: Global,
+        from: &mut Deserializer<'de, '_, F>,
+    ) -> Result<WrittenCell, F::Error> {
+        read_object(alloc, from)
+    }
 }
 
 /// A name and the bits that it stands for.
@@ -153,6 +323,55 @@ pub struct WrittenName {
     pub attributes: Attributes,
 }
 
+impl MadeWith<Global> for WrittenName {
+    fn made_with(alloc: Global) -> WrittenName {
+        WrittenName {
+            bits: MadeWith::made_with(alloc),
+            hide_name: MadeWith::made_with(alloc),
+            offset: MadeWith::made_with(alloc),
+            upto: MadeWith::made_with(alloc),
+            attributes: MadeWith::made_with(alloc),
+        }
+    }
+}
+
+impl<'de> FromObject<'de> for WrittenName {
+    const NAMES: &'static [Name<'static>] = &[
+        exact!("bits"),
+        exact!("hide_name"),
+        exact!("offset"),
+        exact!("upto"),
+        exact!("attributes"),
+    ];
+
+    const REQUIRED: usize = 1;
+
+    fn read_member<F: Format>(
+        &mut self,
+        member: usize,
+        alloc: Global,
+        from: &mut Deserializer<'de, '_, F>,
+    ) -> Result<(), F::Error> {
+        match member {
+            0 => read_value(&mut self.bits, alloc, from),
+            1 => read_value(&mut self.hide_name, alloc, from),
+            2 => read_value(&mut self.offset, alloc, from),
+            3 => read_value(&mut self.upto, alloc, from),
+            4 => read_value(&mut self.attributes, alloc, from),
+            _ => from.skip(),
+        }
+    }
+}
+
+impl<'de> Deserialize<'de> for WrittenName {
+    fn deserialize<F: Format>(
+        alloc: Global,
+        from: &mut Deserializer<'de, '_, F>,
+    ) -> Result<WrittenName, F::Error> {
+        read_object(alloc, from)
+    }
+}
+
 /// A module.
 #[derive(Drop)]
 pub struct Module {
@@ -162,76 +381,89 @@ pub struct Module {
     pub attributes: Attributes,
 }
 
+impl MadeWith<Global> for Module {
+    fn made_with(alloc: Global) -> Module {
+        Module {
+            ports: MadeWith::made_with(alloc),
+            cells: MadeWith::made_with(alloc),
+            netnames: MadeWith::made_with(alloc),
+            attributes: MadeWith::made_with(alloc),
+        }
+    }
+}
+
+impl<'de> FromObject<'de> for Module {
+    const NAMES: &'static [Name<'static>] = &[
+        exact!("ports"),
+        exact!("cells"),
+        exact!("netnames"),
+        exact!("attributes"),
+    ];
+
+    const REQUIRED: usize = 3;
+
+    fn read_member<F: Format>(
+        &mut self,
+        member: usize,
+        alloc: Global,
+        from: &mut Deserializer<'de, '_, F>,
+    ) -> Result<(), F::Error> {
+        match member {
+            0 => read_value(&mut self.ports, alloc, from),
+            1 => read_value(&mut self.cells, alloc, from),
+            2 => read_value(&mut self.netnames, alloc, from),
+            3 => read_value(&mut self.attributes, alloc, from),
+            _ => from.skip(),
+        }
+    }
+}
+
+impl<'de> Deserialize<'de> for Module {
+    fn deserialize<F: Format>(
+        alloc: Global,
+        from: &mut Deserializer<'de, '_, F>,
+    ) -> Result<Module, F::Error> {
+        read_object(alloc, from)
+    }
+}
+
 /// A netlist.
 #[derive(Drop)]
 pub struct Document {
     pub modules: Members<Module>,
 }
 
-/// Makes a type readable from an object. Its members are listed with their places from 0 on, their
-/// names and their fields; first come those that have to be there, whose number is given.
-macro_rules! read_by_members {
-    ($type:ident, $required:literal, $($place:literal $name:literal $field:ident)*) => {
-        impl MadeWith<Global> for $type {
-            fn made_with(alloc: Global) -> $type {
-                $type { $($field: MadeWith::made_with(alloc)),* }
-            }
+impl MadeWith<Global> for Document {
+    fn made_with(alloc: Global) -> Document {
+        Document {
+            modules: MadeWith::made_with(alloc),
         }
-
-        impl<'de> FromObject<'de> for $type {
-            const NAMES: &'static [Name<'static>] = &[$(Name {
-                name: $name,
-                kind: NameKind::Field,
-                case: Case::AsIs,
-                aliases: &[],
-                skipped: false,
-            }),*];
-
-            const REQUIRED: usize = $required;
-
-            fn read_member<F: Format>(
-                &mut self,
-                member: usize,
-                alloc: Global,
-                from: &mut Deserializer<'de, '_, F>,
-            ) -> Result<(), F::Error> {
-                match member {
-                    $($place => read_value(&mut self.$field, alloc, from),)*
-                    _ => from.skip(),
-                }
-            }
-        }
-
-        impl<'de> Deserialize<'de> for $type {
-            fn deserialize<F: Format>(
-                alloc: Global,
-                from: &mut Deserializer<'de, '_, F>,
-            ) -> Result<$type, F::Error> {
-                read_object(alloc, from)
-            }
-        }
-    };
+    }
 }
 
-read_by_members!(Attributes, 0, 0 "src" src 1 "top" top 2 "init" init);
+impl<'de> FromObject<'de> for Document {
+    const NAMES: &'static [Name<'static>] = &[exact!("modules")];
 
-read_by_members!(Parameters, 0, 0 "LUT" table);
+    const REQUIRED: usize = 1;
 
-read_by_members!(WrittenPort, 2, 0 "direction" direction 1 "bits" bits);
+    fn read_member<F: Format>(
+        &mut self,
+        member: usize,
+        alloc: Global,
+        from: &mut Deserializer<'de, '_, F>,
+    ) -> Result<(), F::Error> {
+        match member {
+            0 => read_value(&mut self.modules, alloc, from),
+            _ => from.skip(),
+        }
+    }
+}
 
-read_by_members!(
-    WrittenCell, 2,
-    0 "type" kind 1 "connections" connections 2 "parameters" parameters 3 "attributes" attributes
-);
-
-read_by_members!(
-    WrittenName, 1,
-    0 "bits" bits 1 "hide_name" hide_name 2 "offset" offset 3 "upto" upto 4 "attributes" attributes
-);
-
-read_by_members!(
-    Module, 3,
-    0 "ports" ports 1 "cells" cells 2 "netnames" netnames 3 "attributes" attributes
-);
-
-read_by_members!(Document, 1, 0 "modules" modules);
+impl<'de> Deserialize<'de> for Document {
+    fn deserialize<F: Format>(
+        alloc: Global,
+        from: &mut Deserializer<'de, '_, F>,
+    ) -> Result<Document, F::Error> {
+        read_object(alloc, from)
+    }
+}
