@@ -1,4 +1,4 @@
--- How many sources of a net have each value, so that a change of one source takes no look at the others (IEEE 1076-2008, 4.6, 14.7.3.3).
+-- How many sources of a net have each value, so that a change of one source needs no look at the others (IEEE 1076-2008, 4.6, 14.7.3.3).
 -- Implementation only: what `simulate` promises does not rest on this file.
 use Rattle.std.specs.Prelude.{ℕ, zero, suc, ◌≡◌, ◌<◌, ◌==◌, ◌||◌, ◌&&◌, leb, Bool, true, false, if◌then◌else◌, List, [], ◌∷◌, length, slice_index_or, slice_set}
 use Rattle.sim_logic.specs.declared.logic.Logic.{Logic}

@@ -148,7 +148,7 @@ fn place_nets(
     Ok(())
 }
 
-/// No places, for each of so many drivers.
+/// An empty list of places for each driver.
 fn no_places(alloc: Global, drivers: usize) -> Result<Vec<Items<(usize, usize)>>, AllocError>
     ensures empty { IfOk result (λ v. All (λ (list : List (ℕ × ℕ)). list ≡ []) v.items) }
     ensures count { IfOk result (λ v. length v.items ≡ drivers) }
@@ -160,7 +160,7 @@ fn no_places(alloc: Global, drivers: usize) -> Result<Vec<Items<(usize, usize)>>
     Ok(lists)
 }
 
-/// Where the values of each of so many drivers are among those of nets with many sources.
+/// The places of each driver among the sources of nets that have many.
 fn placed(
     alloc: Global,
     sources: &RowArray<Source>,

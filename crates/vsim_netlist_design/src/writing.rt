@@ -3,8 +3,8 @@
 use std::alloc::{AllocError, Global};
 use std::fmt::{Display, Write};
 
-/// A text that is being put together. Where memory is short it lacks a part and notes that, so
-/// that a writer adds parts without a test after each, and is told at the end by `finish`.
+/// A text that is being put together. If memory runs out, the draft notes that a part is missing;
+/// a writer adds parts without testing each, and `finish` reports it at the end.
 #[derive(Drop)]
 pub struct Draft {
     text: String,
