@@ -64,7 +64,7 @@ fn pop_top(heap: &mut Heap) -> Reverse<(u64, usize)>
 }
 
 /// Removes stale entries from the top.
-pub fn settle(heap: &mut Heap, times: &[Option<u64>], now: u64, later: u64)
+pub fn drop_stale(heap: &mut Heap, times: &[Option<u64>], now: u64, later: u64)
     requires order { IsHeap entry_cmp (heap_items heap.old) }
     requires stands { StandsBut now later times.now (heap_items heap.old) }
     ensures order { IsHeap entry_cmp (heap_items heap.new) }
@@ -141,10 +141,10 @@ pub fn trim(heap: &mut Heap, times: &[Option<u64>], now: u64, later: u64)
 {
     if heap.len() / 2 > times.len() {
         rebuild(heap, times, now, later);
-        settle(heap, times, now, later);
+        drop_stale(heap, times, now, later);
         return;
     }
-    settle(heap, times, now, later);
+    drop_stale(heap, times, now, later);
 }
 
 /// The first entry, if its time is at most `time`.

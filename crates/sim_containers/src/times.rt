@@ -5,7 +5,7 @@ ghost use Rattle.std.specs.BinaryHeap.{heap_items, IsHeap};
 ghost use Rattle.sim_containers.specs.Times.{clear, cleared, due_at, earlier, earliest, is_at, those_at};
 ghost use Rattle.sim_containers.specs.Entries.{entry_cmp, those_later, NoneBefore, StandsBut};
 
-use crate::entries::{Heap, add_entry, is_time, settle, take_least, top_time, trim};
+use crate::entries::{Heap, add_entry, drop_stale, is_time, take_least, top_time, trim};
 use crate::numbers::NumberSet;
 use std::alloc::{AllocError, Global};
 use std::collections::BinaryHeap;
@@ -163,7 +163,7 @@ impl TimeQueue {
             taken,
         );
         clear_each(&mut self.times, taken);
-        settle(
+        drop_stale(
             &mut self.heap,
             self.times.as_slice(),
             self.front_time,

@@ -40,12 +40,12 @@ pub record IsJob (time : ℕ) (process : Process) (views : List NetView) (own : 
   pub ready : IsReady process.body (suc time) own
 
 -- the part of a state that a job holds
-abbrev pub scene : Job → State
-scene job = record { time = job.time; delta = 0; nets = job.views; owned = job.owned ∷ []; waiting = [] }
+abbrev pub job_state : Job → State
+job_state job = record { time = job.time; delta = 0; nets = job.views; owned = job.owned ∷ []; waiting = [] }
 
 -- what its process owns after the execution
 abbrev pub result_of : Job → Owned
-result_of job = owned_after job.process (scene job)
+result_of job = owned_after job.process (job_state job)
 
 -- What an executed job keeps: what its process owns then, or nothing if that is unchanged. It fits the body either way.
 pub record IsDone (job : Job) (kept : Option Owned) : Type 0 where

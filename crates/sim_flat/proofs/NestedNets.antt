@@ -1,4 +1,4 @@
--- The nets of a flat design have the values of their source trees: scene by scene, no name of type std_ulogic in a tree has more than one
+-- The nets of a flat design have the values of their source trees: occurrence by occurrence, no name of type std_ulogic in a tree has more than one
 -- source, and for such a tree the flat sources resolve as the nested names.
 use Rattle.std.proofs.Common.{◌≡◌, ℕ, zero, suc, ◌+◌, List, [], ◌∷◌, ◌++◌, Bool, true, false, Some, map, slice_get, All}
 use Rattle.std.proofs.Common.{refl, ap, sym, ◌∙◌, subst, if◌then◌else◌}
@@ -14,8 +14,8 @@ use Rattle.sim_flat_blocks.specs.declared.parts.Object.{Object}
 use Rattle.sim_flat_blocks.specs.declared.parts.Instance.{Instance}
 use Rattle.sim_flat_blocks.specs.declared.parts.Block.{Block}
 use Rattle.sim_flat_blocks.specs.Blocks.{block_of, objects, levels}
-use Rattle.sim_flat_expansion.specs.Hierarchy.{Path, Scene, PathStep, Own, is_own, link_of, own_from, own_at, inner, scenes}
-use Rattle.sim_flat_expansion.specs.Flat.{flat, gather, net, nets_at, scenes_of, source_of}
+use Rattle.sim_flat_expansion.specs.Hierarchy.{Path, Occurrence, PathStep, Own, is_own, link_of, own_from, own_at, inner, occurrences}
+use Rattle.sim_flat_expansion.specs.Flat.{flat, gather, net, nets_at, occurrences_of, source_of}
 use Rattle.sim_flat_expansion.proofs.Sound.{Each, each_append, each_map, all_of}
 use Rattle.sim_flat_graph.specs.Graph.{block_at, Here}
 use Rattle.sim_flat.specs.declared.top.Top.{Top}
@@ -24,14 +24,14 @@ use Rattle.sim_flat.specs.Laws.{HasValueOf, source_value, trees}
 use Rattle.sim_flat.specs.Laws as laws
 use Rattle.sim_flat.proofs.SourceTrees.{Placed, placed_all, placed_first, placed_rest, Reached, instances_reached, resolvable}
 
--- ---- the blocks of scenes are reached
-record IsReached (blocks : List Block) (top : ℕ) (s : Scene) : Type 0 where
+-- ---- the blocks of occurrences are reached
+record IsReached (blocks : List Block) (top : ℕ) (s : Occurrence) : Type 0 where
   number : ℕ
   reached : Reached blocks top number
   is : s.block ≡ block_at blocks number
 
 module _ (blocks : List Block) (top : ℕ) where
-  inner_reached : (one : Path → Block → List Scene)
+  inner_reached : (one : Path → Block → List Occurrence)
       → ((p : Path) (c : ℕ) → Reached blocks top c → Each (IsReached blocks top) (one p (block_at blocks c)))
       → (p : Path) (j : ℕ) (is : List Instance) → Each (λ (i : Instance). Reached blocks top i.block) is
       → Each (IsReached blocks top) (inner one blocks p j is)
@@ -42,17 +42,17 @@ module _ (blocks : List Block) (top : ℕ) where
       each_append (IsReached blocks top) (one (s ∷ p) (block_of blocks i)) (inner one blocks p (j + 1) is)
       (h (s ∷ p) i.block each.0) (inner_reached one h p (j + 1) is each.1)
 
-  scenes_reached : (k : ℕ) (p : Path) (c : ℕ) → Reached blocks top c → Each (IsReached blocks top) (scenes blocks k p (block_at blocks c))
-  unfolding scenes
-  scenes_reached zero p c reached = tt
-  scenes_reached (suc k) p c reached = (
+  occurrences_reached : (k : ℕ) (p : Path) (c : ℕ) → Reached blocks top c → Each (IsReached blocks top) (occurrences blocks k p (block_at blocks c))
+  unfolding occurrences
+  occurrences_reached zero p c reached = tt
+  occurrences_reached (suc k) p c reached = (
     record { number = c; reached = reached; is = refl },
-    inner_reached (scenes blocks k) (scenes_reached k) p 0 (block_at blocks c).instances (instances_reached blocks top c reached),
+    inner_reached (occurrences blocks k) (occurrences_reached k) p 0 (block_at blocks c).instances (instances_reached blocks top c reached),
   )
 
-  all_reached : Each (IsReached blocks top) (scenes_of blocks top)
-  unfolding scenes_of
-  all_reached = scenes_reached levels [] top Here
+  all_reached : Each (IsReached blocks top) (occurrences_of blocks top)
+  unfolding occurrences_of
+  all_reached = occurrences_reached levels [] top Here
 
 -- ---- nets are objects
 abbrev IsObject : List Object → Own → Type 0
@@ -75,8 +75,8 @@ own_objects : (p : Path) (os : List Object) → Each (IsObject os) (own_from p 0
 own_objects p os = own_placed (IsObject os) p 0 os (placed_all (λ k o. IsObject os (record { place = k; object = o })) os (λ i o is. is))
 
 -- ---- the trees of all nets
-module _ (blocks : List Block) (top : ℕ) (resolved : IsResolved blocks top) (all : List Scene) where
-  own_resolvable : (s : Scene) → IsReached blocks top s → (x : Own) → IsObject (objects s.block) x → IsResolvable (laws.tree blocks all s x)
+module _ (blocks : List Block) (top : ℕ) (resolved : IsResolved blocks top) (all : List Occurrence) where
+  own_resolvable : (s : Occurrence) → IsReached blocks top s → (x : Own) → IsObject (objects s.block) x → IsResolvable (laws.tree blocks all s x)
   own_resolvable s r x is = at_block s.path s.block s.levels r.number r.reached r.is x is
     where
       at_block : (p : Path) (b : Block) (k c : ℕ) → Reached blocks top c → b ≡ block_at blocks c → (x : Own) → IsObject (objects b) x
@@ -84,8 +84,8 @@ module _ (blocks : List Block) (top : ℕ) (resolved : IsResolved blocks top) (a
       at_block p b k c reached e x is = rw e (resolvable blocks all top resolved k p c reached x.place x.object
           (subst (λ (d : Block). slice_get (objects d) x.place ≡ Some x.object) e is))
 
-  scene_resolvable : (s : Scene) → IsReached blocks top s → Each (λ (x : Own). IsResolvable (laws.tree blocks all s x)) (own_at s)
-  scene_resolvable s r =
+  occurrence_resolvable : (s : Occurrence) → IsReached blocks top s → Each (λ (x : Own). IsResolvable (laws.tree blocks all s x)) (own_at s)
+  occurrence_resolvable s r =
       each_map (IsObject (objects s.block)) (λ (x : Own). IsResolvable (laws.tree blocks all s x)) (own_resolvable s r) (own_at s)
       (own_objects s.path (objects s.block))
 
@@ -99,10 +99,10 @@ each_gathered P f (x ∷ xs) h = each_append P (f x) (gather f xs) h.0 (each_gat
 
 pub trees_resolvable : (blocks : List Block) (top : ℕ) → IsResolved blocks top → Each IsResolvable (trees blocks top)
 trees_resolvable blocks top resolved =
-    let all = scenes_of blocks top in
-    each_gathered IsResolvable (λ (s : Scene). map (laws.tree blocks all s) (own_at s)) all
-    (each_map (IsReached blocks top) (λ (s : Scene). Each IsResolvable (map (laws.tree blocks all s) (own_at s)))
-    (λ s r. each_mapped IsResolvable (laws.tree blocks all s) (own_at s) (scene_resolvable blocks top resolved all s r)) all (all_reached blocks top))
+    let all = occurrences_of blocks top in
+    each_gathered IsResolvable (λ (s : Occurrence). map (laws.tree blocks all s) (own_at s)) all
+    (each_map (IsReached blocks top) (λ (s : Occurrence). Each IsResolvable (map (laws.tree blocks all s) (own_at s)))
+    (λ s r. each_mapped IsResolvable (laws.tree blocks all s) (own_at s) (occurrence_resolvable blocks top resolved all s r)) all (all_reached blocks top))
 
 -- ---- nets and trees, one by one
 abbrev IsMadeOf : SourceTree → Net → Type 0
@@ -128,8 +128,8 @@ zip_gathered R f g (x ∷ xs) h = zip_append R (f x) (g x) (gather f xs) (gather
 nets_made : (blocks : List Block) (top : ℕ) → AllZip IsMadeOf (trees blocks top) (flat blocks top).nets
 unfolding flat
 nets_made blocks top =
-    let all = scenes_of blocks top in
-    zip_gathered IsMadeOf (λ (s : Scene). map (laws.tree blocks all s) (own_at s)) (nets_at blocks all) all
+    let all = occurrences_of blocks top in
+    zip_gathered IsMadeOf (λ (s : Occurrence). map (laws.tree blocks all s) (own_at s)) (nets_at blocks all) all
     (λ s. zip_mapped IsMadeOf (laws.tree blocks all s) (net blocks all s) (own_at s) (λ x. refl))
 
 -- ---- values

@@ -11,13 +11,13 @@ use Rattle.sim_flat_blocks.specs.declared.parts.Port.{Port}
 use Rattle.sim_flat_blocks.specs.declared.parts.Instance.{Instance}
 use Rattle.sim_flat_blocks.specs.declared.parts.Block.{Block}
 use Rattle.sim_flat_blocks.specs.Blocks.{block_of, link_at, objects, targets_of}
-use Rattle.sim_flat_expansion.specs.Hierarchy.{Path, Scene, PathStep, before, driver_count}
+use Rattle.sim_flat_expansion.specs.Hierarchy.{Path, Occurrence, PathStep, before, driver_count}
 use Rattle.sim_flat_expansion.specs.Flat.{driving, with_drivers, with_ports, type_of, leads_to, of_ports, of_instances, tree_of, port_trees}
 use Rattle.sim_flat_expansion.proofs.Sound.{Each}
-use Rattle.sim_flat_graph.specs.Graph.{Graph, graph_of, block_at, led, Reaches, blocks_of}
+use Rattle.sim_flat_graph.specs.Graph.{Graph, graph_of, block_at, successors, Reaches, blocks_of}
 use Rattle.sim_flat_graph.specs.Sources.{target_of_port, targets_of_ports, targets_of_instances, source_targets, times, source_count}
 use Rattle.sim_flat_graph.proofs.Lists.{by_order, first_in, later_in}
-use Rattle.sim_flat_graph.proofs.Recursions.{led_is}
+use Rattle.sim_flat_graph.proofs.Recursions.{successors_are}
 use Rattle.sim_flat_graph.proofs.Searches.{one_step}
 use Rattle.sim_flat.specs.Hierarchies.{IsResolved}
 
@@ -83,7 +83,7 @@ of_ports_counted one links m n (p ∷ ps) =
     port_counted m p (link_at links n) (one n p.object) (of_ports one links m (n + 1) ps) (targets_of_ports links (n + 1) ps)
     (of_ports_counted one links m (n + 1) ps)
 
-module _ (blocks : List Block) (all : List Scene) where
+module _ (blocks : List Block) (all : List Occurrence) where
   -- below the last level there are none
   port_trees_counted : (k : ℕ) (p : Path) (b : Block) (links : List Link) (m : ℕ)
       → length (port_trees blocks all k p b links m) ≤ times m (targets_of_ports links 0 b.ports)
@@ -166,21 +166,22 @@ of_ports_may one links m n (p ∷ ps) os h =
 abbrev pub Reached : List Block → ℕ → ℕ → Type 0
 Reached blocks top c = Reaches (graph_of blocks) c top
 
-each_led : (g : Graph) (top c : ℕ) → Reaches g c top → (is : List Instance) → ((n : ℕ) → Contains (blocks_of is) n → Contains (led g c) n)
+each_successor : (g : Graph) (top c : ℕ) → Reaches g c top → (is : List Instance) → ((n : ℕ) → Contains (blocks_of is) n → Contains (successors g c) n)
     → Each (λ (i : Instance). Reaches g i.block top) is
 unfolding blocks_of
-each_led g top c reached [] h = tt
-each_led g top c reached (i ∷ is) h = (
+each_successor g top c reached [] h = tt
+each_successor g top c reached (i ∷ is) h = (
   one_step g c i.block top reached (h i.block (first_in i.block (blocks_of is))),
-  each_led g top c reached is (λ n among. h n (later_in i.block n (blocks_of is) among)),
+  each_successor g top c reached is (λ n among. h n (later_in i.block n (blocks_of is) among)),
 )
 
 pub instances_reached : (blocks : List Block) (top c : ℕ) → Reached blocks top c
     → Each (λ (i : Instance). Reached blocks top i.block) (block_at blocks c).instances
 instances_reached blocks top c reached =
-    each_led (graph_of blocks) top c reached (block_at blocks c).instances (λ n among. subst (λ (ns : List ℕ). Contains ns n) (sym (led_is blocks c)) among)
+    each_successor (graph_of blocks) top c reached (block_at blocks c).instances
+    (λ n among. subst (λ (ns : List ℕ). Contains ns n) (sym (successors_are blocks c)) among)
 
-module _ (blocks : List Block) (all : List Scene) (top : ℕ) (resolved : IsResolved blocks top) where
+module _ (blocks : List Block) (all : List Occurrence) (top : ℕ) (resolved : IsResolved blocks top) where
   -- no port or signal of a reached block has more sources than allowed
   sources_allowed : (k : ℕ) (p : Path) (c : ℕ) → Reached blocks top c → (n : ℕ) (o : Object) → slice_get (objects (block_at blocks c)) n ≡ Some o
       → AllowsSources (type_of o.resolved) (count_of (sources blocks all k p (block_at blocks c) n))

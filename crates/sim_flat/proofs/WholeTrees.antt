@@ -1,4 +1,4 @@
--- If no chain of instances is longer than the levels, the trees and the design are those of the whole hierarchy: with more levels the scenes
+-- If no chain of instances is longer than the levels, the trees and the design are those of the whole hierarchy: with more levels the occurrences
 -- are the same, each with more levels below it, and so is everything derived from them.
 use Rattle.std.proofs.Common.{◌≡◌, ℕ, zero, suc, ◌+◌, ◌-◌, ◌≤◌, ◌||◌, List, [], ◌∷◌, ◌++◌}
 use Rattle.std.proofs.Common.{Bool, true, false, map, slice_index_or, refl, ap, sym, ◌∙◌, subst, arith}
@@ -12,14 +12,14 @@ use Rattle.sim_flat_blocks.specs.declared.parts.Instance.{Instance}
 use Rattle.sim_flat_blocks.specs.declared.parts.Block.{Block}
 use Rattle.sim_flat_blocks.specs.Blocks.{block_of, levels, no_block, size}
 use Rattle.sim_flat_expansion.specs.Depth.{has_chain}
-use Rattle.sim_flat_expansion.specs.Hierarchy.{Path, Scene, PathStep, Own, before, driver_count, net_object, inner, net_count, net_number, own_at}
-use Rattle.sim_flat_expansion.specs.Hierarchy.{process_count, scenes}
+use Rattle.sim_flat_expansion.specs.Hierarchy.{Path, Occurrence, PathStep, Own, before, driver_count, net_object, inner, net_count, net_number, own_at}
+use Rattle.sim_flat_expansion.specs.Hierarchy.{process_count, occurrences}
 use Rattle.sim_flat_expansion.specs.Flat.{drivers_at, flat, gather, object_nets_at, object_nets_from, nets_at, of_instances, of_ports}
-use Rattle.sim_flat_expansion.specs.Flat.{net, port_trees, prefix, processes_at, scenes_of, source_of, tree_of}
+use Rattle.sim_flat_expansion.specs.Flat.{net, port_trees, prefix, processes_at, occurrences_of, source_of, tree_of}
 use Rattle.sim_flat_expansion.proofs.Sound.{Each, each_append, each_map}
 use Rattle.sim_flat.specs.declared.top.Top.{Top}
 use Rattle.sim_flat.specs.Hierarchies.{IsFlat}
-use Rattle.sim_flat.specs.Laws.{flat_to, scenes_to, trees, trees_to}
+use Rattle.sim_flat.specs.Laws.{flat_to, occurrences_to, trees, trees_to}
 use Rattle.sim_flat.specs.Laws as laws
 
 -- ---- chains
@@ -43,8 +43,8 @@ short_below blocks k b h = none_of (λ (i : Instance). has_chain blocks k (block
 one_more : (m k : ℕ) → m + suc k ≡ suc (m + k)
 one_more m k = omega arith
 
--- ---- scenes with more levels below them
-abbrev raised : ℕ → Scene → Scene
+-- ---- occurrences with more levels below them
+abbrev raised : ℕ → Occurrence → Occurrence
 raised m s = record { path = s.path; block = s.block; levels = m + s.levels }
 
 map_append : {X Y : Type 0} (f : X → Y) (xs ys : List X) → map f (xs ++ ys) ≡ map f xs ++ map f ys
@@ -53,47 +53,47 @@ map_append f (x ∷ xs) ys = ap (λ zs. f x ∷ zs) (map_append f xs ys)
 
 module _ (blocks : List Block) (m : ℕ) where
   abbrev AreRaised : ℕ → Type 0
-  AreRaised k = (p : Path) (b : Block) → has_chain blocks k b ≡ false → scenes blocks (m + k) p b ≡ map (raised m) (scenes blocks k p b)
+  AreRaised k = (p : Path) (b : Block) → has_chain blocks k b ≡ false → occurrences blocks (m + k) p b ≡ map (raised m) (occurrences blocks k p b)
 
   inner_raised : (k : ℕ) → AreRaised k → (p : Path) (j : ℕ) (is : List Instance) → NoneLong blocks k is
-      → inner (scenes blocks (m + k)) blocks p j is ≡ map (raised m) (inner (scenes blocks k) blocks p j is)
+      → inner (occurrences blocks (m + k)) blocks p j is ≡ map (raised m) (inner (occurrences blocks k) blocks p j is)
   unfolding inner
   inner_raised k h p j [] none = refl
   inner_raised k h p j (i ∷ is) none =
       let s : PathStep = record { instance = i; place = j } in
-      let here = scenes blocks k (s ∷ p) (block_of blocks i) in
-      let rest = inner (scenes blocks k) blocks p (j + 1) is in
+      let here = occurrences blocks k (s ∷ p) (block_of blocks i) in
+      let rest = inner (occurrences blocks k) blocks p (j + 1) is in
       rw (h (s ∷ p) (block_of blocks i) none.0, inner_raised k h p (j + 1) is none.1) (sym (map_append (raised m) here rest))
 
-  scenes_raised : (k : ℕ) → AreRaised k
-  unfolding scenes has_chain
-  scenes_raised zero p b none = cc
-  scenes_raised (suc k) p b none =
+  occurrences_raised : (k : ℕ) → AreRaised k
+  unfolding occurrences has_chain
+  occurrences_raised zero p b none = cc
+  occurrences_raised (suc k) p b none =
       rw (one_more m k)
-      (ap (λ (ss : List Scene). record { path = p; block = b; levels = m + k } ∷ ss)
-      (inner_raised k (scenes_raised k) p 0 b.instances (short_below blocks k b none)))
+      (ap (λ (ss : List Occurrence). record { path = p; block = b; levels = m + k } ∷ ss)
+      (inner_raised k (occurrences_raised k) p 0 b.instances (short_below blocks k b none)))
 
--- below each scene no chain is longer than the allowed levels
-abbrev IsCut : List Block → Scene → Type 0
+-- below each occurrence no chain is longer than the allowed levels
+abbrev IsCut : List Block → Occurrence → Type 0
 IsCut blocks s = has_chain blocks (suc s.levels) s.block ≡ false
 
 module _ (blocks : List Block) where
-  inner_cut : (k : ℕ) → ((p : Path) (b : Block) → has_chain blocks k b ≡ false → Each (IsCut blocks) (scenes blocks k p b)) → (p : Path) (j : ℕ)
-      (is : List Instance) → NoneLong blocks k is → Each (IsCut blocks) (inner (scenes blocks k) blocks p j is)
+  inner_cut : (k : ℕ) → ((p : Path) (b : Block) → has_chain blocks k b ≡ false → Each (IsCut blocks) (occurrences blocks k p b)) → (p : Path) (j : ℕ)
+      (is : List Instance) → NoneLong blocks k is → Each (IsCut blocks) (inner (occurrences blocks k) blocks p j is)
   unfolding inner
   inner_cut k h p j [] none = tt
   inner_cut k h p j (i ∷ is) none =
       let s : PathStep = record { instance = i; place = j } in
-      each_append (IsCut blocks) (scenes blocks k (s ∷ p) (block_of blocks i)) (inner (scenes blocks k) blocks p (j + 1) is)
+      each_append (IsCut blocks) (occurrences blocks k (s ∷ p) (block_of blocks i)) (inner (occurrences blocks k) blocks p (j + 1) is)
       (h (s ∷ p) (block_of blocks i) none.0) (inner_cut k h p (j + 1) is none.1)
 
-  scenes_cut : (k : ℕ) (p : Path) (b : Block) → has_chain blocks k b ≡ false → Each (IsCut blocks) (scenes blocks k p b)
-  unfolding scenes
-  scenes_cut zero p b none = tt
-  scenes_cut (suc k) p b none = (none, inner_cut k (scenes_cut k) p 0 b.instances (short_below blocks k b none))
+  occurrences_cut : (k : ℕ) (p : Path) (b : Block) → has_chain blocks k b ≡ false → Each (IsCut blocks) (occurrences blocks k p b)
+  unfolding occurrences
+  occurrences_cut zero p b none = tt
+  occurrences_cut (suc k) p b none = (none, inner_cut k (occurrences_cut k) p 0 b.instances (short_below blocks k b none))
 
--- ---- the scenes before a path
-before_raised : (count : Scene → ℕ) (m : ℕ) → ((s : Scene) → count (raised m s) ≡ count s) → (ss : List Scene) (p : Path)
+-- ---- the occurrences before a path
+before_raised : (count : Occurrence → ℕ) (m : ℕ) → ((s : Occurrence) → count (raised m s) ≡ count s) → (ss : List Occurrence) (p : Path)
     → before count (map (raised m) ss) p ≡ before count ss p
 unfolding before
 before_raised count m same [] p = refl
@@ -107,7 +107,7 @@ unfolding of_ports
 of_ports_same one other same links m n [] = refl
 of_ports_same one other same links m n (p ∷ ps) = rw (same n p.object, of_ports_same one other same links m (n + 1) ps) refl
 
-module _ (blocks : List Block) (all some : List Scene) (m : ℕ) (same : (p : Path) → before driver_count all p ≡ before driver_count some p) where
+module _ (blocks : List Block) (all some : List Occurrence) (m : ℕ) (same : (p : Path) → before driver_count all p ≡ before driver_count some p) where
   abbrev ArePortsSame : ℕ → Type 0
   ArePortsSame k = (p : Path) (b : Block) → has_chain blocks k b ≡ false → (links : List Link) (n : ℕ)
       → port_trees blocks all (m + k) p b links n ≡ port_trees blocks some k p b links n
@@ -132,11 +132,11 @@ module _ (blocks : List Block) (all some : List Scene) (m : ℕ) (same : (p : Pa
       (of_ports_same (tree_of blocks all (port_trees blocks all (m + k)) p b) (tree_of blocks some (port_trees blocks some k) p b)
       (tree_same k (ports_same k) p b (short_below blocks k b none)) links n 0 b.ports)
 
-  tree_raised : (s : Scene) → IsCut blocks s → (x : Own) → laws.tree blocks all (raised m s) x ≡ laws.tree blocks some s x
+  tree_raised : (s : Occurrence) → IsCut blocks s → (x : Own) → laws.tree blocks all (raised m s) x ≡ laws.tree blocks some s x
   tree_raised s cut x = tree_same s.levels (ports_same s.levels) s.path s.block (short_below blocks s.levels s.block cut) x.place x.object
 
--- ---- scene by scene
-gather_raised : {Y : Type 0} (m : ℕ) (f g : Scene → List Y) (ss : List Scene) → Each (λ s. f (raised m s) ≡ g s) ss
+-- ---- occurrence by occurrence
+gather_raised : {Y : Type 0} (m : ℕ) (f g : Occurrence → List Y) (ss : List Occurrence) → Each (λ s. f (raised m s) ≡ g s) ss
     → gather f (map (raised m) ss) ≡ gather g ss
 gather_raised m f g [] each = refl
 gather_raised m f g (s ∷ ss) each = rw (each.0, gather_raised m f g ss each.1) refl
@@ -145,24 +145,24 @@ map_same : {X Y : Type 0} (f g : X → Y) (xs : List X) → ((x : X) → f x ≡
 map_same f g [] same = refl
 map_same f g (x ∷ xs) same = rw (same x, map_same f g xs same) refl
 
-object_nets_same : (all some : List Scene) → ((p : Path) → before net_count all p ≡ before net_count some p) → (p : Path) (n k : ℕ)
+object_nets_same : (all some : List Occurrence) → ((p : Path) → before net_count all p ≡ before net_count some p) → (p : Path) (n k : ℕ)
     → object_nets_from all p n k ≡ object_nets_from some p n k
 unfolding object_nets_from net_number
 object_nets_same all some same p n zero = refl
 object_nets_same all some same p n (suc k) = rw (same (net_object p n).path, object_nets_same all some same p (n + 1) k) refl
 
 module _ (blocks : List Block) (top : ℕ) (short : has_chain blocks levels (slice_index_or blocks top no_block) ≡ false) (m : ℕ) where
-  abbrev few : List Scene
-  few = scenes_to levels blocks top
+  abbrev few : List Occurrence
+  few = occurrences_to levels blocks top
 
-  abbrev many : List Scene
+  abbrev many : List Occurrence
   many = map (raised m) few
 
-  found : scenes_to (m + levels) blocks top ≡ many
-  found = scenes_raised blocks m levels [] (slice_index_or blocks top no_block) short
+  found : occurrences_to (m + levels) blocks top ≡ many
+  found = occurrences_raised blocks m levels [] (slice_index_or blocks top no_block) short
 
   cut : Each (IsCut blocks) few
-  cut = scenes_cut blocks levels [] (slice_index_or blocks top no_block) short
+  cut = occurrences_cut blocks levels [] (slice_index_or blocks top no_block) short
 
   drivers_before : (p : Path) → before driver_count many p ≡ before driver_count few p
   drivers_before p = before_raised driver_count m (λ s. refl) few p
@@ -173,43 +173,43 @@ module _ (blocks : List Block) (top : ℕ) (short : has_chain blocks levels (sli
   nets_before : (p : Path) → before net_count many p ≡ before net_count few p
   nets_before p = before_raised net_count m (λ s. refl) few p
 
-  one_tree : (s : Scene) → IsCut blocks s → (x : Own) → laws.tree blocks many (raised m s) x ≡ laws.tree blocks few s x
+  one_tree : (s : Occurrence) → IsCut blocks s → (x : Own) → laws.tree blocks many (raised m s) x ≡ laws.tree blocks few s x
   one_tree s h x = tree_raised blocks many few m drivers_before s h x
 
   all_trees : trees_to (m + levels) blocks top ≡ trees_to levels blocks top
   all_trees =
-      rw found (gather_raised m (λ (s : Scene). map (laws.tree blocks many s) (own_at s)) (λ (s : Scene). map (laws.tree blocks few s) (own_at s)) few
-      (each_map (IsCut blocks) (λ (s : Scene). map (laws.tree blocks many (raised m s)) (own_at s) ≡ map (laws.tree blocks few s) (own_at s))
+      rw found (gather_raised m (λ (s : Occurrence). map (laws.tree blocks many s) (own_at s)) (λ (s : Occurrence). map (laws.tree blocks few s) (own_at s)) few
+      (each_map (IsCut blocks) (λ (s : Occurrence). map (laws.tree blocks many (raised m s)) (own_at s) ≡ map (laws.tree blocks few s) (own_at s))
       (λ s h. map_same (laws.tree blocks many (raised m s)) (laws.tree blocks few s) (own_at s) (one_tree s h)) few cut))
 
-  one_net : (s : Scene) → IsCut blocks s → nets_at blocks many (raised m s) ≡ nets_at blocks few s
+  one_net : (s : Occurrence) → IsCut blocks s → nets_at blocks many (raised m s) ≡ nets_at blocks few s
   one_net s h =
       map_same (net blocks many (raised m s)) (net blocks few s) (own_at s)
       (λ x. ap (λ (t : SourceTree). record { name = prefix s.path ++ x.object.name.text; sources = map source_of (flat_sources t) }) (one_tree s h x))
 
-  object_nets : (s : Scene) → object_nets_at many s ≡ object_nets_at few s
+  object_nets : (s : Occurrence) → object_nets_at many s ≡ object_nets_at few s
   object_nets s = object_nets_same many few nets_before s.path 0 (size s.block)
 
-  one_process : (s : Scene) → processes_at many (raised m s) ≡ processes_at few s
+  one_process : (s : Occurrence) → processes_at many (raised m s) ≡ processes_at few s
   one_process s = rw (object_nets s, drivers_before s.path) refl
 
-  one_driver : (s : Scene) → drivers_at many (raised m s) ≡ drivers_at few s
+  one_driver : (s : Occurrence) → drivers_at many (raised m s) ≡ drivers_at few s
   one_driver s = rw (object_nets s, processes_before s.path) refl
 
   all_nets : gather (nets_at blocks many) many ≡ gather (nets_at blocks few) few
   all_nets =
       gather_raised m (nets_at blocks many) (nets_at blocks few) few
-      (each_map (IsCut blocks) (λ (s : Scene). nets_at blocks many (raised m s) ≡ nets_at blocks few s) one_net few cut)
+      (each_map (IsCut blocks) (λ (s : Occurrence). nets_at blocks many (raised m s) ≡ nets_at blocks few s) one_net few cut)
 
   all_processes : gather (processes_at many) many ≡ gather (processes_at few) few
   all_processes =
       gather_raised m (processes_at many) (processes_at few) few
-      (each_map (IsCut blocks) (λ (s : Scene). processes_at many (raised m s) ≡ processes_at few s) (λ s h. one_process s) few cut)
+      (each_map (IsCut blocks) (λ (s : Occurrence). processes_at many (raised m s) ≡ processes_at few s) (λ s h. one_process s) few cut)
 
   all_drivers : gather (drivers_at many) many ≡ gather (drivers_at few) few
   all_drivers =
       gather_raised m (drivers_at many) (drivers_at few) few
-      (each_map (IsCut blocks) (λ (s : Scene). drivers_at many (raised m s) ≡ drivers_at few s) (λ s h. one_driver s) few cut)
+      (each_map (IsCut blocks) (λ (s : Occurrence). drivers_at many (raised m s) ≡ drivers_at few s) (λ s h. one_driver s) few cut)
 
   whole_design : flat_to (m + levels) blocks top ≡ flat_to levels blocks top
   whole_design = rw (found, all_nets, all_processes, all_drivers) refl
@@ -220,14 +220,14 @@ split n le = omega arith
 
 pub trees_whole : (blocks : List Block) (top : Top) (design : Design) → IsFlat blocks top design → (n : ℕ) → levels ≤ n
     → trees_to n blocks top.block ≡ trees blocks top.block
-unfolding scenes_of
+unfolding occurrences_of
 trees_whole blocks top design f n le =
     subst (λ (k : ℕ). trees_to k blocks top.block ≡ trees_to levels blocks top.block) (split n le)
     (all_trees blocks top.block f.fits.depth (n - levels))
 
 pub design_whole : (blocks : List Block) (top : Top) (design : Design) → IsFlat blocks top design → (n : ℕ) → levels ≤ n
     → flat_to n blocks top.block ≡ design
-unfolding flat scenes_of
+unfolding flat occurrences_of
 design_whole blocks top design f n le =
     subst (λ (k : ℕ). flat_to k blocks top.block ≡ flat_to levels blocks top.block) (split n le)
     (whole_design blocks top.block f.fits.depth (n - levels)) ∙ sym f.is

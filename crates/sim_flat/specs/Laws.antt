@@ -17,17 +17,17 @@ use Rattle.sim_flat_blocks.specs.Plans.{ports_named}
 use Rattle.sim_flat_blocks.specs.declared.parts.Object.{Object}
 use Rattle.sim_flat_blocks.specs.declared.parts.Block.{Block}
 use Rattle.sim_flat_blocks.specs.Blocks.{no_block, objects}
-use Rattle.sim_flat_expansion.specs.Flat.{drivers_at, gather, nets_at, port_trees, processes_at, scenes_of, tree_of}
-use Rattle.sim_flat_expansion.specs.Hierarchy.{Own, Scene, own_at, scenes}
+use Rattle.sim_flat_expansion.specs.Flat.{drivers_at, gather, nets_at, port_trees, processes_at, occurrences_of, tree_of}
+use Rattle.sim_flat_expansion.specs.Hierarchy.{Own, Occurrence, own_at, occurrences}
 
 -- the source tree of a port or signal that is a net
-abbrev pub tree : List Block → List Scene → Scene → Own → SourceTree
+abbrev pub tree : List Block → List Occurrence → Occurrence → Own → SourceTree
 tree blocks all s x = tree_of blocks all (port_trees blocks all s.levels) s.path s.block x.place x.object
 
 -- the source trees of the nets of the flat design, net by net
 abbrev pub trees : List Block → ℕ → List SourceTree
 trees blocks top =
-    let all = scenes_of blocks top in
+    let all = occurrences_of blocks top in
     gather (λ s. map (tree blocks all s) (own_at s)) all
 
 -- the value of a source, where driver n has the value `driving n`
@@ -42,20 +42,20 @@ HasValueOf t n = (driving : ℕ → Logic) → resolved (map (source_value drivi
 
 -- ---- the same with another number of levels of instances, of which the top is the first
 
--- the scenes to this number of levels
-abbrev pub scenes_to : ℕ → List Block → ℕ → List Scene
-scenes_to levels blocks top = scenes blocks levels [] (slice_index_or blocks top no_block)
+-- the occurrences to this number of levels
+abbrev pub occurrences_to : ℕ → List Block → ℕ → List Occurrence
+occurrences_to levels blocks top = occurrences blocks levels [] (slice_index_or blocks top no_block)
 
 -- the source trees of their nets
 abbrev pub trees_to : ℕ → List Block → ℕ → List SourceTree
 trees_to levels blocks top =
-    let all = scenes_to levels blocks top in
+    let all = occurrences_to levels blocks top in
     gather (λ s. map (tree blocks all s) (own_at s)) all
 
 -- their flat design
 abbrev pub flat_to : ℕ → List Block → ℕ → Design
 flat_to levels blocks top =
-    let all = scenes_to levels blocks top in
+    let all = occurrences_to levels blocks top in
     record { nets = gather (nets_at blocks all) all; processes = gather (processes_at all) all; drivers = gather (drivers_at all) all }
 
 -- ---- names and positions

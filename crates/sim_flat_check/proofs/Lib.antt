@@ -1,6 +1,6 @@
 pub mod KnownNames
 pub mod UnitTurns
-pub mod Judgements
+pub mod TypeResults
 pub mod Sequences
 pub mod SoundWaveforms
 pub mod Turns

@@ -19,8 +19,8 @@ use Rattle.sim_text_tree.specs.Starts.{start_of}
 use Rattle.sim_flat_check.specs.Waveforms.{condition_faults, value_faults}
 use Rattle.sim_flat_check.specs.Laws.{has_type, AllTyped}
 use Rattle.sim_flat_check.proofs.SoundWaveforms.{front_empty, back_empty}
-use Rattle.sim_flat_check.proofs.Judgements.{literal_is, named_is, event_is, call_is, parenthesized_is, not_is}
-use Rattle.sim_flat_check.proofs.Judgements.{condition_is, comparison_is, chain_is, operand_made}
+use Rattle.sim_flat_check.proofs.TypeResults.{literal_is, named_is, event_is, call_is, parenthesized_is, not_is}
+use Rattle.sim_flat_check.proofs.TypeResults.{condition_is, comparison_is, chain_is, operand_made}
 
 -- It has a type, unless there is a fault in it.
 abbrev pub IsTyped : Judged → Type 0

@@ -13,4 +13,4 @@ mod waveforms;
 
 pub use file::analyze;
 pub use statements::{concurrent_assignment, sensitivity, sequence};
-pub use types::{Judgement, expression};
+pub use types::{TypeResult, expression};

@@ -16,7 +16,7 @@ use sim_text_tree::name::Name;
 
 /// The result of analyzing an expression.
 #[derive(Clone, Copy, PartialEq, Eq)]
-pub struct Judgement {
+pub struct TypeResult {
     /// Its type, if it has one; an expression with a fault in it has none.
     pub type_: Option<Type>,
     /// Whether it contains a name.
@@ -25,7 +25,7 @@ pub struct Judgement {
 
 /// A name whose value is read.
 #[tactic(auto, unfolding(crate::specs::Types::value_read, crate::specs::Carried::carried, sim_flat_scope::specs::Faults::earliest))]
-fn value_read(meaning: Option<Meaning>, at: usize, first: &mut Option<Fault>) -> Judgement
+fn value_read(meaning: Option<Meaning>, at: usize, first: &mut Option<Fault>) -> TypeResult
     ensures { record { type = result.type_; named = result.named; first = first.new } ≡ carried.carried first.old (spec.value_read at meaning) }
 {
     let type_ = match meaning {
@@ -53,7 +53,7 @@ fn value_read(meaning: Option<Meaning>, at: usize, first: &mut Option<Fault>) ->
             None
         }
     };
-    Judgement { type_, named: true }
+    TypeResult { type_, named: true }
 }
 
 /// A name whose events are used: boolean, unless it is at fault.
@@ -108,14 +108,14 @@ fn function_called(meaning: Option<Meaning>, at: usize, first: &mut Option<Fault
 }
 
 /// A call of an edge function.
-#[tactic(auto, using(crate::proofs::Judgements::call_rules), unfolding(crate::specs::Types::event_test, crate::specs::Carried::carried))]
+#[tactic(auto, using(crate::proofs::TypeResults::call_rules), unfolding(crate::specs::Types::event_test, crate::specs::Carried::carried))]
 fn call(
     inner: &Scope<'_>,
     outer: &Scope<'_>,
     function: &Name,
     argument: &Name,
     first: &mut Option<Fault>,
-) -> Judgement
+) -> TypeResult
     ensures { record { type = result.type_; named = result.named; first = first.new }
         ≡ carried.carried first.old (spec.event_test (spec.function_called function.now.at (means inner.now outer.now function.now.text)
         ++ spec.signal_read argument.now.at (means inner.now outer.now argument.now.text))) }
@@ -126,7 +126,7 @@ fn call(
         None => None,
         Some(_) => tested,
     };
-    Judgement { type_, named: true }
+    TypeResult { type_, named: true }
 }
 
 /// The common type of two operands, or of a value and its target.
@@ -158,12 +158,17 @@ fn either(a: bool, b: bool) -> bool
 }
 
 /// An operator and the operand after it.
-fn joined(before: Judgement, at: usize, operand: Judgement, first: &mut Option<Fault>) -> Judgement
+fn joined(
+    before: TypeResult,
+    at: usize,
+    operand: TypeResult,
+    first: &mut Option<Fault>,
+) -> TypeResult
     ensures type_ { result.type_ ≡ spec.common before.type_ operand.type_ }
     ensures named { result.named ≡ (before.named || operand.named) }
     ensures first { first.new ≡ earliest first.old (spec.clash before.type_ operand.type_ at) }
 {
-    Judgement {
+    TypeResult {
         type_: common(before.type_, operand.type_, at, first),
         named: either(before.named, operand.named),
     }
@@ -171,7 +176,7 @@ fn joined(before: Judgement, at: usize, operand: Judgement, first: &mut Option<F
 
 /// The result of `=` or `/=`, from the combined result of its operands.
 #[tactic(auto, unfolding(crate::specs::Carried::carried_compared, sim_flat_scope::specs::Faults::earliest))]
-fn compared(both: Judgement, at: usize, first: &mut Option<Fault>) -> Judgement
+fn compared(both: TypeResult, at: usize, first: &mut Option<Fault>) -> TypeResult
     ensures { record { type = result.type_; named = result.named; first = first.new }
         ≡ carried.carried_compared (record { type = both.type_; named = both.named; first = first.old }) at }
 {
@@ -186,18 +191,18 @@ fn compared(both: Judgement, at: usize, first: &mut Option<Fault>) -> Judgement
         }
         same => same,
     };
-    Judgement {
+    TypeResult {
         type_,
         named: both.named,
     }
 }
 
 /// A literal of type std_ulogic.
-fn literal() -> Judgement
+fn literal() -> TypeResult
     ensures type_ { result.type_ ≡ Some Logic }
     ensures named { result.named ≡ false }
 {
-    Judgement {
+    TypeResult {
         type_: Some(Type::Logic),
         named: false,
     }
@@ -205,14 +210,14 @@ fn literal() -> Judgement
 
 /// An operator and the operand after it, given the result so far.
 #[cycle(types)]
-#[tactic(auto, using(crate::proofs::Judgements::carried_rules))]
+#[tactic(auto, using(crate::proofs::TypeResults::carried_rules))]
 fn operand(
     inner: &Scope<'_>,
     outer: &Scope<'_>,
-    before: Judgement,
+    before: TypeResult,
     next: &Operand,
     first: &mut Option<Fault>,
-) -> Judgement
+) -> TypeResult
     ensures { record { type = result.type_; named = result.named; first = first.new }
         ≡ carried.carried_on (record { type = before.type_; named = before.named; first = first.old })
         (spec.judged_operand (means inner.now outer.now) next.now) }
@@ -227,10 +232,10 @@ fn operand(
 fn operands(
     inner: &Scope<'_>,
     outer: &Scope<'_>,
-    before: Judgement,
+    before: TypeResult,
     rest: &[Operand],
     first: &mut Option<Fault>,
-) -> Judgement
+) -> TypeResult
     ensures { record { type = result.type_; named = result.named; first = first.new }
         ≡ carried.carried_through (means inner.now outer.now)
         (record { type = before.type_; named = before.named; first = first.old }) rest.now }
@@ -244,13 +249,13 @@ fn operands(
 
 /// The type of an expression, if it has one, and whether it contains a name.
 #[cycle(types)]
-#[tactic(auto, using(crate::proofs::Judgements::carried_rules))]
+#[tactic(auto, using(crate::proofs::TypeResults::carried_rules))]
 fn judge(
     inner: &Scope<'_>,
     outer: &Scope<'_>,
     expression: &Expression,
     first: &mut Option<Fault>,
-) -> Judgement
+) -> TypeResult
     ensures { record { type = result.type_; named = result.named; first = first.new }
         ≡ carried.carried first.old (spec.judged (means inner.now outer.now) expression.now) }
 {
@@ -259,7 +264,7 @@ fn judge(
         Expression::Named(name) => {
             value_read(look_up(inner, outer, name.text()), name.at(), first)
         }
-        Expression::Event(name) => Judgement {
+        Expression::Event(name) => TypeResult {
             type_: signal_read(look_up(inner, outer, name.text()), name.at(), first),
             named: true,
         },
@@ -303,7 +308,7 @@ pub fn expression(
     outer: &Scope<'_>,
     expression: &Expression,
     first: &mut Option<Fault>,
-) -> Judgement
+) -> TypeResult
     ensures type_ { result.type_ ≡ (spec.judged (means inner.now outer.now) expression.now).type }
     ensures named { result.named ≡ (spec.judged (means inner.now outer.now) expression.now).named }
     ensures first { first.new ≡ earliest first.old (spec.judged (means inner.now outer.now) expression.now).faults }

@@ -15,9 +15,9 @@ use Rattle.sim_flat_blocks.specs.declared.parts.Object.{Object}
 use Rattle.sim_flat_blocks.specs.declared.links.Link.{Link}
 use Rattle.sim_flat_blocks.specs.declared.parts.BlockProcess.{BlockProcess}
 use Rattle.sim_flat_blocks.specs.declared.parts.Block.{Block}
-use Rattle.sim_flat_expansion.specs.declared.processes.Sketch.{Sketch}
+use Rattle.sim_flat_expansion.specs.declared.processes.PartialDesign.{PartialDesign}
 use Rattle.sim_flat_blocks.specs.Blocks.{driver_of, process_of, constant_at, targets_of}
-use Rattle.sim_flat_expansion.specs.Hierarchy.{Path, Scene, link_of}
+use Rattle.sim_flat_expansion.specs.Hierarchy.{Path, Occurrence, link_of}
 use Rattle.sim_flat_expansion.specs.Flat.{driving, drivers_of, type_of, with_ports, with_drivers, of_instances, source_of, tree_of, gather, processes_from}
 use Rattle.sim_flat_expansion.specs.Flat.{drivers_from}
 use Rattle.sim_flat_expansion.specs.Expanding.{FlatSources, added, finished, targets_expanded, processes_expanded}
@@ -56,7 +56,7 @@ of_name type v (Port t more) =
     let long : length (map source_of xs) ≡ length xs = length-map xs source_of in
     sym (finished_some v (map source_of xs) (omega arith))
 
-pub flat_sources_of_tree : (blocks : List Block) (all : List Scene) (one : Path → Block → List Link → ℕ
+pub flat_sources_of_tree : (blocks : List Block) (all : List Occurrence) (one : Path → Block → List Link → ℕ
     → List SourceTree) (p : Path) (b : Block) (n : ℕ) (o : Object)
     → flat_sources_in (tree_of blocks all one p b n o)
     ≡ finished (constant_at (link_of p n) o.default) (drivers_in (drivers_of all p b n) ++ gather flat_sources_in (of_instances one blocks p n 0 b.instances))
@@ -127,7 +127,7 @@ targets_flat_sources object_nets b q (t ∷ ts) ls ds n lt =
     (λ e. rw e (more ∙ ap (λ (xs : List Source). xs ++ rest) (added_other ls t n (s ∷ []) (eqb-false t n e))))
 
 -- ---- the processes of a block
-abbrev pub with_processes : List ℕ → Block → List BlockProcess → Sketch → Sketch
+abbrev pub with_processes : List ℕ → Block → List BlockProcess → PartialDesign → PartialDesign
 with_processes object_nets b ts f = record {
   nets = f.nets;
   processes = f.processes ++ processes_from object_nets (length f.drivers) ts;
@@ -135,17 +135,18 @@ with_processes object_nets b ts f = record {
 }
 
 sketches : (n : ℕ) {ps qs : List Process} {ds es : List DriverOf} → ps ≡ qs → ds ≡ es
-    → (let f : Sketch = record { nets = n; processes = ps; drivers = ds } in f) ≡ (let g : Sketch = record { nets = n; processes = qs; drivers = es } in g)
+    → (let f : PartialDesign = record { nets = n; processes = ps; drivers = ds } in f)
+    ≡ (let g : PartialDesign = record { nets = n; processes = qs; drivers = es } in g)
 sketches n e d = cc
 
-abbrev after_one : List ℕ → Block → BlockProcess → Sketch → FlatSources → Sketch
+abbrev after_one : List ℕ → Block → BlockProcess → PartialDesign → FlatSources → PartialDesign
 after_one object_nets b t f ls = record {
   nets = f.nets;
   processes = f.processes ++ process_of object_nets (length f.drivers) t ∷ [];
   drivers = (targets_expanded object_nets b (length f.processes) t.targets ls f.drivers).1;
 }
 
-pub processes_are : (object_nets : List ℕ) (b : Block) (ts : List BlockProcess) (ls : FlatSources) (f : Sketch)
+pub processes_are : (object_nets : List ℕ) (b : Block) (ts : List BlockProcess) (ls : FlatSources) (f : PartialDesign)
     → (processes_expanded object_nets b ts ls f).1 ≡ with_processes object_nets b ts f
 unfolding processes_expanded processes_from drivers_from
 processes_are object_nets b [] ls f = sketches f.nets (sym (append-nil f.processes)) (sym (append-nil f.drivers))
@@ -166,7 +167,7 @@ processes_are object_nets b (t ∷ ts) ls f =
     ∙ (append_assoc f.drivers new (drivers_from object_nets b (length (f.processes ++ p ∷ [])) ts)
     ∙ ap (λ (k : ℕ). f.drivers ++ (new ++ drivers_from object_nets b k ts)) q))
 
-pub processes_length : (object_nets : List ℕ) (b : Block) (ts : List BlockProcess) (ls : FlatSources) (f : Sketch)
+pub processes_length : (object_nets : List ℕ) (b : Block) (ts : List BlockProcess) (ls : FlatSources) (f : PartialDesign)
     → length (processes_expanded object_nets b ts ls f).0 ≡ length ls
 unfolding processes_expanded
 processes_length object_nets b [] ls f = refl
@@ -174,7 +175,7 @@ processes_length object_nets b (t ∷ ts) ls f =
     let x = targets_expanded object_nets b (length f.processes) t.targets ls f.drivers in
     processes_length object_nets b ts x.0 (after_one object_nets b t f ls) ∙ targets_length object_nets b (length f.processes) t.targets ls f.drivers
 
-pub processes_flat_sources : (object_nets : List ℕ) (b : Block) (ts : List BlockProcess) (ls : FlatSources) (f : Sketch) (n : ℕ) → n < length ls
+pub processes_flat_sources : (object_nets : List ℕ) (b : Block) (ts : List BlockProcess) (ls : FlatSources) (f : PartialDesign) (n : ℕ) → n < length ls
     → get_or (processes_expanded object_nets b ts ls f).0 n [] ≡ get_or ls n [] ++ drivers_in (driving n (length f.drivers) (targets_of ts))
 unfolding processes_expanded targets_of driving
 processes_flat_sources object_nets b [] ls f n lt = sym (append-nil (get_or ls n []))

@@ -13,7 +13,7 @@ use Rattle.sim_flat_blocks.specs.declared.parts.Object.{Object}
 use Rattle.sim_flat_blocks.specs.declared.parts.Port.{Port}
 use Rattle.sim_flat_blocks.specs.declared.parts.Block.{Block}
 use Rattle.sim_flat_blocks.specs.Blocks.{link_at, size, constant_at}
-use Rattle.sim_flat_expansion.specs.Hierarchy.{Path, Scene, link_of, is_own, Own, own_from}
+use Rattle.sim_flat_expansion.specs.Hierarchy.{Path, Occurrence, link_of, is_own, Own, own_from}
 use Rattle.sim_flat_expansion.specs.Flat.{drivers_of, of_instances, of_ports, leads_to, tree_of, port_trees, gather, prefix, net}
 use Rattle.sim_flat_expansion.specs.Expanding.{FlatSources, added, finished, object_expanded, flat_sources_at, ports_expanded, signals_expanded}
 use Rattle.sim_flat_expansion.proofs.Collected.{flat_sources_in, drivers_in, flat_sources_of_tree, added_length, added_same, added_other}
@@ -81,7 +81,7 @@ unfolding of_ports
 ports_more one links m n p ps = by_cases (p.drives && leads_to m (link_at links n)) (λ t. rw t refl) (λ t. rw t refl)
 
 -- ---- the objects of a block
-module _ (blocks : List Block) (all : List Scene) (c : Path) (b : Block) (k : ℕ) (links : List Link) (outer : List ℕ)
+module _ (blocks : List Block) (all : List Occurrence) (c : Path) (b : Block) (k : ℕ) (links : List Link) (outer : List ℕ)
     (linked : Linked all c links outer) (mine : FlatSources)
     (collected : (n : ℕ) → n < size b → get_or mine n [] ≡ drivers_in (drivers_of all c b n)
     ++ gather flat_sources_in (of_instances (port_trees blocks all k) blocks c n 0 b.instances)) where

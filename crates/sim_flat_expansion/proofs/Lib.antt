@@ -1,7 +1,7 @@
 pub mod Made
 pub mod Sound
 pub mod Whole
-pub mod Scenes
+pub mod Occurrences
 pub mod Collected
 pub mod Numbers
 pub mod ExpandedObjects

@@ -6,29 +6,29 @@ use Rattle.sim_flat_blocks.specs.declared.links.Link.{Link}
 use Rattle.sim_flat_blocks.specs.declared.links.Link.TheVariants.{To, Constant, Open}
 use Rattle.sim_flat_blocks.specs.declared.parts.Object.{Object}
 use Rattle.sim_flat_blocks.specs.Blocks.{link_at, LeadsBelow}
-use Rattle.sim_flat_expansion.specs.Hierarchy.{PathStep, Path, Scene, Named, net_object, led, link_of, is_own, own_before, own_from, before}
+use Rattle.sim_flat_expansion.specs.Hierarchy.{PathStep, Path, Occurrence, Named, net_object, linked_to, link_of, is_own, own_before, own_from, before}
 use Rattle.sim_flat_expansion.specs.Hierarchy.{net_count, net_number}
 use Rattle.sim_flat_expansion.specs.Flat.{object_nets_from}
 use Rattle.sim_flat_expansion.specs.Expanding.{object_net_expanded, object_nets_expanded}
 use Rattle.sim_flat_expansion.proofs.Sound.{Each}
 
 -- an object without an actual that has a net has a net of its own
-led_own : (l : Link) (up : ℕ → Named) (own : Named) → is_own l ≡ true → led l up own ≡ own
-led_own (To m) up own e = cc
-led_own (Constant v) up own e = refl
-led_own Open up own e = refl
+linked_to_own : (l : Link) (up : ℕ → Named) (own : Named) → is_own l ≡ true → linked_to l up own ≡ own
+linked_to_own (To m) up own e = cc
+linked_to_own (Constant v) up own e = refl
+linked_to_own Open up own e = refl
 
 object_net_own : (c : Path) (n : ℕ) → is_own (link_of c n) ≡ true → net_object c n ≡ record { path = c; place = n }
 unfolding net_object
 object_net_own [] n e = refl
-object_net_own (s ∷ up) n e = led_own (link_at s.instance.links n) (net_object up) (record { path = s ∷ up; place = n }) e
+object_net_own (s ∷ up) n e = linked_to_own (link_at s.instance.links n) (net_object up) (record { path = s ∷ up; place = n }) e
 
-pub object_nets_length : (all : List Scene) (p : Path) (n k : ℕ) → length (object_nets_from all p n k) ≡ k
+pub object_nets_length : (all : List Occurrence) (p : Path) (n k : ℕ) → length (object_nets_from all p n k) ≡ k
 unfolding object_nets_from
 object_nets_length all p n zero = refl
 object_nets_length all p n (suc k) = ap suc (object_nets_length all p (n + 1) k)
 
-net_object_at : (all : List Scene) (p : Path) (n k m : ℕ) → m < k → get_or (object_nets_from all p n k) m 0 ≡ net_number all (net_object p (n + m))
+net_object_at : (all : List Occurrence) (p : Path) (n k m : ℕ) → m < k → get_or (object_nets_from all p n k) m 0 ≡ net_number all (net_object p (n + m))
 unfolding object_nets_from
 net_object_at all p n zero m lt = absurd (omega arith)
 net_object_at all p n (suc k) zero lt = let e : n ≡ n + 0 = omega arith in ap (λ (i : ℕ). net_number all (net_object p i)) e
@@ -37,33 +37,33 @@ net_object_at all p n (suc k) (suc m) lt =
     net_object_at all p (n + 1) k m (omega arith) ∙ ap (λ (i : ℕ). net_number all (net_object p i)) e
 
 -- ---- the links of a block's ports, and the numbers of their objects
-pub record Linked (all : List Scene) (c : Path) (links : List Link) (outer : List ℕ) : Type 0 where
+pub record Linked (all : List Occurrence) (c : Path) (links : List Link) (outer : List ℕ) : Type 0 where
   pub same : (n : ℕ) → link_of c n ≡ link_at links n
   pub object_nets : (n m : ℕ) → link_at links n ≡ To m → get_or outer m 0 ≡ net_number all (net_object c n)
 
-pub linked_top : (all : List Scene) → Linked all [] [] []
+pub linked_top : (all : List Occurrence) → Linked all [] [] []
 linked_top all = record { same = λ n. refl; object_nets = λ n m e. (let h : Open ≡ To m = e in cc) }
 
-led_to : (l : Link) (m : ℕ) (up : ℕ → Named) (own : Named) → l ≡ To m → led l up own ≡ up m
-led_to l m up own e = ap (λ (x : Link). led x up own) e
+linked_to_outer : (l : Link) (m : ℕ) (up : ℕ → Named) (own : Named) → l ≡ To m → linked_to l up own ≡ up m
+linked_to_outer l m up own e = ap (λ (x : Link). linked_to x up own) e
 
 leads_there : (count : ℕ) (links : List Link) (n m : ℕ) → Each (LeadsBelow count) links → link_at links n ≡ To m → m < count
 leads_there count [] n m h e = let d : Open ≡ To m = e in cc
 leads_there count (l ∷ ls) zero m h e = let d : l ≡ To m = e in subst (LeadsBelow count) d h.0
 leads_there count (l ∷ ls) (suc n) m h e = leads_there count ls n m h.1 e
 
-pub linked_below : (all : List Scene) (s : PathStep) (p : Path) (count : ℕ) → Each (LeadsBelow count) s.instance.links
+pub linked_below : (all : List Occurrence) (s : PathStep) (p : Path) (count : ℕ) → Each (LeadsBelow count) s.instance.links
     → Linked all (s ∷ p) s.instance.links (object_nets_from all p 0 count)
 unfolding net_object
 linked_below all s p count h = record {
   same = λ n. refl;
   object_nets = λ n m e. net_object_at all p 0 count m (leads_there count s.instance.links n m h e)
       ∙ ((let z : 0 + m ≡ m = omega arith in ap (λ (i : ℕ). net_number all (net_object p i)) z)
-      ∙ ap (net_number all) (sym (led_to (link_at s.instance.links n) m (net_object p) (record { path = s ∷ p; place = n }) e)));
+      ∙ ap (net_number all) (sym (linked_to_outer (link_at s.instance.links n) m (net_object p) (record { path = s ∷ p; place = n }) e)));
 }
 
 -- ---- the walk
-module _ (all : List Scene) (c : Path) (links : List Link) (outer : List ℕ) (linked : Linked all c links outer) (base : ℕ) (is : base
+module _ (all : List Occurrence) (c : Path) (links : List Link) (outer : List ℕ) (linked : Linked all c links outer) (base : ℕ) (is : base
     ≡ before net_count all c) where
   abbrev Stepped : ℕ → ℕ → ℕ × ℕ → Type 0
   Stepped n t x = (x.0 ≡ net_number all (net_object c n)) × (x.1 ≡ base + own_before c (suc n))
@@ -105,7 +105,7 @@ module _ (all : List Scene) (c : Path) (links : List Link) (outer : List ℕ) (l
         more.1 ∙ ap (λ (i : ℕ). base + own_before c i) z,
       )
 
--- the number of nets of a scene
+-- the number of nets of an occurrence
 pub own_count : (c : Path) (n : ℕ) (os : List Object) → own_before c n + length (own_from c n os) ≡ own_before c (n + length os)
 unfolding own_before own_from
 own_count c n [] = let z : n + 0 ≡ n = omega arith in (let e : own_before c n + 0 ≡ own_before c n = omega arith in e ∙ ap (own_before c) (sym z))

@@ -18,7 +18,7 @@ use Rattle.sim_flat_blocks.specs.declared.parts.Port.{Port}
 use Rattle.sim_flat_blocks.specs.declared.parts.BlockProcess.{BlockProcess}
 use Rattle.sim_flat_blocks.specs.declared.parts.Instance.{Instance}
 use Rattle.sim_flat_blocks.specs.declared.parts.Block.{Block}
-use Rattle.sim_flat_expansion.specs.declared.processes.Sketch.{Sketch}
+use Rattle.sim_flat_expansion.specs.declared.processes.PartialDesign.{PartialDesign}
 use Rattle.sim_flat_blocks.specs.Blocks.{IsBlock, IsInstance, IsBlockProcess, LeadsBelow, size, block_of, no_block, link_at, below, driver_of, process_of}
 use Rattle.sim_flat_blocks.specs.Blocks.{constant_at}
 use Rattle.sim_flat_expansion.specs.Expanding.{FlatSources, Walk, object_net_expanded, object_nets_expanded, block_object_nets, added}
@@ -189,7 +189,7 @@ owned_push n q first (x ∷ xs) ds p new at h ea ef el all =
           (xs ++ p ∷ []) ys) (sym d) more,
     )
 
-pub record Fine (n : ℕ) (f : Sketch) : Type 0 where
+pub record Fine (n : ℕ) (f : PartialDesign) : Type 0 where
   pub placed : Each (IsPlaced n) f.processes
   pub owned : AreOwned n 0 0 f.processes f.drivers
 
@@ -200,7 +200,7 @@ placed_more n m le p h = record {
       (let k = h.sensitive i d lt in omega arith);
 }
 
-fine_more : (n m : ℕ) (f : Sketch) → n ≤ m → Fine n f → Fine m f
+fine_more : (n m : ℕ) (f : PartialDesign) → n ≤ m → Fine n f → Fine m f
 fine_more n m f le h = record {
   placed = each_map (IsPlaced n) (IsPlaced m) (placed_more n m le) f.processes h.placed;
   owned = owned_more n m 0 0 f.processes f.drivers le h.owned;
@@ -214,13 +214,13 @@ process_placed n object_nets first t h k = record {
       (each_rising (λ (m : ℕ). m < n) (nets_of object_nets t.sensitivity) (nets_below n object_nets t.sensitivity h k));
 }
 
-pub record AfterProcesses (object_nets : List ℕ) (b : Block) (f : Sketch) (x : FlatSources × Sketch) : Type 0 where
+pub record AfterProcesses (object_nets : List ℕ) (b : Block) (f : PartialDesign) (x : FlatSources × PartialDesign) : Type 0 where
   pub fine : Fine f.nets x.1
   pub in_range : AreInRange (length x.1.drivers) x.0
   pub nets : x.1.nets ≡ f.nets
   pub drivers : length f.drivers ≤ length x.1.drivers
 
-processes_sound : (object_nets : List ℕ) (b : Block) (ts : List BlockProcess) (ls : FlatSources) (f : Sketch) → Below f.nets object_nets
+processes_sound : (object_nets : List ℕ) (b : Block) (ts : List BlockProcess) (ls : FlatSources) (f : PartialDesign) → Below f.nets object_nets
     → length object_nets ≡ size b
     → Each (IsBlockProcess b) ts → Fine f.nets f → AreInRange (length f.drivers) ls → AfterProcesses object_nets b f (processes_expanded object_nets b ts ls f)
 unfolding processes_expanded
@@ -231,7 +231,7 @@ processes_sound object_nets b (t ∷ ts) ls f h len each fine in_range =
     let s = targets_sound object_nets b q t.targets ls f.drivers in_range in
     let new = map (driver_of object_nets b q) t.targets in
     let p = process_of object_nets (length f.drivers) t in
-    let g : Sketch = record { nets = f.nets; processes = f.processes ++ p ∷ []; drivers = x.1 } in
+    let g : PartialDesign = record { nets = f.nets; processes = f.processes ++ p ∷ []; drivers = x.1 } in
     let there : Below (length object_nets) t.targets = subst (λ (k : ℕ). Below k t.targets) (sym len) (each_of (λ
     (m : ℕ). m < size b) t.targets each.0.targets) in
     let sensitive : Below (length object_nets) t.sensitivity =
@@ -339,7 +339,7 @@ net_more d e le x h = (h.0, λ i s lt. source_more d e le (get_or x.sources i s)
 -- ---- the walk
 
 -- the result of a part of the walk, where this many of its nets were counted before it
-pub record After (count : ℕ) (f : Sketch) (x : List Net × FlatSources × Sketch) : Type 0 where
+pub record After (count : ℕ) (f : PartialDesign) (x : List Net × FlatSources × PartialDesign) : Type 0 where
   pub fine : Fine x.2.nets x.2
   pub in_range : AreInRange (length x.2.drivers) x.1
   pub nets : Each (IsNet (length x.2.drivers)) x.0
@@ -349,12 +349,12 @@ pub record After (count : ℕ) (f : Sketch) (x : List Net × FlatSources × Sket
 
 module _ (blocks : List Block) (known : All (IsBlock blocks) blocks) where
   abbrev SoundWalk : Walk → Type 0
-  SoundWalk one = (prefix : List ℕ) (links : List Link) (outer : List ℕ) (b : Block) (around : FlatSources) (f : Sketch)
+  SoundWalk one = (prefix : List ℕ) (links : List Link) (outer : List ℕ) (b : Block) (around : FlatSources) (f : PartialDesign)
       → IsBlock blocks b → length links ≤ length b.ports → Each (LeadsBelow (length outer)) links → Below f.nets outer
       → Fine f.nets f → AreInRange (length f.drivers) around → After 0 f (one prefix links outer b around f)
 
   instances_sound : (one : Walk) → SoundWalk one → (object_nets prefix : List ℕ) (is : List Instance) (b : Block) (nets : List Net) (ls : FlatSources)
-      (f : Sketch)
+      (f : PartialDesign)
       → Each (IsInstance blocks b) is → length object_nets ≡ size b → Below f.nets object_nets → Fine f.nets f → AreInRange (length f.drivers) ls
       → Each (IsNet (length f.drivers)) nets → After (length nets) f (instances_expanded one blocks object_nets prefix is nets ls f)
   unfolding instances_expanded
@@ -383,8 +383,9 @@ module _ (blocks : List Block) (known : All (IsBlock blocks) blocks) where
         drivers = (let p = more.drivers in let q = a.drivers in omega arith);
       }
 
-  inside_sound : (one : Walk) → SoundWalk one → (prefix : List ℕ) (links : List Link) (object_nets : List ℕ) (b : Block) (around : FlatSources) (f : Sketch)
-      → IsBlock blocks b → length object_nets ≡ size b → Below f.nets object_nets → Fine f.nets f → AreInRange (length f.drivers) around
+  inside_sound : (one : Walk) → SoundWalk one → (prefix : List ℕ) (links : List Link) (object_nets : List ℕ) (b : Block)
+      (around : FlatSources) (f : PartialDesign) → IsBlock blocks b → length object_nets ≡ size b → Below f.nets object_nets → Fine f.nets f
+      → AreInRange (length f.drivers) around
       → After (fresh links 0 (length b.ports) + length b.signals) f (inside_expanded one blocks prefix links object_nets b around f)
   unfolding inside_expanded
   inside_sound one sound prefix links object_nets b around f is len h fine in_range =
@@ -420,7 +421,7 @@ module _ (blocks : List Block) (known : All (IsBlock blocks) blocks) where
   block_expanded_sound (suc k) prefix links outer b around f is ll leads h fine in_range =
       let x = object_nets_expanded outer links (size b) [] f.nets in
       let s = object_nets_sound outer links (size b) [] f.nets (λ m le. below_more f.nets m outer le h) leads tt in
-      let g : Sketch = record { nets = x.1; processes = f.processes; drivers = f.drivers } in
+      let g : PartialDesign = record { nets = x.1; processes = f.processes; drivers = f.drivers } in
       let le : f.nets ≤ x.1 = (let e = s.1 in omega arith) in
       let len : length x.0 ≡ size b = (let e = s.2 in omega arith) in
       let up = fine_more f.nets x.1 f le fine in

@@ -14,13 +14,13 @@ use Rattle.sim_flat_blocks.specs.declared.parts.Instance.{Instance}
 use Rattle.sim_flat_blocks.specs.declared.parts.Block.{Block}
 use Rattle.sim_flat_blocks.specs.Blocks.{IsBlock, IsInstance, block_of, no_block, link_at, objects, size, targets_of}
 use Rattle.sim_flat_blocks.specs.Links.{unlinked}
-use Rattle.sim_flat_expansion.specs.Hierarchy.{PathStep, Path, Scene, link_of, is_own, Own, own_from, inner, scenes, net_count, process_count}
+use Rattle.sim_flat_expansion.specs.Hierarchy.{PathStep, Path, Occurrence, link_of, is_own, Own, own_from, inner, occurrences, net_count, process_count}
 use Rattle.sim_flat_expansion.specs.Hierarchy.{driver_count, before}
-use Rattle.sim_flat_expansion.specs.Flat.{object_nets_from, net, nets_at, processes_at, drivers_at, scenes_of, flat}
+use Rattle.sim_flat_expansion.specs.Flat.{object_nets_from, net, nets_at, processes_at, drivers_at, occurrences_of, flat}
 use Rattle.sim_flat_expansion.specs.Counts.{number, capped, sum, own_number, step_number, targets_counted}
 use Rattle.sim_flat_expansion.specs.Counts.{own_counted, step_counted, instances_counted, first_table, next_table, table_at, top_added, top_counted}
 use Rattle.sim_flat_expansion.proofs.Sound.{Each, each_of}
-use Rattle.sim_flat_expansion.proofs.Scenes.{counted, counted_append}
+use Rattle.sim_flat_expansion.proofs.Occurrences.{counted, counted_append}
 use Rattle.sim_flat_expansion.proofs.ExpandedObjects.{own_append, own_more}
 use Rattle.sim_flat_expansion.proofs.Law.{gathered, processes_count, drivers_count}
 
@@ -105,8 +105,8 @@ table_is kind blocks known (suc k) n lt =
     ∙ instances_are kind blocks table (total kind blocks k) (table_is kind blocks known k) b.instances
     (known_blocks blocks b b.instances (each_of (IsInstance blocks b) b.instances (known n no_block lt).instances)) (own_number kind b))
 
--- ---- the scenes
-abbrev measure : Kind → Scene → ℕ
+-- ---- the occurrences
+abbrev measure : Kind → Occurrence → ℕ
 measure Nets = net_count
 measure Processes = process_count
 measure Drivers = driver_count
@@ -125,7 +125,7 @@ one_port c n o os Open ls at more =
     let k : suc (length (own_from c (n + 1) os)) ≡ 1 + unlinked ls = omega arith in
     ap (λ (xs : List Own). length xs) (own_more c n o os Open at) ∙ k
 
--- the ports of a path's scene that are nets
+-- the ports of a path's occurrence that are nets
 ports_own : (c : Path) (before after : List Link) (os : List Object) → ((n : ℕ) → link_of c n ≡ link_at (before ++ after) n) → length os ≡ length after
     → length (own_from c (length before) os) ≡ unlinked after
 unfolding own_from unlinked
@@ -147,7 +147,7 @@ signals_own c n (o ∷ os) h =
     let t : is_own (link_of c n) ≡ true = ap is_own (h n (omega arith)) in
     rw t (ap suc (signals_own c (n + 1) os (λ i le. h i (omega arith))))
 
--- the number of a scene itself, and what its path adds
+-- the number of an occurrence itself, and what its path adds
 abbrev Stands : Kind → Path → Block → ℕ → Type 0
 Stands kind c b at = (k : ℕ) → measure kind (record { path = c; block = b; levels = k }) ≡ at + own_number kind b
 
@@ -169,9 +169,9 @@ stands_below Instances blocks s p e k = omega arith
 
 below_is : (kind : Kind) (blocks : List Block) (k : ℕ) (p : Path) → ((c : Path) (b : Block) (at : ℕ) → All (IsInstance blocks b) b.instances
     → Stands kind c b at
-    → counted (measure kind) (scenes blocks (suc k) c b) ≡ at + total kind blocks k b)
+    → counted (measure kind) (occurrences blocks (suc k) c b) ≡ at + total kind blocks k b)
     → All (IsBlock blocks) blocks → (b : Block) (is : List Instance) → Each (IsInstance blocks b) is → (j : ℕ)
-    → counted (measure kind) (inner (scenes blocks (suc k)) blocks p j is) ≡ steps (λ i. step_number kind i + total kind blocks k (block_of blocks i)) is
+    → counted (measure kind) (inner (occurrences blocks (suc k)) blocks p j is) ≡ steps (λ i. step_number kind i + total kind blocks k (block_of blocks i)) is
 unfolding inner steps
 below_is kind blocks k p h known b [] each j = refl
 below_is kind blocks k p h known b (i ∷ is) each j =
@@ -180,28 +180,28 @@ below_is kind blocks k p h known b (i ∷ is) each j =
     let lt = each.0.known in
     let one = h (s ∷ p) inside (step_number kind i) (known i.block no_block lt).instances (stands_below kind blocks s p each.0.links) in
     let two = below_is kind blocks k p h known b is each.1 (j + 1) in
-    let both = counted_append (measure kind) (scenes blocks (suc k) (s ∷ p) inside) (inner (scenes blocks (suc k)) blocks p (j + 1) is) in
+    let both = counted_append (measure kind) (occurrences blocks (suc k) (s ∷ p) inside) (inner (occurrences blocks (suc k)) blocks p (j + 1) is) in
     omega arith
 
 nothing_below : (kind : Kind) (blocks : List Block) (p : Path) (j : ℕ) (is : List Instance)
-    → counted (measure kind) (inner (scenes blocks zero) blocks p j is) ≡ 0
-unfolding inner scenes
+    → counted (measure kind) (inner (occurrences blocks zero) blocks p j is) ≡ 0
+unfolding inner occurrences
 nothing_below kind blocks p j [] = refl
 nothing_below kind blocks p j (i ∷ is) = nothing_below kind blocks p (j + 1) is
 
-scenes_are : (kind : Kind) (blocks : List Block) → All (IsBlock blocks) blocks → (k : ℕ) (c : Path) (b : Block) (at : ℕ)
+occurrences_are : (kind : Kind) (blocks : List Block) → All (IsBlock blocks) blocks → (k : ℕ) (c : Path) (b : Block) (at : ℕ)
     → All (IsInstance blocks b) b.instances
-    → Stands kind c b at → counted (measure kind) (scenes blocks (suc k) c b) ≡ at + total kind blocks k b
-unfolding scenes total
-scenes_are kind blocks known zero c b at is h = let e = h zero in let n = nothing_below kind blocks c 0 b.instances in omega arith
-scenes_are kind blocks known (suc k) c b at is h =
+    → Stands kind c b at → counted (measure kind) (occurrences blocks (suc k) c b) ≡ at + total kind blocks k b
+unfolding occurrences total
+occurrences_are kind blocks known zero c b at is h = let e = h zero in let n = nothing_below kind blocks c 0 b.instances in omega arith
+occurrences_are kind blocks known (suc k) c b at is h =
     let e = h (suc k) in
-    let n = below_is kind blocks k c (scenes_are kind blocks known k) known b b.instances (each_of (IsInstance blocks b) b.instances is) 0 in
+    let n = below_is kind blocks k c (occurrences_are kind blocks known k) known b b.instances (each_of (IsInstance blocks b) b.instances is) 0 in
     omega arith
 
 -- ---- the top
 
--- how much the count over all scenes exceeds the number: by one for instances, as the top is a scene but not an instance
+-- how much the count over all occurrences exceeds the number: by one for instances, as the top is an occurrence but not an instance
 abbrev one_if : Kind → ℕ
 one_if Nets = 0
 one_if Processes = 0
@@ -230,39 +230,39 @@ top_stands Processes b k = omega arith
 top_stands Drivers b k = omega arith
 top_stands Instances b k = omega arith
 
-ones : (ss : List Scene) → counted (λ s. 1) ss ≡ length ss
+ones : (ss : List Occurrence) → counted (λ s. 1) ss ≡ length ss
 ones [] = refl
 ones (s ∷ ss) = let e = ones ss in omega arith
 
-measured : (kind : Kind) (blocks : List Block) (top : ℕ) → 0 < length (scenes_of blocks top)
-    → counted (measure kind) (scenes_of blocks top) ≡ number kind blocks top + one_if kind
+measured : (kind : Kind) (blocks : List Block) (top : ℕ) → 0 < length (occurrences_of blocks top)
+    → counted (measure kind) (occurrences_of blocks top) ≡ number kind blocks top + one_if kind
 unfolding number flat
 measured Nets blocks top some =
-    let all = scenes_of blocks top in
+    let all = occurrences_of blocks top in
     let e = gathered (nets_at blocks all) net_count (λ s. length-map (own_from s.path 0 (objects s.block)) (net blocks all s)) all in
     omega arith
 measured Processes blocks top some =
-    let all = scenes_of blocks top in
+    let all = occurrences_of blocks top in
     let e = gathered (processes_at all) process_count
     (λ s. processes_count (object_nets_from all s.path 0 (size s.block)) (before driver_count all s.path) s.block.processes) all in
     omega arith
 measured Drivers blocks top some =
-    let all = scenes_of blocks top in
+    let all = occurrences_of blocks top in
     let e = gathered (drivers_at all) driver_count
     (λ s. drivers_count (object_nets_from all s.path 0 (size s.block)) s.block (before process_count all s.path) s.block.processes) all in
     omega arith
-measured Instances blocks top some = let e = ones (scenes_of blocks top) in omega arith
+measured Instances blocks top some = let e = ones (occurrences_of blocks top) in omega arith
 
-there : (blocks : List Block) (top : ℕ) → 0 < length (scenes_of blocks top)
-unfolding scenes_of scenes
+there : (blocks : List Block) (top : ℕ) → 0 < length (occurrences_of blocks top)
+unfolding occurrences_of occurrences
 there blocks top = omega arith
 
 total_is : (kind : Kind) (blocks : List Block) (top : ℕ) → All (IsBlock blocks) blocks → top < length blocks
     → number kind blocks top ≡ top_added kind (get_or blocks top no_block) + total kind blocks 32 (get_or blocks top no_block)
-unfolding scenes_of
+unfolding occurrences_of
 total_is kind blocks top known lt =
     let b = get_or blocks top no_block in
-    let e = scenes_are kind blocks known 32 [] b (top_number kind b) (known top no_block lt).instances (top_stands kind b) in
+    let e = occurrences_are kind blocks known 32 [] b (top_number kind b) (known top no_block lt).instances (top_stands kind b) in
     let m = measured kind blocks top (there blocks top) in
     let a = top_parts kind b in
     omega arith

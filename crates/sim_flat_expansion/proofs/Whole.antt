@@ -6,7 +6,7 @@ use Rattle.sim_flat_design.specs.Designs.{Net, Design, IsDesign, IsNet, IsPlaced
 use Rattle.sim_flat_design.specs.Processes.{Process}
 use Rattle.sim_flat_blocks.specs.declared.links.Link.{Link}
 use Rattle.sim_flat_blocks.specs.declared.parts.Block.{Block}
-use Rattle.sim_flat_expansion.specs.declared.processes.Sketch.{Sketch}
+use Rattle.sim_flat_expansion.specs.declared.processes.PartialDesign.{PartialDesign}
 use Rattle.sim_flat_blocks.specs.Blocks.{IsBlock, IsWithinLimits, no_block, levels}
 use Rattle.sim_flat_expansion.specs.Expanding.{FlatSources, block_expanded, expanded}
 use Rattle.sim_flat_expansion.proofs.Sound.{all_of, Fine, block_expanded_sound}
@@ -14,9 +14,9 @@ use Rattle.sim_flat_expansion.specs.Flat.{flat}
 use Rattle.sim_flat_expansion.proofs.Law.{expanded_is_flat}
 
 abbrev Made : Type 0
-Made = List Net × FlatSources × Sketch
+Made = List Net × FlatSources × PartialDesign
 
-abbrev start : Sketch
+abbrev start : PartialDesign
 start = record { nets = 0; processes = []; drivers = [] }
 
 abbrev pub design : Made → Design

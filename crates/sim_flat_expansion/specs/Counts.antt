@@ -8,14 +8,14 @@ use Rattle.sim_flat_blocks.specs.declared.parts.Instance.{Instance}
 use Rattle.sim_flat_blocks.specs.declared.parts.Block.{Block}
 use Rattle.sim_flat_blocks.specs.Links.{unlinked}
 use Rattle.sim_flat_blocks.specs.Blocks.{targets_of}
-use Rattle.sim_flat_expansion.specs.Flat.{scenes_of, flat}
+use Rattle.sim_flat_expansion.specs.Flat.{occurrences_of, flat}
 
 -- the number of a kind in the flat design; the top is not an instance
 unfoldable pub number : Kind → List Block → ℕ → ℕ
 number Nets blocks top = length (flat blocks top).nets
 number Processes blocks top = length (flat blocks top).processes
 number Drivers blocks top = length (flat blocks top).drivers
-number Instances blocks top = length (scenes_of blocks top) - 1
+number Instances blocks top = length (occurrences_of blocks top) - 1
 
 -- counting stops above the limit
 abbrev pub capped : ℕ → ℕ

@@ -13,7 +13,7 @@ use Rattle.sim_flat_blocks.specs.declared.parts.Port.{Port}
 use Rattle.sim_flat_blocks.specs.declared.parts.BlockProcess.{BlockProcess}
 use Rattle.sim_flat_blocks.specs.declared.parts.Instance.{Instance}
 use Rattle.sim_flat_blocks.specs.declared.parts.Block.{Block}
-use Rattle.sim_flat_expansion.specs.declared.processes.Sketch.{Sketch}
+use Rattle.sim_flat_expansion.specs.declared.processes.PartialDesign.{PartialDesign}
 use Rattle.sim_flat_blocks.specs.Blocks.{size, block_of, no_block, link_at, below, driver_of, process_of, constant_at, levels}
 
 -- ---- the net of each port and signal, and the number of nets so far
@@ -30,7 +30,7 @@ object_nets_expanded outer links (suc k) object_nets nets =
     object_nets_expanded outer links k (object_nets ++ x.0 ∷ []) x.1
 
 -- the nets of a block, given what is already expanded
-unfoldable pub block_object_nets : List ℕ → List Link → Block → Sketch → List ℕ × Sketch
+unfoldable pub block_object_nets : List ℕ → List Link → Block → PartialDesign → List ℕ × PartialDesign
 block_object_nets outer links b f =
     let x = object_nets_expanded outer links (size b) [] f.nets in
     (x.0, record { nets = x.1; processes = f.processes; drivers = f.drivers })
@@ -49,7 +49,7 @@ targets_expanded object_nets b process [] flat_sources drivers = (flat_sources, 
 targets_expanded object_nets b process (n ∷ ns) flat_sources drivers =
     targets_expanded object_nets b process ns (added flat_sources n (source.Driver (length drivers) ∷ [])) (drivers ++ driver_of object_nets b process n ∷ [])
 
-unfoldable pub processes_expanded : List ℕ → Block → List BlockProcess → FlatSources → Sketch → FlatSources × Sketch
+unfoldable pub processes_expanded : List ℕ → Block → List BlockProcess → FlatSources → PartialDesign → FlatSources × PartialDesign
 processes_expanded object_nets b [] flat_sources f = (flat_sources, f)
 processes_expanded object_nets b (t ∷ ts) flat_sources f =
     let x = targets_expanded object_nets b (length f.processes) t.targets flat_sources f.drivers in
@@ -94,26 +94,26 @@ objects_expanded prefix links own b outer =
 
 -- ---- the walk: the parameter expands one instance's block
 abbrev pub Walk : Type 0
-Walk = List ℕ → List Link → List ℕ → Block → FlatSources → Sketch → List Net × FlatSources × Sketch
+Walk = List ℕ → List Link → List ℕ → Block → FlatSources → PartialDesign → List Net × FlatSources × PartialDesign
 
 module _ (one : Walk) (blocks : List Block) where
-  abbrev pub instance_expanded : List ℕ → List ℕ → Instance → FlatSources → Sketch → List Net × FlatSources × Sketch
+  abbrev pub instance_expanded : List ℕ → List ℕ → Instance → FlatSources → PartialDesign → List Net × FlatSources × PartialDesign
   instance_expanded object_nets prefix i flat_sources f = one (below prefix i.label.text) i.links object_nets (block_of blocks i) flat_sources f
 
-  unfoldable pub instances_expanded : List ℕ → List ℕ → List Instance → List Net → FlatSources → Sketch → List Net × FlatSources × Sketch
+  unfoldable pub instances_expanded : List ℕ → List ℕ → List Instance → List Net → FlatSources → PartialDesign → List Net × FlatSources × PartialDesign
   instances_expanded object_nets prefix [] nets flat_sources f = (nets, flat_sources, f)
   instances_expanded object_nets prefix (i ∷ is) nets flat_sources f =
       let x = instance_expanded object_nets prefix i flat_sources f in
       instances_expanded object_nets prefix is (nets ++ x.0) x.1 x.2
 
   -- the processes of a block, and then its instances
-  abbrev pub occupants_expanded : List ℕ → List ℕ → Block → Sketch → List Net × FlatSources × Sketch
+  abbrev pub occupants_expanded : List ℕ → List ℕ → Block → PartialDesign → List Net × FlatSources × PartialDesign
   occupants_expanded prefix object_nets b f =
       let p = processes_expanded object_nets b b.processes (replicate (size b) []) f in
       instances_expanded object_nets prefix b.instances [] p.0 p.1
 
   -- the contents of a block, given the nets of its ports and signals
-  unfoldable pub inside_expanded : List ℕ → List Link → List ℕ → Block → FlatSources → Sketch → List Net × FlatSources × Sketch
+  unfoldable pub inside_expanded : List ℕ → List Link → List ℕ → Block → FlatSources → PartialDesign → List Net × FlatSources × PartialDesign
   inside_expanded prefix links object_nets b around f =
       let x = occupants_expanded prefix object_nets b f in
       let s = objects_expanded prefix links x.1 b around in

@@ -15,16 +15,16 @@ use Rattle.sim_flat_blocks.specs.declared.parts.BlockProcess.{BlockProcess}
 use Rattle.sim_flat_blocks.specs.declared.parts.Instance.{Instance}
 use Rattle.sim_flat_blocks.specs.declared.parts.Block.{Block}
 use Rattle.sim_flat_blocks.specs.Blocks.{size, block_of, no_block, link_at, constant_at, below, driver_of, process_of, levels, targets_of}
-use Rattle.sim_flat_expansion.specs.Hierarchy.{Path, Scene, scenes, link_of, net_object, Own, own_at, process_count, driver_count, before, net_number}
+use Rattle.sim_flat_expansion.specs.Hierarchy.{Path, Occurrence, occurrences, link_of, net_object, Own, own_at, process_count, driver_count, before, net_number}
 
--- ---- processes and drivers, by scene, then in textual order
+-- ---- processes and drivers, by occurrence, then in textual order
 
 -- the nets of this many ports and signals, from this position
-unfoldable pub object_nets_from : List Scene → Path → ℕ → ℕ → List ℕ
+unfoldable pub object_nets_from : List Occurrence → Path → ℕ → ℕ → List ℕ
 object_nets_from all p n zero = []
 object_nets_from all p n (suc k) = net_number all (net_object p n) ∷ object_nets_from all p (n + 1) k
 
-abbrev pub object_nets_at : List Scene → Scene → List ℕ
+abbrev pub object_nets_at : List Occurrence → Occurrence → List ℕ
 object_nets_at all s = object_nets_from all s.path 0 (size s.block)
 
 -- the processes, where the first driver has this number
@@ -37,10 +37,10 @@ unfoldable pub drivers_from : List ℕ → Block → ℕ → List BlockProcess �
 drivers_from object_nets b process [] = []
 drivers_from object_nets b process (t ∷ ts) = map (driver_of object_nets b process) t.targets ++ drivers_from object_nets b (process + 1) ts
 
-abbrev pub processes_at : List Scene → Scene → List Process
+abbrev pub processes_at : List Occurrence → Occurrence → List Process
 processes_at all s = processes_from (object_nets_at all s) (before driver_count all s.path) s.block.processes
 
-abbrev pub drivers_at : List Scene → Scene → List DriverOf
+abbrev pub drivers_at : List Occurrence → Occurrence → List DriverOf
 drivers_at all s = drivers_from (object_nets_at all s) s.block (before process_count all s.path) s.block.processes
 
 -- ---- sources: the drivers of a port or signal, then the ports of instances that drive and are associated with it (6.4.2.3)
@@ -50,7 +50,7 @@ unfoldable pub driving : ℕ → ℕ → List ℕ → List ℕ
 driving n i [] = []
 driving n i (t ∷ ts) = if t == n then i ∷ driving n (i + 1) ts else driving n (i + 1) ts
 
-abbrev pub drivers_of : List Scene → Path → Block → ℕ → List ℕ
+abbrev pub drivers_of : List Occurrence → Path → Block → ℕ → List ℕ
 drivers_of all p b n = driving n (before driver_count all p) (targets_of b.processes)
 
 abbrev pub with_ports : List SourceTree → Sources
@@ -92,7 +92,7 @@ abbrev pub prefix : Path → List ℕ
 prefix [] = []
 prefix (s ∷ up) = below (prefix up) s.instance.label.text
 
-module _ (blocks : List Block) (all : List Scene) where
+module _ (blocks : List Block) (all : List Occurrence) where
   -- the tree of the port or signal at a position, given a function for the trees of a block's ports
   abbrev pub tree_of : (Path → Block → List Link → ℕ → List SourceTree) → Path → Block → ℕ → Object → SourceTree
   tree_of one p b n o =
@@ -104,13 +104,13 @@ module _ (blocks : List Block) (all : List Scene) where
   port_trees zero p b links m = []
   port_trees (suc k) p b links m = of_ports (tree_of (port_trees k) p b) links m 0 b.ports
 
-  abbrev pub net : Scene → Own → Net
+  abbrev pub net : Occurrence → Own → Net
   net s x = record {
     name = prefix s.path ++ x.object.name.text;
     sources = map source_of (flat_sources (tree_of (port_trees s.levels) s.path s.block x.place x.object));
   }
 
-  abbrev pub nets_at : Scene → List Net
+  abbrev pub nets_at : Occurrence → List Net
   nets_at s = map (net s) (own_at s)
 
 -- ---- the design
@@ -118,11 +118,11 @@ abbrev pub gather : {X Y : Type 0} → (X → List Y) → List X → List Y
 gather f [] = []
 gather f (x ∷ xs) = f x ++ gather f xs
 
--- the scenes from the top
-unfoldable pub scenes_of : List Block → ℕ → List Scene
-scenes_of blocks top = scenes blocks levels [] (slice_index_or blocks top no_block)
+-- the occurrences from the top
+unfoldable pub occurrences_of : List Block → ℕ → List Occurrence
+occurrences_of blocks top = occurrences blocks levels [] (slice_index_or blocks top no_block)
 
 unfoldable pub flat : List Block → ℕ → Design
 flat blocks top =
-    let all = scenes_of blocks top in
+    let all = occurrences_of blocks top in
     record { nets = gather (nets_at blocks all) all; processes = gather (processes_at all) all; drivers = gather (drivers_at all) all }

@@ -5,7 +5,7 @@ ghost use Rattle.sim_flat_expansion.specs.Expanding as spec;
 ghost use Rattle.sim_flat_blocks.specs.Blocks.{size};
 ghost use Rattle.sim_flat_design.specs.Processes.{rising, nets_of};
 
-use crate::processes::Sketch;
+use crate::processes::PartialDesign;
 use sim_flat_blocks::links::{Link, Links};
 use sim_flat_blocks::parts::Block;
 use sim_flat_blocks::rising::rising;
@@ -75,7 +75,7 @@ pub fn block_object_nets(
     outer: &[usize],
     links: &Links,
     at: &Block,
-    flat: &mut Sketch,
+    flat: &mut PartialDesign,
 ) -> Result<ObjectNets, AllocError>
     ensures value { IfOk result (λ r. (r, flat.new) ≡ spec.block_object_nets outer.now links.now at.now flat.old) }
     ensures placed { IfOk result (λ r. length r ≡ size at.now) }

@@ -18,7 +18,7 @@ use std::alloc::{AllocError, Global};
 
 /// The number of nets so far, the processes, and their drivers.
 #[derive(Drop)]
-pub struct Sketch {
+pub struct PartialDesign {
     pub nets: usize,
     pub processes: Items<Process>,
     pub drivers: Items<DriverOf>,
@@ -108,7 +108,7 @@ pub fn processes(
     block: &Block,
     block_processes: &[BlockProcess],
     flat_sources: &mut [Items<Source>],
-    flat: &mut Sketch,
+    flat: &mut PartialDesign,
 ) -> Result<(), AllocError>
     requires placed { length object_nets.now ≡ size block.now }
     requires block_processes { All (IsBlockProcess block.now) block_processes.now }

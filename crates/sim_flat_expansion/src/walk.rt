@@ -9,7 +9,7 @@ ghost use Rattle.sim_flat_expansion.specs.Expanding as spec;
 use crate::flat_sources::{none, objects_expanded};
 use crate::names::below;
 use crate::object_nets::block_object_nets;
-use crate::processes::{Sketch, processes};
+use crate::processes::{PartialDesign, processes};
 use sim_flat_blocks::links::Links;
 use sim_flat_blocks::parts::{Block, Instance};
 use sim_flat_design::process::ObjectNets;
@@ -32,7 +32,7 @@ fn block(
     outer: &[usize],
     at: &Block,
     around: &mut [Items<Source>],
-    flat: &mut Sketch,
+    flat: &mut PartialDesign,
 ) -> Result<Items<Net>, AllocError>
     requires known { All (IsBlock blocks.now) blocks.now }
     requires here { IsBlock blocks.now at.now }
@@ -67,7 +67,7 @@ fn inside(
     object_nets: &ObjectNets,
     at: &Block,
     around: &mut [Items<Source>],
-    flat: &mut Sketch,
+    flat: &mut PartialDesign,
 ) -> Result<Items<Net>, AllocError>
     requires known { All (IsBlock blocks.now) blocks.now }
     requires here { IsBlock blocks.now at.now }
@@ -91,7 +91,7 @@ fn occupants(
     prefix: &InstancePath,
     object_nets: &ObjectNets,
     at: &Block,
-    flat: &mut Sketch,
+    flat: &mut PartialDesign,
 ) -> Result<(Vec<Items<Source>>, Items<Net>), AllocError>
     requires known { All (IsBlock blocks.now) blocks.now }
     requires here { IsBlock blocks.now at.now }
@@ -135,7 +135,7 @@ fn instances(
     at: &Block,
     list: &[Instance],
     own: &mut [Items<Source>],
-    flat: &mut Sketch,
+    flat: &mut PartialDesign,
 ) -> Result<Items<Net>, AllocError>
     requires known { All (IsBlock blocks.now) blocks.now }
     requires here { All (IsInstance blocks.now at.now) list.now }
@@ -172,7 +172,7 @@ fn instance(
     at: &Block,
     each: &Instance,
     own: &mut [Items<Source>],
-    flat: &mut Sketch,
+    flat: &mut PartialDesign,
 ) -> Result<Items<Net>, AllocError>
     requires known { All (IsBlock blocks.now) blocks.now }
     requires here { IsInstance blocks.now at.now each.now }
@@ -203,7 +203,7 @@ pub fn expand(alloc: Global, blocks: &[Block], top: usize) -> Result<Design, All
 {
     let nothing = Links::open(alloc, 0, 0)?;
     let path = InstancePath::top(alloc)?;
-    let mut flat = Sketch {
+    let mut flat = PartialDesign {
         nets: 0,
         processes: Items::new(alloc),
         drivers: Items::new(alloc),
@@ -219,7 +219,7 @@ pub fn expand(alloc: Global, blocks: &[Block], top: usize) -> Result<Design, All
         &mut [],
         &mut flat,
     )?;
-    let Sketch {
+    let PartialDesign {
         processes,
         drivers,
         ..

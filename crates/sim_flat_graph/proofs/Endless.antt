@@ -6,10 +6,10 @@ use Rattle.sim_flat_blocks.specs.declared.parts.Instance.{Instance}
 use Rattle.sim_flat_blocks.specs.declared.parts.Block.{Block}
 use Rattle.sim_flat_blocks.specs.Blocks.{block_of, IsBlock}
 use Rattle.sim_flat_expansion.specs.Depth.{has_chain}
-use Rattle.sim_flat_graph.specs.Graph.{blocks_of, graph_of, block_at, led, Reaches, Here, Along, IsWhole}
+use Rattle.sim_flat_graph.specs.Graph.{blocks_of, graph_of, block_at, successors, Reaches, Here, Along, IsWhole}
 use Rattle.sim_flat_graph.specs.Least.{IsLeast}
 use Rattle.sim_flat_graph.specs.Recursion.{IsRecursive}
-use Rattle.sim_flat_graph.proofs.Recursions.{edge_of, led_is}
+use Rattle.sim_flat_graph.proofs.Recursions.{edge_of, successors_are}
 
 -- ---- the graph of blocks
 pub graph_length : (bs : List Block) → length (graph_of bs) ≡ length bs
@@ -63,10 +63,10 @@ module _ (blocks : List Block) where
   unfolding has_chain
   longer k a i among h = any_among (λ j. has_chain blocks k (block_of blocks j)) (block_at blocks a).instances i among h
 
-  along : (k a next : ℕ) → Contains (led (graph_of blocks) a) next → has_chain blocks k (block_at blocks next) ≡ true
+  along : (k a next : ℕ) → Contains (successors (graph_of blocks) a) next → has_chain blocks k (block_at blocks next) ≡ true
       → has_chain blocks k (block_at blocks a) ≡ true
   along k a next c h =
-      let e = edge_of (block_at blocks a).instances next (subst (λ (ns : List ℕ). Contains ns next) (led_is blocks a) c) in
+      let e = edge_of (block_at blocks a).instances next (subst (λ (ns : List ℕ). Contains ns next) (successors_are blocks a) c) in
       shorter k (block_at blocks a) (longer k a e.instance e.among (subst (λ (n : ℕ). has_chain blocks k (block_at blocks n) ≡ true) (sym e.leads) h))
 
   -- a block that leads to the start of a chain starts one of the same length

@@ -7,18 +7,18 @@ use Rattle.std.proofs.lemmas.List.{get_or_past}
 use Rattle.sim_flat_blocks.specs.declared.parts.Instance.{Instance}
 use Rattle.sim_flat_blocks.specs.declared.parts.Block.{Block}
 use Rattle.sim_flat_blocks.specs.Blocks.{no_block}
-use Rattle.sim_flat_graph.specs.Graph.{Graph, blocks_of, graph_of, block_at, led, Reaches}
+use Rattle.sim_flat_graph.specs.Graph.{Graph, blocks_of, graph_of, block_at, successors, Reaches}
 use Rattle.sim_flat_graph.specs.Least.{IsLeast, lesser, least_of}
 use Rattle.sim_flat_graph.specs.Recursion.{IsRecursive, IsLeastBack, IsLeastOn, is_before, is_earlier, places_of, marked}
 use Rattle.sim_flat_graph.proofs.Lists.{by_cases, by_order, nothing_in, first_in, later_in, one_of}
 use Rattle.sim_flat_graph.proofs.Leasts.{said_otherwise, with_more}
 
 -- ---- edges are instances
-pub led_is : (bs : List Block) (n : ℕ) → led (graph_of bs) n ≡ blocks_of (block_at bs n).instances
+pub successors_are : (bs : List Block) (n : ℕ) → successors (graph_of bs) n ≡ blocks_of (block_at bs n).instances
 unfolding graph_of blocks_of
-led_is [] n = refl
-led_is (b ∷ bs) zero = refl
-led_is (b ∷ bs) (suc n) = led_is bs n
+successors_are [] n = refl
+successors_are (b ∷ bs) zero = refl
+successors_are (b ∷ bs) (suc n) = successors_are bs n
 
 pub record Edge (is : List Instance) (n : ℕ) : Type 0 where
   pub instance : Instance
@@ -47,8 +47,8 @@ block_there (j ∷ is) i c = by_one (one_of j i is c) (block_there is i)
     by_one (inl e) more = subst (λ (k : Instance). Contains (j.block ∷ blocks_of is) k.block) e (first_in j.block (blocks_of is))
     by_one (inr d) more = later_in j.block i.block (blocks_of is) (more d)
 
-pub led_there : (bs : List Block) (n : ℕ) (i : Instance) → Contains (block_at bs n).instances i → Contains (led (graph_of bs) n) i.block
-led_there bs n i c = subst (λ (ns : List ℕ). Contains ns i.block) (sym (led_is bs n)) (block_there (block_at bs n).instances i c)
+pub successor_there : (bs : List Block) (n : ℕ) (i : Instance) → Contains (block_at bs n).instances i → Contains (successors (graph_of bs) n) i.block
+successor_there bs n i c = subst (λ (ns : List ℕ). Contains ns i.block) (sym (successors_are bs n)) (block_there (block_at bs n).instances i c)
 
 -- ---- the places of instances whose blocks pass a test
 record Place (test : ℕ → Bool) (is : List Instance) (at : ℕ) : Type 0 where

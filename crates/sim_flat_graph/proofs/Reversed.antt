@@ -5,7 +5,7 @@ use Rattle.std.specs.List.{Contains}
 use Rattle.std.proofs.lemmas.Bool.{eqb-true, eq-eqb}
 use Rattle.std.proofs.lemmas.List.Elements.{All-from_get_or, Contains-append_left, Contains-append_right, Contains-append_cases, Contains-get_or}
 use Rattle.std.proofs.lemmas.List.{get_or_past, drop_all}
-use Rattle.sim_flat_graph.specs.Graph.{Graph, led, Reaches, Here, Along, IsWhole, each_time, leading}
+use Rattle.sim_flat_graph.specs.Graph.{Graph, successors, Reaches, Here, Along, IsWhole, each_time, leading}
 use Rattle.sim_flat_graph.proofs.Lists.{by_cases, by_order, nothing_in, first_in, later_in, one_of}
 use Rattle.sim_flat_graph.proofs.Searches.{one_step}
 
@@ -53,7 +53,7 @@ pub record Leads (g : Graph) (to at x : ℕ) : Type 0 where
   pub place : ℕ
   pub is : x ≡ at + place
   pub below : place < length g
-  pub among : Contains (led g place) to
+  pub among : Contains (successors g place) to
 
 leads_now : (ns : List ℕ) (g : Graph) (to at x : ℕ) → (x ≡ at) × Contains ns to → Leads (ns ∷ g) to at x
 leads_now ns g to at x h = record { place = 0; is = (let e = h.0 in omega arith); below = omega arith; among = h.1 }
@@ -82,7 +82,7 @@ leading_is to at (ns ∷ g) x c =
     leads_either ns g to at x
     (both_ways (time_of at to ns x) (leading_is to (at + 1) g x) (Contains-append_cases (each_time at to ns) (leading to (at + 1) g) x c))
 
-leading_there : (to at k : ℕ) (g : Graph) → k < length g → Contains (led g k) to → Contains (leading to at g) (at + k)
+leading_there : (to at k : ℕ) (g : Graph) → k < length g → Contains (successors g k) to → Contains (leading to at g) (at + k)
 unfolding leading
 leading_there to at k [] lt c = absurd (omega arith)
 leading_there to at zero (ns ∷ g) lt c =
@@ -94,19 +94,19 @@ leading_there to at (suc k) (ns ∷ g) lt c =
     (Contains-append_right (each_time at to ns) (leading to (at + 1) g) (at + 1 + k) (leading_there to (at + 1) k g (omega arith) c))
 
 -- ---- the whole graph
-module _ (g back : Graph) (same : length back ≡ length g) (rows : (n : ℕ) → led back n ≡ leading n 0 g) where
-  edge_back : (a b : ℕ) → Contains (led back b) a → Contains (led g a) b
+module _ (g back : Graph) (same : length back ≡ length g) (rows : (n : ℕ) → successors back n ≡ leading n 0 g) where
+  edge_back : (a b : ℕ) → Contains (successors back b) a → Contains (successors g a) b
   edge_back a b c =
       let h = leading_is b 0 g a (subst (λ (xs : List ℕ). Contains xs a) (rows b) c) in
       let e : h.place ≡ a = (let e = h.is in omega arith) in
-      subst (λ (k : ℕ). Contains (led g k) b) e h.among
+      subst (λ (k : ℕ). Contains (successors g k) b) e h.among
 
-  edge_on : (a b : ℕ) → a < length g → Contains (led g a) b → Contains (led back b) a
+  edge_on : (a b : ℕ) → a < length g → Contains (successors g a) b → Contains (successors back b) a
   edge_on a b lt c =
       let e : 0 + a ≡ a = omega arith in
       subst (λ (xs : List ℕ). Contains xs a) (sym (rows b)) (subst (Contains (leading b 0 g)) e (leading_there b 0 a g lt c))
 
-  there : (a b : ℕ) → Contains (led g a) b → a < length g
+  there : (a b : ℕ) → Contains (successors g a) b → a < length g
   there a b c = by_order a (length g) (λ lt. lt) (λ past. nothing_in b (subst (λ (xs : List ℕ). Contains xs b) (get_or_past g a [] past) c))
 
   to_back : (c a : ℕ) → Reaches g c a → Reaches back a c
@@ -124,13 +124,13 @@ module _ (g back : Graph) (same : length back ≡ length g) (rows : (n : ℕ) �
   back_whole =
       All-from_get_or (λ (ns : List ℕ). All (λ (n : ℕ). n < length back) ns) back []
       (λ k lt j e less.
-      let x = get_or (led back k) j e in
-      let a = there x k (edge_back x k (Contains-get_or (led back k) j e less)) in
+      let x = get_or (successors back k) j e in
+      let a = there x k (edge_back x k (Contains-get_or (successors back k) j e less)) in
       omega arith)
 
 -- the rows at the end of the loop
-pub rows_at_end : (g back : Graph) (i : ℕ) → length g ≤ i → ((n : ℕ) → led back n ++ leading n i (drop i g) ≡ leading n 0 g) → (n : ℕ)
-    → led back n ≡ leading n 0 g
+pub rows_at_end : (g back : Graph) (i : ℕ) → length g ≤ i → ((n : ℕ) → successors back n ++ leading n i (drop i g) ≡ leading n 0 g) → (n : ℕ)
+    → successors back n ≡ leading n 0 g
 unfolding leading
 rows_at_end g back i past h n =
-    sym (append-nil (led back n)) ∙ (ap (λ (rest : Graph). led back n ++ leading n i rest) (sym (drop_all i g past)) ∙ h n)
+    sym (append-nil (successors back n)) ∙ (ap (λ (rest : Graph). successors back n ++ leading n i rest) (sym (drop_all i g past)) ∙ h n)

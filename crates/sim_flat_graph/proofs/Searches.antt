@@ -7,9 +7,9 @@ use Rattle.std.proofs.lemmas.List.{get_or-set_same, length-set, get_or_past, len
 use Rattle.std.proofs.lemmas.List.Elements.{All-contains, All-push, Contains-append_left, Contains-push, Contains-get_or}
 use Rattle.std.proofs.lemmas.Grind.{get_or_default_zero}
 use Rattle.std.proofs.lemmas.Option.{get_or_from_slice_get, slice_get_cases}
-use Rattle.sim_flat_graph.specs.Graph.{Graph, led, Reaches, Here, Along, IsWhole}
+use Rattle.sim_flat_graph.specs.Graph.{Graph, successors, Reaches, Here, Along, IsWhole}
 use Rattle.sim_flat_graph.proofs.Lists.{by_cases, by_order}
-use Rattle.sim_flat_graph.specs.Search.{Found, noted, all_noted, begun, led_by, searched}
+use Rattle.sim_flat_graph.specs.Search.{Found, noted, all_noted, begun, successors_of, searched}
 
 -- ---- the number of marks
 bit : Bool → ℕ
@@ -168,12 +168,12 @@ all_noted_found g from f (n ∷ ns) lt reached known =
 record IsSearched (g : Graph) (from at : ℕ) (f : Found) : Type 0 where
   found : IsFound g from f
   shown : IsMarked f from
-  looked : (k : ℕ) → k < at → k < length f.order → All (IsMarked f) (led g (get_or f.order k 0))
+  looked : (k : ℕ) → k < at → k < length f.order → All (IsMarked f) (successors g (get_or f.order k 0))
 
-whole_at : (g : Graph) (n : ℕ) → IsWhole g → All (λ m. m < length g) (led g n)
+whole_at : (g : Graph) (n : ℕ) → IsWhole g → All (λ m. m < length g) (successors g n)
 whole_at g n whole =
     by_order n (length g) (λ less. whole n [] less)
-    (λ past. let e : led g n ≡ [] = get_or_past g n [] past in rw e (λ k d less. absurd (omega arith)))
+    (λ past. let e : successors g n ≡ [] = get_or_past g n [] past in rw e (λ k d less. absurd (omega arith)))
 
 nothing : (g : Graph) (from : ℕ) → IsFound g from (record { marks = replicate (length g) false; order = [] })
 nothing g from = record {
@@ -198,52 +198,53 @@ begun_found g from lt =
     }
 
 -- one more step at the end
-pub one_step : (g : Graph) (n m a : ℕ) → Reaches g n a → Contains (led g n) m → Reaches g m a
+pub one_step : (g : Graph) (n m a : ℕ) → Reaches g n a → Contains (successors g n) m → Reaches g m a
 one_step g n m a Here among = Along a m among Here
 one_step g n m a (Along x next first rest) among = Along a next first (one_step g n m next rest among)
 
-pub reached_all : (g : Graph) (from n : ℕ) → Reaches g n from → All (λ m. Reaches g m from) (led g n)
-reached_all g from n reached k d less = one_step g n (get_or (led g n) k d) from reached (Contains-get_or (led g n) k d less)
+pub reached_all : (g : Graph) (from n : ℕ) → Reaches g n from → All (λ m. Reaches g m from) (successors g n)
+reached_all g from n reached k d less = one_step g n (get_or (successors g n) k d) from reached (Contains-get_or (successors g n) k d less)
 
 within : (g : Graph) (from : ℕ) (f : Found) → IsFound g from f → length f.order ≤ length g
 within g from f known = let a = count_most f.marks in let b = known.size in let c = known.number in omega arith
 
 -- visited before, or now
 looked_on : (g : Graph) (from at : ℕ) (f more : Found) → IsSearched g from at f → Grows f more
-    → length f.order ≤ at ⊎ All (IsMarked more) (led g (get_or f.order at 0))
-    → (k : ℕ) → k < at + 1 → k < length f.order → All (IsMarked more) (led g (get_or f.order k 0))
+    → length f.order ≤ at ⊎ All (IsMarked more) (successors g (get_or f.order at 0))
+    → (k : ℕ) → k < at + 1 → k < length f.order → All (IsMarked more) (successors g (get_or f.order k 0))
 looked_on g from at f more s grows now k lt before =
-    by_order k at (λ less j d below. grows.marks (get_or (led g (get_or f.order k 0)) j d) (s.looked k less before j d below)) (λ last. by_now now last)
+    by_order k at (λ less j d below. grows.marks (get_or (successors g (get_or f.order k 0)) j d) (s.looked k less before j d below)) (λ last. by_now now last)
   where
-    by_now : length f.order ≤ at ⊎ All (IsMarked more) (led g (get_or f.order at 0)) → at ≤ k → All (IsMarked more) (led g (get_or f.order k 0))
+    by_now : length f.order ≤ at ⊎ All (IsMarked more) (successors g (get_or f.order at 0)) → at ≤ k → All (IsMarked more) (successors g (get_or f.order k 0))
     by_now (inl long) last = absurd (omega arith)
     by_now (inr all) last = let e : k ≡ at = omega arith in rw e all
 
 -- one iteration
-turned : (g : Graph) (from at : ℕ) (f : Found) → IsWhole g → IsSearched g from at f → IsSearched g from (at + 1) (all_noted f (led_by g (slice_get f.order at)))
+turned : (g : Graph) (from at : ℕ) (f : Found) → IsWhole g → IsSearched g from at f
+    → IsSearched g from (at + 1) (all_noted f (successors_of g (slice_get f.order at)))
 unfolding all_noted
 turned g from at f whole s = by_place (slice_get_cases f.order at).1
   where
     by_place : ((x : ℕ) × (at < length f.order) × (slice_get f.order at ≡ Some x) × (get_or f.order at x
         ≡ x)) ⊎ ((length f.order ≤ at) × (slice_get f.order at ≡ None))
-        → IsSearched g from (at + 1) (all_noted f (led_by g (slice_get f.order at)))
+        → IsSearched g from (at + 1) (all_noted f (successors_of g (slice_get f.order at)))
     by_place (inr past) = rw past.1 (record {
       found = s.found;
       shown = s.shown;
       looked = λ k lt less. looked_on g from at f f s (same_grows f) (inl past.0) k lt less;
     })
     by_place (inl (x, less, is, same)) =
-        let inside : All (λ m. m < length f.marks) (led g x) = rw s.found.size (whole_at g x whole) in
+        let inside : All (λ m. m < length f.marks) (successors g x) = rw s.found.size (whole_at g x whole) in
         let marked : IsMarked f x = subst (IsMarked f) same (s.found.marked at x less) in
-        let noted = all_noted_are f (led g x) inside in
-        let found = all_noted_found g from f (led g x) (whole_at g x whole) (reached_all g from x (s.found.sound x marked)) s.found in
+        let noted = all_noted_are f (successors g x) inside in
+        let found = all_noted_found g from f (successors g x) (whole_at g x whole) (reached_all g from x (s.found.sound x marked)) s.found in
         let here : get_or f.order at 0 ≡ x = get_or_from_slice_get f.order at x 0 is in
         rw is (record {
           found = found;
           shown = noted.grows.marks from s.shown;
           looked = λ k lt below.
               let before : k < length f.order = omega arith in
-              rw (noted.grows.order k before) (looked_on g from at f (all_noted f (led g x)) s noted.grows (inr (rw here noted.there)) k lt before);
+              rw (noted.grows.order k before) (looked_on g from at f (all_noted f (successors g x)) s noted.grows (inr (rw here noted.there)) k lt before);
         })
 
 searched_is : (g : Graph) (from at : ℕ) → IsWhole g → from < length g → IsSearched g from at (searched g from at)
@@ -260,9 +261,9 @@ marked_on g from f s n a h (Along x next among rest) =
     let at : Contains f.order a = s.found.listed a h in
     let k = at.0 in
     let is : get_or f.order k 0 ≡ a = sym (get_or_default_zero f.order k a at.1) ∙ at.2 in
-    let all : All (IsMarked f) (led g a) = subst (λ (b : ℕ). All (IsMarked f) (led g b)) is (s.looked k (let w = within g from f s.found in let l =
-    at.1 in omega arith) at.1) in
-    marked_on g from f s n next (All-contains (IsMarked f) (led g a) next all among) rest
+    let all : All (IsMarked f) (successors g a) = subst (λ (b : ℕ). All (IsMarked f) (successors g b)) is
+    (s.looked k (let w = within g from f s.found in let l = at.1 in omega arith) at.1) in
+    marked_on g from f s n next (All-contains (IsMarked f) (successors g a) next all among) rest
 
 pub marks_reached : (g : Graph) (from n : ℕ) → IsWhole g → from < length g → (get_or (searched g from (length g)).marks n false ≡ true) ↔ Reaches g n from
 marks_reached g from n whole lt =

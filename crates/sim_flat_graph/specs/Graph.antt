@@ -23,13 +23,13 @@ abbrev pub block_at : List Block → ℕ → Block
 block_at blocks n = slice_index_or blocks n no_block
 
 -- the numbers to which a number leads
-abbrev pub led : Graph → ℕ → List ℕ
-led g n = slice_index_or g n []
+abbrev pub successors : Graph → ℕ → List ℕ
+successors g n = slice_index_or g n []
 
 -- `to` is reached from itself, and from any number that leads to one from which it is reached.
 pub data Reaches (g : Graph) (to : ℕ) : ℕ → Type 0 where
   Here : Reaches g to to
-  Along : (from next : ℕ) → Contains (led g from) next → Reaches g to next → Reaches g to from
+  Along : (from next : ℕ) → Contains (successors g from) next → Reaches g to next → Reaches g to from
 
 -- All numbers are in range.
 abbrev pub IsWhole : Graph → Type 0

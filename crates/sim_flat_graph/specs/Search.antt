@@ -2,7 +2,7 @@
 -- Implementation only: what `simulate` promises does not rest on this file.
 use Rattle.std.specs.Prelude.{ℕ, zero, suc, List, [], ◌∷◌, ◌++◌, Bool, true, false, if◌then◌else◌, Option, Some, None, length, replicate, slice_get}
 use Rattle.std.specs.Prelude.{get_or, slice_set}
-use Rattle.sim_flat_graph.specs.Graph.{Graph, led}
+use Rattle.sim_flat_graph.specs.Graph.{Graph, successors}
 
 -- the numbers found, and their order
 pub record Found : Type 0 where
@@ -22,11 +22,11 @@ abbrev pub begun : Graph → ℕ → Found
 begun g from = noted (record { marks = replicate (length g) false; order = [] }) from
 
 -- the numbers to which a number that was found leads
-abbrev pub led_by : Graph → Option ℕ → List ℕ
-led_by g None = []
-led_by g (Some n) = led g n
+abbrev pub successors_of : Graph → Option ℕ → List ℕ
+successors_of g None = []
+successors_of g (Some n) = successors g n
 
 -- the search after this many numbers were visited
 unfoldable pub searched : Graph → ℕ → ℕ → Found
 searched g from zero = begun g from
-searched g from (suc k) = all_noted (searched g from k) (led_by g (slice_get (searched g from k).order k))
+searched g from (suc k) = all_noted (searched g from k) (successors_of g (slice_get (searched g from k).order k))

@@ -35,7 +35,7 @@ pub fn graph_of(alloc: Global, blocks: &[Block]) -> Result<Items<Items<usize>>, 
 /// An empty row for each block.
 fn empty_rows(alloc: Global, count: usize) -> Result<Vec<Items<usize>>, AllocError>
     ensures length { IfOk result (λ r. length r.items ≡ count) }
-    ensures rows { IfOk result (λ r. (n : ℕ) → spec.led r.items n ≡ []) }
+    ensures rows { IfOk result (λ r. (n : ℕ) → spec.successors r.items n ≡ []) }
 {
     let mut rows = Vec::new(alloc);
     for _row in 0..count {
@@ -53,7 +53,7 @@ fn note_leads(
 ) -> Result<(), AllocError>
     requires { All (λ n. n < length rows.old.items) targets.now }
     ensures length { length rows.new.items ≡ length rows.old.items }
-    ensures rows { OnOk result ((n : ℕ) → spec.led rows.new.items n ≡ spec.led rows.old.items n ++ spec.each_time from n targets.now) }
+    ensures rows { OnOk result ((n : ℕ) → spec.successors rows.new.items n ≡ spec.successors rows.old.items n ++ spec.each_time from n targets.now) }
 {
     for target in targets {
         rows[*target].push(from)?;
@@ -66,7 +66,7 @@ fn note_leads(
 pub fn reversed(alloc: Global, graph: &[Items<usize>]) -> Result<Vec<Items<usize>>, AllocError>
     requires { spec.IsWhole graph.now }
     ensures length { IfOk result (λ r. length r.items ≡ length graph.now) }
-    ensures rows { IfOk result (λ r. (n : ℕ) → spec.led r.items n ≡ spec.leading n 0 graph.now) }
+    ensures rows { IfOk result (λ r. (n : ℕ) → spec.successors r.items n ≡ spec.leading n 0 graph.now) }
     ensures whole { IfOk result (λ r. spec.IsWhole r.items) }
 {
     let mut rows = empty_rows(alloc, graph.len())?;

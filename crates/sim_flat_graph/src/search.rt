@@ -2,7 +2,7 @@
 
 ghost use Rattle.std.specs.Prelude.{◌≡◌, ◌<◌, ◌↔◌, ℕ, IfOk, OnOk, get_or, length, replicate, slice_get, true, false};
 ghost use Rattle.std.specs.List.{All};
-ghost use Rattle.sim_flat_graph.specs.Graph.{led, IsWhole, Reaches};
+ghost use Rattle.sim_flat_graph.specs.Graph.{successors, IsWhole, Reaches};
 ghost use Rattle.sim_flat_graph.specs.Search as spec;
 
 use sqlite_items::Items;
@@ -85,9 +85,9 @@ fn begun(alloc: Global, graph: &[Items<usize>], from: usize) -> Result<Search, A
 }
 
 /// The numbers to which a number leads.
-pub fn led<'a>(graph: &'a [Items<usize>], n: usize) -> &'a [usize]
+pub fn successors<'a>(graph: &'a [Items<usize>], n: usize) -> &'a [usize]
     requires { IsWhole graph.now }
-    ensures value { result.now ≡ led graph.now n }
+    ensures value { result.now ≡ successors graph.now n }
     ensures within { All (λ m. m < length graph.now) result.now }
 {
     match graph.get(n) {
@@ -102,11 +102,11 @@ fn look_at(search: &mut Search, graph: &[Items<usize>], at: usize) -> Result<(),
     requires whole { IsWhole graph.now }
     requires size { length search.old.marks ≡ length graph.now }
     ensures size { length search.new.marks ≡ length search.old.marks }
-    ensures value { OnOk result (search.new ≡ spec.all_noted search.old (spec.led_by graph.now (slice_get search.old.order at))) }
+    ensures value { OnOk result (search.new ≡ spec.all_noted search.old (spec.successors_of graph.now (slice_get search.old.order at))) }
 {
     match search.order.get(at).copied() {
         None => Ok(()),
-        Some(n) => note_all(search, led(graph, n)),
+        Some(n) => note_all(search, successors(graph, n)),
     }
 }
 

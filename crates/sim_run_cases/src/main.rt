@@ -39,7 +39,7 @@ mod way;
 use crate::calls::{list_by_calls, work_rows};
 use crate::case::Case;
 use crate::file::cases;
-use crate::outcome::{Outcome, answered, compare};
+use crate::outcome::{Comparison, answered, compare};
 use crate::way::Way;
 use anyhow::{Context, Result};
 use sim_run::{Hints, session_with_hints};
@@ -58,12 +58,12 @@ struct Counts {
 }
 
 /// Prints how the answer to a case differs.
-fn tell<R: Print>(rt: &R, name: &str, outcome: Outcome) -> Result<()> {
+fn tell<R: Print>(rt: &R, name: &str, outcome: Comparison) -> Result<()> {
     match outcome {
-        Outcome::Same => {}
-        Outcome::OtherStatus(status) => println!(rt; "differs in status, {status}: {name}")?,
-        Outcome::OtherOutput => println!(rt; "differs in standard output: {name}")?,
-        Outcome::OtherError => println!(rt; "differs in standard error: {name}")?,
+        Comparison::Same => {}
+        Comparison::OtherStatus(status) => println!(rt; "differs in status, {status}: {name}")?,
+        Comparison::OtherOutput => println!(rt; "differs in standard output: {name}")?,
+        Comparison::OtherError => println!(rt; "differs in standard error: {name}")?,
     }
     Ok(())
 }
@@ -73,7 +73,7 @@ fn run_case<R: Threads + Wait + Sync + AllocGlobal>(
     rt: &R,
     case: Case,
     hints: Hints,
-) -> Result<(String, Outcome)> {
+) -> Result<(String, Comparison)> {
     let mut case = case;
     let words = std::mem::replace(&mut case.words, Vec::new(rt.alloc()));
     let answer = answered(rt, rt.alloc(), words, hints, case.text.as_slice());
@@ -82,9 +82,9 @@ fn run_case<R: Threads + Wait + Sync + AllocGlobal>(
 }
 
 /// The counts after one more case.
-fn counted(counts: Counts, outcome: Outcome) -> Counts {
+fn counted(counts: Counts, outcome: Comparison) -> Counts {
     match outcome {
-        Outcome::Same => Counts {
+        Comparison::Same => Counts {
             same: counts.same.saturating_add(1),
             ..counts
         },

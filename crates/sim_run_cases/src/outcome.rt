@@ -8,7 +8,7 @@ use std::thread::Threads;
 
 /// How the program's answer compares with the expected one.
 #[derive(Clone, Copy, PartialEq, Eq)]
-pub enum Outcome {
+pub enum Comparison {
     Same,
     OtherStatus(u32),
     OtherOutput,
@@ -43,14 +43,14 @@ pub fn answered<R: Threads + Wait + Sync>(
 }
 
 /// Compares the answer to a case with the expected one.
-pub fn compare(case: &Case, answer: &Answer) -> Outcome {
+pub fn compare(case: &Case, answer: &Answer) -> Comparison {
     if answer.status != case.status {
-        Outcome::OtherStatus(answer.status)
+        Comparison::OtherStatus(answer.status)
     } else if case.compares_output && answer.output.as_slice() != case.output.as_slice() {
-        Outcome::OtherOutput
+        Comparison::OtherOutput
     } else if case.compares_error && answer.error.as_slice() != case.error.as_slice() {
-        Outcome::OtherError
+        Comparison::OtherError
     } else {
-        Outcome::Same
+        Comparison::Same
     }
 }

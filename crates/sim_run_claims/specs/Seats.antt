@@ -1,7 +1,7 @@
 -- What callers may know about claims and their seats.
 -- Implementation only: what `simulate` promises does not rest on this file.
 use Rattle.std.specs.Prelude.{◌≡◌, ℕ, ◌+◌}
-use Rattle.sim_run_claims.specs.declared.view.View.{View}
+use Rattle.sim_run_claims.specs.declared.view.SeatView.{SeatView}
 use Rattle.sim_run_claims.specs.declared.drawing.Claims.{Claims}
 use Rattle.sim_run_claims.specs.declared.drawing.ClaimSeat.{ClaimSeat}
 
@@ -10,7 +10,7 @@ abbrev pub count_of : Claims → ℕ
 count_of claims = claims.count
 
 -- the view of a seat
-abbrev pub seen : ClaimSeat → View
+abbrev pub seen : ClaimSeat → SeatView
 seen seat = seat.seat.me.0
 
 -- the seat's allowance, used or not

@@ -3,7 +3,7 @@
 ghost use Rattle.std.specs.Prelude.{◌≡◌, ◌<◌, ◌≤◌, [], length, None, IfOk, OnOk, OnErr};
 
 use crate::table_rule::{Draws, EachOnce, Halves, Looks};
-use crate::view::View;
+use crate::view::SeatView;
 use atomic_table::{Seat, Table};
 use std::alloc::{AllocError, Global};
 
@@ -14,7 +14,7 @@ const ALLOWANCE: u32 = 64;
 /// same time.
 #[derive(Drop)]
 pub struct Claims {
-    table: Table<u8, View, usize, EachOnce, Global>,
+    table: Table<u8, SeatView, usize, EachOnce, Global>,
     count: usize,
     ghost keyed: { count ≡ table.shared.key },
     ghost one_word: { table.shared.table_id.words ≡ 1 },
@@ -25,7 +25,7 @@ pub struct Claims {
 /// The right to draw, and a share of the allowance of draws in vain.
 #[derive(Drop)]
 pub struct ClaimSeat {
-    seat: Seat<u8, View>,
+    seat: Seat<u8, SeatView>,
     allowance: u32,
     ghost known: { allowance ≡ seat.me.0.allowance },
     ghost holds_no_slot: { seat.me.1 ≡ [] },

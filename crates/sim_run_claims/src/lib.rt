@@ -10,4 +10,4 @@ mod table_rule;
 mod view;
 
 pub use drawing::{ClaimSeat, Claims};
-pub use view::View;
+pub use view::SeatView;

@@ -142,12 +142,12 @@ fn hire<'s, D: DesignType + Send + Sync + 's, R: Threads + Wait + Sync, E>(
     team: &mut Team<'s, PhaseWork<D>>,
 ) -> Option<()> {
     for bell in bells {
-        let (line, worker) = pair::<PhaseWork<D>>(alloc, bell, looks).ok()?;
+        let (channel, worker) = pair::<PhaseWork<D>>(alloc, bell, looks).ok()?;
         if scope
             .spawn(move || worker.work(rt, alloc, bell, main))
             .is_ok()
         {
-            team.add(line)?;
+            team.add(channel)?;
         }
     }
     Some(())

@@ -9,4 +9,4 @@ mod workers;
 
 pub use bell::Bell;
 pub use hints::Hints;
-pub use workers::{Line, Team, Work, Worker, pair};
+pub use workers::{Team, Work, Worker, WorkerChannel, pair};

@@ -35,15 +35,15 @@ pub struct Worker<W: Work> {
 }
 
 /// The main thread's ends. When they are dropped, the worker wakes up and ends.
-pub struct Line<'a, W: Work> {
+pub struct WorkerChannel<'a, W: Work> {
     orders: Producer<W::Order>,
     answers: Consumer<Option<W::Answer>>,
     bell: &'a Bell,
 }
 
-impl<W: Work> Drop for Line<'_, W> {
+impl<W: Work> Drop for WorkerChannel<'_, W> {
     fn drop(self) {
-        let Line {
+        let WorkerChannel {
             orders,
             answers,
             bell,
@@ -60,11 +60,11 @@ pub fn pair<W: Work>(
     alloc: Global,
     bell: &Bell,
     looks: u32,
-) -> Result<(Line<'_, W>, Worker<W>), AllocError> {
+) -> Result<(WorkerChannel<'_, W>, Worker<W>), AllocError> {
     let (orders, their_orders) = RingBuffer::new(alloc, 1)?;
     let (their_answers, answers) = RingBuffer::new(alloc, 1)?;
     Ok((
-        Line {
+        WorkerChannel {
             orders,
             answers,
             bell,
@@ -107,7 +107,7 @@ enum Begun<A> {
 /// The main thread's ends of all workers of a run, and the bell by which they wake it.
 #[derive(Drop)]
 pub struct Team<'a, W: Work> {
-    lines: Vec<Line<'a, W>>,
+    channels: Vec<WorkerChannel<'a, W>>,
     bell: &'a Bell,
     hints: Hints,
 }
@@ -116,34 +116,34 @@ impl<'a, W: Work> Team<'a, W> {
     /// An empty team.
     pub fn new(alloc: Global, bell: &'a Bell, hints: Hints) -> Team<'a, W> {
         Team {
-            lines: Vec::new(alloc),
+            channels: Vec::new(alloc),
             bell,
             hints,
         }
     }
 
     /// Adds a worker; `None` if memory runs out.
-    pub fn add(&mut self, line: Line<'a, W>) -> Option<()> {
-        self.lines.push(line).ok()
+    pub fn add(&mut self, channel: WorkerChannel<'a, W>) -> Option<()> {
+        self.channels.push(channel).ok()
     }
 
     /// Whether orders of this many steps in all are worth giving: there is enough work, and there
     /// are workers.
     pub fn is_useful(&self, steps: usize) -> bool {
-        steps >= self.hints.least_steps_of_a_phase && !self.lines.is_empty()
+        steps >= self.hints.least_steps_of_a_phase && !self.channels.is_empty()
     }
 
     /// Gives an order to the worker with a number, or carries it out here if it is small or there
     /// is no such worker.
     fn begin(&mut self, alloc: Global, order: W::Order, number: usize) -> Begun<W::Answer> {
         let is_large = W::is_large(&order, self.hints.least_processes_of_an_order);
-        if !is_large || number >= self.lines.len() {
+        if !is_large || number >= self.channels.len() {
             return Begun::Done(W::carry_out(alloc, order));
         }
-        let line = &mut self.lines[number];
-        match line.orders.push(order) {
+        let channel = &mut self.channels[number];
+        match channel.orders.push(order) {
             Ok(()) => {
-                line.bell.ring();
+                channel.bell.ring();
                 Begun::Given(number)
             }
             Err(PushError::Full(order)) => Begun::Done(W::carry_out(alloc, order)),
@@ -152,10 +152,10 @@ impl<'a, W: Work> Team<'a, W> {
 
     /// The answer of the worker with a number; `None` if that worker is gone, or had no memory.
     fn received<R: Wait>(&mut self, rt: &R, number: usize) -> Option<W::Answer> {
-        if number >= self.lines.len() {
+        if number >= self.channels.len() {
             return None;
         }
-        let answers = &mut self.lines[number].answers;
+        let answers = &mut self.channels[number].answers;
         next(rt, answers, self.bell, self.hints.looks_before_sleep)?
     }
 

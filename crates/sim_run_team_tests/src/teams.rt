@@ -60,12 +60,12 @@ fn answered<R: Threads + Wait + Sync>(rt: &R, alloc: Global, given: Given) -> Op
     thread::scope(thread::scope_env(), rt, |scope| -> Option<Vec<usize>> {
         let mut team = Team::new(alloc, main, hints(looks));
         for bell in bells {
-            let (line, worker) = pair::<Visits>(alloc, bell, looks).ok()?;
+            let (channel, worker) = pair::<Visits>(alloc, bell, looks).ok()?;
             let _started = scope.spawn(move || {
                 board.has(begins_after);
                 worker.work(rt, alloc, bell, main)
             });
-            team.add(line)?;
+            team.add(channel)?;
         }
         team.carry_out(rt, alloc, orders)
     })
@@ -144,10 +144,10 @@ fn a_team_fails_where_an_order_has_no_answer(rt: HostRuntime) -> Result<(), Fail
 fn answered_by_nobody<R: Wait>(rt: &R, alloc: Global, given: Given) -> Option<Vec<usize>> {
     let (main, theirs) = (Bell::new(), Bell::new());
     let (_bells, orders, _board) = ready(alloc, given)?;
-    let (line, worker) = pair::<Visits>(alloc, &theirs, given.looks).ok()?;
+    let (channel, worker) = pair::<Visits>(alloc, &theirs, given.looks).ok()?;
     drop(worker);
     let mut team = Team::new(alloc, &main, hints(given.looks));
-    team.add(line)?;
+    team.add(channel)?;
     team.carry_out(rt, alloc, orders)
 }
 

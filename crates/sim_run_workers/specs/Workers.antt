@@ -1,7 +1,7 @@
 -- What a refusal of the store means to a worker, and what a worker draws.
 -- Implementation only: what `simulate` promises does not rest on this file.
 use Rattle.std.specs.Prelude.{◌≡◌, ℕ, List, Option, Some, Result, Ok, Err, MatchOption, slice_get}
-use Rattle.sim_run_claims.specs.declared.view.View.{View}
+use Rattle.sim_run_claims.specs.declared.view.SeatView.{SeatView}
 use Rattle.sim_run_claims.specs.Views.{overdrawn, with_number}
 use Rattle.sim_store.specs.declared.error.StoreError.{StoreError}
 use Rattle.sim_store.specs.declared.error.StoreError.TheVariants as error
@@ -15,6 +15,6 @@ meaning_of error.Memory = Err fault.Memory
 meaning_of _ = Ok tt
 
 -- An index into the list of those that are due was drawn, and gives the process there; or none, which is an overdraw.
-abbrev pub DrawsProcess : List ℕ → View → Option ℕ → View → Type 0
+abbrev pub DrawsProcess : List ℕ → SeatView → Option ℕ → SeatView → Type 0
 DrawsProcess due before found after =
     MatchOption found (after ≡ overdrawn before) (λ process. (place : ℕ) × (slice_get due place ≡ Some process) × (after ≡ with_number before place))

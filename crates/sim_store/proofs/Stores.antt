@@ -100,7 +100,7 @@ limit-reached w time is at next before m le = go (eqb m w.simulation.cycles) ref
 
 -- the most phases of a cycle that are left
 abbrev pub phases_left : Phase → ℕ
-phases_left phase.AtOnce = 2
+phases_left phase.NonPostponed = 2
 phases_left phase.Postponed = 1
 
 -- the most steps that are left: two phases for each cycle up to the limit

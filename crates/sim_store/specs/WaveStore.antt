@@ -87,7 +87,7 @@ IsNewRefusal stop _ = ⊥
 -- the store of a design after its initialization
 abbrev pub begun : Design → ℕ → ℕ → WaveStore
 begun design stop limit = record {
-  simulation = record { design = design; cycles = 0; phase = phase.AtOnce; deposited = replicate (length design.processes) false };
+  simulation = record { design = design; cycles = 0; phase = phase.NonPostponed; deposited = replicate (length design.processes) false };
   stop = stop;
   limit = limit;
   ended = None;
@@ -110,7 +110,7 @@ ended_as w s = record w { ended = Some s }
 -- time, or the limit is reached and a further cycle would be needed. At the end of the run all else is as it was.
 abbrev pub WentOn : WaveStore → WaveStore → Step → Type 0
 WentOn old new step.Postponed =
-    (old.simulation.phase ≡ phase.AtOnce) × ArePostponedNext old.simulation.design old.simulation.cycles (updated_last old.simulation)
+    (old.simulation.phase ≡ phase.NonPostponed) × ArePostponedNext old.simulation.design old.simulation.cycles (updated_last old.simulation)
     × (new ≡ record old { simulation = in_postponed_phase old.simulation })
 WentOn old new step.Next =
     (time : ℕ) × IsExecuted old.simulation × (next_after old.simulation ≡ Some (CycleAt time)) × (time ≤ old.stop) × (old.simulation.cycles < old.limit)

@@ -226,7 +226,7 @@ module _ {h : Simulation} {time delta : ℕ} {held : FlatState} {records : List 
 
 -- so if postponed processes come next, their phase begins
 module _ {h : Simulation} {time delta : ℕ} {held : FlatState} {records : List Record} {due waiting : List Bool}
-    (i : IsStateOf h time delta held records due waiting) (all : IsComplete h) (first : h.phase ≡ phase.AtOnce)
+    (i : IsStateOf h time delta held records due waiting) (all : IsComplete h) (first : h.phase ≡ phase.NonPostponed)
     (next : ArePostponedNext h.design h.cycles (updated_last h)) where
   -- a process that has been executed was due at once
   first-marks : (p : ℕ) → p < length h.design.processes → those_in h.deposited p ≡ is_at_once h.design h.cycles (updated_last h) p
@@ -357,7 +357,7 @@ module _ {h : Simulation} {time delta : ℕ} {held : FlatState} {records : List 
       → ((p : ℕ) → p < length due → those_in waiting' p
       ≡ (is_left h.phase (those_in waiting p) || (has_event_in held'.nets (process_at h.design.processes p).sensitivity && those_in postponed p)))
       → deposited' ≡ cleared h.deposited → k ≡ suc h.cycles
-      → IsStateOf (record { design = h.design; cycles = k; phase = phase.AtOnce; deposited = deposited' }) t δ held' records' due' waiting'
+      → IsStateOf (record { design = h.design; cycles = k; phase = phase.NonPostponed; deposited = deposited' }) t δ held' records' due' waiting'
   advanced-keeps t some early δ k held' records' postponed due' waiting' deposited' ed el er es ew ef eu ev ep ek =
       let d = h.design in
       let x = cycle_end_together d h.cycles (updated_last h) in
@@ -416,7 +416,7 @@ module _ {h : Simulation} {time delta : ℕ} {held : FlatState} {records : List 
       -- a process that still waits is postponed
       left_postponed : (f : Phase) (m : ℕ) → is_left f (is_waiting h.design h.cycles (updated_last h) m) ≡ true
           → (process_at h.design.processes m).postponed ≡ true
-      left_postponed phase.AtOnce m e = left_of (process_at h.design.processes m).postponed _ e
+      left_postponed phase.NonPostponed m e = left_of (process_at h.design.processes m).postponed _ e
       left_postponed phase.Postponed m e = absurd (cc e)
 
       parts : (postponed resumed left : Bool) → (left ≡ true → postponed ≡ true) → (left || (resumed && postponed)) ≡ (postponed && (resumed || left))
@@ -638,7 +638,7 @@ pub begins : (d : Design) (k : ℕ) (held : FlatState) (records : List Record) (
     → All IsProcess d.processes → k ≡ 0
     → held ≡ flat_state_of d (first_state d) → records ≡ records_to d 0 → AreParted d due waiting
     → deposited ≡ replicate (length d.processes) false
-    → IsStateOf (record { design = d; cycles = k; phase = phase.AtOnce; deposited = deposited }) 0 0 held records due waiting
+    → IsStateOf (record { design = d; cycles = k; phase = phase.NonPostponed; deposited = deposited }) 0 0 held records due waiting
 begins d k held records due waiting deposited few are all e₀ e er eu ep =
     rw (e₀, e, er, ep) (record {
       there = refl;
@@ -649,7 +649,7 @@ begins d k held records due waiting deposited few are all e₀ e er eu ep =
       sources_are = refl;
       nets_are = refl;
       owned_are = sym (merged-none (those_in (replicate (length d.processes) false))
-          (results (record { design = d; cycles = 0; phase = phase.AtOnce; deposited = replicate (length d.processes) false })) 0 (first_state d).owned
+          (results (record { design = d; cycles = 0; phase = phase.NonPostponed; deposited = replicate (length d.processes) false })) 0 (first_state d).owned
           (none-in-replicate (length d.processes)));
       records_are = refl;
       sized = length-replicate (length d.processes) false;

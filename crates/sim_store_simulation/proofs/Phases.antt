@@ -50,7 +50,7 @@ phase_end f d k s = together d.processes (is_of_phase f d k s) (record s { owned
 
 -- a due process has not been executed in this cycle
 pub not-before : (f : Phase) (d : Design) (k : ℕ) (s : State) (p : ℕ) → is_of_phase f d k s p ≡ true → is_before f d k s p ≡ false
-not-before phase.AtOnce d k s p e = refl
+not-before phase.NonPostponed d k s p e = refl
 not-before phase.Postponed d k s p e = go (process_at d.processes p).postponed (is_resumed d k s p) (is_resumed d k s p || is_among s.waiting p) e
   where
     go : (b r w : Bool) → (b && w) ≡ true → (r && not b) ≡ false
@@ -60,7 +60,7 @@ not-before phase.Postponed d k s p e = go (process_at d.processes p).postponed (
 
 -- as many own something
 pub before-all : (f : Phase) (d : Design) (k : ℕ) (s : State) → length s.owned ≡ length d.processes → length (owned_before f d k s) ≡ length d.processes
-before-all phase.AtOnce d k s len = len
+before-all phase.NonPostponed d k s len = len
 before-all phase.Postponed d k s len =
     length-merged (is_at_once d k s) (λ p. owned_after (process_at d.processes p) (part (process_at d.processes p) p s)) 0 s.owned ∙ len
 
@@ -99,7 +99,7 @@ module _ (d : Design) (is : All IsProcess d.processes) (k : ℕ) (s : State) (le
   pub last-owned : (f : Phase) → IsPhase f d k s → IsLastPhase f d k s → (phase_end f d k s).owned ≡ (cycle_end_together d k s).owned
   last-owned phase.Postponed a l =
       sym (ap (λ (y : State). y.owned) (left-is false (sym settled-together ∙ a.settled)))
-  last-owned phase.AtOnce a l = go (is_delta_next k (first_together d k s)) refl (waiting_now d k s) refl
+  last-owned phase.NonPostponed a l = go (is_delta_next k (first_together d k s)) refl (waiting_now d k s) refl
     where
       go : (b : Bool) → is_delta_next k (first_together d k s) ≡ b → (ps : List ℕ) → waiting_now d k s ≡ ps
           → (first_together d k s).owned ≡ (cycle_end_together d k s).owned
@@ -112,7 +112,7 @@ module _ (d : Design) (is : All IsProcess d.processes) (k : ℕ) (s : State) (le
       → is_among (cycle_end_together d k s).waiting p ≡ is_left f (is_waiting d k s p)
   last-waiting phase.Postponed a l p lt =
       ap (λ (y : State). is_among y.waiting p) (left-is false (sym settled-together ∙ a.settled))
-  last-waiting phase.AtOnce a l p lt = go (is_delta_next k (first_together d k s)) refl (waiting_now d k s) refl
+  last-waiting phase.NonPostponed a l p lt = go (is_delta_next k (first_together d k s)) refl (waiting_now d k s) refl
     where
       go : (b : Bool) → is_delta_next k (first_together d k s) ≡ b → (ps : List ℕ) → waiting_now d k s ≡ ps
           → is_among (cycle_end_together d k s).waiting p ≡ is_waiting d k s p
@@ -164,26 +164,26 @@ module _ (h : Simulation) (is : All IsProcess h.design.processes) (len : length 
   abbrev follows_now : Bool
   follows_now = is_delta_at h.cycles (updated_last h).time next
 
-  after-first : h.phase ≡ phase.AtOnce → next_cycle_time (phase_end phase.AtOnce h.design h.cycles (updated_last h)) ≡ next
-      → (b : Bool) → follows_now ≡ b → (w : Bool) → waited ≡ w → IsUpcoming h (upcoming_of phase.AtOnce b w next)
+  after-first : h.phase ≡ phase.NonPostponed → next_cycle_time (phase_end phase.NonPostponed h.design h.cycles (updated_last h)) ≡ next
+      → (b : Bool) → follows_now ≡ b → (w : Bool) → waited ≡ w → IsUpcoming h (upcoming_of phase.NonPostponed b w next)
   after-first e n false q true v =
       (e, record { settled = delta-first h.design is h.cycles (updated_last h) len next n ∙ q; some = some v })
   after-first e n false q false v =
       let d = h.design in
       let k = h.cycles in
       let s = updated_last h in
-      let l : IsLastPhase phase.AtOnce d k s = λ (a : ArePostponedNext d k s). a.some (none v) in
-      let still : is_delta_next k (cycle_end d k s) ≡ false = delta-after d is k s len phase.AtOnce tt l next n ∙ q in
+      let l : IsLastPhase phase.NonPostponed d k s = λ (a : ArePostponedNext d k s). a.some (none v) in
+      let still : is_delta_next k (cycle_end d k s) ≡ false = delta-after d is k s len phase.NonPostponed tt l next n ∙ q in
       cycle-is h (subst (λ (f : Phase). IsLastPhase f d k s) (sym e) l) next
-      (there ∙ ap Some (follows d is k s len phase.AtOnce tt l next n (and-false (not (is_delta_next k (first_executed d k s))) _ still)))
+      (there ∙ ap Some (follows d is k s len phase.NonPostponed tt l next n (and-false (not (is_delta_next k (first_executed d k s))) _ still)))
   after-first e n true q w v =
       let d = h.design in
       let k = h.cycles in
       let s = updated_last h in
       let delta : is_delta_next k (first_executed d k s) ≡ true = delta-first d is k s len next n ∙ q in
-      let l : IsLastPhase phase.AtOnce d k s = λ (a : ArePostponedNext d k s). absurd (cc (delta, a.settled)) in
+      let l : IsLastPhase phase.NonPostponed d k s = λ (a : ArePostponedNext d k s). absurd (cc (delta, a.settled)) in
       cycle-is h (subst (λ (f : Phase). IsLastPhase f d k s) (sym e) l) next
-      (there ∙ ap Some (follows d is k s len phase.AtOnce tt l next n (rw delta refl)))
+      (there ∙ ap Some (follows d is k s len phase.NonPostponed tt l next n (rw delta refl)))
 
   after-postponed : h.phase ≡ phase.Postponed → ArePostponedNext h.design h.cycles (updated_last h)
       → next_cycle_time (phase_end phase.Postponed h.design h.cycles (updated_last h)) ≡ next
@@ -212,5 +212,5 @@ module _ (h : Simulation) (is : All IsProcess h.design.processes) (len : length 
     where
       go : (f : Phase) → h.phase ≡ f → IsPhase f h.design h.cycles (updated_last h)
           → next_cycle_time (phase_end f h.design h.cycles (updated_last h)) ≡ next → IsUpcoming h (upcoming_of f follows_now waited next)
-      go phase.AtOnce e a n = after-first e n follows_now refl waited refl
+      go phase.NonPostponed e a n = after-first e n follows_now refl waited refl
       go phase.Postponed e a n = after-postponed e a n follows_now refl

@@ -48,7 +48,7 @@ updated_last h = or_first h.design (updated_in h.design h.cycles)
 
 -- what each process owns when a phase begins
 abbrev pub owned_before : Phase → Design → ℕ → State → List Owned
-owned_before phase.AtOnce design cycles s = s.owned
+owned_before phase.NonPostponed design cycles s = s.owned
 owned_before phase.Postponed design cycles s = (together design.processes (is_at_once design cycles s) s).owned
 
 -- the state at the beginning of this phase
@@ -61,7 +61,7 @@ listed marks = filter (those_in marks) (range_with_len 0 (length marks))
 
 -- whether a phase executes a process: the first those that resumed and are not postponed, the second the postponed ones that wait (14.7.5.3 f.3, h.4)
 abbrev pub is_of_phase : Phase → Design → ℕ → State → ℕ → Bool
-is_of_phase phase.AtOnce design cycles s p = is_at_once design cycles s p
+is_of_phase phase.NonPostponed design cycles s p = is_at_once design cycles s p
 is_of_phase phase.Postponed design cycles s p = is_waiting design cycles s p
 
 -- whether this phase executes a process
@@ -79,12 +79,12 @@ pub record ArePostponedNext (design : Design) (cycles : ℕ) (s : State) : Type 
 
 -- A phase of postponed processes comes only if some wait and no delta cycle follows.
 abbrev pub IsPhase : Phase → Design → ℕ → State → Type 0
-IsPhase phase.AtOnce design cycles s = Unit {0}
+IsPhase phase.NonPostponed design cycles s = Unit {0}
 IsPhase phase.Postponed design cycles s = ArePostponedNext design cycles s
 
 -- No other phase follows in this cycle.
 abbrev pub IsLastPhase : Phase → Design → ℕ → State → Type 0
-IsLastPhase phase.AtOnce design cycles s = ArePostponedNext design cycles s → ⊥
+IsLastPhase phase.NonPostponed design cycles s = ArePostponedNext design cycles s → ⊥
 IsLastPhase phase.Postponed design cycles s = Unit {0}
 
 -- the state now: the executed processes own their results
@@ -93,7 +93,7 @@ present h = together h.design.processes (those_in h.deposited) (reached h)
 
 -- whether a process has been executed in this cycle before a phase begins
 abbrev pub is_before : Phase → Design → ℕ → State → ℕ → Bool
-is_before phase.AtOnce design cycles s p = false
+is_before phase.NonPostponed design cycles s p = false
 is_before phase.Postponed design cycles s p = is_at_once design cycles s p
 
 -- from when on a process may have pending transactions: one that has been executed may have some at the present time
@@ -143,12 +143,12 @@ pub record IsExecuted (h : Simulation) : Type 0 where
 
 -- whether a process that waited in a phase still waits at its end
 abbrev pub is_left : Phase → Bool → Bool
-is_left phase.AtOnce waits = waits
+is_left phase.NonPostponed waits = waits
 is_left phase.Postponed waits = false
 
 -- the simulation after one more cycle
 abbrev pub after : Simulation → Simulation
-after h = record { design = h.design; cycles = suc h.cycles; phase = phase.AtOnce; deposited = cleared h.deposited }
+after h = record { design = h.design; cycles = suc h.cycles; phase = phase.NonPostponed; deposited = cleared h.deposited }
 
 -- the simulation in the phase of postponed processes
 abbrev pub in_postponed_phase : Simulation → Simulation
@@ -221,7 +221,7 @@ next_after h = next_in h.design h.cycles
 
 -- What comes after all processes of a phase have been executed: the phase of postponed processes, or what follows the cycle.
 abbrev pub IsUpcoming : Simulation → Upcoming → Type 0
-IsUpcoming h upcoming.Postponed = (h.phase ≡ phase.AtOnce) × ArePostponedNext h.design h.cycles (updated_last h)
+IsUpcoming h upcoming.Postponed = (h.phase ≡ phase.NonPostponed) × ArePostponedNext h.design h.cycles (updated_last h)
 IsUpcoming h upcoming.PostponedDelta = IsLastPhase h.phase h.design h.cycles (updated_last h) × (next_after h ≡ Some PostponedDelta)
 IsUpcoming h upcoming.Nothing = IsLastPhase h.phase h.design h.cycles (updated_last h) × (next_after h ≡ Some NothingPending)
 IsUpcoming h (upcoming.Cycle time) = IsLastPhase h.phase h.design h.cycles (updated_last h) × (next_after h ≡ Some (CycleAt time))
@@ -233,7 +233,7 @@ cycle_of (Some time) = upcoming.Cycle time
 
 -- what comes after a phase, given whether a delta cycle would follow, whether a process waits, and the first pending time
 abbrev pub upcoming_of : Phase → Bool → Bool → Option ℕ → Upcoming
-upcoming_of phase.AtOnce is_delta is_waited next = if not is_delta && is_waited then upcoming.Postponed else cycle_of next
+upcoming_of phase.NonPostponed is_delta is_waited next = if not is_delta && is_waited then upcoming.Postponed else cycle_of next
 upcoming_of phase.Postponed is_delta is_waited next = if is_delta then upcoming.PostponedDelta else cycle_of next
 
 -- This phase executes this process.

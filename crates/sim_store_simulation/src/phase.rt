@@ -4,7 +4,7 @@
 #[derive(Clone, Copy, PartialEq, Eq)]
 pub enum Phase {
     /// Those that resumed and are not postponed.
-    AtOnce,
+    NonPostponed,
     /// The postponed ones that wait, if no delta cycle follows.
     Postponed,
 }

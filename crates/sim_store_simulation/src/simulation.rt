@@ -83,7 +83,7 @@ fn upcoming(phase: Phase, is_delta: bool, is_waited: bool, next: Option<u64>) ->
 {
     match (phase, next) {
         // h) No delta cycle follows: postponed processes that wait are executed.
-        (Phase::AtOnce, _) if !is_delta && is_waited => Upcoming::Postponed,
+        (Phase::NonPostponed, _) if !is_delta && is_waited => Upcoming::Postponed,
         // h.5) The time is calculated again: one of them has caused a delta cycle.
         (Phase::Postponed, _) if is_delta => Upcoming::PostponedDelta,
         (_, Some(time)) => Upcoming::Cycle(time),
@@ -98,7 +98,7 @@ fn leave(waiting: &mut Waiting, phase: Phase)
     ensures left { (p : ℕ) → spec.those_in waiting.new.waiting p ≡ spec.is_left phase (spec.those_in waiting.old.waiting p) }
 {
     match phase {
-        Phase::AtOnce => {}
+        Phase::NonPostponed => {}
         Phase::Postponed => waiting.clear(),
     }
 }
@@ -217,7 +217,7 @@ fn compile(alloc: Global, design: &Design) -> Result<Compiled, AllocError>
 
 /// All of these together, at time 0.
 fn joined(marks: FirstMarks, compiled: Compiled, start: Start) -> Contents
-    ensures start { (result.time ≡ 0) × (result.delta ≡ 0) × (result.phase ≡ phase.AtOnce) × (result.all_executed ≡ false) }
+    ensures start { (result.time ≡ 0) × (result.delta ≡ 0) × (result.phase ≡ phase.NonPostponed) × (result.all_executed ≡ false) }
     ensures compiled { result.compiled ≡ compiled }
     ensures state { (result.state ≡ start.state) × (result.log ≡ start.log) }
     ensures marks { (result.due ≡ marks.due) × (result.waiting ≡ marks.waiting) }
@@ -229,7 +229,7 @@ fn joined(marks: FirstMarks, compiled: Compiled, start: Start) -> Contents
         compiled,
         state: start.state,
         log: start.log,
-        phase: Phase::AtOnce,
+        phase: Phase::NonPostponed,
         due: marks.due,
         waiting: marks.waiting,
         deposited: marks.deposited,
@@ -242,7 +242,7 @@ fn joined(marks: FirstMarks, compiled: Compiled, start: Start) -> Contents
 /// record, which processes are due, and no events of any net.
 #[tactic(auto, unfolding(sim_standard::specs::Records::records_to))]
 fn prepared(alloc: Global, design: &Design) -> Result<Contents, AllocError>
-    ensures start { IfOk result (λ m. (m.time ≡ 0) × (m.delta ≡ 0) × (m.phase ≡ phase.AtOnce) × (m.all_executed ≡ false)) }
+    ensures start { IfOk result (λ m. (m.time ≡ 0) × (m.delta ≡ 0) × (m.phase ≡ phase.NonPostponed) × (m.all_executed ≡ false)) }
     ensures contents { IfOk result (λ m. AreFirst design.now m) }
 {
     let marks = marks(alloc, design)?;
@@ -253,7 +253,7 @@ fn prepared(alloc: Global, design: &Design) -> Result<Contents, AllocError>
 
 /// The same in a box, so that it stays in place when the simulation is moved.
 fn boxed(alloc: Global, design: &Design) -> Result<Box<Contents>, AllocError>
-    ensures start { IfOk result (λ m. (m.value.time ≡ 0) × (m.value.delta ≡ 0) × (m.value.phase ≡ phase.AtOnce) × (m.value.all_executed ≡ false)) }
+    ensures start { IfOk result (λ m. (m.value.time ≡ 0) × (m.value.delta ≡ 0) × (m.value.phase ≡ phase.NonPostponed) × (m.value.all_executed ≡ false)) }
     ensures contents { IfOk result (λ m. AreFirst design.now m.value) }
 {
     let contents = prepared(alloc, design)?;
@@ -473,7 +473,7 @@ impl Simulation {
         ensures ok { IfOk result (λ s. s ≡ record {
           design = design;
           cycles = 0;
-          phase = phase.AtOnce;
+          phase = phase.NonPostponed;
           deposited = replicate (length design.processes) false;
         }) }
         ensures err { IfErr result (λ e. e.1 ≡ design) }
@@ -533,7 +533,7 @@ impl Simulation {
     /// Begins the phase of postponed processes: those that wait are due (14.7.5.3 h.4).
     pub fn begin_postponed(&mut self)
         requires complete { spec.IsComplete self.old }
-        requires phase { self.old.phase ≡ phase.AtOnce }
+        requires phase { self.old.phase ≡ phase.NonPostponed }
         requires next { spec.ArePostponedNext self.old.design self.old.cycles (spec.updated_last self.old) }
         ensures { self.new ≡ spec.in_postponed_phase self.old }
     {
@@ -644,7 +644,7 @@ impl Simulation {
             &contents.compiled.sensitive,
             &mut contents.waiting,
         );
-        begin_phase(contents, Phase::AtOnce);
+        begin_phase(contents, Phase::NonPostponed);
         Ok(())
     }
 

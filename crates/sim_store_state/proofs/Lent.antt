@@ -11,7 +11,7 @@ use Rattle.sim_standard.specs.State.{Owned, driver_at, driver_values, owned_at}
 use Rattle.sim_standard.proofs.Names.{no_driver, nothing_owned}
 use Rattle.sim_containers.specs.Numbers.{is_in}
 use Rattle.sim_containers.specs.RowArray.{joined}
-use Rattle.sim_store_state.specs.Changes.{AreTimes, IsHeld}
+use Rattle.sim_store_state.specs.Changes.{AreTimes, IsConsistent}
 use Rattle.sim_store_state.specs.Tallies.{TallyLists}
 use Rattle.sim_store_state.specs.FlatState.{owned_lists}
 use Rattle.sim_store_state.specs.Lending.{HaveValues, IsOfRow, drivers_of, variables_of}
@@ -35,8 +35,9 @@ variables-of (ds ∷ dss) (vs ∷ vss) l = ap (λ w. vs ∷ w) (variables-of dss
 pub held-split : {values values_before driving : List Logic} {dss : List (List DriverState)} {vss : List (List Held)} {sources : List (List Source)}
     {fan_out : List (List ℕ)}
     {times : List (Option ℕ)} {stale touched : List Bool} {tallies : TallyLists}
-    → IsHeld values values_before driving dss vss sources fan_out times stale touched tallies
-    → IsHeld values values_before driving (drivers_of (owned_lists dss vss)) (variables_of (owned_lists dss vss)) sources fan_out times stale touched tallies
+    → IsConsistent values values_before driving dss vss sources fan_out times stale touched tallies
+    → IsConsistent values values_before driving (drivers_of (owned_lists dss vss)) (variables_of (owned_lists dss vss)) sources fan_out times stale
+    touched tallies
 held-split {dss = dss} {vss = vss} i = rw (drivers-of dss vss i.lists.owned, variables-of dss vss i.lists.owned) i
 
 -- the drivers of each process have the values that they had, and so have all
@@ -173,10 +174,10 @@ module _ (owned : List Owned) (dss : List (List DriverState)) (vss : List (List 
 -- Other lists hold the state in which the same processes own something else, their drivers having the values that they had.
 pub back-held : {values values_before driving : List Logic} (owned : List Owned) {sources : List (List Source)} {fan_out : List (List ℕ)}
     {times : List (Option ℕ)} {stale touched : List Bool} {tallies : TallyLists}
-    → IsHeld values values_before driving (drivers_of owned) (variables_of owned) sources fan_out times stale touched tallies
+    → IsConsistent values values_before driving (drivers_of owned) (variables_of owned) sources fan_out times stale touched tallies
     → (dss : List (List DriverState)) (vss : List (List Held)) (stale' : List Bool) → length dss ≡ length vss
     → driver_values (joined dss) ≡ driver_values (joined (drivers_of owned)) → AreTimes times stale' (joined dss)
-    → IsHeld values values_before driving dss vss sources fan_out times stale' touched tallies
+    → IsConsistent values values_before driving dss vss sources fan_out times stale' touched tallies
 back-held {values} {values_before} {driving} owned {sources} i dss vss stale' long same timed =
     let count : length (joined dss) ≡ length (joined (drivers_of owned)) = values-count (joined dss) (joined (drivers_of owned)) same in
     record {

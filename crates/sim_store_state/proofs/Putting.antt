@@ -10,7 +10,7 @@ use Rattle.sim_containers.specs.RowArray.{joined}
 use Rattle.sim_containers.proofs.Flat.{cut, cut-set}
 use Rattle.sim_containers.specs.Numbers.{is_in}
 use Rattle.sim_standard.specs.State.{driver_at, driver_values}
-use Rattle.sim_store_state.specs.Changes.{AreTimes, IsHeld, value_at}
+use Rattle.sim_store_state.specs.Changes.{AreTimes, IsConsistent, value_at}
 use Rattle.sim_store_state.specs.Tallies.{TallyLists}
 use Rattle.sim_store_state.proofs.Reaching.{same_rows}
 use Rattle.sim_store_state.proofs.Values.{value-of}
@@ -77,11 +77,11 @@ values-kept dss dss' p ds ed e = ap (λ w. driver_values (joined w)) ed ∙ row-
 pub own-keeps : {values values_before driving : List Logic} {dss : List (List DriverState)} {vss : List (List Held)}
     {sources : List (List Source)} {fan_out : List (List ℕ)}
     {times : List (Option ℕ)} {stale touched : List Bool} {tallies : TallyLists}
-    → IsHeld values values_before driving dss vss sources fan_out times stale touched tallies
+    → IsConsistent values values_before driving dss vss sources fan_out times stale touched tallies
     → (p : ℕ) (ds : List DriverState)
     (vs : List Held) (dss' : List (List DriverState)) (vss' : List (List Held)) (times' : List (Option ℕ)) (stale' : List Bool)
     → dss' ≡ set dss p ds → vss' ≡ set vss p vs → driver_values ds ≡ driver_values (get_or dss p []) → AreTimes times' stale' (joined dss')
-    → IsHeld values values_before driving dss' vss' sources fan_out times' stale' touched tallies
+    → IsConsistent values values_before driving dss' vss' sources fan_out times' stale' touched tallies
 own-keeps {values} {values_before} {driving} {dss} {vss} {sources} {fan_out} {times} {stale} {touched} i p ds vs dss' vss' times' stale' ed ev e timed =
     let same : driver_values (joined dss') ≡ driver_values (joined dss) = values-kept dss dss' p ds ed e in
     let count : length (joined dss') ≡ length (joined dss) = values-count (joined dss') (joined dss) same in
@@ -102,11 +102,11 @@ own-keeps {values} {values_before} {driving} {dss} {vss} {sources} {fan_out} {ti
 pub put-keeps : {values values_before driving : List Logic} {dss : List (List DriverState)} {vss : List (List Held)}
     {sources : List (List Source)} {fan_out : List (List ℕ)}
     {times : List (Option ℕ)} {stale touched : List Bool} {tallies : TallyLists}
-    → IsHeld values values_before driving dss vss sources fan_out times stale touched tallies
+    → IsConsistent values values_before driving dss vss sources fan_out times stale touched tallies
     → (p : ℕ) (ds : List DriverState)
     (vs : List Held) (dss' : List (List DriverState)) (vss' : List (List Held)) (stale' : List Bool) → dss' ≡ set dss p ds → vss' ≡ set vss p vs
     → driver_values ds ≡ driver_values (get_or dss p []) → length stale' ≡ length stale → AreMarked stale stale' dss p
-    → IsHeld values values_before driving dss' vss' sources fan_out times stale' touched tallies
+    → IsConsistent values values_before driving dss' vss' sources fan_out times stale' touched tallies
 put-keeps {values} {values_before} {driving} {dss} {vss} {sources} {fan_out} {times} {stale} {touched} i p ds vs dss' vss' stale' ed ev e l marked =
     let long : length ds ≡ length (get_or dss p []) = values-count ds (get_or dss p []) e in
     let count : length (joined dss') ≡ length (joined dss) = values-count (joined dss') (joined dss) (values-kept dss dss' p ds ed e) in
@@ -122,10 +122,10 @@ put-keeps {values} {values_before} {driving} {dss} {vss} {sources} {fan_out} {ti
 pub drivers-keep : {values values_before driving : List Logic} {dss : List (List DriverState)} {vss : List (List Held)}
     {sources : List (List Source)} {fan_out : List (List ℕ)}
     {times : List (Option ℕ)} {stale touched : List Bool} {tallies : TallyLists}
-    → IsHeld values values_before driving dss vss sources fan_out times stale touched tallies
+    → IsConsistent values values_before driving dss vss sources fan_out times stale touched tallies
     → (dss' : List (List DriverState)) (times' : List (Option ℕ)) (stale' : List Bool) → length dss' ≡ length dss
     → driver_values (joined dss') ≡ driver_values (joined dss) → AreTimes times' stale' (joined dss')
-    → IsHeld values values_before driving dss' vss sources fan_out times' stale' touched tallies
+    → IsConsistent values values_before driving dss' vss sources fan_out times' stale' touched tallies
 drivers-keep {dss = dss} {sources = sources} i dss' times' stale' long same timed = record {
   lists = record { nets = i.lists.nets; owned = long ∙ i.lists.owned };
   valued = i.valued ∙ sym same;
@@ -141,9 +141,9 @@ drivers-keep {dss = dss} {sources = sources} i dss' times' stale' long same time
 pub times-keep : {values values_before driving : List Logic} {dss : List (List DriverState)} {vss : List (List Held)} {sources : List (List Source)}
     {fan_out : List (List ℕ)}
     {times : List (Option ℕ)} {stale touched : List Bool} {tallies : TallyLists}
-    → IsHeld values values_before driving dss vss sources fan_out times stale touched tallies
+    → IsConsistent values values_before driving dss vss sources fan_out times stale touched tallies
     → (times' : List (Option ℕ)) (stale' : List Bool) → AreTimes times' stale' (joined dss)
-    → IsHeld values values_before driving dss vss sources fan_out times' stale' touched tallies
+    → IsConsistent values values_before driving dss vss sources fan_out times' stale' touched tallies
 times-keep i times' stale' t = record {
   lists = i.lists;
   valued = i.valued;

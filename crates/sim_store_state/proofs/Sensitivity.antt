@@ -8,7 +8,7 @@ use Rattle.sim_flat_design.specs.Processes.{Process}
 use Rattle.sim_standard.specs.declared.net_view.NetView.{NetView}
 use Rattle.sim_standard.specs.State.{net_at}
 use Rattle.sim_standard.specs.Processes.{process_at}
-use Rattle.sim_store_state.specs.Sensitive.{AreSensitive, is_sensitive, is_told, has_event_in}
+use Rattle.sim_store_state.specs.Sensitive.{AreSensitive, is_sensitive, is_resumed_by, has_event_in}
 use Rattle.sim_standard.specs.Orders.{is_among}
 
 -- ---- truth values
@@ -156,22 +156,23 @@ resumed-more numbers i p n was now new lt is e f =
     f ∙ (ap (λ b. (n == p) || b) e ∙ (or-turn (n == p) (is_among (take i numbers) p) was
     ∙ ap (λ b. b || was) (ap (λ m. is_among (take i numbers) p || (m == p)) is ∙ sym (among-more numbers i p lt))))
 
-told-append : (sensitive : List (List ℕ)) (xs ys : List (ℕ × Logic)) (p : ℕ)
-    → is_told sensitive (xs ++ ys) p ≡ (is_told sensitive xs p || is_told sensitive ys p)
-told-append sensitive [] ys p = refl
-told-append sensitive (x ∷ xs) ys p =
+resumed-by-append : (sensitive : List (List ℕ)) (xs ys : List (ℕ × Logic)) (p : ℕ)
+    → is_resumed_by sensitive (xs ++ ys) p ≡ (is_resumed_by sensitive xs p || is_resumed_by sensitive ys p)
+resumed-by-append sensitive [] ys p = refl
+resumed-by-append sensitive (x ∷ xs) ys p =
     let here = is_among (get_or sensitive x.0 []) p in
-    ap (λ b. here || b) (told-append sensitive xs ys p) ∙ sym (or-assoc here (is_told sensitive xs p) (is_told sensitive ys p))
+    ap (λ b. here || b) (resumed-by-append sensitive xs ys p) ∙ sym (or-assoc here (is_resumed_by sensitive xs p) (is_resumed_by sensitive ys p))
 
 -- the processes sensitive to one more net resume, after those sensitive to the nets before it
-pub told-more : (sensitive : List (List ℕ)) (changes : List (ℕ × Logic)) (i p : ℕ) (d : ℕ × Logic) (row : List ℕ) (was now new : Bool) → i < length changes
-    → row ≡ get_or sensitive (get_or changes i d).0 [] → now ≡ (is_told sensitive (take i changes) p || was) → new ≡ (is_among row p || now)
-    → new ≡ (is_told sensitive (take (i + 1) changes) p || was)
-told-more sensitive changes i p d row was now new lt er e f =
+pub resumed-by-more : (sensitive : List (List ℕ)) (changes : List (ℕ × Logic)) (i p : ℕ) (d : ℕ × Logic) (row : List ℕ) (was now new : Bool)
+    → i < length changes
+    → row ≡ get_or sensitive (get_or changes i d).0 [] → now ≡ (is_resumed_by sensitive (take i changes) p || was) → new ≡ (is_among row p || now)
+    → new ≡ (is_resumed_by sensitive (take (i + 1) changes) p || was)
+resumed-by-more sensitive changes i p d row was now new lt er e f =
     let here = is_among (get_or sensitive (get_or changes i d).0 []) p in
-    let before = is_told sensitive (take i changes) p in
-    let more : is_told sensitive (take (i + 1) changes) p ≡ (before || here) = ap (λ cs. is_told sensitive cs p) (take_more changes i d lt)
-    ∙ (told-append sensitive (take i changes) (get_or changes i d ∷ []) p ∙ ap (λ b. before || b) (or_false here)) in
+    let before = is_resumed_by sensitive (take i changes) p in
+    let more : is_resumed_by sensitive (take (i + 1) changes) p ≡ (before || here) = ap (λ cs. is_resumed_by sensitive cs p) (take_more changes i d lt)
+    ∙ (resumed-by-append sensitive (take i changes) (get_or changes i d ∷ []) p ∙ ap (λ b. before || b) (or_false here)) in
     f ∙ (ap (λ r. is_among r p || now) er ∙ (ap (λ b. here || b) e ∙ (or-turn here before was ∙ ap (λ b. b || was) (sym more))))
 
 -- ---- processes sensitive to nets

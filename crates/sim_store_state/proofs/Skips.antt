@@ -15,7 +15,7 @@ use Rattle.sim_store_state.specs.Changes.{AreTouched, value_at}
 use Rattle.sim_store_state.specs.FlatState.{views_of, changed_to}
 use Rattle.sim_standard.specs.Records.{changes_from}
 use Rattle.sim_standard.specs.Orders.{is_among}
-use Rattle.sim_store_state.specs.Sensitive.{is_sensitive, is_told}
+use Rattle.sim_store_state.specs.Sensitive.{is_sensitive, is_resumed_by}
 use Rattle.sim_store_state.proofs.Walks.{not_both}
 use Rattle.sim_store_state.proofs.Views.{length-views_of, past_values, view_here}
 
@@ -132,16 +132,16 @@ list-at [] k lt = absurd (omega arith)
 list-at (x ∷ xs) zero lt = refl
 list-at (x ∷ xs) (suc k) lt = list-at xs k (omega arith)
 
-pub told-changes : (nets : List NetView) (sensitive : List (List ℕ)) (k p : ℕ) → k + length nets ≤ length sensitive
-    → is_told sensitive (changes_from k nets) p ≡ is_sensitive nets (drop k sensitive) p
-told-changes [] sensitive k p le = refl
-told-changes (v ∷ nets) sensitive k p le =
-    let rest = told-changes nets sensitive (k + 1) p (omega (arith, le)) ∙ ap (λ j. is_sensitive nets (drop j sensitive) p) (add-one k) in
-    ap (λ cs. is_told sensitive cs p) (first-change k v nets)
+pub resumed-by-changes : (nets : List NetView) (sensitive : List (List ℕ)) (k p : ℕ) → k + length nets ≤ length sensitive
+    → is_resumed_by sensitive (changes_from k nets) p ≡ is_sensitive nets (drop k sensitive) p
+resumed-by-changes [] sensitive k p le = refl
+resumed-by-changes (v ∷ nets) sensitive k p le =
+    let rest = resumed-by-changes nets sensitive (k + 1) p (omega (arith, le)) ∙ ap (λ j. is_sensitive nets (drop j sensitive) p) (add-one k) in
+    ap (λ cs. is_resumed_by sensitive cs p) (first-change k v nets)
     ∙ (go v.event rest ∙ ap (λ ss. is_sensitive (v ∷ nets) ss p) (sym (list-at sensitive k (omega (arith, le)))))
   where
-    go : (b : Bool) → is_told sensitive (changes_from (k + 1) nets) p ≡ is_sensitive nets (drop (suc k) sensitive) p
-        → is_told sensitive (changes_if b (k, v.value) (changes_from (k + 1) nets)) p
+    go : (b : Bool) → is_resumed_by sensitive (changes_from (k + 1) nets) p ≡ is_sensitive nets (drop (suc k) sensitive) p
+        → is_resumed_by sensitive (changes_if b (k, v.value) (changes_from (k + 1) nets)) p
         ≡ ((b && is_among (get_or sensitive k []) p) || is_sensitive nets (drop (suc k) sensitive) p)
     go true rest = ap (λ b. is_among (get_or sensitive k []) p || b) rest
     go false rest = rest

@@ -18,7 +18,7 @@ use Rattle.sim_flat_design.specs.declared.design.Source.{Source}
 use Rattle.sim_standard.specs.Drivers.{Transaction, DriverState, next_time}
 use Rattle.sim_standard.specs.State.{Owned, driver_at, driver_values, all_drivers}
 use Rattle.sim_containers.specs.Times.{time_of}
-use Rattle.sim_store_state.specs.Changes.{AreFanOut, AreTallied, IsHeld, row_from, row_value, value_at}
+use Rattle.sim_store_state.specs.Changes.{AreFanOut, AreTallied, IsConsistent, row_from, row_value, value_at}
 use Rattle.sim_store_state.specs.Tallies.{TallyLists}
 use Rattle.sim_store_state.proofs.Values.{rows-from}
 use Rattle.sim_containers.specs.RowArray.{joined}
@@ -178,7 +178,7 @@ pub first-kept : (design : Design) (sources : List (List Source)) (dss : List (L
     → many ≡ length values
     → AreFanOut sources fan_out → length fan_out ≡ count → times ≡ replicate count None → stale ≡ replicate count false → touched ≡ replicate many false
     → AreTallied sources driving tallies
-    → IsHeld values values_before driving dss vss sources fan_out times stale touched tallies
+    → IsConsistent values values_before driving dss vss sources fan_out times stale touched tallies
 first-kept design sources dss vss values values_before driving fan_out times stale touched tallies count many er es ev eg eu el ec em ad ld
     et est eto tallied =
     let here : (d : ℕ) → (driver_at (joined dss) d).pending ≡ [] =

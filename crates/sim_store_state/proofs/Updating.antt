@@ -13,7 +13,7 @@ use Rattle.sim_containers.specs.Numbers.{is_in}
 use Rattle.sim_containers.specs.Times.{cleared, those_at}
 use Rattle.sim_standard.specs.State.{driver_at, driver_values}
 use Rattle.sim_standard.proofs.Names.{no_driver}
-use Rattle.sim_store_state.specs.Changes.{AreFanOut, AreReached, AreTallied, IsHeld, first_times, is_source, row_from, row_value, value_at}
+use Rattle.sim_store_state.specs.Changes.{AreFanOut, AreReached, AreTallied, IsConsistent, first_times, is_source, row_from, row_value, value_at}
 use Rattle.sim_store_state.specs.Tallies.{TallyLists}
 use Rattle.sim_store_state.proofs.Due.{driver-taken, times-taken}
 use Rattle.sim_store_state.proofs.Reaching.{fan_out-there, same_row}
@@ -45,13 +45,13 @@ unreached sources fan_out ds es touched time n driving l long ee reached other =
 pub update-keeps : {values values_before driving : List Logic} {dss : List (List DriverState)} {vss : List (List Held)} {sources : List
     (List Source)} {fan_out : List (List ℕ)}
     {times : List (Option ℕ)} {stale touched : List Bool} {tallies : TallyLists}
-    → IsHeld values values_before driving dss vss sources fan_out times stale touched tallies
+    → IsConsistent values values_before driving dss vss sources fan_out times stale touched tallies
     → (time : ℕ) (values' values_before' driving' : List Logic) (dss' : List (List DriverState)) (times₁ times' : List (Option ℕ))
     (stale' touched' : List Bool) (tallies' : TallyLists)
     → next_time (joined dss) ≡ Some time → times₁ ≡ first_times (joined dss) → values_before' ≡ values → stale' ≡ those_at time times₁
     → times' ≡ cleared time times₁ → dss' ≡ map (map (taken time)) dss → AllReached touched' fan_out (joined dss) time → length touched' ≡ length touched
     → driving' ≡ driver_values (joined dss') → values' ≡ map (row_from driving') sources → AreTallied sources driving' tallies'
-    → IsHeld values' values_before' driving' dss' vss sources fan_out times' stale' touched' tallies'
+    → IsConsistent values' values_before' driving' dss' vss sources fan_out times' stale' touched' tallies'
 update-keeps {values} {values_before} {driving} {dss} {vss} {sources} {fan_out} {times} {stale} {touched} i time values' values_before' driving'
     dss' times₁ times' stale'
     touched' tallies' en et el

@@ -97,8 +97,8 @@ AreReached touched nets before now = (n : ℕ) → n < length touched → is_in 
 -- ---- all of it
 
 -- These lists hold a state: each net has the value of its sources, and what is kept beside the state is right.
-pub record IsHeld (values values_before driving : List Logic) (drivers : List (List DriverState)) (variables : List (List Held)) (sources : List (List Source))
-    (fan_out : List (List ℕ)) (times : List (Option ℕ)) (stale touched : List Bool) (tallies : TallyLists) : Type 0 where
+pub record IsConsistent (values values_before driving : List Logic) (drivers : List (List DriverState)) (variables : List (List Held))
+    (sources : List (List Source)) (fan_out : List (List ℕ)) (times : List (Option ℕ)) (stale touched : List Bool) (tallies : TallyLists) : Type 0 where
   pub lists : AreLists values values_before drivers variables
   pub valued : driving ≡ driver_values (joined drivers)
   pub timed : AreTimes times stale (joined drivers)

@@ -25,6 +25,6 @@ is_sensitive (net ∷ nets) [] process = false
 is_sensitive (net ∷ nets) (processes ∷ sensitive) process = (net.event && is_among processes process) || is_sensitive nets sensitive process
 
 -- whether a process is sensitive to a net of these changes
-abbrev pub is_told : List (List ℕ) → List (ℕ × Logic) → ℕ → Bool
-is_told sensitive [] process = false
-is_told sensitive (change ∷ changes) process = is_among (slice_index_or sensitive change.0 []) process || is_told sensitive changes process
+abbrev pub is_resumed_by : List (List ℕ) → List (ℕ × Logic) → ℕ → Bool
+is_resumed_by sensitive [] process = false
+is_resumed_by sensitive (change ∷ changes) process = is_among (slice_index_or sensitive change.0 []) process || is_resumed_by sensitive changes process

@@ -23,7 +23,7 @@ ghost use Rattle.sim_standard.specs.Initialization.{first_state};
 ghost use Rattle.sim_standard.specs.Cycle.{updated};
 ghost use Rattle.sim_store_state.specs.Executions.{IsReadyToExecute};
 ghost use Rattle.sim_store_state.specs.FlatState.{flat_state_of, held};
-ghost use Rattle.sim_store_state.specs.Changes.{IsHeld};
+ghost use Rattle.sim_store_state.specs.Changes.{IsConsistent};
 ghost use Rattle.sim_store_state.specs.InTurn.{AreExecuted, IsExecutable, IsOther};
 ghost use Rattle.sim_standard.specs.Records.{changes_from, values_of};
 ghost use Rattle.sim_wave.specs.Rising.{RisesFrom};
@@ -35,7 +35,7 @@ use crate::drivers::{
 use crate::execution::{as_done, execute_in_parts, may_have_changed};
 use crate::in_turn::execute_in_one_part;
 use crate::log::Log;
-use crate::nets::{ByNumber, Seen, SeenBy, are_views, resolve_touched, settle, views_at};
+use crate::nets::{ByNumber, Seen, SeenBy, are_views, end_events, resolve_touched, views_at};
 use crate::start::{connections, first_contents, nothing_pending};
 use crate::tallies::Tallies;
 use sim_containers::{DividedRows, NumberSet, RowArray, TimeQueue};
@@ -104,13 +104,13 @@ impl Drop for FlatState {
 
 impl Model for FlatState {
     ghost use Rattle.sim_store_state.specs.FlatState.{FlatState, held};
-    ghost use Rattle.sim_store_state.specs.Changes.{IsHeld};
+    ghost use Rattle.sim_store_state.specs.Changes.{IsConsistent};
 
     ghost Value = { FlatState };
 
     ghost view = { λ s. held s.sources s.values.items s.values_before.items s.drivers s.variables };
 
-    ghost invariant = { λ s. IsHeld s.values.items s.values_before.items s.driving.items s.drivers s.variables s.sources s.fan_out s.queue s.stale
+    ghost invariant = { λ s. IsConsistent s.values.items s.values_before.items s.driving.items s.drivers s.variables s.sources s.fan_out s.queue s.stale
         s.touched s.tallies };
 }
 
@@ -187,7 +187,7 @@ impl FlatState {
 
     /// The lists that hold it.
     pub fn into_lists(self) -> Lists
-        ensures held { IsHeld result.values.items result.values_before.items result.driving.items result.drivers result.variables result.sources
+        ensures held { IsConsistent result.values.items result.values_before.items result.driving.items result.drivers result.variables result.sources
             result.fan_out result.queue result.stale result.touched result.tallies }
         ensures state { self ≡ held result.sources result.values.items result.values_before.items result.drivers result.variables }
     {
@@ -221,7 +221,7 @@ impl FlatState {
 
     /// The state that these lists hold.
     pub fn of_lists(lists: Lists) -> FlatState
-        requires { IsHeld lists.values.items lists.values_before.items lists.driving.items lists.drivers lists.variables lists.sources
+        requires { IsConsistent lists.values.items lists.values_before.items lists.driving.items lists.drivers lists.variables lists.sources
             lists.fan_out lists.queue lists.stale lists.touched lists.tallies }
         ensures { result ≡ held lists.sources lists.values.items lists.values_before.items lists.drivers lists.variables }
     {
@@ -389,7 +389,7 @@ impl FlatState {
     {
         bring_up_to_date(&mut self.queue, &self.stale, &self.drivers)?;
         // The present values become the values before this cycle.
-        settle(
+        end_events(
             self.values_before.as_mut_slice(),
             self.values.as_slice(),
             &self.touched,

@@ -89,7 +89,7 @@ fn resolved_value(tallies: &Tallies, net: usize, sources: &[Source], driving: &[
 
 /// The values before the cycle of touched nets become their values; those of other nets are already
 /// equal.
-pub fn settle(values_before: &mut [Logic], values: &[Logic], touched: &NumberSet)
+pub fn end_events(values_before: &mut [Logic], values: &[Logic], touched: &NumberSet)
     requires sized { length values_before.old ≡ length values.now }
     requires touched { AreTouched values.now values_before.old touched.now }
     ensures { values_before.new ≡ values.now }

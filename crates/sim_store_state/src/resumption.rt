@@ -6,7 +6,7 @@ ghost use Rattle.sim_standard.specs.declared.net_view.NetView.{NetView};
 ghost use Rattle.sim_standard.specs.Records.{changes_from};
 ghost use Rattle.sim_standard.specs.Processes.{process_at};
 ghost use Rattle.sim_containers.specs.Numbers.{is_in};
-ghost use Rattle.sim_store_state.specs.Sensitive.{AreSensitive, is_told, has_event_in};
+ghost use Rattle.sim_store_state.specs.Sensitive.{AreSensitive, is_resumed_by, has_event_in};
 ghost use Rattle.sim_standard.specs.Orders.{is_among};
 
 use crate::lists::{add, empty_lists, in_rows};
@@ -68,7 +68,7 @@ fn sensitive_to(sensitive: &RowArray<usize>, net: usize) -> &[usize]
 /// Resumes the processes sensitive to a net of these changes.
 fn resume_sensitive(resumed: &mut NumberSet, changes: &[(u32, Logic)], sensitive: &RowArray<usize>)
     ensures sized { length resumed.new ≡ length resumed.old }
-    ensures members { (p : ℕ) → p < length resumed.old → is_in resumed.new p ≡ (is_told sensitive.now changes.now p || is_in resumed.old p) }
+    ensures members { (p : ℕ) → p < length resumed.old → is_in resumed.new p ≡ (is_resumed_by sensitive.now changes.now p || is_in resumed.old p) }
 {
     for (net, _value) in changes {
         insert_each(resumed, sensitive_to(sensitive, *net as usize));

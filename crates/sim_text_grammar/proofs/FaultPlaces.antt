@@ -9,7 +9,7 @@ use Rattle.sim_text_tokens.specs.declared.kind.Kind.TheVariants as k
 use Rattle.sim_text_grammar.specs.declared.error.ParseError.{ParseError}
 use Rattle.sim_text_grammar.specs.declared.error.ParseError.TheVariants.{OutOfMemory, Syntax, TooDeep, TimeRange}
 use Rattle.sim_text_tree.specs.Input.{Input, kind, place, next}
-use Rattle.sim_text_grammar.specs.Readers.{Outcome, Parser, and_then, ◌>>◌, take_token, left, same_kind, token_as, found_or, word, many_from}
+use Rattle.sim_text_grammar.specs.Readers.{ParseResult, Parser, and_then, ◌>>◌, take_token, left, same_kind, token_as, found_or, word, many_from}
 use Rattle.sim_text_grammar.specs.Readers.{name_of, literal, literal_of, number, number_of, unit, unit_of, repeat, word_is, event, sees, eat, expect}
 use Rattle.sim_text_grammar.specs.Readers.{many, separated}
 use Rattle.std.proofs.Common.{codes}
@@ -62,12 +62,12 @@ Blamed i (TimeRange n) = IsTooLarge i n
 Blamed i (TooDeep n) = IsOpening i n
 Blamed i _ = Unit {0}
 
-abbrev pub Blame : {A : Type 0} → Input → Outcome A → Type 0
+abbrev pub Blame : {A : Type 0} → Input → ParseResult A → Type 0
 Blame i (Ok r) = Within i r.1
 Blame i (Err e) = Blamed i e
 
 -- The remaining tokens are the end of the input, and a `TimeRange` fault is at a number that is too large.
-pub record Blames {A : Type 0} (i : Input) (o : Outcome A) : Type 0 where
+pub record Blames {A : Type 0} (i : Input) (o : ParseResult A) : Type 0 where
   pub blame : Blame i o
 
 blamed_wider : (i j : Input) (e : ParseError) → Within i j → Blamed j e → Blamed i e
@@ -76,20 +76,20 @@ blamed_wider i j OutOfMemory x y = tt
 blamed_wider i j (Syntax n) x y = tt
 blamed_wider i j (TooDeep n) x y = deeper_in i j n x y
 
-wider : {A : Type 0} (i j : Input) (o : Outcome A) → Within i j → Blame j o → Blame i o
+wider : {A : Type 0} (i j : Input) (o : ParseResult A) → Within i j → Blame j o → Blame i o
 wider i j (Ok r) x y = within i j r.1 x y
 wider i j (Err e) x y = blamed_wider i j e x y
 
-then_by : {A B : Type 0} (i : Input) (o : Outcome A) (f : A → Parser B) → Blame i o → ((a : A) (j : Input) → Blames j (f a j)) → Blames i (and_then o f)
+then_by : {A B : Type 0} (i : Input) (o : ParseResult A) (f : A → Parser B) → Blame i o → ((a : A) (j : Input) → Blames j (f a j)) → Blames i (and_then o f)
 then_by i (Ok r) f h g = record { blame = wider i r.1 (f r.0 r.1) h (g r.0 r.1).blame }
 then_by i (Err e) f h g = record { blame = h }
 
-pub blames_then : {A B : Type 0} {i : Input} {o : Outcome A} {f : A → Parser B} → Blames i o
+pub blames_then : {A B : Type 0} {i : Input} {o : ParseResult A} {f : A → Parser B} → Blames i o
     → ((a : A) (j : Input) → Blames j (f a j)) → Blames i (and_then o f)
 blames_then {A} {B} {i} {o} {f} h g = then_by i o f h.blame g
 
 -- the same with one more token at the front
-pub blames_next : {A : Type 0} (i : Input) (o : Outcome A) → Blames (next i) o → Blames i o
+pub blames_next : {A : Type 0} (i : Input) (o : ParseResult A) → Blames (next i) o → Blames i o
 blames_next i o h = record { blame = wider i (next i) o (after i) h.blame }
 
 pub blames_done : {A : Type 0} {a : A} (i : Input) → Blames i (Ok (a, i))
@@ -113,7 +113,7 @@ pub blames_if : {A : Type 0} (b : Bool) (f g : Parser A) (i : Input) → Blames 
 blames_if true f g i x y = x
 blames_if false f g i x y = y
 
-pub blames_or : {A : Type 0} (b : Bool) (f g : Outcome A) (i : Input) → Blames i f → Blames i g → Blames i (cond b f g)
+pub blames_or : {A : Type 0} (b : Bool) (f g : ParseResult A) (i : Input) → Blames i f → Blames i g → Blames i (cond b f g)
 blames_or true f g i x y = x
 blames_or false f g i x y = y
 
@@ -177,15 +177,15 @@ pub unit_blames : (i : Input) → Blames i (unit i)
 unfolding unit
 unit_blames i = token_blames unit_of i
 
-pub blames_wider : {A : Type 0} (i j : Input) (o : Outcome A) → Within i j → Blames j o → Blames i o
+pub blames_wider : {A : Type 0} (i j : Input) (o : ParseResult A) → Within i j → Blames j o → Blames i o
 blames_wider i j o x y = record { blame = wider i j o x y.blame }
 
-gives_then_by : {A B : Type 0} (i : Input) (p : A → Input → Type 0) (o : Outcome A) (f : A → Parser B) → Hits p o → Blame i o
+gives_then_by : {A B : Type 0} (i : Input) (p : A → Input → Type 0) (o : ParseResult A) (f : A → Parser B) → Hits p o → Blame i o
     → ((a : A) (j : Input) → p a j → Blames i (f a j)) → Blames i (and_then o f)
 gives_then_by i p (Ok r) f h b g = g r.0 r.1 h
 gives_then_by i p (Err e) f h b g = record { blame = b }
 
 -- the same, where a property of the result is known
-pub blames_gives_then : {A B : Type 0} {i : Input} {p : A → Input → Type 0} {o : Outcome A} {f : A → Parser B} → Gives p o → Blames i o
+pub blames_gives_then : {A B : Type 0} {i : Input} {p : A → Input → Type 0} {o : ParseResult A} {f : A → Parser B} → Gives p o → Blames i o
     → ((a : A) (j : Input) → p a j → Blames i (f a j)) → Blames i (and_then o f)
 blames_gives_then {A} {B} {i} {p} {o} {f} h b g = gives_then_by i p o f h.gives b.blame g

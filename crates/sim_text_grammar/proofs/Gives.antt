@@ -3,30 +3,30 @@
 use Rattle.std.proofs.Common.{Ok, Err}
 use Rattle.sim_text_tree.specs.Input.{Input}
 use Rattle.sim_text_grammar.specs.declared.error.ParseError.{ParseError}
-use Rattle.sim_text_grammar.specs.Readers.{Outcome, Parser, and_then}
+use Rattle.sim_text_grammar.specs.Readers.{ParseResult, Parser, and_then}
 
 -- The result and the remaining tokens have this property.
-abbrev pub Hits : {A : Type 0} → (A → Input → Type 0) → Outcome A → Type 0
+abbrev pub Hits : {A : Type 0} → (A → Input → Type 0) → ParseResult A → Type 0
 Hits q (Ok r) = q r.0 r.1
 Hits q (Err e) = Unit {0}
 
-pub record Gives {A : Type 0} (q : A → Input → Type 0) (o : Outcome A) : Type 0 where
+pub record Gives {A : Type 0} (q : A → Input → Type 0) (o : ParseResult A) : Type 0 where
   pub gives : Hits q o
 
-then_by : {A B : Type 0} (p : A → Input → Type 0) (q : B → Input → Type 0) (o : Outcome A) (f : A → Parser B) → Hits p o
+then_by : {A B : Type 0} (p : A → Input → Type 0) (q : B → Input → Type 0) (o : ParseResult A) (f : A → Parser B) → Hits p o
     → ((a : A) (j : Input) → p a j → Gives q (f a j)) → Gives q (and_then o f)
 then_by p q (Ok r) f h g = g r.0 r.1 h
 then_by p q (Err e) f h g = record { gives = tt }
 
-pub then_ : {A B : Type 0} {p : A → Input → Type 0} {q : B → Input → Type 0} {o : Outcome A} {f : A → Parser B} → Gives p o
+pub then_ : {A B : Type 0} {p : A → Input → Type 0} {q : B → Input → Type 0} {o : ParseResult A} {f : A → Parser B} → Gives p o
     → ((a : A) (j : Input) → p a j → Gives q (f a j)) → Gives q (and_then o f)
 then_ {A} {B} {p} {q} {o} {f} h g = then_by p q o f h.gives g
 
-map_by : {A : Type 0} (p q : A → Input → Type 0) (o : Outcome A) → Hits p o → ((a : A) (j : Input) → p a j → q a j) → Hits q o
+map_by : {A : Type 0} (p q : A → Input → Type 0) (o : ParseResult A) → Hits p o → ((a : A) (j : Input) → p a j → q a j) → Hits q o
 map_by p q (Ok r) h g = g r.0 r.1 h
 map_by p q (Err e) h g = tt
 
-pub map_ : {A : Type 0} {p q : A → Input → Type 0} {o : Outcome A} → Gives p o → ((a : A) (j : Input) → p a j → q a j) → Gives q o
+pub map_ : {A : Type 0} {p q : A → Input → Type 0} {o : ParseResult A} → Gives p o → ((a : A) (j : Input) → p a j → q a j) → Gives q o
 map_ {A} {p} {q} {o} h g = record { gives = map_by p q o h.gives g }
 
 pub done : {A : Type 0} {q : A → Input → Type 0} {a : A} {j : Input} → q a j → Gives q (Ok (a, j))

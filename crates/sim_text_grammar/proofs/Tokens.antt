@@ -16,7 +16,7 @@ use Rattle.sim_text_tokens.specs.declared.kind.Kind.{Kind}
 use Rattle.sim_text_tokens.specs.declared.kind.Kind.TheVariants as k
 use Rattle.sim_text_tree.specs.Name.{Name}
 use Rattle.sim_text_tree.specs.Input.{Input, kind, place, next}
-use Rattle.sim_text_grammar.specs.Readers.{Outcome, Parser, and_then, token_as, found_or, only_if, left, same_kind, sees, eat, expect, word_is, event}
+use Rattle.sim_text_grammar.specs.Readers.{ParseResult, Parser, and_then, token_as, found_or, only_if, left, same_kind, sees, eat, expect, word_is, event}
 use Rattle.sim_text_grammar.specs.Readers.{word, name_of, literal, logic_of, literal_of, placed, number, number_of, unit, unit_in, unit_of, repeat}
 use Rattle.sim_text_tree.specs.Writing.{Piece, WordAt, LiteralAt, NumberAt, UnitWord, This, Stands, just, mark, word_at, unit_name, if_written, Fits}
 use Rattle.sim_text_tree.proofs.Writings.{one, marks, mark_read, none_to, none_read}
@@ -314,12 +314,12 @@ pub eat_then : {A : Type 0} {q : A → Input → Type 0} (f g : Parser A) (p n :
 unfolding eat
 eat_then {A} {q} f g p n x i m y z = eat_then_by q f g p n x i m y z (sees x i) refl
 
-sees_then_by : {A : Type 0} (q : A → Input → Type 0) (f g : Outcome A) (x : Kind) (i : Input) → (kind i ≡ x → Gives q f)
+sees_then_by : {A : Type 0} (q : A → Input → Type 0) (f g : ParseResult A) (x : Kind) (i : Input) → (kind i ≡ x → Gives q f)
     → ((kind i ≡ x → ⊥) → Gives q g) → (b : Bool) → sees x i ≡ b → Gives q (cond b f g)
 sees_then_by q f g x i y z true e = y (sees_is x i e)
 sees_then_by q f g x i y z false e = z (λ h. let t : true ≡ false = sym (is_seen x i h) ∙ e in absurd cc)
 
-pub sees_then : {A : Type 0} {q : A → Input → Type 0} {f g : Outcome A} (x : Kind) (i : Input) → (kind i ≡ x → Gives q f)
+pub sees_then : {A : Type 0} {q : A → Input → Type 0} {f g : ParseResult A} (x : Kind) (i : Input) → (kind i ≡ x → Gives q f)
     → ((kind i ≡ x → ⊥) → Gives q g) → Gives q (cond (sees x i) f g)
 sees_then {A} {q} {f} {g} x i y z = sees_then_by q f g x i y z (sees x i) refl
 

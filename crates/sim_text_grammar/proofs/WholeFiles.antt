@@ -9,7 +9,7 @@ use Rattle.sim_text_grammar.proofs.FileFaults.{file_blames}
 use Rattle.sim_text_tree.specs.DesignFile.{DesignFile}
 use Rattle.sim_text_tree.specs.declared.unit.DesignUnit.{DesignUnit}
 use Rattle.sim_text_tree.specs.Input.{Input}
-use Rattle.sim_text_grammar.specs.Readers.{Outcome}
+use Rattle.sim_text_grammar.specs.Readers.{ParseResult}
 use Rattle.sim_text_tree.specs.Grammar.{AreUnits, IsFile}
 use Rattle.sim_text_grammar.proofs.Gives.{Hits}
 use Rattle.sim_text_grammar.specs.Units.{file, units_of, finish}
@@ -17,9 +17,9 @@ use Rattle.sim_text_grammar.proofs.UnitsSound.{file_gives}
 use Rattle.sim_text_grammar.proofs.UnitsComplete.{file_again}
 
 pub is_found : (i j : Input) (x : DesignFile) → file i ≡ Ok (x, j) → IsFile x i
-is_found i j x e = let g = subst (λ (o : Outcome DesignFile). Hits (λ y m. IsFile y i) o) e (file_gives i).gives in g
+is_found i j x e = let g = subst (λ (o : ParseResult DesignFile). Hits (λ y m. IsFile y i) o) e (file_gives i).gives in g
 
-abbrev ok_of : DesignFile × Input → Outcome DesignFile
+abbrev ok_of : DesignFile × Input → ParseResult DesignFile
 ok_of p = Ok p
 
 ok_is : (a b : DesignFile × Input) → ok_of a ≡ ok_of b → a ≡ b
@@ -36,11 +36,11 @@ one_file i a b x y = is_only i [] b a (file_again b i y) x
 
 -- a `TimeRange` fault is at a time that is too large
 pub large_time : (i : Input) (n : ℕ) → file i ≡ Err (TimeRange n) → IsTooLarge i n
-large_time i n e = subst (λ (o : Outcome DesignFile). Blame i o) e (file_blames i).blame
+large_time i n e = subst (λ (o : ParseResult DesignFile). Blame i o) e (file_blames i).blame
 
 -- a `TooDeep` fault is at a parenthesis or an `if`
 pub deep_opening : (i : Input) (n : ℕ) → file i ≡ Err (TooDeep n) → IsOpening i n
-deep_opening i n e = subst (λ (o : Outcome DesignFile). Blame i o) e (file_blames i).blame
+deep_opening i n e = subst (λ (o : ParseResult DesignFile). Blame i o) e (file_blames i).blame
 
 -- units that are read up to the end of the tokens are spelled by them
 pub units_read : (i j m : Input) (xs : List DesignUnit) → units_of i ≡ Ok (xs, j) → finish j ≡ Ok (tt, m) → AreUnits xs i

@@ -22,15 +22,15 @@ left i = length i
 -- ---- parsers
 
 -- the result and the remaining tokens, or a fault
-abbrev pub Outcome : Type 0 → Type 0
-Outcome A = Result (A × Input) ParseError
+abbrev pub ParseResult : Type 0 → Type 0
+ParseResult A = Result (A × Input) ParseError
 
 -- a reader of one rule
 abbrev pub Parser : Type 0 → Type 0
-Parser A = Input → Outcome A
+Parser A = Input → ParseResult A
 
 -- continues with the result, unless there was a fault
-abbrev pub and_then : {A B : Type 0} → Outcome A → (A → Parser B) → Outcome B
+abbrev pub and_then : {A B : Type 0} → ParseResult A → (A → Parser B) → ParseResult B
 and_then (Ok p) f = f p.0 p.1
 and_then (Err e) f = Err e
 
@@ -63,7 +63,7 @@ take_token = λ i. Ok (place i, next i)
 -- ---- single tokens
 
 -- the value, or a fault if there is none
-abbrev pub found_or : {A : Type 0} → Option A → Input → Input → Outcome A
+abbrev pub found_or : {A : Type 0} → Option A → Input → Input → ParseResult A
 found_or (Some a) i rest = Ok (a, rest)
 found_or None i rest = Err (Syntax (left i))
 
@@ -185,11 +185,11 @@ separated x item = item >>= λ a. λ i. many_from (λ y. same_kind y x) (take_to
 -- ---- the contract of a function that parses: the parser's outcome, unless memory fails
 
 -- The parser has this outcome, unless memory failed.
-abbrev pub Reads : {A : Type 0} → Outcome A → Result A ParseError → Input → Type 0
+abbrev pub Reads : {A : Type 0} → ParseResult A → Result A ParseError → Input → Type 0
 Reads outcome (Ok a) new = outcome ≡ Ok (a, new)
 Reads outcome (Err e) new = e ≢ OutOfMemory → outcome ≡ Err e
 
 -- The parser has the outcome that `made` gives for this result, unless memory failed.
-abbrev pub ReadsAs : {A V : Type 0} → Outcome A → Result V ParseError → (V → A) → Input → Type 0
+abbrev pub ReadsAs : {A V : Type 0} → ParseResult A → Result V ParseError → (V → A) → Input → Type 0
 ReadsAs outcome (Ok v) made new = outcome ≡ Ok (made v, new)
 ReadsAs outcome (Err e) made new = e ≢ OutOfMemory → outcome ≡ Err e

@@ -15,7 +15,7 @@ use Rattle.sim_text_tree.specs.declared.unit.LibraryUnit.TheVariants as units
 use Rattle.sim_text_tree.specs.declared.unit.DesignUnit.{DesignUnit}
 use Rattle.sim_text_tree.specs.DesignFile.{DesignFile}
 use Rattle.sim_text_tree.specs.Input.{Input}
-use Rattle.sim_text_grammar.specs.Readers.{Outcome, Parser, ◌>>=◌, ◌>>◌, pure, refuse, peek, take_token, word, sees, eat, expect, many, many_from}
+use Rattle.sim_text_grammar.specs.Readers.{ParseResult, Parser, ◌>>=◌, ◌>>◌, pure, refuse, peek, take_token, word, sees, eat, expect, many, many_from}
 use Rattle.sim_text_grammar.specs.Readers.{separated, same_kind, left}
 use Rattle.sim_text_grammar.specs.Declarations.{names, ports, repeated, declarations}
 use Rattle.sim_text_grammar.specs.Concurrents.{concurrents}
@@ -140,7 +140,7 @@ unfoldable pub units_of : Parser (List DesignUnit)
 units_of = unit >>= λ first. λ i. many_from goes_on unit (left i) (first ∷ []) i
 
 -- a fault if a token remains
-abbrev pub finish_by : Input → Input → Outcome (Unit {0})
+abbrev pub finish_by : Input → Input → ParseResult (Unit {0})
 finish_by i [] = Ok (tt, i)
 finish_by i (t ∷ ts) = Err (Syntax (left i))
 

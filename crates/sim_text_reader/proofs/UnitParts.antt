@@ -12,7 +12,7 @@ use Rattle.sim_text_tree.specs.declared.unit.Instantiated.{Instantiated}
 use Rattle.sim_text_tree.specs.declared.unit.Instantiated.TheVariants as made
 use Rattle.sim_text_tree.specs.declared.unit.Concurrent.TheVariants as c
 use Rattle.sim_text_tree.specs.declared.unit.ContextItem.TheVariants as items
-use Rattle.sim_text_grammar.specs.Readers.{Outcome, Parser, and_then, pure, eat, expect, word, left, many_from}
+use Rattle.sim_text_grammar.specs.Readers.{ParseResult, Parser, and_then, pure, eat, expect, word, left, many_from}
 use Rattle.sim_text_grammar.specs.Declarations.{names, object, initial, ports, port_list, component, component_end, declarations, repeated, variables}
 use Rattle.sim_text_grammar.specs.Statements.{statements, label_again}
 use Rattle.sim_text_grammar.specs.Concurrents.{associations, chosen, concurrents, entity_named, instance, port_map, postponed_again}
@@ -21,10 +21,10 @@ use Rattle.sim_text_grammar.specs.Units.{entity, architecture, architecture_body
 use Rattle.sim_text_grammar.proofs.Parts.{within, beyond}
 
 -- a result followed by a semicolon; below, one followed by a parenthesis
-abbrev ended : {A : Type 0} → Outcome A → Outcome A
+abbrev ended : {A : Type 0} → ParseResult A → ParseResult A
 ended outcome = and_then outcome (λ a i. and_then (expect k.Semicolon i) (λ _. pure a))
 
-abbrev closed : {A : Type 0} → Outcome A → Outcome A
+abbrev closed : {A : Type 0} → ParseResult A → ParseResult A
 closed outcome = and_then outcome (λ a i. and_then (expect k.RightParen i) (λ _. pure a))
 
 -- ---- declarations

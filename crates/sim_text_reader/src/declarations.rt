@@ -13,14 +13,14 @@ use sim_text_tokens::Kind;
 use sim_text_tree::declaration::{
     ComponentDeclaration, Declaration, Initial, Mode, ObjectDeclaration, PortDeclaration,
 };
-use sim_text_tree::list::{Several, fitted};
+use sim_text_tree::list::{NonEmpty, fitted};
 use sim_text_tree::name::Name;
 use sqlite_items::Items;
 use std::alloc::Global;
 
 /// Reads one or more names, separated by commas.
 #[tactic(auto, using(sim_text_grammar::proofs::Parts::halves), unfolding(sim_text_grammar::specs::Declarations::names))]
-pub fn names(alloc: Global, tokens: &mut Cursor) -> Result<Several<Name>, ParseError>
+pub fn names(alloc: Global, tokens: &mut Cursor) -> Result<NonEmpty<Name>, ParseError>
     ensures { Reads (spec.names (view tokens.old)) result (view tokens.new) }
 {
     let first = tokens.word();
@@ -94,7 +94,7 @@ fn mode(tokens: &mut Cursor) -> Option<Mode>
 fn port_of(
     tokens: &mut Cursor,
     signal: bool,
-    names: Several<Name>,
+    names: NonEmpty<Name>,
 ) -> Result<PortDeclaration, ParseError>
     ensures { Reads (spec.port_of signal names (view tokens.old)) result (view tokens.new) }
 {

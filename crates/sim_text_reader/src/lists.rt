@@ -4,25 +4,25 @@ ghost use Rattle.std.specs.Prelude.{◌≡◌, ◌≢◌, ◌∷◌, [], ◌++�
 ghost use Rattle.sim_text_grammar.specs.declared.error.ParseError.TheVariants.{OutOfMemory};
 
 use sim_text_grammar::ParseError;
-use sim_text_tree::list::Several;
+use sim_text_tree::list::NonEmpty;
 use std::alloc::Global;
 
 /// The list of the one item that was read.
 pub fn first_of<T: Drop>(
     alloc: Global,
     read: Result<T, ParseError>,
-) -> Result<Several<T>, ParseError>
+) -> Result<NonEmpty<T>, ParseError>
     ensures ok { IfOk result (λ found. (first : T) × (read ≡ Ok first) × (found ≡ first ∷ [])) }
     ensures err { IfErr result (λ e. e ≢ OutOfMemory → read ≡ Err e) }
     ensures fault { IfErr read (λ e. result ≡ Err e) }
 {
     let first = read?;
-    let found = Several::new(alloc, first)?;
+    let found = NonEmpty::new(alloc, first)?;
     Ok(found)
 }
 
 /// Appends the item that was read.
-pub fn add<T: Drop>(found: &mut Several<T>, read: Result<T, ParseError>) -> Result<(), ParseError>
+pub fn add<T: Drop>(found: &mut NonEmpty<T>, read: Result<T, ParseError>) -> Result<(), ParseError>
     ensures ok { OnOk result ((next : T) × (read ≡ Ok next) × (found.new ≡ found.old ++ next ∷ [])) }
     ensures err { IfErr result (λ e. e ≢ OutOfMemory → read ≡ Err e) }
     ensures fault { IfErr read (λ e. result ≡ Err e) }

@@ -16,7 +16,7 @@ use sim_text_grammar::ParseError;
 use sim_text_tokens::Kind;
 use sim_text_tree::DesignFile;
 use sim_text_tree::declaration::{Declaration, PortDeclaration};
-use sim_text_tree::list::{Several, fitted};
+use sim_text_tree::list::{NonEmpty, fitted};
 use sim_text_tree::name::Name;
 use sim_text_tree::unit::{
     Architecture, Concurrent, ContextItem, DesignUnit, Entity, LibraryUnit, SelectedName,
@@ -60,7 +60,7 @@ fn selected(alloc: Global, tokens: &mut Cursor) -> Result<SelectedName, ParseErr
 
 /// `sel {, sel}`
 #[tactic(auto, using(sim_text_grammar::proofs::Parts::halves), unfolding(sim_text_grammar::specs::Units::selected_names))]
-fn selected_names(alloc: Global, tokens: &mut Cursor) -> Result<Several<SelectedName>, ParseError>
+fn selected_names(alloc: Global, tokens: &mut Cursor) -> Result<NonEmpty<SelectedName>, ParseError>
     ensures { Reads (spec.selected_names (view tokens.old)) result (view tokens.new) }
 {
     let first = selected(alloc, tokens);
@@ -77,7 +77,7 @@ fn selected_names(alloc: Global, tokens: &mut Cursor) -> Result<Several<Selected
 }
 
 /// Reads the names of a library clause, and the semicolon after them.
-fn library_names(alloc: Global, tokens: &mut Cursor) -> Result<Several<Name>, ParseError>
+fn library_names(alloc: Global, tokens: &mut Cursor) -> Result<NonEmpty<Name>, ParseError>
     ensures { Reads (and_then (names (view tokens.old)) (λ found i. and_then (expect k.Semicolon i) (λ _. pure found))) result (view tokens.new) }
 {
     let names = names(alloc, tokens)?;
@@ -85,7 +85,7 @@ fn library_names(alloc: Global, tokens: &mut Cursor) -> Result<Several<Name>, Pa
 }
 
 /// Reads the names of a use clause, and the semicolon after them.
-fn used_names(alloc: Global, tokens: &mut Cursor) -> Result<Several<SelectedName>, ParseError>
+fn used_names(alloc: Global, tokens: &mut Cursor) -> Result<NonEmpty<SelectedName>, ParseError>
     ensures { Reads (and_then (spec.selected_names (view tokens.old)) (λ found i. and_then (expect k.Semicolon i) (λ _. pure found))) result (view tokens.new) }
 {
     let names = selected_names(alloc, tokens)?;
@@ -248,7 +248,7 @@ fn unit(alloc: Global, tokens: &mut Cursor) -> Result<DesignUnit, ParseError>
 
 /// `unit {unit}`, up to the end of the text.
 #[tactic(auto, using(crate::proofs::UnitParts::units_in_parts))]
-fn units_of(alloc: Global, tokens: &mut Cursor) -> Result<Several<DesignUnit>, ParseError>
+fn units_of(alloc: Global, tokens: &mut Cursor) -> Result<NonEmpty<DesignUnit>, ParseError>
     ensures { Reads (spec.units_of (view tokens.old)) result (view tokens.new) }
 {
     let first = unit(alloc, tokens);

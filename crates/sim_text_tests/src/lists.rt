@@ -1,11 +1,11 @@
 //! Lists that are read one item at a time.
 
-use sim_text_tree::list::{Several, fitted, one};
+use sim_text_tree::list::{NonEmpty, fitted, one};
 use std::test::Fail;
 
 #[test]
 fn lists_of_one_item_or_more_keep_their_order(rt: HostRuntime) -> Result<(), Fail> {
-    let mut several = Several::new(rt.alloc(), 3u8)?;
+    let mut several = NonEmpty::new(rt.alloc(), 3u8)?;
     for item in [1u8, 2, 1, 5] {
         several.push(item)?;
     }

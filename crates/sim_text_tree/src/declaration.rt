@@ -1,6 +1,6 @@
 //! Declarations (IEEE 1076-2008, 6).
 
-use crate::list::Several;
+use crate::list::NonEmpty;
 use crate::name::Name;
 use sim_logic::Logic;
 use sqlite_items::Items;
@@ -25,7 +25,7 @@ pub enum Mode {
 pub struct PortDeclaration {
     /// Whether `signal` is written.
     pub signal: bool,
-    pub names: Several<Name>,
+    pub names: NonEmpty<Name>,
     /// The mode, if one is written.
     pub mode: Option<Mode>,
     pub mark: Name,
@@ -35,7 +35,7 @@ pub struct PortDeclaration {
 /// Signals (6.4.2.3) or variables (6.4.2.4) of one type mark.
 #[derive(Drop)]
 pub struct ObjectDeclaration {
-    pub names: Several<Name>,
+    pub names: NonEmpty<Name>,
     pub mark: Name,
     pub initial: Option<Initial>,
 }

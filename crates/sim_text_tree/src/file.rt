@@ -1,6 +1,6 @@
 //! Design files (IEEE 1076-2008, 13.1).
 
-use crate::list::Several;
+use crate::list::NonEmpty;
 use crate::unit::DesignUnit;
 use std::marker::Model;
 
@@ -8,7 +8,7 @@ use std::marker::Model;
 /// time is larger than the largest, at most 64 parentheses of an expression and 64 ifs of a process
 /// are open, and everything that the grammar requires is present.
 pub struct DesignFile {
-    units: Several<DesignUnit>,
+    units: NonEmpty<DesignUnit>,
 }
 
 /// Written by hand so that crates which drop a file need no proof about its contents.
@@ -44,7 +44,7 @@ impl DesignFile {
     ghost use Rattle.sim_text_tree.specs.Grammar.{AreUnits};
 
     /// The file of these units, which some list of tokens spells within the limits.
-    pub fn new(units: Several<DesignUnit>) -> DesignFile
+    pub fn new(units: NonEmpty<DesignUnit>) -> DesignFile
         requires { (tokens : List Token) × AreUnits units tokens }
         ensures { result ≡ record { units = units } }
     {

@@ -8,11 +8,11 @@ use std::marker::Model;
 
 /// A list of at least one item.
 #[derive(Drop)]
-pub struct Several<T> {
+pub struct NonEmpty<T> {
     items: Vec<T>,
 }
 
-impl<T> Model for Several<T> {
+impl<T> Model for NonEmpty<T> {
     ghost use Rattle.std.specs.Prelude.{List, ◌≢◌, []};
     ghost use Rattle.std.specs.Coded.{coded_list};
 
@@ -25,7 +25,7 @@ impl<T> Model for Several<T> {
     ghost invariant = { λ s. s.items.items ≢ [] };
 }
 
-impl<T> Several<T> {
+impl<T> NonEmpty<T> {
     ghost use Rattle.std.specs.Prelude.{◌≡◌, ◌≢◌, []};
 
     /// The items.
@@ -37,15 +37,15 @@ impl<T> Several<T> {
     }
 }
 
-impl<T: Drop> Several<T> {
+impl<T: Drop> NonEmpty<T> {
     ghost use Rattle.std.specs.Prelude.{◌≡◌, ◌∷◌, [], ◌++◌, IfOk, OnOk, OnErr};
 
     /// A list of one item, without spare capacity: most lists in a text have one item.
-    pub fn new(alloc: Global, first: T) -> Result<Several<T>, AllocError>
+    pub fn new(alloc: Global, first: T) -> Result<NonEmpty<T>, AllocError>
         ensures { IfOk result (λ s. s ≡ first ∷ []) }
     {
         let items = one(alloc, first)?;
-        Ok(Several { items })
+        Ok(NonEmpty { items })
     }
 
     /// Appends an item.
@@ -58,7 +58,7 @@ impl<T: Drop> Several<T> {
     }
 
     /// The same list without spare capacity.
-    pub fn fitted(self) -> Several<T>
+    pub fn fitted(self) -> NonEmpty<T>
         ensures { result ≡ self }
     {
         let mut fitted = self;

@@ -1,7 +1,7 @@
 //! Concurrent statements (IEEE 1076-2008, 11) and design units (3 and 13).
 
 use crate::declaration::{Declaration, ObjectDeclaration, PortDeclaration};
-use crate::list::Several;
+use crate::list::NonEmpty;
 use crate::name::Name;
 use crate::sequential::Sequential;
 use crate::waveform::ConcurrentSignalAssignment;
@@ -12,7 +12,7 @@ use sqlite_items::Items;
 #[derive(Drop)]
 pub enum Sensitivity {
     All,
-    Names(Several<Name>),
+    Names(NonEmpty<Name>),
 }
 
 /// A process statement (11.3).
@@ -93,8 +93,8 @@ pub struct SelectedName {
 /// A context item (13.4).
 #[derive(Drop)]
 pub enum ContextItem {
-    Library(Several<Name>),
-    Use(Several<SelectedName>),
+    Library(NonEmpty<Name>),
+    Use(NonEmpty<SelectedName>),
 }
 
 /// An entity declaration (3.2).

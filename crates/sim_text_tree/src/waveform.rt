@@ -1,7 +1,7 @@
 //! Waveforms and delays (IEEE 1076-2008, 10.5).
 
 use crate::expression::Expression;
-use crate::list::Several;
+use crate::list::NonEmpty;
 use crate::name::Name;
 use crate::time::TimeLiteral;
 use sqlite_items::Items;
@@ -14,7 +14,7 @@ pub struct Element {
 }
 
 /// A waveform: at least one element (10.5.2.1).
-pub type Waveform = Several<Element>;
+pub type Waveform = NonEmpty<Element>;
 
 /// A waveform and the condition after its `when` (10.5.3).
 #[derive(Drop)]

@@ -68,14 +68,14 @@ impl Run {
 
 /// The old transactions that an edit keeps: those before `front`, and from `back` up to `end`.
 #[derive(Clone, Copy)]
-pub(crate) struct Kept {
+pub(crate) struct KeptTransactions {
     pub(crate) front: usize,
     pub(crate) back: usize,
     pub(crate) end: usize,
     ghost order: { (front ≤ back) × (back ≤ end) },
 }
 
-impl Kept {
+impl KeptTransactions {
     /// The number of transactions that are kept.
     pub(crate) fn len(self) -> usize
         ensures { result ≡ self.front + (self.end - self.back) }
@@ -84,13 +84,13 @@ impl Kept {
     }
 
     /// The same for a list with `count` more transactions in front, all of which are kept.
-    pub(crate) fn beyond(self, count: usize) -> Kept
+    pub(crate) fn beyond(self, count: usize) -> KeptTransactions
         requires { count + self.end ≤ usize.MAX }
         ensures front { result.front ≡ count + self.front }
         ensures back { result.back ≡ count + self.back }
         ensures end { result.end ≡ count + self.end }
     {
-        Kept {
+        KeptTransactions {
             front: count + self.front,
             back: count + self.back,
             end: count + self.end,
@@ -139,7 +139,12 @@ fn chain_start(pending: &[Transaction], run: Run, end: usize, limit: u64, value:
 }
 
 /// The old transactions that the delay keeps, where `first` is the first new one.
-pub(crate) fn kept_by(pending: &[Transaction], run: Run, delay: Delay, first: Transaction) -> Kept
+pub(crate) fn kept_by(
+    pending: &[Transaction],
+    run: Run,
+    delay: Delay,
+    first: Transaction,
+) -> KeptTransactions
     requires rises { RisesFrom 0 pending.now }
     requires run { IsRun pending.now run.start run.end run.value }
     requires within { IsWithin delay first.0 }
@@ -150,7 +155,7 @@ pub(crate) fn kept_by(pending: &[Transaction], run: Run, delay: Delay, first: Tr
 {
     let end = count_before(pending, pending.len(), first.0);
     let reject = match delay {
-        Delay::Transport => return Kept {
+        Delay::Transport => return KeptTransactions {
             front: end,
             back: end,
             end,
@@ -160,7 +165,7 @@ pub(crate) fn kept_by(pending: &[Transaction], run: Run, delay: Delay, first: Tr
     let limit = first.0 - reject;
     let back = chain_start(pending, run, end, limit, first.1);
     let front = count_before(pending, back, limit);
-    Kept { front, back, end }
+    KeptTransactions { front, back, end }
 }
 
 /// Removes the transactions from `front` up to `back`.
@@ -191,7 +196,12 @@ fn append(list: &mut Transactions, now: u64, elements: &[Transaction])
 }
 
 /// Removes what is not kept, and appends the elements to a list that has room for them.
-pub(crate) fn rewrite(list: &mut Transactions, kept: Kept, now: u64, elements: &[Transaction])
+pub(crate) fn rewrite(
+    list: &mut Transactions,
+    kept: KeptTransactions,
+    now: u64,
+    elements: &[Transaction],
+)
     requires within { kept.end ≤ vec_len list.old }
     requires room { kept.front + (kept.end - kept.back) + length elements.now
         ≤ vec_capacity list.old }

@@ -9,7 +9,7 @@ ghost use Rattle.sim_wave.specs.Pending.{transactions_of};
 ghost use Rattle.sim_logic.specs.Time.{largest_time};
 
 use crate::driver::{IN_PLACE, Transaction};
-use crate::edit::{Kept, Run, kept_by};
+use crate::edit::{KeptTransactions, Run, kept_by};
 use crate::stored::Stored;
 use sim_standard::Delay;
 use std::alloc::{AllocError, Global};
@@ -71,7 +71,12 @@ impl Pending {
     }
 
     /// The transactions that are kept, followed by the elements: at most two in all.
-    fn of_kept(few: &[Transaction], kept: Kept, now: u64, elements: &[Transaction]) -> Pending
+    fn of_kept(
+        few: &[Transaction],
+        kept: KeptTransactions,
+        now: u64,
+        elements: &[Transaction],
+    ) -> Pending
         requires some { 0 < length elements.now }
         requires within { kept.end ≤ length few.now }
         requires two { kept.front + (kept.end - kept.back) + length elements.now ≤ 2 }

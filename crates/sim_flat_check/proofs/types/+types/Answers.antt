@@ -1,6 +1,6 @@
 use Rattle.sim_flat_scope.specs.Scopes.{means}
 use Rattle.sim_flat_check.specs.Carried.{Carried}
-use Rattle.sim_flat_check.proofs.Judgements.{operand_joined, literal_carried, condition_carried, comparison_carried}
+use Rattle.sim_flat_check.proofs.TypeResults.{operand_joined, literal_carried, condition_carried, comparison_carried}
 use Rattle.sim_flat_check.proofs.types.+types.Goals as goal
 
 pub judge-returns-in-Condition : goal.judge-returns-in-Condition

@@ -1,9 +1,9 @@
 use Rattle.std.proofs.Common.{◌≡◌, ◌||◌, ◌∙◌, ap, length, arith, false}
 use Rattle.std.proofs.lemmas.List.{get_or-replicate, length-replicate}
 use Rattle.sim_containers.specs.Numbers.{is_in}
-use Rattle.sim_store_state.specs.Sensitive.{is_told}
+use Rattle.sim_store_state.specs.Sensitive.{is_resumed_by}
 use Rattle.sim_store_state.proofs.Sensitivity.{or_false, sensitive-event}
-use Rattle.sim_store_state.proofs.Skips.{told-changes}
+use Rattle.sim_store_state.proofs.Skips.{resumed-by-changes}
 use Rattle.sim_store_state.proofs.resumption.find_resumed.Goals as goal
 
 pub returns : goal.returns
@@ -14,7 +14,7 @@ returns c =
       found = λ nets processes p changes long w lt.
           let none : is_in c.clear.new.self p ≡ false =
           ap (λ d. is_in d p) c.clear.ensures ∙ get_or-replicate (length c.args.resumed.now) p false false lt in
-          c.resume_sensitive.ensures.members p (omega (arith, lt, same)) ∙ (ap (λ b. is_told c.args.sensitive.now c.args.changes.now p || b) none
-          ∙ (or_false (is_told c.args.sensitive.now c.args.changes.now p) ∙ (ap (λ cs. is_told c.args.sensitive.now cs p) changes
-          ∙ (told-changes nets c.args.sensitive.now 0 p (omega (arith, long)) ∙ sensitive-event nets c.args.sensitive.now processes p long w))));
+          c.resume_sensitive.ensures.members p (omega (arith, lt, same)) ∙ (ap (λ b. is_resumed_by c.args.sensitive.now c.args.changes.now p || b) none
+          ∙ (or_false (is_resumed_by c.args.sensitive.now c.args.changes.now p) ∙ (ap (λ cs. is_resumed_by c.args.sensitive.now cs p) changes
+          ∙ (resumed-by-changes nets c.args.sensitive.now 0 p (omega (arith, long)) ∙ sensitive-event nets c.args.sensitive.now processes p long w))));
     }

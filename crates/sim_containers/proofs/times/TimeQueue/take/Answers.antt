@@ -16,12 +16,12 @@ invariant_of-self c =
     c.clear_each.ensures c.args.time (c.take_out.ensures.taken ∙ ap (those_at c.args.time) c.as_slice.ensures.value) in
     let now = c.self.inside.front_time in
     let later = c.self.inside.later_time in
-    let heap = heap_items c.settle.new.heap in
+    let heap = heap_items c.drop_stale.new.heap in
     subst (λ (times : List (Option ℕ)). IsQueue times c.next_time-self-inside.result later c.take_out.new.front c.take_out.new.laters heap) (sym all)
     (turned c.self.inside.times.items now later c.args.time c.next_time-self-inside.result c.take_out.new.front c.take_out.new.laters heap
     (c.take_out.ensures.front ∙ ap (λ (times : List (Option ℕ)). those_at now (cleared c.args.time times)) c.as_slice.ensures.value)
     (c.take_out.ensures.later ∙ ap (λ (times : List (Option ℕ)). those_later now later (cleared c.args.time times)) c.as_slice.ensures.value)
-    c.settle.ensures.order
-    (subst (λ (times : List (Option ℕ)). StandsBut now later times heap) (c.as_slice-2.ensures.value ∙ all) c.settle.ensures.stands)
-    (subst (λ (times : List (Option ℕ)). HasLiveTop times heap) (c.as_slice-2.ensures.value ∙ all) c.settle.ensures.live)
+    c.drop_stale.ensures.order
+    (subst (λ (times : List (Option ℕ)). StandsBut now later times heap) (c.as_slice-2.ensures.value ∙ all) c.drop_stale.ensures.stands)
+    (subst (λ (times : List (Option ℕ)). HasLiveTop times heap) (c.as_slice-2.ensures.value ∙ all) c.drop_stale.ensures.live)
     c.next_time-self-inside.ensures)

@@ -16,7 +16,7 @@ invariant_of-self c =
     let s = c.self.inside in
     let i = kept.state in
     let all = subst IsComplete (sym view) c.requires.complete in
-    let first = subst (λ (g : Simulation). g.phase ≡ phase.AtOnce) (sym view) c.requires.phase in
+    let first = subst (λ (g : Simulation). g.phase ≡ phase.NonPostponed) (sym view) c.requires.phase in
     let next = subst (λ (g : Simulation). ArePostponedNext g.design g.cycles (updated_last g)) (sym view) c.requires.next in
     subst (λ (w : Contents). IsOf s.design w) (sym c.begin_phase.ensures) (record {
       compiled = kept.compiled;

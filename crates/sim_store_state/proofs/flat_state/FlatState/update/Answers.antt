@@ -19,8 +19,8 @@ use Rattle.sim_store_state.proofs.flat_state.FlatState.update.Goals as goal
 pub invariant_of-self : goal.invariant_of-self
 invariant_of-self c = times-keep c.self.invariant c.bring_up_to_date.new.queue c.self.inside.stale c.bring_up_to_date.ensures.times
 
-pub settle-requires : goal.settle-requires
-settle-requires c = record {
+pub end_events-requires : goal.end_events-requires
+end_events-requires c = record {
   sized = ap length c.as_mut_slice.ensures.value ∙ (sym c.self.invariant.lists.nets ∙ sym (ap length c.as_slice.ensures.value));
   touched = rw (c.as_slice.ensures.value, c.as_mut_slice.ensures.value) c.self.invariant.touching;
 }
@@ -80,13 +80,13 @@ invariant_of-self-2 c =
     let next : next_time ds ≡ Some c.args.time = ap next_time (sym (drivers-by c.self.view_is c.self.invariant.lists)) ∙ c.requires.next in
     let values = written_back c.resolve_touched.new.values s.values.items s.values.len
     (omega (arith, c.resolve_touched.auto.values, ap length c.as_mut_slice-3.ensures.value, s.values.ok)) in
-    let values_before = written_back c.settle.new.values_before s.values_before.items s.values_before.len
-    (omega (arith, c.settle.auto.values_before, ap length c.as_mut_slice.ensures.value, s.values_before.ok)) in
+    let values_before = written_back c.end_events.new.values_before s.values_before.items s.values_before.len
+    (omega (arith, c.end_events.auto.values_before, ap length c.as_mut_slice.ensures.value, s.values_before.ok)) in
     let driving = written_back c.take_due-told.new.driving s.driving.items s.driving.len
     (omega (arith, c.take_due-told.auto.driving, ap length c.as_mut_slice-2.ensures.value, s.driving.ok)) in
     let held = update-keeps c.self.invariant c.args.time _ _ _ c.take_due-told.new.drivers c.bring_up_to_date.new.queue c.take.new.self c.take.new.taken
     c.take_due-told.new.touched c.take_due-told.new.tallies next c.in_ok-bring_up_to_date.ensures.ok
-    (values_before ∙ (c.settle.ensures ∙ c.as_slice.ensures.value)) c.take.ensures.taken c.take.ensures.queue c.take_due-told.ensures.drivers
+    (values_before ∙ (c.end_events.ensures ∙ c.as_slice.ensures.value)) c.take.ensures.taken c.take.ensures.queue c.take_due-told.ensures.drivers
     c.take_due-told.ensures.reached
     (c.take_due-told.ensures.sized ∙ (ap length c.clear.ensures ∙ length-replicate (length s.touched) false)) (driving ∙ c.take_due-told.ensures.driving)
     (values ∙ (c.resolve_touched.ensures ∙ ap (λ (w : List Logic). map (row_from w) s.sources) c.as_slice-2.ensures.value))
@@ -102,8 +102,8 @@ returns c =
     let i = c.self.invariant in
     let values = written_back c.resolve_touched.new.values s.values.items s.values.len
     (omega (arith, c.resolve_touched.auto.values, ap length c.as_mut_slice-3.ensures.value, s.values.ok)) in
-    let values_before = written_back c.settle.new.values_before s.values_before.items s.values_before.len
-    (omega (arith, c.settle.auto.values_before, ap length c.as_mut_slice.ensures.value, s.values_before.ok)) in
+    let values_before = written_back c.end_events.new.values_before s.values_before.items s.values_before.len
+    (omega (arith, c.end_events.auto.values_before, ap length c.as_mut_slice.ensures.value, s.values_before.ok)) in
     let driving : c.as_slice-2.result.now ≡ driver_values (joined c.take_due-told.new.drivers) =
     c.as_slice-2.ensures.value ∙ (written_back c.take_due-told.new.driving s.driving.items s.driving.len
     (omega (arith, c.take_due-told.auto.driving, ap length c.as_mut_slice-2.ensures.value, s.driving.ok)) ∙ c.take_due-told.ensures.driving) in
@@ -112,6 +112,6 @@ returns c =
     record {
       ok = λ design state is. held-updated c.self.view_is i.lists c.args.time _ _ c.take_due-told.new.drivers (joined c.take_due-told.new.drivers)
           (sym (ap length i.resolving ∙ length-map s.sources (row_value (joined s.drivers)))) c.take_due-told.ensures.drivers refl
-          (values ∙ (c.resolve_touched.ensures ∙ nets)) (values_before ∙ (c.settle.ensures ∙ c.as_slice.ensures.value)) design state is;
+          (values ∙ (c.resolve_touched.ensures ∙ nets)) (values_before ∙ (c.end_events.ensures ∙ c.as_slice.ensures.value)) design state is;
       err = tt;
     }

@@ -1,7 +1,7 @@
 use Rattle.std.proofs.Common.{heap_items, heap_len}
 use Rattle.std.specs.BinaryHeap.{IsHeap}
 use Rattle.sim_containers.specs.Entries.{entry_cmp, StandsBut}
-use Rattle.sim_containers.proofs.entries.settle.Given as goal
+use Rattle.sim_containers.proofs.entries.drop_stale.Given as goal
 
 abbrev pub invariant-loop-heap : goal.invariant-loop-heap
 invariant-loop-heap l = record {

@@ -1,7 +1,7 @@
 use Rattle.std.proofs.Common.{heap_items, ◌≡◌, false, subst, sym}
 use Rattle.sim_containers.specs.Entries.{Entry, is_live}
 use Rattle.sim_containers.proofs.Heaps.{stands_without}
-use Rattle.sim_containers.proofs.entries.settle.Goals as goal
+use Rattle.sim_containers.proofs.entries.drop_stale.Goals as goal
 
 pub loop-heap-preserved : goal.loop-heap-preserved
 loop-heap-preserved c =

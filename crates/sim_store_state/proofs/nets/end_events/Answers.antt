@@ -3,7 +3,7 @@ use Rattle.std.proofs.lemmas.List.{length-set}
 use Rattle.sim_store_state.specs.Changes.{value_at}
 use Rattle.sim_store_state.proofs.Walks.{member_within, walk_start, walk_done}
 use Rattle.sim_store_state.proofs.Values.{same-everywhere, walk-each}
-use Rattle.sim_store_state.proofs.nets.settle.Goals as goal
+use Rattle.sim_store_state.proofs.nets.end_events.Goals as goal
 
 pub loop-net-init : goal.loop-net-init
 loop-net-init c = record {

@@ -1,7 +1,7 @@
 use Rattle.std.proofs.Common.{ℕ, ◌≡◌, ◌≤◌, ◌-◌, length}
 use Rattle.sim_store_state.specs.Changes.{value_at}
 use Rattle.sim_store_state.proofs.Walks.{Walked}
-use Rattle.sim_store_state.proofs.nets.settle.Given as goal
+use Rattle.sim_store_state.proofs.nets.end_events.Given as goal
 
 abbrev pub invariant-loop-net : goal.invariant-loop-net
 invariant-loop-net l = record {
