@@ -74,20 +74,20 @@ and-both true true e = (refl, refl)
 and-both true false e = absurd cc
 and-both false b e = absurd cc
 
-pub told-more : {told : Bool} {due : List Bool} {from : ℕ} {before times : List (Option ℕ)} {now : List DriverState} (k : ℕ) (is_resumed_by told' : Bool)
+pub told-more : {told : Bool} {due : List Bool} {from : ℕ} {before times : List (Option ℕ)} {now : List DriverState} (k : ℕ) (is_known told' : Bool)
     (times' : List (Option ℕ)) (now' : List DriverState) (new : DriverState) → IsTold told due from before times now → IsNext (is_in due) from k
-    → told' ≡ (is_resumed_by && told) → now' ≡ set now k new → length times' ≡ length times → (is_resumed_by ≡ true → time_of times' k ≡ time_at now' k)
+    → told' ≡ (is_known && told) → now' ≡ set now k new → length times' ≡ length times → (is_known ≡ true → time_of times' k ≡ time_at now' k)
     → ((d : ℕ) → d ≢ k → time_of times' d ≡ time_of times d) → IsTold told' due (k + 1) before times' now'
-told-more {told} {due} {from} {before} {times} {now} k is_resumed_by told' times' now' new i next et en l here untold = record {
+told-more {told} {due} {from} {before} {times} {now} k is_known told' times' now' new i next et en l here untold = record {
   sized = l ∙ i.sized;
-  current = λ t d lt e. at (and-both is_resumed_by told (sym et ∙ t)) d lt e (eqb d k) refl;
+  current = λ t d lt e. at (and-both is_known told (sym et ∙ t)) d lt e (eqb d k) refl;
   others = λ d e. let apart : d ≢ k = λ q. not_both (is_in due d) e (ap (is_in due) q ∙ next.passes) in untold d apart ∙ i.others d e;
 }
   where
     passed : (d : ℕ) → d < k → is_in due d ≡ true → d < from
     passed d lt e = elim (dec_lt d from) [ yes h ↦ h | no h ↦ absurd (not_both (is_in due d) (next.first d (omega (arith, h)) lt) e) ]
 
-    at : (is_resumed_by ≡ true) × (told ≡ true) → (d : ℕ) → d < k + 1 → is_in due d ≡ true → (b : Bool) → eqb d k ≡ b → time_of times' d ≡ time_at now' d
+    at : (is_known ≡ true) × (told ≡ true) → (d : ℕ) → d < k + 1 → is_in due d ≡ true → (b : Bool) → eqb d k ≡ b → time_of times' d ≡ time_at now' d
     at both d lt e true q =
         let same : d ≡ k = grind (arith, nat_tests) in
         ap (time_of times') same ∙ (here both.0 ∙ ap (time_at now') (sym same))

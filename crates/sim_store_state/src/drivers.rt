@@ -219,7 +219,7 @@ fn note_value(
 }
 
 /// Puts the time of a driver into the queue. Returns whether there was memory for it.
-fn is_resumed_by(queue: &mut TimeQueue, number: usize, time: Option<u64>) -> bool
+fn is_queued(queue: &mut TimeQueue, number: usize, time: Option<u64>) -> bool
     requires { number < length queue.old }
     ensures sized { length queue.new ≡ length queue.old }
     ensures here { result ≡ true → time_of queue.new number ≡ time }
@@ -270,7 +270,7 @@ fn take_one(
 {
     let (value, next) = take_driver(drivers, number, time);
     note_value(driving, number, value, nets, touched, tallies);
-    is_resumed_by(queue, number, next)
+    is_queued(queue, number, next)
 }
 
 /// The due drivers take their transactions of a time (14.7.5.3 c), and the nets of each whose value

@@ -23,5 +23,5 @@ returns-clause-told c is =
     let n = c.args.number in
     let e = c.take_driver-value.ensures in
     let d = taken c.args.time (driver_at old n) in
-    c.is_resumed_by.ensures.here is ∙ (e.next ∙ ap (λ (w : DriverState). next_time (w ∷ []))
+    c.is_queued.ensures.here is ∙ (e.next ∙ ap (λ (w : DriverState). next_time (w ∷ []))
     (sym (ap (λ (ws : List DriverState). driver_at ws n) e.drivers ∙ get_or-set_same old n d no_driver c.requires.at)))
