@@ -135,6 +135,16 @@ impl TimeQueue {
         Ok(())
     }
 
+    /// A cycle begins at a time that no driver has. To give drivers this time takes no memory from now
+    /// on, if none has the time of the cycle before.
+    pub fn begin(&mut self, time: u64)
+        requires { cleared time self.old ≡ self.old }
+        ensures { self.new ≡ self.old }
+    {
+        let now = self.front_time;
+        self.front_time = next_time(&self.front, now, time);
+    }
+
     /// The least time.
     pub fn least(&self) -> Option<u64>
         ensures { result ≡ earliest self.now }

@@ -1,0 +1,4 @@
+pub mod Logs
+pub mod Selections
+pub mod Steps
+pub mod Times
