@@ -58,7 +58,8 @@ rest_same : (owner : ℕ → ℕ) (who : ℕ) (c : Change) (ws cs : List Change)
 unfolding tail_of
 rest_same owner who c ws cs e = go (eqb (owner c.0) who) e
   where
-    go : (b : Bool) → (if b then c ∷ changes_of owner who ws else changes_of owner who ws) ≡ (if b then c ∷ changes_of owner who cs else changes_of owner who cs)
+    go : (b : Bool) → (if b then c ∷ changes_of owner who ws else changes_of owner who ws)
+        ≡ (if b then c ∷ changes_of owner who cs else changes_of owner who cs)
         → changes_of owner who ws ≡ changes_of owner who cs
     go true f = ap tail_of f
     go false f = f

@@ -1,5 +1,6 @@
 -- What a selection has by itself.
-use Rattle.std.proofs.Common.{ℕ, suc, ◌+◌, ◌<◌, ◌≡◌, ◌||◌, eqb, Bool, true, false, List, [], ◌∷◌, ◌++◌, map, take, drop, length, refl, sym, ap, ◌∙◌, subst, arith, eqb-true}
+use Rattle.std.proofs.Common.{ℕ, suc, ◌+◌, ◌<◌, ◌≡◌, ◌||◌, eqb, Bool, true, false, List, [], ◌∷◌, ◌++◌, map, take, drop, length}
+use Rattle.std.proofs.Common.{refl, sym, ap, ◌∙◌, subst, arith, eqb-true}
 use Rattle.std.proofs.Common.{Some, if◌then◌else◌}
 use Rattle.std.proofs.Math.ListN.{get_or-map}
 use Rattle.std.proofs.Math.Seq.{drop-cons}
@@ -18,7 +19,8 @@ use Rattle.sim_store_shards.proofs.Times.{delta_by_one, pending_append}
 further : (k : ℕ) (w : DriverState) (ws : List DriverState) → driver_at (w ∷ ws) (k + 1) ≡ driver_at ws k
 further k w ws = let next : k + 1 ≡ suc k = omega arith in rw next refl
 
-picked_at : (ds : List DriverState) (numbers : List ℕ) (d : ℕ) → is_among numbers d ≡ true → driver_at (picked_drivers numbers ds) (place_in numbers d) ≡ driver_at ds d
+picked_at : (ds : List DriverState) (numbers : List ℕ) (d : ℕ) → is_among numbers d ≡ true
+    → driver_at (picked_drivers numbers ds) (place_in numbers d) ≡ driver_at ds d
 unfolding place_in
 picked_at ds [] d h = absurd cc
 picked_at ds (n ∷ ns) d h = go (eqb n d) refl h (picked_at ds ns d)
@@ -43,10 +45,12 @@ pub selected_value : (ds : List DriverState) (numbers : List ℕ) (ss : List Sou
     → resolved (map (source_value (picked_drivers numbers ds)) (map (placed_in numbers) ss)) ≡ resolved (map (source_value ds) ss)
 selected_value ds numbers ss own = ap resolved (same_sources ds numbers ss own)
 
-pub taken_by_selection : (time : ℕ) (numbers : List ℕ) (owned : List Owned) → map (own_taken time) (picked numbers owned) ≡ picked numbers (map (own_taken time) owned)
+pub taken_by_selection : (time : ℕ) (numbers : List ℕ) (owned : List Owned)
+    → map (own_taken time) (picked numbers owned) ≡ picked numbers (map (own_taken time) owned)
 taken_by_selection time [] owned = refl
 taken_by_selection time (n ∷ ns) owned =
-    let one : owned_at (map (own_taken time) owned) n ≡ own_taken time (owned_at owned n) = get_or-map (own_taken time) owned n (record { drivers = []; variables = [] }) in
+    let one : owned_at (map (own_taken time) owned) n ≡ own_taken time (owned_at owned n) =
+    get_or-map (own_taken time) owned n (record { drivers = []; variables = [] }) in
     rw (one, sym (taken_by_selection time ns owned)) refl
 
 -- ---- times
