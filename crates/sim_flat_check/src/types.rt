@@ -15,7 +15,7 @@ use sim_text_tree::expression::{Expression, Operand};
 use sim_text_tree::name::Name;
 
 /// The result of analyzing an expression.
-#[derive(Clone, Copy, PartialEq, Eq)]
+#[derive(Clone, Copy)]
 pub struct TypeResult {
     /// Its type, if it has one; an expression with a fault in it has none.
     pub type_: Option<Type>,

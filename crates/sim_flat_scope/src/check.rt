@@ -1,6 +1,6 @@
 //! The faults of declarations.
 
-ghost use Rattle.std.specs.Prelude.{◌≡◌, OnOk};
+ghost use Rattle.std.specs.Prelude.{◌≡◌, [], OnOk};
 ghost use Rattle.sim_flat_scope.specs.Faults.{earliest};
 ghost use Rattle.sim_flat_scope.specs.Scopes.{means, with_first};
 ghost use Rattle.sim_flat_scope.specs.declared.scope.Meaning.TheVariants.{Label};
@@ -82,6 +82,18 @@ pub fn check_names<'a>(
     check_each(known, names.as_slice(), first)
 }
 
+/// Records the faults of names declared in a region of their own.
+fn check_own_names(
+    alloc: Global,
+    names: &Names<'_>,
+    first: &mut Option<Fault>,
+) -> Result<(), AllocError>
+    ensures { OnOk result (first.new ≡ earliest first.old (spec.names_faults [] names.now)) }
+{
+    let mut known = Scope::new(alloc);
+    check_each(&mut known, names.as_slice(), first)
+}
+
 /// Records the faults of the type marks and initial values of ports.
 #[tactic(auto, unfolding(crate::specs::DeclarationFaults::port_types, crate::specs::Faults::earliest))]
 fn check_port_types(
@@ -125,8 +137,7 @@ pub fn check_ports(
     ensures { OnOk result (first.new ≡ earliest first.old (spec.ports_faults inner.now outer.now ports.now)) }
 {
     let names = Names::of_ports(alloc, ports)?;
-    let mut known = Scope::new(alloc);
-    check_names(&mut known, &names, first)?;
+    check_own_names(alloc, &names, first)?;
     check_port_types(inner, outer, ports, first);
     Ok(())
 }
@@ -144,8 +155,7 @@ pub fn check_process(
     ensures { OnOk result (first.new ≡ earliest first.old (spec.process_faults inner.now outer.now process.now)) }
 {
     let names = Names::of_process(alloc, process)?;
-    let mut known = Scope::new(alloc);
-    check_names(&mut known, &names, first)?;
+    check_own_names(alloc, &names, first)?;
     check_variable_types(inner, outer, process.variables.as_slice(), first);
     Ok(())
 }

@@ -4,7 +4,7 @@ ghost use Rattle.std.specs.Prelude.{◌≡◌};
 ghost use Rattle.sim_flat_scope.specs.Faults.{number_of, sooner};
 
 /// The kind of a fault. If two faults are at one place, the kind listed first is reported.
-#[derive(Clone, Copy, PartialEq, Eq)]
+#[derive(Clone, Copy)]
 pub enum Kind {
     /// A name is declared twice.
     Duplicate,
@@ -47,7 +47,7 @@ pub enum Kind {
 }
 
 /// A fault, and the offset of the first byte of the token at fault.
-#[derive(Clone, Copy, PartialEq, Eq)]
+#[derive(Clone, Copy)]
 pub struct Fault {
     pub kind: Kind,
     pub at: usize,

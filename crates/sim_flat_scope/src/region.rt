@@ -2,7 +2,7 @@
 
 ghost use Rattle.std.specs.Prelude.{◌≡◌, ◌+◌, [], length, OnOk, IfOk};
 ghost use Rattle.sim_flat_scope.specs.Scopes.{declaring, means};
-ghost use Rattle.sim_flat_scope.specs.DeclaredNames.{concurrent_labels, named_by, process_names, statement_labels};
+ghost use Rattle.sim_flat_scope.specs.DeclaredNames.{named_by, process_names};
 ghost use Rattle.sim_flat_scope.specs.Regions as spec;
 
 use crate::entity::EntityPorts;
@@ -11,7 +11,6 @@ use crate::port::mode_of;
 use crate::scope::{DeclarativeRegion, Declare, Meaning, Scope, Type, look_up};
 use sim_text_tree::declaration::{Declaration, Mode, ObjectDeclaration, PortDeclaration};
 use sim_text_tree::name::Name;
-use sim_text_tree::sequential::Sequential;
 use sim_text_tree::unit::{Concurrent, Process};
 use std::alloc::{AllocError, Global};
 
@@ -77,13 +76,6 @@ fn declare_each<'a, D: Declare<'a>>(region: &mut D, names: &[&'a Name]) -> Resul
         region.declare(name.text(), Meaning::Label)?;
     }
     Ok(())
-}
-
-/// Declares names as labels only.
-fn declare_labels<'a, D: Declare<'a>>(region: &mut D, names: &Names<'a>) -> Result<(), AllocError>
-    ensures { OnOk result (D.declared region.new ≡ spec.naming (D.declared region.old) names.now) }
-{
-    declare_each(region, names.as_slice())
 }
 
 /// Declares objects at consecutive positions from this one, and returns the position after them.
@@ -217,13 +209,20 @@ fn declare_declarations<'a>(
     Ok(())
 }
 
+/// A region with further names, as labels only.
+fn with_labels<'a, D: Declare<'a> + Drop>(region: D, names: &Names<'a>) -> Result<D, AllocError>
+    ensures { IfOk result (λ found. D.declared found ≡ spec.naming (D.declared region) names.now) }
+{
+    let mut region = region;
+    declare_each(&mut region, names.as_slice())?;
+    Ok(region)
+}
+
 /// A region in which names are labels only.
 pub fn labels<'a>(alloc: Global, names: &Names<'a>) -> Result<DeclarativeRegion<'a>, AllocError>
     ensures { IfOk result (λ part. part ≡ spec.naming [] names.now) }
 {
-    let mut part = DeclarativeRegion::new(alloc);
-    declare_labels(&mut part, names)?;
-    Ok(part)
+    with_labels(DeclarativeRegion::new(alloc), names)
 }
 
 /// A region in which the names of ports are labels only.
@@ -231,8 +230,7 @@ fn port_labels<'a>(alloc: Global, ports: &'a [PortDeclaration]) -> Result<Scope<
     ensures { IfOk result (λ s. s ≡ spec.port_labels ports.now) }
 {
     let names = Names::of_ports(alloc, ports)?;
-    let part = labels(alloc, &names)?;
-    Ok(Scope::of(part))
+    with_labels(Scope::new(alloc), &names)
 }
 
 /// Ports as a region of their own, the first at position 0. A mark is looked up in two regions.
@@ -273,9 +271,7 @@ fn architecture_labels<'a>(
     ensures { IfOk result (λ s. s ≡ spec.architecture_labels entity.now declarations.now statements.now) }
 {
     let names = Names::of_body(alloc, declarations, statements)?;
-    let mut scope = Scope::after(alloc, entity.labels());
-    declare_labels(&mut scope, &names)?;
-    Ok(scope)
+    with_labels(Scope::after(alloc, entity.labels()), &names)
 }
 
 /// Declares the signals and components of an architecture, whose region no other encloses; the
@@ -309,18 +305,6 @@ fn declared<'a>(
     Ok(scope)
 }
 
-/// Declares the labels of concurrent statements.
-fn declare_concurrents<'a>(
-    alloc: Global,
-    scope: &mut Scope<'a>,
-    statements: &'a [Concurrent],
-) -> Result<(), AllocError>
-    ensures { OnOk result (scope.new ≡ spec.naming scope.old (concurrent_labels statements.now)) }
-{
-    let labels = Names::of_concurrents(alloc, statements)?;
-    declare_labels(scope, &labels)
-}
-
 /// The region of an architecture: that of the ports of its entity, extended by its declarations and
 /// its labels.
 #[tactic(auto, unfolding(crate::specs::Regions::architecture_region))]
@@ -332,9 +316,9 @@ pub fn architecture<'a>(
 ) -> Result<Scope<'a>, AllocError>
     ensures { IfOk result (λ s. s ≡ spec.architecture_region entity.now declarations.now statements.now) }
 {
-    let mut scope = declared(alloc, entity, declarations, statements)?;
-    declare_concurrents(alloc, &mut scope, statements)?;
-    Ok(scope)
+    let names = Names::of_concurrents(alloc, statements)?;
+    let scope = declared(alloc, entity, declarations, statements)?;
+    with_labels(scope, &names)
 }
 
 /// A region in which the names that a process declares are labels only.
@@ -342,8 +326,7 @@ fn process_labels<'a>(alloc: Global, process: &'a Process) -> Result<Scope<'a>, 
     ensures { IfOk result (λ s. s ≡ spec.naming [] (process_names process.now)) }
 {
     let names = Names::of_process(alloc, process)?;
-    let part = labels(alloc, &names)?;
-    Ok(Scope::of(part))
+    with_labels(Scope::new(alloc), &names)
 }
 
 /// The region of a process without its labels.
@@ -361,18 +344,6 @@ fn process_variables<'a>(
     Ok(part)
 }
 
-/// Declares the labels of sequential statements, including those inside ifs.
-fn declare_statements<'a>(
-    alloc: Global,
-    part: &mut DeclarativeRegion<'a>,
-    statements: &'a [Sequential],
-) -> Result<(), AllocError>
-    ensures { OnOk result (part.new ≡ spec.naming part.old (statement_labels statements.now)) }
-{
-    let labels = Names::of_statements(alloc, statements)?;
-    declare_labels(part, &labels)
-}
-
 /// The region of a process, which that of its architecture encloses.
 #[tactic(auto, unfolding(crate::specs::Regions::process_region))]
 pub fn process<'a>(
@@ -382,7 +353,7 @@ pub fn process<'a>(
 ) -> Result<Scope<'a>, AllocError>
     ensures { IfOk result (λ s. s ≡ spec.process_region outer.now process.now) }
 {
-    let mut part = process_variables(alloc, outer, process)?;
-    declare_statements(alloc, &mut part, process.statements.as_slice())?;
-    Ok(Scope::of(part))
+    let names = Names::of_statements(alloc, process.statements.as_slice())?;
+    let part = process_variables(alloc, outer, process)?;
+    with_labels(Scope::of(part), &names)
 }

@@ -6,7 +6,7 @@ ghost use Rattle.sim_text_grammar.specs.declared.error.ParseError.TheVariants.{O
 use std::alloc::{AllocError, AllocFailed};
 
 /// A fault. The number is how many tokens remain, the token at fault included.
-#[derive(Clone, Copy, PartialEq, Eq)]
+#[derive(Clone, Copy)]
 pub enum ParseError {
     OutOfMemory,
     /// The token cannot follow the tokens before it in any file, or the tokens end too early.

@@ -44,7 +44,7 @@ fn argument(tokens: &mut Cursor) -> Result<Name, ParseError>
 }
 
 /// `id | id ' event | id ( id )`
-#[tactic(auto, using(crate::proofs::Parts::call_in_parts), unfolding(sim_text_grammar::specs::Expressions::named))]
+#[tactic(auto, unfolding(sim_text_grammar::specs::Expressions::named))]
 fn named(tokens: &mut Cursor) -> Result<Expression, ParseError>
     ensures { Reads (spec.named (view tokens.old)) result (view tokens.new) }
 {

@@ -1,3 +1,5 @@
+use Rattle.std.proofs.Common.{arith}
+use Rattle.std.proofs.lemmas.Grind.{common_steps}
 use Rattle.std.proofs.Common.{List, All, subst, sym}
 use Rattle.std.proofs.lemmas.List.Elements.{All-push}
 use Rattle.sim_flat_blocks.specs.declared.parts.Block.{Block}
@@ -5,6 +7,7 @@ use Rattle.sim_flat_blocks.specs.Blocks.{IsBlock}
 use Rattle.sim_flat_blocks.specs.Plans.{block_of, blocks_of}
 use Rattle.sim_flat_blocks.proofs.References.{one_more}
 use Rattle.sim_flat_blocks.proofs.plan.each_block.Goals as goal
+use Rattle.sim_flat_instances.specs.Libraries.{bodies_at}
 
 pub loop-each-preserved : goal.loop-each-preserved
 loop-each-preserved c = (
@@ -15,3 +18,7 @@ loop-each-preserved c = (
       (All-push (IsBlock (blocks_of c.args.library.now)) c.loop-each.found.items c.in_ok-block.field-0 c.loop-each.invariant.1
       c.in_ok-block.ensures.known),
 )
+
+pub returns-clause-value : goal.returns-clause-value
+unfolding bodies_at
+returns-clause-value c = grind (arith, common_steps)

@@ -14,3 +14,12 @@ ports-requires c = grind (arith, common_steps, component_in_parts)
 
 pub component_end-requires : goal.component_end-requires
 component_end-requires c = grind (arith, common_steps, component_in_parts)
+
+pub returns-in_err-name : goal.returns-in_err-name
+returns-in_err-name c = grind (arith, common_steps, component_in_parts)
+
+pub returns-in_err-ports : goal.returns-in_err-ports
+returns-in_err-ports c = grind (arith, common_steps, component_in_parts)
+
+pub returns : goal.returns
+returns c = grind (arith, common_steps, component_in_parts)

@@ -1,4 +1,5 @@
 use Rattle.std.proofs.Common.{◌<◌, arith}
+use Rattle.std.proofs.lemmas.Grind.{common_steps}
 use Rattle.sim_text_tokens.proofs.Turns.{fault_here, moves, new_token, turn_none, turn_some}
 use Rattle.sim_text_tokens.proofs.lexer.cut.Goals as goal
 
@@ -32,3 +33,9 @@ loop-text-preserved c =
 pub new-requires : goal.new-requires
 new-requires c = new_token _ _ _ _ _ c.loop-text.invariant c.in-len1-up.len_at_least _ _ _ _ c.in-Some.ensures.value c.split_at.ensures.front
     c.in_ok-kind.ensures c.in-Some-2.kind c.in-Some-2.text c.in-Some-2.is
+
+pub overflow_add-end : goal.overflow_add-end
+overflow_add-end c = grind (arith, common_steps)
+
+pub returns-clause-found : goal.returns-clause-found
+returns-clause-found c = grind (arith, common_steps)
