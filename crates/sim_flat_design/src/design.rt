@@ -13,7 +13,7 @@ use std::marker::Model;
 use std::sync::Arc;
 
 /// A flat source of a net: a driver, by number, or a constant.
-#[derive(Clone, Copy, PartialEq, Eq)]
+#[derive(Clone, Copy, Debug, PartialEq, Eq)]
 pub enum Source {
     Driver(usize),
     Constant(Logic),
@@ -140,7 +140,7 @@ fn same_processes(processes: &[Process], others: &[Process]) -> bool
 
 /// A driver: its process and its net, by number, and its initial value, which is the default value
 /// of the name that the process assigns (14.7.2).
-#[derive(Clone, Copy, PartialEq, Eq)]
+#[derive(Clone, Copy, Debug, PartialEq, Eq)]
 pub struct DriverOf {
     pub process: usize,
     pub net: usize,

@@ -3,7 +3,7 @@
 use sim_logic::Logic;
 
 /// The value of a variable, of type std_ulogic or boolean.
-#[derive(Clone, Copy, PartialEq, Eq)]
+#[derive(Clone, Copy, Debug, PartialEq, Eq)]
 pub enum Held {
     Bit(Logic),
     Truth(bool),

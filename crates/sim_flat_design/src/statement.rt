@@ -9,7 +9,7 @@ use sim_logic::Time;
 use sqlite_items::Items;
 
 /// A delay mechanism (10.5.2.1).
-#[derive(Clone, Copy, PartialEq, Eq)]
+#[derive(Clone, Copy, Debug, PartialEq, Eq)]
 pub enum Delay {
     Transport,
     /// Inertial delay, whose rejection limit is the time of the first element.

@@ -1,67 +1,36 @@
 //! Faults of a text.
 
 use std::alloc::{AllocError, AllocFailed};
-use std::error::Error;
-use std::fmt;
-use std::fmt::{Debug, Display};
+use thiserror::Error;
 
 /// A fault of a text. A place is the offset of a byte, from 0.
-#[derive(Clone, Copy, PartialEq, Eq)]
+#[derive(Clone, Copy, Debug, PartialEq, Eq, Error)]
 pub enum TextError {
     /// An allocation failed.
+    #[error("Memory")]
     Memory,
     /// The text has more than 1,048,576 bytes.
+    #[error("TooLong")]
     TooLong,
     /// No token begins with this byte.
+    #[error("BadByte at {at}")]
     BadByte { at: usize },
     /// The `/*` of a comment that is never closed.
+    #[error("OpenComment at {at}")]
     OpenComment { at: usize },
     /// An apostrophe that begins no character literal.
+    #[error("BadLiteral at {at}")]
     BadLiteral { at: usize },
     /// The number of a time literal above 2^62 - 1 fs.
+    #[error("TimeRange at {at}")]
     TimeRange { at: usize },
     /// A parenthesis or an `if` that is nested in 64 others.
+    #[error("TooDeep at {at}")]
     TooDeep { at: usize },
     /// A token that cannot follow the tokens before it in any file, or the end of the text.
+    #[error("Syntax at {at}")]
     Syntax { at: usize },
 }
-
-impl TextError {
-    /// Its name, and its place if it has one.
-    fn word(self) -> (&'static str, Option<usize>) {
-        match self {
-            TextError::Memory => ("Memory", None),
-            TextError::TooLong => ("TooLong", None),
-            TextError::BadByte { at } => ("BadByte", Some(at)),
-            TextError::OpenComment { at } => ("OpenComment", Some(at)),
-            TextError::BadLiteral { at } => ("BadLiteral", Some(at)),
-            TextError::TimeRange { at } => ("TimeRange", Some(at)),
-            TextError::TooDeep { at } => ("TooDeep", Some(at)),
-            TextError::Syntax { at } => ("Syntax", Some(at)),
-        }
-    }
-}
-
-// (written by hand: the proofs of derived ones take twice as long)
-impl Display for TextError {
-    fn fmt<W: fmt::Write>(&self, f: &mut fmt::Formatter<W>) -> fmt::Result {
-        match self.word() {
-            (word, None) => f.write_str(word),
-            (word, Some(at)) => write!(f, "{word} at {at}"),
-        }
-    }
-}
-
-impl Debug for TextError {
-    fn fmt<W: fmt::Write>(&self, f: &mut fmt::Formatter<W>) -> fmt::Result {
-        match self.word() {
-            (word, None) => f.write_str(word),
-            (word, Some(at)) => write!(f, "{word} {{ at: {at} }}"),
-        }
-    }
-}
-
-impl Error for TextError {}
 
 impl From<AllocError> for TextError {
     ghost use Rattle.std.specs.Prelude.{◌≡◌};
