@@ -34,79 +34,49 @@ Example:
   vsim --top uart --limit 1000000 < uart.vhd > uart.listing
   vsim_waves --map uart.map < uart.listing > gates.vcd";
 
-/// The options. Those that are not given are empty.
-pub(crate) struct Options {
-    pub(crate) top: String,
-    pub(crate) stimuli: String,
-    pub(crate) scope: String,
-    pub(crate) delays: String,
-    pub(crate) hold: String,
-    pub(crate) map: String,
+/// The values of the options. Those that are not given are empty.
+#[derive(Clone, Copy)]
+pub(crate) struct Options<'a> {
+    top: &'a str,
+    stimuli: &'a str,
+    scope: &'a str,
+    pub(crate) delays: &'a str,
+    pub(crate) hold: &'a str,
+    map: &'a str,
 }
 
-/// What the arguments ask for.
-pub(crate) enum Words {
-    Options(Options),
-    Version,
+/// What is to be told about arguments instead of a text: help, or a refusal, or that there is no
+/// memory for them.
+pub(crate) enum Notice {
     Help(String),
     Refused(String),
     Memory,
 }
 
 /// The value of an option; `None` if it is empty.
-fn given(word: &String) -> Option<&str> {
-    if word.is_empty() {
-        None
-    } else {
-        Some(word.as_str())
-    }
+fn given(value: &str) -> Option<&str> {
+    if value.is_empty() { None } else { Some(value) }
 }
 
-impl Drop for Options {
-    fn drop(self) {
-        let Options {
-            top,
-            stimuli,
-            scope,
-            delays,
-            hold,
-            map,
-        } = self;
-        drop((top, stimuli, scope, delays, hold, map));
-    }
-}
-
-impl Options {
-    /// No options.
-    fn none(alloc: Global) -> Options {
-        Options {
-            top: String::new(alloc),
-            stimuli: String::new(alloc),
-            scope: String::new(alloc),
-            delays: String::new(alloc),
-            hold: String::new(alloc),
-            map: String::new(alloc),
-        }
-    }
-
+impl<'a> Options<'a> {
     /// The module to simulate.
-    pub(crate) fn top(&self) -> Option<&str> {
-        given(&self.top)
+    pub(crate) fn top(&self) -> Option<&'a str> {
+        given(self.top)
     }
 
     /// The file of the stimuli.
-    pub(crate) fn stimuli(&self) -> Option<&str> {
-        given(&self.stimuli)
+    pub(crate) fn stimuli(&self) -> Option<&'a str> {
+        given(self.stimuli)
     }
 
     /// The scope of the stimuli.
-    pub(crate) fn scope(&self) -> Option<&str> {
-        given(&self.scope)
+    pub(crate) fn scope(&self) -> Option<&'a str> {
+        given(self.scope)
     }
 
     /// The file of the map.
-    pub(crate) fn map(&self) -> Option<&str> {
-        given(&self.map)
+    pub(crate) fn map(&self) -> Option<&'a str> {
+        given(self.map)
     }
 
     /// Whether delays or a hold time are given.
@@ -162,7 +132,7 @@ fn with_times<'a>(alloc: Global, command: Command<'a>) -> Result<Command<'a>, Al
 }
 
 /// The command line of the program, without its name.
-fn command_line<'a>(alloc: Global) -> Result<Command<'a>, AllocError> {
+pub(crate) fn command_line<'a>(alloc: Global) -> Result<Command<'a>, AllocError> {
     let command = Command::new(alloc, "vsim_netlist")
         .about(ABOUT)
         .after_help(MORE)
@@ -171,64 +141,35 @@ fn command_line<'a>(alloc: Global) -> Result<Command<'a>, AllocError> {
     with_times(alloc, command)?.arg(version(alloc))
 }
 
-/// Puts the value of an option into its place.
-fn put(place: &mut String, matches: &ArgMatches<'_>, name: &str) -> Result<(), AllocError> {
-    place.push_str(matches.get_str(name).unwrap_or(""))
-}
-
-/// Puts the values of the options about what to simulate.
-fn put_design(options: &mut Options, matches: &ArgMatches<'_>) -> Result<(), AllocError> {
-    put(&mut options.top, matches, "top")?;
-    put(&mut options.stimuli, matches, "stimuli")?;
-    put(&mut options.scope, matches, "scope")
-}
-
-/// Puts the values of the options about how to write it.
-fn put_times(options: &mut Options, matches: &ArgMatches<'_>) -> Result<(), AllocError> {
-    put(&mut options.delays, matches, "delays")?;
-    put(&mut options.hold, matches, "hold")?;
-    put(&mut options.map, matches, "map")
-}
-
-/// The options in the arguments.
-fn make_options(alloc: Global, matches: &ArgMatches<'_>) -> Result<Options, AllocError> {
-    let mut options = Options::none(alloc);
-    put_design(&mut options, matches)?;
-    put_times(&mut options, matches)?;
-    Ok(options)
-}
-
-/// The meaning of valid arguments.
-fn understood(alloc: Global, matches: &ArgMatches<'_>) -> Words {
-    if matches.get_flag("version") {
-        return Words::Version;
-    }
-    match make_options(alloc, matches) {
-        Ok(options) => Words::Options(options),
-        Err(_) => Words::Memory,
+/// The value of an option; empty if it is not given.
+fn value<'a>(matches: &'a ArgMatches<'_>, name: &str) -> &'a str {
+    match matches.get_str(name) {
+        Some(value) => value,
+        None => "",
     }
 }
 
-/// The answer to invalid arguments, or to a request for help.
-fn fault(alloc: Global, error: clap::Error) -> Words {
+/// The values of the options in valid arguments.
+pub(crate) fn make_options<'a>(matches: &'a ArgMatches<'_>) -> Options<'a> {
+    Options {
+        top: value(matches, "top"),
+        stimuli: value(matches, "stimuli"),
+        scope: value(matches, "scope"),
+        delays: value(matches, "delays"),
+        hold: value(matches, "hold"),
+        map: value(matches, "map"),
+    }
+}
+
+/// What is to be told about invalid arguments, or on a request for help.
+pub(crate) fn make_notice(alloc: Global, error: clap::Error) -> Notice {
     let kind = error.kind();
     let Ok(text) = error.to_string(alloc) else {
-        return Words::Memory;
+        return Notice::Memory;
     };
     match kind {
-        ErrorKind::DisplayHelp => Words::Help(text),
-        ErrorKind::OutOfMemory => Words::Memory,
-        _ => Words::Refused(text),
-    }
-}
-
-/// Reads the arguments after the program's name.
-pub(crate) fn read_words(alloc: Global, words: &[String]) -> Words {
-    let Ok(command) = command_line(alloc) else {
-        return Words::Memory;
-    };
-    match command.try_get_matches_from(words) {
-        Ok(matches) => understood(alloc, &matches),
-        Err(error) => fault(alloc, error),
+        ErrorKind::DisplayHelp => Notice::Help(text),
+        ErrorKind::OutOfMemory => Notice::Memory,
+        _ => Notice::Refused(text),
     }
 }

@@ -2,20 +2,27 @@
 
 use crate::command::Options;
 use crate::delay_list::{read_delays, read_hold};
+use crate::text::{Request, Written, write_text};
 use anyhow::{Context, Result};
 use std::alloc::{AllocError, Global};
 use vsim_netlist_cells::read_netlist;
-use vsim_netlist_design::Netlist;
-use vsim_netlist_stimuli::{Input, Stimuli, read_stimuli};
-use vsim_netlist_text::{Request, Written, write_text};
+use vsim_netlist_design::{Netlist, Port, Stimuli, push};
+use vsim_netlist_stimuli::{Input, read_stimuli};
+
+/// Adds an input.
+fn put_input(inputs: &mut Vec<Input>, port: &Port) -> Result<(), AllocError> {
+    let width = port.bits.len();
+    let name = port.name.clone()?;
+    push(inputs, Input { name, width })
+}
 
 /// The inputs of a netlist.
 fn inputs(alloc: Global, netlist: &Netlist) -> Result<Vec<Input>, AllocError> {
     let mut inputs = Vec::new(alloc);
-    for port in netlist.ports.iter().filter(|port| port.is_input) {
-        let width = port.bits.len();
-        let name = port.name.clone()?;
-        inputs.push(Input { name, width })?;
+    for port in netlist.ports.iter() {
+        if port.is_input {
+            put_input(&mut inputs, port)?;
+        }
     }
     Ok(inputs)
 }
@@ -23,7 +30,7 @@ fn inputs(alloc: Global, netlist: &Netlist) -> Result<Vec<Input>, AllocError> {
 /// The stimuli of a netlist, if there are any.
 fn stimuli(
     alloc: Global,
-    options: &Options,
+    options: &Options<'_>,
     netlist: &Netlist,
     text: Option<&str>,
 ) -> Result<Option<Stimuli>> {
@@ -39,28 +46,39 @@ fn stimuli(
 /// Makes the text of a netlist, with the text of its stimuli, if there are any.
 pub(crate) fn convert(
     alloc: Global,
-    options: &Options,
+    options: &Options<'_>,
     text: &str,
     of_stimuli: Option<&str>,
 ) -> Result<Written> {
     let netlist = read_netlist(alloc, text, options.top()).context("the netlist")?;
-    let stimuli = stimuli(alloc, options, &netlist, of_stimuli)?;
-    write_netlist(alloc, options, &netlist, stimuli.as_ref())
+    convert_netlist(alloc, options, &netlist, of_stimuli)
+}
+
+/// Makes the text of a netlist that has been read.
+fn convert_netlist(
+    alloc: Global,
+    options: &Options<'_>,
+    netlist: &Netlist,
+    of_stimuli: Option<&str>,
+) -> Result<Written> {
+    let stimuli = stimuli(alloc, options, netlist, of_stimuli)?;
+    write_netlist(alloc, options, netlist, stimuli.as_ref())
 }
 
 /// Writes a netlist and its stimuli, with delays.
 fn write_netlist(
     alloc: Global,
-    options: &Options,
+    options: &Options<'_>,
     netlist: &Netlist,
     stimuli: Option<&Stimuli>,
 ) -> Result<Written> {
-    let delays = read_delays(alloc, options.delays.as_str())?;
+    let delays = read_delays(alloc, options.delays)?;
+    let hold = read_hold(options.hold)?;
     let request = Request {
         netlist,
         stimuli,
         delays: delays.as_slice(),
-        hold: read_hold(options.hold.as_str())?,
+        hold,
     };
     write_text(alloc, &request)
 }

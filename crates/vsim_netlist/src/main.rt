@@ -6,14 +6,17 @@
 mod command;
 mod conversion;
 mod delay_list;
+mod map;
+mod text;
 
-use crate::command::{Options, Words, read_words};
+use crate::command::{Notice, Options, command_line, make_notice, make_options};
 use crate::conversion::convert;
+use crate::text::Written;
 use anyhow::{Context, Result};
+use clap::ArgMatches;
 use std::io::{self, BufWriter, Write, writer};
 use std::process::ExitCode;
 use std::{env, fs};
-use vsim_netlist_text::Written;
 
 /// The output of `--version`. In the copy that is built, the script `build` fills in this line.
 const VERSION: &str = "vsim_netlist 1.0.0, sources unknown, toolchain unknown
@@ -23,6 +26,9 @@ const VERSION: &str = "vsim_netlist 1.0.0, sources unknown, toolchain unknown
 const DERIVED: &str = "vsim_netlist: gates or registers make clocks. Without delays what they clock
 may see new data: give --delays dff=.. and --hold.
 ";
+
+/// The exit status if there is no memory for the words of the command line.
+const NO_MEMORY: u8 = 4;
 
 /// The text of a file.
 fn read_file(rt: &HostRuntime, path: &str) -> Result<String> {
@@ -45,7 +51,7 @@ fn write_text(rt: &HostRuntime, text: &str) -> Result<()> {
 }
 
 /// Writes the text and the map.
-fn write_all(rt: &HostRuntime, options: &Options, written: &Written) -> Result<()> {
+fn write_all(rt: &HostRuntime, options: &Options<'_>, written: &Written) -> Result<()> {
     write_map(rt, options.map(), written.map.as_str())?;
     if written.derived_clocks > 0 && !options.is_timed() {
         rt.eprint(DERIVED)?;
@@ -54,7 +60,7 @@ fn write_all(rt: &HostRuntime, options: &Options, written: &Written) -> Result<(
 }
 
 /// The text of the stimuli, if they are given.
-fn read_stimuli(rt: &HostRuntime, options: &Options) -> Result<Option<String>> {
+fn read_stimuli(rt: &HostRuntime, options: &Options<'_>) -> Result<Option<String>> {
     match options.stimuli() {
         Some(path) => Ok(Some(read_file(rt, path)?)),
         None => Ok(None),
@@ -62,7 +68,7 @@ fn read_stimuli(rt: &HostRuntime, options: &Options) -> Result<Option<String>> {
 }
 
 /// Makes the text of a netlist.
-fn answer_text(rt: &HostRuntime, options: &Options, netlist: &str) -> Result<()> {
+fn answer_text(rt: &HostRuntime, options: &Options<'_>, netlist: &str) -> Result<()> {
     let stimuli = read_stimuli(rt, options)?;
     let of_stimuli = match &stimuli {
         Some(text) => Some(text.as_str()),
@@ -73,7 +79,7 @@ fn answer_text(rt: &HostRuntime, options: &Options, netlist: &str) -> Result<()>
 }
 
 /// Makes the text of the netlist on standard input.
-fn answer_netlist(rt: &HostRuntime, options: &Options) -> Result<()> {
+fn answer_netlist(rt: &HostRuntime, options: &Options<'_>) -> Result<()> {
     let netlist = io::read_to_string(rt.alloc(), rt.reader()).context("standard input")?;
     answer_text(rt, options, netlist.as_str())
 }
@@ -90,32 +96,50 @@ fn refuse(rt: &HostRuntime, text: &str) -> Result<u8> {
     Ok(2)
 }
 
-/// Carries out a request and returns the exit status.
-fn answer_words(rt: &HostRuntime, words: Words) -> Result<u8> {
-    match words {
-        Words::Version => tell(rt, VERSION),
-        Words::Help(text) => tell(rt, text.as_str()),
-        Words::Refused(text) => refuse(rt, text.as_str()),
-        Words::Memory => Ok(4),
-        Words::Options(options) => {
-            answer_netlist(rt, &options)?;
-            Ok(0)
-        }
+/// Carries out valid arguments and returns the exit status.
+fn answer_matches(rt: &HostRuntime, matches: &ArgMatches<'_>) -> Result<u8> {
+    if matches.get_flag("version") {
+        return tell(rt, VERSION);
+    }
+    answer_netlist(rt, &make_options(matches))?;
+    Ok(0)
+}
+
+/// Answers invalid arguments, or a request for help, and returns the exit status.
+fn answer_notice(rt: &HostRuntime, notice: Notice) -> Result<u8> {
+    match notice {
+        Notice::Help(text) => tell(rt, text.as_str()),
+        Notice::Refused(text) => refuse(rt, text.as_str()),
+        Notice::Memory => Ok(NO_MEMORY),
+    }
+}
+
+/// Carries out the words after the program's name and returns the exit status.
+fn answer_words(rt: &HostRuntime, words: &[String]) -> Result<u8> {
+    let Ok(command) = command_line(rt.alloc()) else {
+        return Ok(NO_MEMORY);
+    };
+    match command.try_get_matches_from(words) {
+        Ok(matches) => answer_matches(rt, &matches),
+        Err(error) => answer_notice(rt, make_notice(rt.alloc(), error)),
     }
 }
 
 /// Carries out the arguments and returns the exit status.
 fn answer(rt: &HostRuntime) -> Result<u8> {
     let words: Vec<String> = env::args(rt)?.skip(1).collect(rt.alloc())?;
-    answer_words(rt, read_words(rt.alloc(), words.as_slice()))
+    answer_words(rt, words.as_slice())
 }
 
-fn main(rt: HostRuntime) -> Result<ExitCode> {
+/// Returns the exit status for a fault, which is reported if standard error can be written.
+fn fail(rt: &HostRuntime, fault: anyhow::Error) -> ExitCode {
+    let _reported = eprintln!(rt; "vsim_netlist: {fault:#}");
+    ExitCode::FAILURE
+}
+
+fn main(rt: HostRuntime) -> ExitCode {
     match answer(&rt) {
-        Ok(status) => Ok(ExitCode::from(status)),
-        Err(fault) => {
-            eprintln!(rt; "vsim_netlist: {fault:#}")?;
-            Ok(ExitCode::FAILURE)
-        }
+        Ok(status) => ExitCode::from(status),
+        Err(fault) => fail(&rt, fault),
     }
 }

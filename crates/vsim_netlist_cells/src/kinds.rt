@@ -1,11 +1,11 @@
 //! The cells of a module, by their types.
 
+use crate::document::{WrittenBit, WrittenCell};
 use crate::nets::Nets;
 use crate::registers::letters;
 use anyhow::{Context, Result, anyhow, bail};
 use std::alloc::Global;
-use vsim_netlist_design::{Bit, Cell, Control, Gate, GateCell, Level, Register, Style};
-use vsim_netlist_document::{WrittenBit, WrittenCell};
+use vsim_netlist_design::{Bit, Cell, Control, Gate, GateCell, Level, Register, Style, push};
 
 /// The maximum number of inputs of a look-up table.
 const MOST_INPUTS: usize = 6;
@@ -86,13 +86,22 @@ fn output(cell: &WrittenCell, nets: &mut Nets, name: &str) -> Result<usize> {
     }
 }
 
-/// The connections of a gate's inputs.
+/// The letter at an index, as a name.
+fn letter_at(names: &str, place: usize) -> &str {
+    names.get(place..place.saturating_add(1)).unwrap_or("A")
+}
+
+/// Adds the connection of an input.
+fn put_input(cell: &WrittenCell, nets: &mut Nets, bits: &mut Vec<Bit>, name: &str) -> Result<()> {
+    let bit = pin(cell, nets, name)?;
+    Ok(push(bits, bit)?)
+}
+
+/// The connections of a gate's inputs, each named by a letter.
 fn inputs(alloc: Global, cell: &WrittenCell, nets: &mut Nets, names: &str) -> Result<Vec<Bit>> {
     let mut bits = Vec::new(alloc);
-    for (start, letter) in names.char_indices() {
-        let end = start.saturating_add(letter.len_utf8());
-        let name = names.get(start..end).unwrap_or("A");
-        bits.push(pin(cell, nets, name)?)?;
+    for place in 0..names.len() {
+        put_input(cell, nets, &mut bits, letter_at(names, place))?;
     }
     Ok(bits)
 }
@@ -109,25 +118,39 @@ fn gate(alloc: Global, cell: &WrittenCell, nets: &mut Nets, gate: Gate) -> Resul
     })))
 }
 
+/// Whether a text has only the digits 0 and 1.
+fn is_binary(text: &[u8]) -> bool {
+    for digit in text {
+        if *digit != b'0' && *digit != b'1' {
+            return false;
+        }
+    }
+    true
+}
+
 /// Whether a table has one bit for each combination of this number of inputs.
 fn is_table(table: &str, inputs: usize) -> bool {
-    inputs <= MOST_INPUTS
-        && table.len() == (1usize << inputs)
-        && table.bytes().all(|bit| bit == b'0' || bit == b'1')
+    inputs <= MOST_INPUTS && table.len() == (1usize << inputs) && is_binary(table.as_bytes())
+}
+
+/// The table of a cell with this number of inputs.
+fn table(cell: &WrittenCell, inputs: usize) -> Result<&str> {
+    let table = cell
+        .parameters
+        .table
+        .as_str()
+        .context("it has no parameter LUT")?;
+    if !is_table(table, inputs) {
+        bail!("its LUT is no table of at most {MOST_INPUTS} inputs, of 0 and 1");
+    }
+    Ok(table)
 }
 
 /// Reads a look-up table.
 fn lookup(alloc: Global, cell: &WrittenCell, nets: &mut Nets) -> Result<Option<Cell>> {
     let output = output(cell, nets, "Y")?;
     let written = pins(cell, "A").context("its pin A is not connected")?;
-    let table = cell
-        .parameters
-        .table
-        .as_str()
-        .context("it has no parameter LUT")?;
-    if !is_table(table, written.len()) {
-        bail!("its LUT is no table of at most {MOST_INPUTS} inputs, of 0 and 1");
-    }
+    let table = table(cell, written.len())?;
     lookup_of(alloc, nets, written, table, output)
 }
 
@@ -182,6 +205,20 @@ fn connect(
     Ok(())
 }
 
+/// Connects the pins of a register, given their letters and those in its type.
+fn connect_all(
+    cell: &WrittenCell,
+    nets: &mut Nets,
+    register: &mut Register,
+    pins: &[u8],
+    given: &[u8],
+) -> Result<()> {
+    for (letter, given) in pins.iter().zip(given.iter()) {
+        connect(cell, nets, register, *letter, *given)?;
+    }
+    Ok(())
+}
+
 /// Connects the data input and the output of a register.
 fn connect_data(cell: &WrittenCell, nets: &mut Nets, register: &mut Register) -> Result<()> {
     if register.style == Style::Bare {
@@ -202,10 +239,9 @@ fn register(
     pins: &str,
     style: Style,
 ) -> Result<Option<Cell>> {
-    let mut register = Register::new(style, output(cell, nets, "Q")?);
-    for (letter, given) in pins.bytes().zip(given.bytes()) {
-        connect(cell, nets, &mut register, letter, given)?;
-    }
+    let output = output(cell, nets, "Q")?;
+    let mut register = Register::new(style, output);
+    connect_all(cell, nets, &mut register, pins.as_bytes(), given.as_bytes())?;
     connect_data(cell, nets, &mut register)?;
     Ok(Some(Cell::Register(register)))
 }

@@ -1,9 +1,11 @@
 //! The netlists that Yosys writes by `write_json`, read for a simulation of their gates.
 #![tactic(auto)]
 
+mod document;
 mod kinds;
 mod modules;
 mod nets;
+mod object;
 mod registers;
 
 pub use modules::read_netlist;

@@ -1,12 +1,12 @@
 //! The simulated module of a netlist.
 
+use crate::document::{Document, Members, Module, WrittenCell, WrittenName, WrittenPort};
 use crate::kinds::make_cell;
 use crate::nets::Nets;
 use anyhow::{Context, Result, anyhow, bail};
 use indexmap::IndexSet;
 use std::alloc::{AllocError, Global};
-use vsim_netlist_design::{Cell, Netlist, Port, Variable};
-use vsim_netlist_document::{Document, Members, Module, WrittenCell, WrittenName, WrittenPort};
+use vsim_netlist_design::{Cell, Netlist, Port, Variable, push};
 
 /// Whether a module is marked as the top.
 fn is_top(module: &Module) -> bool {
@@ -75,8 +75,8 @@ fn put_port(
     name: &str,
     written: &WrittenPort,
 ) -> Result<()> {
-    ports.push(make_port(alloc, nets, name, written)?)?;
-    Ok(())
+    let port = make_port(alloc, nets, name, written)?;
+    Ok(push(ports, port)?)
 }
 
 /// Adds the ports of a module.
@@ -87,8 +87,19 @@ fn put_ports(
     written: &Members<WrittenPort>,
 ) -> Result<()> {
     let mut names = IndexSet::new(alloc);
+    put_each_port(alloc, nets, ports, &mut names, written)
+}
+
+/// Adds ports whose names are not among these, and notes their names.
+fn put_each_port(
+    alloc: Global,
+    nets: &mut Nets,
+    ports: &mut Vec<Port>,
+    names: &mut IndexSet<String>,
+    written: &Members<WrittenPort>,
+) -> Result<()> {
     for (name, written) in written.entries.iter() {
-        note(&mut names, name, name.as_str())?;
+        note(names, name, name.as_str())?;
         put_port(alloc, nets, ports, name.as_str(), written)?;
     }
     Ok(())
@@ -116,10 +127,10 @@ fn put_cell(
     name: &str,
     written: &WrittenCell,
 ) -> Result<()> {
-    if let Some(cell) = placed_cell(alloc, nets, name, written)? {
-        cells.push(cell)?;
+    match placed_cell(alloc, nets, name, written)? {
+        Some(cell) => Ok(push(cells, cell)?),
+        None => Ok(()),
     }
-    Ok(())
 }
 
 /// Adds the cells of a module.
@@ -130,9 +141,20 @@ fn put_cells(
     written: &Members<WrittenCell>,
 ) -> Result<()> {
     let mut names = IndexSet::new(alloc);
+    put_each_cell(alloc, nets, cells, &mut names, written)
+}
+
+/// Adds cells whose names are not among these, and notes their names.
+fn put_each_cell(
+    alloc: Global,
+    nets: &mut Nets,
+    cells: &mut Vec<Cell>,
+    names: &mut IndexSet<String>,
+    written: &Members<WrittenCell>,
+) -> Result<()> {
     for (name, written) in written.entries.iter() {
         put_cell(alloc, nets, cells, name.as_str(), written)?;
-        note(&mut names, name, "a cell")?;
+        note(names, name, "a cell")?;
     }
     Ok(())
 }
@@ -145,10 +167,10 @@ fn put_variable(
     name: &str,
     written: &WrittenName,
 ) -> Result<(), AllocError> {
-    if let Some(variable) = nets.take_name(alloc, name, written)? {
-        variables.push(variable)?;
+    match nets.take_name(alloc, name, written)? {
+        Some(variable) => push(variables, variable),
+        None => Ok(()),
     }
-    Ok(())
 }
 
 /// Adds the source's names of nets.
@@ -164,20 +186,26 @@ fn put_variables(
     Ok(())
 }
 
+/// Adds the ports, cells and names of a module.
+fn put_parts(alloc: Global, nets: &mut Nets, netlist: &mut Netlist, module: &Module) -> Result<()> {
+    put_ports(alloc, nets, &mut netlist.ports, &module.ports)?;
+    put_cells(alloc, nets, &mut netlist.cells, &module.cells)?;
+    Ok(put_variables(alloc, nets, &mut netlist.variables, &module.netnames)?)
+}
+
 /// Adds all parts of a module.
 fn put_module(alloc: Global, netlist: &mut Netlist, module: &Module) -> Result<()> {
     let mut nets = Nets::new(alloc);
-    put_ports(alloc, &mut nets, &mut netlist.ports, &module.ports)?;
-    put_cells(alloc, &mut nets, &mut netlist.cells, &module.cells)?;
-    put_variables(alloc, &mut nets, &mut netlist.variables, &module.netnames)?;
+    put_parts(alloc, &mut nets, netlist, module)?;
     netlist.nets = nets.nets;
     Ok(())
 }
 
 /// Reads the netlist of a module.
 fn make_netlist(alloc: Global, name: &str, module: &Module) -> Result<Netlist> {
+    let name = String::from_str(alloc, name)?;
     let mut netlist = Netlist {
-        name: String::from_str(alloc, name)?,
+        name,
         ports: Vec::new(alloc),
         cells: Vec::new(alloc),
         variables: Vec::new(alloc),
@@ -187,11 +215,21 @@ fn make_netlist(alloc: Global, name: &str, module: &Module) -> Result<Netlist> {
     Ok(netlist)
 }
 
+/// Reads the netlist of the requested module.
+fn wanted_netlist(alloc: Global, document: &Document, top: Option<&str>) -> Result<Netlist> {
+    let (name, module) = wanted(document, top)?;
+    make_netlist(alloc, name, module)
+}
+
+/// Reads the JSON.
+fn read_document(alloc: Global, text: &str) -> Result<Document> {
+    serde_json::from_str::<Document>(alloc, text).context(
+        "no netlist that Yosys' write_json writes",
+    )
+}
+
 /// Reads the netlist of the module with this name, or of the one marked as the top.
 pub fn read_netlist(alloc: Global, text: &str, top: Option<&str>) -> Result<Netlist> {
-    let document = serde_json::from_str::<Document>(alloc, text).context(
-        "no netlist that Yosys' write_json writes",
-    )?;
-    let (name, module) = wanted(&document, top)?;
-    make_netlist(alloc, name, module)
+    let document = read_document(alloc, text)?;
+    wanted_netlist(alloc, &document, top)
 }

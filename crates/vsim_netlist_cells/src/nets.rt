@@ -1,10 +1,10 @@
 //! The nets of a netlist and their names in the source.
 
+use crate::document::{WrittenBit, WrittenName};
 use anyhow::Result;
 use indexmap::IndexSet;
 use std::alloc::{AllocError, Global};
-use vsim_netlist_design::{Bit, Level, Net, Variable};
-use vsim_netlist_document::{WrittenBit, WrittenName};
+use vsim_netlist_design::{Bit, Level, Net, Variable, push};
 
 /// The nets, by their numbers in the netlist.
 #[derive(Drop)]
@@ -50,7 +50,8 @@ impl Nets {
     ) -> Result<Vec<Bit>, AllocError> {
         let mut bits = Vec::new(alloc);
         for each in written {
-            bits.push(self.bit(*each)?)?;
+            let bit = self.bit(*each)?;
+            push(&mut bits, bit)?;
         }
         Ok(bits)
     }
@@ -80,8 +81,8 @@ impl Nets {
 
     /// Sets the initial levels of nets. The text has the highest first.
     fn begin_all(&mut self, bits: &[Bit], levels: &str) {
-        for (bit, letter) in bits.iter().zip(levels.bytes().rev()) {
-            self.begin(*bit, letter);
+        for (bit, letter) in bits.iter().zip(levels.as_bytes().iter().rev()) {
+            self.begin(*bit, *letter);
         }
     }
 

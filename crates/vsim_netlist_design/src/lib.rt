@@ -1,18 +1,22 @@
-//! A module of gates: its ports, cells, nets and the names of its source; and texts.
+//! A module of gates: its ports, cells, nets and the names of its source; stimuli; and texts.
 #![tactic(auto)]
 
 mod bits;
 mod gates;
 mod level;
+mod lists;
 mod netlist;
 mod registers;
+mod stimuli;
 mod times;
 mod writing;
 
 pub use bits::Bit;
 pub use gates::{Gate, GateCell};
 pub use level::Level;
+pub use lists::{empty_lists, push};
 pub use netlist::{Cell, Net, Netlist, Port, Variable};
 pub use registers::{Control, Register, Style};
+pub use stimuli::{Change, Stimuli};
 pub use times::push_time;
 pub use writing::Draft;

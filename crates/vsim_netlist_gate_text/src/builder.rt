@@ -4,14 +4,13 @@ use crate::processes::{Conditions, Process};
 use indexmap::IndexSet;
 use std::alloc::{AllocError, Global};
 use vsim_netlist_design::{
-    Bit, Cell, Control, Draft, Gate, GateCell, Level, Netlist, Register, Style,
+    Bit, Cell, Control, Draft, Gate, GateCell, Level, Netlist, Register, Style, push,
 };
-use vsim_netlist_expressions::{
-    Delay, Expression, NamedDelay, delay_of, gate_expression, primary, push_assignment,
+use vsim_netlist_signals::{
+    Delay, Expression, NamedDelay, Statements, delay_of, gate_expression, primary, push_assignment,
     push_literal, push_stored, push_tristate,
 };
-use vsim_netlist_signals::Statements;
-use vsim_netlist_uses::{Uses, longest_within, writing_order};
+use vsim_netlist_uses::{Uses, is_marked, longest_within, writing_order};
 
 /// The maximum depth of parentheses in a nested gate.
 const DEEPEST: usize = 30;
@@ -32,7 +31,7 @@ struct Builder<'a> {
 
 impl Drop for Builder<'_> {
     fn drop(self) {
-        drop(self.into_statements());
+        let _statements = self.into_statements();
     }
 }
 
@@ -40,9 +39,152 @@ impl Drop for Builder<'_> {
 fn no_expressions(alloc: Global, count: usize) -> Result<Vec<Option<Expression>>, AllocError> {
     let mut expressions = Vec::new(alloc);
     for _ in 0..count {
-        expressions.push(None)?;
+        push(&mut expressions, None)?;
     }
     Ok(expressions)
+}
+
+/// The name of a net as an expression.
+fn named(statements: &mut Statements, place: usize) -> Expression {
+    statements.ensure(place);
+    primary(statements.alloc, statements.signals.text(place))
+}
+
+/// The maximum length, in bytes, of a gate that is nested in the cell that reads it.
+fn room_at_reader(netlist: &Netlist, uses: &Uses, place: usize) -> usize {
+    let Some(net) = uses.nets.get(place) else {
+        return 0;
+    };
+    match netlist.cells.get(net.reader) {
+        Some(reader) => longest_within(reader, net.pin),
+        None => 0,
+    }
+}
+
+/// Writes the assignment of a net.
+fn assign(statements: &mut Statements, place: usize, expression: &Expression, delay: Delay) {
+    statements.ensure(place);
+    statements.count();
+    let target = statements.signals.text(place);
+    let text = &mut statements.body;
+    push_assignment(statements.alloc, text, target, expression, delay)
+}
+
+/// Writes the assignment of a net that a bit enables.
+fn assign_enabled(
+    statements: &mut Statements,
+    place: usize,
+    value: &Expression,
+    enable: Bit,
+    delay: Delay,
+) {
+    let enable = statements.signals.of_bit(enable);
+    statements.ensure(place);
+    statements.count();
+    let signals = &statements.signals;
+    let (target, enable) = (signals.text(place), signals.text(enable));
+    push_tristate(&mut statements.body, target, value, enable, delay)
+}
+
+/// The condition under which a control is active; empty if there is none.
+fn condition(statements: &mut Statements, control: Option<Control>) -> Draft {
+    let mut text = Draft::new(statements.alloc);
+    if let Some(control) = control {
+        text.push(statements.bit_name(control.bit));
+        text.push(if control.is_high { "='1'" } else { "='0'" });
+    }
+    text
+}
+
+/// The condition of an edge of a clock.
+fn edge(statements: &mut Statements, control: Option<Control>) -> Draft {
+    let mut text = Draft::new(statements.alloc);
+    if let Some(control) = control {
+        text.push(if control.is_high {
+            "rising_edge("
+        } else {
+            "falling_edge("
+        });
+        text.push(statements.bit_name(control.bit));
+        text.push(")");
+    }
+    text
+}
+
+/// The conditions of a register.
+fn conditions(statements: &mut Statements, register: &Register) -> Conditions {
+    let edge = edge(statements, register.clock);
+    let enable = condition(statements, register.enable);
+    let reset = condition(statements, register.reset);
+    let set = condition(statements, register.set);
+    let load = condition(statements, register.load);
+    Conditions {
+        edge,
+        enable,
+        reset,
+        set,
+        load,
+    }
+}
+
+/// Adds a name to a list.
+fn push_item(list: &mut Draft, name: &str) {
+    if !list.as_str().is_empty() {
+        list.push(",");
+    }
+    list.push(name);
+}
+
+/// Adds the name of a control signal to a list, unless one of two before it is the same.
+fn push_listed(
+    statements: &mut Statements,
+    list: &mut Draft,
+    control: Option<Control>,
+    first: Option<Control>,
+    second: Option<Control>,
+) {
+    if let Some(control) = control {
+        let bit = control.bit;
+        if !is_at(first, bit) && !is_at(second, bit) {
+            push_item(list, statements.bit_name(bit));
+        }
+    }
+}
+
+/// The reset and the set of a register that may come at any time; `None` if so may the rest.
+fn at_any_time(register: &Register) -> Option<(Option<Control>, Option<Control>)> {
+    match register.style {
+        Style::Plain | Style::Synchronous | Style::SynchronousEnabled => Some((None, None)),
+        Style::Asynchronous | Style::SetReset => Some((register.reset, register.set)),
+        _ => None,
+    }
+}
+
+/// The sensitivity list of a register: its clock and its asynchronous resets, each once.
+fn sensitivity(statements: &mut Statements, register: &Register) -> Draft {
+    let Some((reset, set)) = at_any_time(register) else {
+        return Draft::of(statements.alloc, "all");
+    };
+    let (mut list, clock) = (Draft::new(statements.alloc), register.clock);
+    push_listed(statements, &mut list, clock, None, None);
+    push_listed(statements, &mut list, reset, clock, None);
+    push_listed(statements, &mut list, set, clock, reset);
+    list
+}
+
+/// The index of the process with a key, and whether it is new.
+fn find_group(keys: &mut IndexSet<String>, key: Draft) -> Result<(usize, bool), AllocError> {
+    let key = key.finish()?;
+    let found = keys.insert_full(key)?;
+    Ok(found)
+}
+
+/// The table of a look-up table; empty for other gates.
+fn table_of(gate: &GateCell) -> &str {
+    match &gate.table {
+        Some(table) => table.as_str(),
+        None => "",
+    }
 }
 
 impl<'a> Builder<'a> {
@@ -78,11 +220,10 @@ impl<'a> Builder<'a> {
             uses: _,
             within: _,
             statements,
-            expressions,
-            keys,
-            groups,
+            expressions: _expressions,
+            keys: _keys,
+            groups: _groups,
         } = self;
-        drop((expressions, keys, groups));
         statements
     }
 
@@ -94,28 +235,27 @@ impl<'a> Builder<'a> {
         }
     }
 
+    /// A net as an expression.
+    fn net(&mut self, place: usize) -> Expression {
+        match self.take_expression(place) {
+            Some(expression) => expression,
+            None => named(&mut self.statements, place),
+        }
+    }
+
     /// A bit as an expression.
     fn operand(&mut self, bit: Bit) -> Expression {
         match bit {
             Bit::Constant(level) => primary(self.alloc, level.literal()),
-            Bit::Net(place) => match self.take_expression(place) {
-                Some(expression) => expression,
-                None => self.name(place),
-            },
+            Bit::Net(place) => self.net(place),
         }
-    }
-
-    /// The name of a net as an expression.
-    fn name(&mut self, place: usize) -> Expression {
-        self.statements.signals.ensure(place);
-        primary(self.alloc, self.statements.signals.text(place))
     }
 
     /// The inputs of a gate as expressions.
     fn operands(&mut self, bits: &[Bit]) -> Result<Vec<Expression>, AllocError> {
         let mut operands = Vec::new(self.alloc);
         for bit in bits {
-            operands.push(self.operand(*bit))?;
+            push(&mut operands, self.operand(*bit))?;
         }
         Ok(operands)
     }
@@ -123,67 +263,40 @@ impl<'a> Builder<'a> {
     /// The maximum length, in bytes, at which the gate of a net is nested in the cell that reads
     /// it; 0 if it may not be nested.
     fn room_within(&self, place: usize) -> usize {
-        let may_nest = self.within.get(place).copied() == Some(true);
-        if !may_nest || self.statements.signals.name(place).is_some() {
-            return 0;
+        if is_marked(self.within, place) && !self.statements.has_name(place) {
+            room_at_reader(self.netlist, self.uses, place)
+        } else {
+            0
         }
-        let Some(net) = self.uses.nets.get(place) else {
-            return 0;
-        };
-        match self.netlist.cells.get(net.reader) {
-            Some(reader) => longest_within(reader, net.pin),
-            None => 0,
-        }
+    }
+
+    /// Whether the expression of a net is kept for the cell that reads it.
+    fn is_kept(&self, place: usize, expression: &Expression) -> bool {
+        expression.depth < DEEPEST && expression.text.as_str().len() <= self.room_within(place)
     }
 
     /// Keeps the expression of a net, or writes it.
     fn put(&mut self, place: usize, expression: Expression, delay: Delay) {
-        let fits = expression.text.as_str().len() <= self.room_within(place);
-        if fits && expression.depth < DEEPEST {
-            if let Some(kept) = self.expressions.get_mut(place) {
-                *kept = Some(expression);
-                return;
-            }
+        if !self.is_kept(place, &expression) {
+            return assign(&mut self.statements, place, &expression, delay);
         }
-        self.assign(place, &expression, delay)
-    }
-
-    /// Writes the assignment of a net.
-    fn assign(&mut self, place: usize, expression: &Expression, delay: Delay) {
-        self.statements.signals.ensure(place);
-        self.statements.count();
-        let target = self.statements.signals.text(place);
-        push_assignment(
-            self.alloc,
-            &mut self.statements.body,
-            target,
-            expression,
-            delay,
-        )
+        if let Some(kept) = self.expressions.get_mut(place) {
+            *kept = Some(expression);
+        }
     }
 
     /// Writes a three-state buffer.
     fn put_tristate(&mut self, gate: &GateCell, delay: Delay) {
-        let (Some(data), Some(enable)) = (gate.inputs.first(), gate.inputs.last()) else {
-            return;
-        };
-        let value = self.operand(*data);
-        let enable = self.statements.signals.of_bit(*enable);
-        self.statements.signals.ensure(gate.output);
-        self.statements.count();
-        let signals = &self.statements.signals;
-        let (target, enable) = (signals.text(gate.output), signals.text(enable));
-        push_tristate(&mut self.statements.body, target, &value, enable, delay)
+        if let [data, .., enable] = gate.inputs.as_slice() {
+            let value = self.operand(*data);
+            assign_enabled(&mut self.statements, gate.output, &value, *enable, delay);
+        }
     }
 
     /// The expression of a gate.
     fn expression(&mut self, gate: &GateCell) -> Result<Expression, AllocError> {
         let operands = self.operands(gate.inputs.as_slice())?;
-        let table = match &gate.table {
-            Some(table) => table.as_str(),
-            None => "",
-        };
-        gate_expression(self.alloc, gate.gate, table, operands.as_slice())
+        gate_expression(self.alloc, gate.gate, table_of(gate), operands.as_slice())
     }
 
     /// Adds a gate.
@@ -198,93 +311,11 @@ impl<'a> Builder<'a> {
         Ok(())
     }
 
-    /// The condition under which a control is active; empty if there is none.
-    fn condition(&mut self, control: Option<Control>) -> Draft {
-        let mut text = Draft::new(self.alloc);
-        if let Some(control) = control {
-            let place = self.statements.signals.of_bit(control.bit);
-            text.push(self.statements.signals.text(place));
-            text.push(if control.is_high { "='1'" } else { "='0'" });
-        }
-        text
-    }
-
-    /// The condition of an edge of a clock.
-    fn edge(&mut self, control: Option<Control>) -> Draft {
-        let mut text = Draft::new(self.alloc);
-        if let Some(control) = control {
-            let place = self.statements.signals.of_bit(control.bit);
-            text.push(if control.is_high { "rising" } else { "falling" });
-            text.push("_edge(");
-            text.push(self.statements.signals.text(place));
-            text.push(")");
-        }
-        text
-    }
-
-    /// The conditions of a register.
-    fn conditions(&mut self, register: &Register) -> Conditions {
-        let (edge, enable) = (self.edge(register.clock), self.condition(register.enable));
-        let (reset, set) = (self.condition(register.reset), self.condition(register.set));
-        let load = self.condition(register.load);
-        Conditions {
-            edge,
-            enable,
-            reset,
-            set,
-            load,
-        }
-    }
-
-    /// Adds the name of a control signal to a list, unless one of those before it is the same.
-    fn push_listed(
-        &mut self,
-        list: &mut Draft,
-        control: Option<Control>,
-        before: [Option<Control>; 2],
-    ) {
-        let Some(control) = control else {
-            return;
-        };
-        let [first, second] = before;
-        if is_at(first, control.bit) || is_at(second, control.bit) {
-            return;
-        }
-        let place = self.statements.signals.of_bit(control.bit);
-        if !list.as_str().is_empty() {
-            list.push(",");
-        }
-        list.push(self.statements.signals.text(place));
-    }
-
-    /// The sensitivity list of a register: its clock and its asynchronous resets, each once.
-    fn sensitivity(&mut self, register: &Register) -> Draft {
-        let (reset, set) = match register.style {
-            Style::Plain | Style::Synchronous | Style::SynchronousEnabled => (None, None),
-            Style::Asynchronous | Style::SetReset => (register.reset, register.set),
-            _ => return Draft::of(self.alloc, "all"),
-        };
-        let mut list = Draft::new(self.alloc);
-        self.push_listed(&mut list, register.clock, [None, None]);
-        self.push_listed(&mut list, reset, [register.clock, None]);
-        self.push_listed(&mut list, set, [register.clock, reset]);
-        list
-    }
-
-    /// The index of the process for registers with these conditions, and whether it is new.
-    fn find_group(
-        &mut self,
-        style: Style,
-        conditions: &Conditions,
-    ) -> Result<(usize, bool), AllocError> {
-        let key = conditions.key(self.alloc, style).finish()?;
-        Ok(self.keys.insert_full(key)?)
-    }
-
     /// The index of the process for the registers like this one.
     fn group(&mut self, register: &Register) -> Result<usize, AllocError> {
-        let conditions = self.conditions(register);
-        let (place, is_new) = self.find_group(register.style, &conditions)?;
+        let conditions = conditions(&mut self.statements, register);
+        let key = conditions.key(self.alloc, register.style);
+        let (place, is_new) = find_group(&mut self.keys, key)?;
         if is_new {
             self.add_group(register, conditions)?;
         }
@@ -293,11 +324,10 @@ impl<'a> Builder<'a> {
 
     /// Adds a process for the registers like this one.
     fn add_group(&mut self, register: &Register, conditions: Conditions) -> Result<(), AllocError> {
-        let sensitivity = self.sensitivity(register);
+        let sensitivity = sensitivity(&mut self.statements, register);
         self.statements.count_process();
         let process = Process::new(self.alloc, register.style, sensitivity, conditions);
-        self.groups.push(process)?;
-        Ok(())
+        push(&mut self.groups, process)
     }
 
     /// The expression of a register's data, if it is connected.
@@ -310,18 +340,19 @@ impl<'a> Builder<'a> {
 
     /// Adds a register.
     fn take_register(&mut self, register: &Register) -> Result<(), AllocError> {
-        let is_latch = register.clock.is_none();
-        let delay = delay_of(self.delays, if is_latch { "latch" } else { "dff" });
-        self.statements.signals.ensure(register.output);
+        self.statements.ensure(register.output);
         self.statements.count_driver();
         let place = self.group(register)?;
-        self.put_register(register, place, delay);
+        self.put_register(register, place);
         Ok(())
     }
 
     /// Adds a register to the process at an index.
-    fn put_register(&mut self, register: &Register, place: usize, delay: Delay) {
-        let (data, loaded) = (self.stored(register.data), self.stored(register.loaded));
+    fn put_register(&mut self, register: &Register, place: usize) {
+        let data = self.stored(register.data);
+        let loaded = self.stored(register.loaded);
+        let is_latch = register.clock.is_none();
+        let delay = delay_of(self.delays, if is_latch { "latch" } else { "dff" });
         let target = self.statements.signals.text(register.output);
         if let Some(process) = self.groups.get_mut(place) {
             fill_levels(process, register, target, delay);
@@ -339,13 +370,18 @@ impl<'a> Builder<'a> {
         }
     }
 
-    /// Adds all cells, nested ones first.
-    fn take_cells(&mut self) -> Result<(), AllocError> {
-        let order = writing_order(self.alloc, self.netlist, self.uses, self.within)?;
-        for place in order.iter() {
+    /// Adds the cells at these indices.
+    fn take_each(&mut self, places: &[usize]) -> Result<(), AllocError> {
+        for place in places {
             self.take_cell(*place)?;
         }
         Ok(())
+    }
+
+    /// Adds all cells, nested ones first.
+    fn take_cells(&mut self) -> Result<(), AllocError> {
+        let order = writing_order(self.alloc, self.netlist, self.uses, self.within)?;
+        self.take_each(order.as_slice())
     }
 
     /// Writes the processes.

@@ -15,13 +15,12 @@ pub(crate) struct Conditions {
 impl Drop for Conditions {
     fn drop(self) {
         let Conditions {
-            edge,
-            enable,
-            reset,
-            set,
-            load,
+            edge: _edge,
+            enable: _enable,
+            reset: _reset,
+            set: _set,
+            load: _load,
         } = self;
-        drop((edge, enable, reset, set, load));
     }
 }
 
@@ -54,22 +53,14 @@ impl Drop for Process {
     fn drop(self) {
         let Process {
             style: _,
-            sensitivity,
-            conditions,
-            reset,
-            set,
-            load,
-            data,
+            sensitivity: _sensitivity,
+            conditions: _conditions,
+            reset: _reset,
+            set: _set,
+            load: _load,
+            data: _data,
         } = self;
-        drop((sensitivity, conditions, reset, set, load, data));
     }
-}
-
-/// A branch of an `if`: its condition, empty for `else`, and its assignments.
-#[derive(Clone, Copy)]
-struct Branch<'a> {
-    condition: &'a Draft,
-    assigned: &'a Draft,
 }
 
 /// Adds the head of a branch.
@@ -82,17 +73,14 @@ fn push_head(text: &mut Draft, condition: &Draft, is_first: bool) {
     text.push("then ");
 }
 
-/// Adds an `if` with these branches, without the empty ones.
-fn push_if(text: &mut Draft, branches: &[Branch<'_>]) {
-    let mut is_first = true;
-    for branch in branches {
-        if !branch.assigned.as_str().is_empty() {
-            push_head(text, branch.condition, is_first);
-            text.push_draft(branch.assigned);
-            is_first = false;
-        }
+/// Adds a branch, unless it assigns nothing. Returns whether the next one is the first.
+fn push_branch(text: &mut Draft, condition: &Draft, assigned: &Draft, is_first: bool) -> bool {
+    if assigned.as_str().is_empty() {
+        return is_first;
     }
-    text.push("end if;");
+    push_head(text, condition, is_first);
+    text.push_draft(assigned);
+    false
 }
 
 /// The conjunction of two conditions, each of which may be empty.
@@ -125,52 +113,35 @@ impl Process {
         }
     }
 
-    /// The asynchronous conditions and assignments, before those at the edge.
-    fn at_any_time(&self) -> [Branch<'_>; 3] {
-        let conditions = &self.conditions;
-        [
-            Branch {
-                condition: &conditions.reset,
-                assigned: &self.reset,
-            },
-            Branch {
-                condition: &conditions.set,
-                assigned: &self.set,
-            },
-            Branch {
-                condition: &conditions.load,
-                assigned: &self.load,
-            },
-        ]
-    }
-
     /// Adds the statements of a process with an asynchronous reset, or without one.
     fn push_at_any_time(&self, alloc: Global, text: &mut Draft) {
-        let condition = both(alloc, &self.conditions.edge, &self.conditions.enable);
-        let [reset, set, load] = self.at_any_time();
-        let data = Branch {
-            condition: &condition,
-            assigned: &self.data,
-        };
-        push_if(text, &[reset, set, load, data]);
+        let conditions = &self.conditions;
+        let is_first = push_branch(text, &conditions.reset, &self.reset, true);
+        let is_first = push_branch(text, &conditions.set, &self.set, is_first);
+        let is_first = push_branch(text, &conditions.load, &self.load, is_first);
+        let condition = both(alloc, &conditions.edge, &conditions.enable);
+        let _ = push_branch(text, &condition, &self.data, is_first);
+        text.push("end if;");
+    }
+
+    /// Adds the branches of a process with a synchronous reset, inside its edge.
+    fn push_inside(&self, text: &mut Draft, enable: &Draft) {
+        let is_first = push_branch(text, &self.conditions.reset, &self.reset, true);
+        let _ = push_branch(text, enable, &self.data, is_first);
+        text.push("end if;end if;");
     }
 
     /// Adds the statements of a process with a synchronous reset.
     fn push_at_edge(&self, alloc: Global, text: &mut Draft) {
         let (enable, none) = (&self.conditions.enable, Draft::new(alloc));
-        let (outer, inner) = if self.style == Style::SynchronousEnabled {
+        let is_outside = self.style == Style::SynchronousEnabled;
+        let (outer, inner) = if is_outside {
             (enable, &none)
         } else {
             (&none, enable)
         };
         push_head(text, &both(alloc, &self.conditions.edge, outer), true);
-        let [reset, _, _] = self.at_any_time();
-        let data = Branch {
-            condition: inner,
-            assigned: &self.data,
-        };
-        push_if(text, &[reset, data]);
-        text.push("end if;");
+        self.push_inside(text, inner);
     }
 
     /// Adds the process.

@@ -1,10 +1,19 @@
-//! The signals of a text, and the statements that have been written.
+//! The signals of a text, gates as expressions and assignments of VHDL, with delays, and the
+//! statements that have been written.
 #![tactic(auto)]
 
+mod delays;
+mod expressions;
+mod gate_text;
 mod names;
 mod signals;
 mod statements;
 
+pub use delays::{
+    Delay, NamedDelay, delay_of, push_assignment, push_literal, push_stored, push_tristate,
+};
+pub use expressions::{Expression, primary};
+pub use gate_text::gate_expression;
 pub use names::Names;
 pub use signals::{Signals, make_signals};
 pub use statements::Statements;

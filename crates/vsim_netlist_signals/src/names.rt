@@ -5,7 +5,7 @@ use std::collections::HashSet;
 use vsim_netlist_design::Draft;
 
 /// Names that no signal may have: reserved words of VHDL, and predeclared names.
-const RESERVED: [&str; 113] = [
+static RESERVED: [&str; 113] = [
     "abs",
     "access",
     "after",
@@ -122,7 +122,7 @@ const RESERVED: [&str; 113] = [
 ];
 
 /// The names in the packages that each design sees.
-const PREDEFINED: [&str; 35] = [
+static PREDEFINED: [&str; 35] = [
     "bit",
     "boolean",
     "character",
@@ -201,23 +201,27 @@ pub(crate) fn plain_name(alloc: Global, source: &Draft) -> Draft {
     let mut name = Draft::of(alloc, if starts_plain(text) { "" } else { "s" });
     name.lack_with(source);
     let mut has_gap = false;
-    for byte in text.bytes() {
-        if !byte.is_ascii_alphanumeric() {
-            has_gap = true;
-            continue;
+    for byte in text.as_bytes() {
+        let is_plain = byte.is_ascii_alphanumeric();
+        if is_plain {
+            push_plain(&mut name, *byte, has_gap);
         }
-        if has_gap && !name.as_str().is_empty() {
-            name.push("_");
-        }
-        has_gap = false;
-        name.push_char(char::from(byte.to_ascii_lowercase()));
+        has_gap = !is_plain;
     }
     name
 }
 
+/// Adds a letter or digit, after an underscore for the other characters before it.
+fn push_plain(name: &mut Draft, byte: u8, has_gap: bool) {
+    if has_gap && !name.as_str().is_empty() {
+        name.push("_");
+    }
+    name.push_char(char::from(byte.to_ascii_lowercase()));
+}
+
 /// Whether a name begins with a letter.
 fn starts_plain(source: &str) -> bool {
-    match source.bytes().next() {
+    match source.as_bytes().first() {
         Some(byte) => byte.is_ascii_alphabetic(),
         None => false,
     }

@@ -30,7 +30,7 @@ pub struct Signals {
 }
 
 /// The initial values by which signals are declared together.
-const INITIALS: [(Option<Level>, &str); 5] = [
+static INITIALS: [(Option<Level>, &str); 5] = [
     (None, ""),
     (Some(Level::Zero), ":='0'"),
     (Some(Level::One), ":='1'"),
@@ -90,7 +90,13 @@ impl Signals {
 
     /// The number of signals with names.
     pub fn count(&self) -> usize {
-        self.signals.iter().filter(|it| it.name.is_some()).count()
+        let mut count = 0usize;
+        for signal in self.signals.iter() {
+            if signal.name.is_some() {
+                count = count.saturating_add(1);
+            }
+        }
+        count
     }
 
     /// Gives a name to a signal.
@@ -189,24 +195,32 @@ impl Signals {
 
     /// Adds the declaration of the signals with one initial value.
     fn push_declaration(&self, text: &mut Draft, initial: Option<Level>, literal: &str) {
-        let mut before = "signal ";
+        let mut is_first = true;
         for signal in self.signals.iter() {
             if let Some(name) = named_with(signal, initial) {
-                text.push_all(&[before, name]);
-                before = ",";
+                text.push(if is_first { "signal " } else { "," });
+                text.push(name);
+                is_first = false;
             }
         }
-        if before == "," {
-            text.push_all(&[":std_logic", literal, ";\n"]);
+        if !is_first {
+            push_type(text, literal);
         }
     }
 
     /// Adds the declarations of all signals.
     pub fn push_declarations(&self, text: &mut Draft) {
-        for (initial, literal) in INITIALS {
-            self.push_declaration(text, initial, literal);
+        for (initial, literal) in &INITIALS {
+            self.push_declaration(text, *initial, *literal);
         }
     }
+}
+
+/// Adds the end of a declaration: the type, and an initial value.
+fn push_type(text: &mut Draft, literal: &str) {
+    text.push(":std_logic");
+    text.push(literal);
+    text.push(";\n");
 }
 
 /// The name of a signal, if it has one and this initial value.

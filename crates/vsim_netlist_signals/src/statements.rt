@@ -2,7 +2,7 @@
 
 use crate::signals::Signals;
 use std::alloc::Global;
-use vsim_netlist_design::Draft;
+use vsim_netlist_design::{Bit, Draft};
 
 /// The statements written so far, the signals that they name, and the number of their processes and
 /// drivers.
@@ -19,12 +19,11 @@ impl Drop for Statements {
     fn drop(self) {
         let Statements {
             alloc: _,
-            signals,
-            body,
+            signals: _signals,
+            body: _body,
             processes: _,
             drivers: _,
         } = self;
-        drop((signals, body));
     }
 }
 
@@ -38,6 +37,22 @@ impl Statements {
             processes: 0,
             drivers: 0,
         }
+    }
+
+    /// Gives a short name to a signal without one.
+    pub fn ensure(&mut self, place: usize) {
+        self.signals.ensure(place);
+    }
+
+    /// Whether a signal has a name.
+    pub fn has_name(&self, place: usize) -> bool {
+        self.signals.name(place).is_some()
+    }
+
+    /// The name of the signal of a bit.
+    pub fn bit_name(&mut self, bit: Bit) -> &str {
+        let place = self.signals.of_bit(bit);
+        self.signals.text(place)
     }
 
     /// Adds the name of a signal.

@@ -1,7 +1,7 @@
 //! The changes of input bits.
 
 use std::alloc::{AllocError, Global};
-use vsim_netlist_design::Level;
+use vsim_netlist_design::{Change, Level, Stimuli, empty_lists, push};
 
 /// An input and its number of bits.
 #[derive(Drop)]
@@ -10,19 +10,11 @@ pub struct Input {
     pub width: usize,
 }
 
-/// A value that a bit has from a time on (in femtoseconds).
+/// The bits of an input: the index of the first among the bits of all inputs, and their number.
 #[derive(Clone, Copy)]
-pub struct Change {
-    pub time: u64,
-    pub level: Level,
-}
-
-/// The changes of input bits: one list for each bit, with the first input first and the lowest bit
-/// of each first; and the time at which the stimuli end.
-#[derive(Drop)]
-pub struct Stimuli {
-    pub bits: Vec<Vec<Change>>,
-    pub end: u64,
+pub(crate) struct Bits {
+    pub(crate) start: usize,
+    pub(crate) width: usize,
 }
 
 /// Adds a value to the changes of a bit, if it differs from the last.
@@ -36,8 +28,7 @@ fn add(changes: &mut Vec<Change>, time: u64, level: Level) -> Result<(), AllocEr
             return Ok(());
         }
     }
-    changes.push(Change { time, level })?;
-    Ok(())
+    push(changes, Change { time, level })
 }
 
 /// The letter of a bit of a value. The value has the highest bit first and may be shorter than the
@@ -54,63 +45,54 @@ fn letter(value: &[u8], bit: usize) -> u8 {
     }
 }
 
-impl Stimuli {
-    /// No changes, for these inputs.
-    pub(crate) fn new(alloc: Global, inputs: &[Input]) -> Result<Stimuli, AllocError> {
-        let mut bits = Vec::new(alloc);
-        for input in inputs {
-            for _ in 0..input.width {
-                bits.push(Vec::new(alloc))?;
-            }
-        }
-        Ok(Stimuli { bits, end: 0 })
-    }
-
-    /// Gives a value to the bits from an index on. Returns `false` if a letter of it is not a
-    /// level.
-    pub(crate) fn set(
-        &mut self,
-        start: usize,
-        width: usize,
-        time: u64,
-        value: &[u8],
-    ) -> Result<bool, AllocError> {
-        let end = start.saturating_add(width).min(self.bits.len());
-        for (bit, place) in (start..end).enumerate() {
-            let Some(changes) = self.bits.get_mut(place) else {
-                return Ok(true);
-            };
-            let Some(level) = Level::from_byte(letter(value, bit)) else {
-                return Ok(false);
-            };
-            add(changes, time, level)?;
-        }
-        Ok(true)
-    }
-
-    /// Moves the end to a time, if that is later.
-    pub(crate) fn reach(&mut self, time: u64) {
-        self.end = self.end.max(time);
-    }
-}
-
-/// The index of the first bit of each input among the bits of all.
-pub(crate) fn starts(alloc: Global, inputs: &[Input]) -> Result<Vec<usize>, AllocError> {
-    let mut starts = Vec::new(alloc);
-    let mut next = 0usize;
+/// No changes, for these inputs.
+pub(crate) fn no_changes(alloc: Global, inputs: &[Input]) -> Result<Stimuli, AllocError> {
+    let mut count = 0usize;
     for input in inputs {
-        starts.push(next)?;
-        next = next.saturating_add(input.width);
+        count = count.saturating_add(input.width);
     }
-    Ok(starts)
+    let bits = empty_lists(alloc, count)?;
+    Ok(Stimuli { bits, end: 0 })
 }
 
-/// The index of the input with a name, and its number of bits.
-pub(crate) fn find(inputs: &[Input], name: &str) -> Option<(usize, usize)> {
+/// Gives a level to the bit at an index.
+fn set_bit(stimuli: &mut Stimuli, place: usize, time: u64, level: Level) -> Result<(), AllocError> {
+    match stimuli.bits.get_mut(place) {
+        Some(changes) => add(changes, time, level),
+        None => Ok(()),
+    }
+}
+
+/// Gives a value to bits. Returns `false` if a letter of it is not a level.
+pub(crate) fn set(
+    stimuli: &mut Stimuli,
+    bits: Bits,
+    time: u64,
+    value: &[u8],
+) -> Result<bool, AllocError> {
+    for bit in 0..bits.width {
+        let Some(level) = Level::from_byte(letter(value, bit)) else {
+            return Ok(false);
+        };
+        set_bit(stimuli, bits.start.saturating_add(bit), time, level)?;
+    }
+    Ok(true)
+}
+
+/// Moves the end of stimuli to a time, if that is later.
+pub(crate) fn reach(stimuli: &mut Stimuli, time: u64) {
+    stimuli.end = stimuli.end.max(time);
+}
+
+/// The index of the input with a name, and its bits.
+pub(crate) fn find(inputs: &[Input], name: &str) -> Option<(usize, Bits)> {
+    let mut start = 0usize;
     for (place, input) in inputs.iter().enumerate() {
+        let width = input.width;
         if input.name.as_str() == name {
-            return Some((place, input.width));
+            return Some((place, Bits { start, width }));
         }
+        start = start.saturating_add(width);
     }
     None
 }

@@ -1,8 +1,9 @@
 //! The header of a VCD: its scopes and variables.
 
-use crate::times::{femtoseconds, number_and_unit};
-use anyhow::{Context, Result, bail};
+use crate::times::{in_femtoseconds, number_and_unit};
+use anyhow::{Context, Result, anyhow};
 use std::alloc::{AllocError, Global};
+use vsim_netlist_design::{Draft, push};
 
 /// A variable: the index of its scope, its name, its number of bits, and its code.
 #[derive(Clone, Copy)]
@@ -38,14 +39,13 @@ impl Drop for Header<'_> {
     fn drop(self) {
         let Header {
             alloc: _,
-            words,
-            open,
-            scopes,
-            variables,
+            words: _words,
+            open: _open,
+            scopes: _scopes,
+            variables: _variables,
             scale: _,
             is_done: _,
         } = self;
-        drop((words, open, scopes, variables));
     }
 }
 
@@ -60,8 +60,19 @@ fn bare(name: &str) -> &str {
 /// A time scale in femtoseconds. The unit may be a separate word.
 fn scale(first: &str, second: &str) -> Option<u64> {
     let (number, unit) = number_and_unit(first);
-    let unit = if unit.is_empty() { second } else { unit };
-    number.parse::<u64>().ok()?.checked_mul(femtoseconds(unit)?)
+    in_femtoseconds(number, if unit.is_empty() { second } else { unit })
+}
+
+/// The width of a variable.
+fn read_width(text: &str) -> Result<usize> {
+    text.parse::<usize>()
+        .ok()
+        .context("a variable has no width")
+}
+
+/// The refusal of a word outside sections.
+fn no_section(word: &str) -> anyhow::Error {
+    anyhow!("'{word}' begins no section of a VCD")
 }
 
 impl<'a> Header<'a> {
@@ -78,45 +89,50 @@ impl<'a> Header<'a> {
         }
     }
 
+    /// The open scope.
+    fn open_scope(&self) -> Option<&Scope> {
+        match self.open.last() {
+            Some(place) => self.scopes.get(*place),
+            None => None,
+        }
+    }
+
     /// The path of a scope inside the open one.
     fn path(&self, name: &str) -> Result<String, AllocError> {
-        let mut path = String::new(self.alloc);
-        if let Some(outer) = self.open.last() {
-            if let Some(outer) = self.scopes.get(*outer) {
-                path.push_str(outer.path.as_str())?;
-                path.push_str(".")?;
-            }
+        let mut path = Draft::new(self.alloc);
+        if let Some(outer) = self.open_scope() {
+            path.push_all(&[outer.path.as_str(), "."]);
         }
-        path.push_str(name)?;
-        Ok(path)
+        path.push(name);
+        path.finish()
+    }
+
+    /// Adds a scope and opens it.
+    fn open(&mut self, scope: Scope) -> Result<(), AllocError> {
+        push(&mut self.open, self.scopes.len())?;
+        push(&mut self.scopes, scope)
     }
 
     /// Enters a scope.
     fn enter(&mut self, name: &str) -> Result<()> {
         let path = self.path(name)?;
         let depth = self.open.len();
-        self.open.push(self.scopes.len())?;
-        self.scopes.push(Scope { path, depth })?;
-        Ok(())
+        Ok(self.open(Scope { path, depth })?)
     }
 
     /// Takes a variable, if it is in a scope.
     fn declare(&mut self, width: &str, code: &'a str, name: &'a str) -> Result<()> {
-        let width = width
-            .parse::<usize>()
-            .ok()
-            .context("a variable has no width")?;
+        let width = read_width(width)?;
         let Some(scope) = self.open.last() else {
             return Ok(());
         };
-        let name = bare(name);
-        self.variables.push(Variable {
+        let variable = Variable {
             scope: *scope,
-            name,
+            name: bare(name),
             width,
             code,
-        })?;
-        Ok(())
+        };
+        Ok(push(&mut self.variables, variable)?)
     }
 
     /// The word at an index of the section.
@@ -159,15 +175,19 @@ impl<'a> Header<'a> {
         }
     }
 
+    /// Adds a word to the section.
+    fn add(&mut self, word: &'a str) -> Result<()> {
+        Ok(push(&mut self.words, word)?)
+    }
+
     /// Reads the next word.
     pub(crate) fn take(&mut self, word: &'a str) -> Result<()> {
         if word == "$end" {
             return self.close();
         }
         if self.words.is_empty() && !word.starts_with("$") {
-            bail!("'{word}' begins no section of a VCD");
+            return Err(no_section(word));
         }
-        self.words.push(word)?;
-        Ok(())
+        self.add(word)
     }
 }

@@ -9,6 +9,6 @@ mod times;
 mod values;
 mod vcd;
 
-pub use changes::{Change, Input, Stimuli};
+pub use changes::Input;
 pub use times::{LATEST, read_time};
 pub use vcd::read_stimuli;

@@ -1,15 +1,15 @@
 //! Stimuli as lines: `TIME INPUT VALUE`, and `end TIME`.
 
-use crate::changes::{Input, Stimuli, find, starts};
+use crate::changes::{Bits, Input, find, no_changes, reach, set};
 use crate::times::read_time;
 use anyhow::{Context, Result, anyhow, bail};
 use std::alloc::{AllocError, Global};
+use vsim_netlist_design::{Draft, Stimuli};
 
 /// The stimuli of the lines read so far.
 struct Lines<'a> {
     alloc: Global,
     inputs: &'a [Input],
-    starts: Vec<usize>,
     time: u64,
     stimuli: Stimuli,
 }
@@ -45,18 +45,18 @@ fn letter_nibble(digit: u8) -> &'static str {
 }
 
 /// The bits of a hexadecimal number.
-fn bits_of_digits(alloc: Global, digits: &str) -> Result<String, AllocError> {
-    let mut bits = String::new(alloc);
-    for digit in digits.bytes() {
-        bits.push_str(nibble(digit))?;
+fn bits_of_digits(alloc: Global, digits: &[u8]) -> Result<String, AllocError> {
+    let mut bits = Draft::new(alloc);
+    for digit in digits {
+        bits.push(nibble(*digit));
     }
-    Ok(bits)
+    bits.finish()
 }
 
 /// The bits of a value, written as bits or as `0xA5`.
 fn bits(alloc: Global, value: &str) -> Result<String, AllocError> {
     match value.strip_prefix("0x") {
-        Some(digits) => bits_of_digits(alloc, digits),
+        Some(digits) => bits_of_digits(alloc, digits.as_bytes()),
         None => String::from_str(alloc, value),
     }
 }
@@ -69,16 +69,19 @@ fn without_comment(line: &str) -> &str {
     }
 }
 
+/// The refusal of a name.
+fn no_input(name: &str) -> anyhow::Error {
+    anyhow!("there is no input {name}")
+}
+
 impl Drop for Lines<'_> {
     fn drop(self) {
         let Lines {
             alloc: _,
             inputs: _,
-            starts,
             time: _,
-            stimuli,
+            stimuli: _stimuli,
         } = self;
-        drop((starts, stimuli));
     }
 }
 
@@ -90,13 +93,13 @@ impl Lines<'_> {
             bail!("the times fall");
         }
         self.time = time;
-        self.stimuli.reach(time);
+        reach(&mut self.stimuli, time);
         Ok(())
     }
 
-    /// Gives a value to the bits from an index on, from now on.
-    fn set_bits(&mut self, start: usize, width: usize, value: &[u8]) -> Result<()> {
-        if value.is_empty() || !self.stimuli.set(start, width, self.time, value)? {
+    /// Gives a value to bits from now on.
+    fn set_bits(&mut self, bits: Bits, value: &[u8]) -> Result<()> {
+        if value.is_empty() || !set(&mut self.stimuli, bits, self.time, value)? {
             bail!("the value is neither bits nor a number as 0xA5");
         }
         Ok(())
@@ -104,18 +107,32 @@ impl Lines<'_> {
 
     /// Gives a value to an input from now on.
     fn set(&mut self, name: &str, value: &str) -> Result<()> {
-        let Some((place, width)) = find(self.inputs, name) else {
-            return Err(anyhow!("there is no input {name}"));
+        let Some((_, place)) = find(self.inputs, name) else {
+            return Err(no_input(name));
         };
-        let start = self.starts.get(place).copied().unwrap_or(0);
-        let bits = bits(self.alloc, value)?;
-        self.set_bits(start, width, bits.as_str().as_bytes())
+        let value = bits(self.alloc, value)?;
+        self.set_bits(place, value.as_str().as_bytes())
     }
 
     /// Gives a value to an input from a time on.
     fn set_at(&mut self, time: &str, name: &str, value: &str) -> Result<()> {
         self.go_to(time)?;
         self.set(name, value)
+    }
+
+    /// Reads a line of up to three words, and whether it has more.
+    fn take_words(
+        &mut self,
+        first: &str,
+        second: Option<&str>,
+        third: Option<&str>,
+        has_more: bool,
+    ) -> Result<()> {
+        match (second, third) {
+            (Some(name), Some(value)) if !has_more => self.set_at(first, name, value),
+            (Some(time), None) if first == "end" => self.go_to(time),
+            _ => Err(anyhow!("'TIME INPUT VALUE' or 'end TIME' is wanted")),
+        }
     }
 
     /// Reads a line.
@@ -125,18 +142,19 @@ impl Lines<'_> {
             return Ok(());
         };
         let (second, third) = (words.next(), words.next());
-        match (second, third, words.next()) {
-            (Some(time), None, None) if first == "end" => self.go_to(time),
-            (Some(name), Some(value), None) => self.set_at(first, name, value),
-            _ => Err(anyhow!("'TIME INPUT VALUE' or 'end TIME' is wanted")),
-        }
+        self.take_words(first, second, third, words.next().is_some())
     }
 
-    /// Reads lines. An error names its line.
+    /// Reads the line at an index. An error names it.
+    fn take_at(&mut self, line: &str, index: usize) -> Result<()> {
+        let number = index.saturating_add(1);
+        self.take(line).context(format_args!("line {number}"))
+    }
+
+    /// Reads lines.
     fn take_all(&mut self, text: &str) -> Result<()> {
         for (index, line) in text.lines().enumerate() {
-            let number = index.saturating_add(1);
-            self.take(line).context(format_args!("line {number}"))?;
+            self.take_at(line, index)?;
         }
         Ok(())
     }
@@ -146,23 +164,21 @@ impl Lines<'_> {
         let Lines {
             alloc: _,
             inputs: _,
-            starts,
             time: _,
             stimuli,
         } = self;
-        drop(starts);
         stimuli
     }
 }
 
 /// Reads lines of stimuli.
 pub(crate) fn read_lines(alloc: Global, text: &str, inputs: &[Input]) -> Result<Stimuli> {
+    let stimuli = no_changes(alloc, inputs)?;
     let mut lines = Lines {
         alloc,
         inputs,
-        starts: starts(alloc, inputs)?,
         time: 0,
-        stimuli: Stimuli::new(alloc, inputs)?,
+        stimuli,
     };
     lines.take_all(text)?;
     Ok(lines.into_stimuli())

@@ -1,62 +1,70 @@
 //! The scope of a VCD with the inputs of a design.
 
-use crate::changes::{Input, find};
+use crate::changes::{Bits, Input, find};
 use crate::header::{Header, Scope, Variable};
 use anyhow::{Context, Result, anyhow};
 use std::alloc::{AllocError, Global};
+use vsim_netlist_design::{empty_lists, push};
 
-/// An input and its variable, by their indices.
+/// An input that a variable of a VCD stands for: its index, its bits, and the code of the variable.
 #[derive(Clone, Copy)]
-pub(crate) struct Match {
-    pub(crate) input: usize,
-    pub(crate) variable: usize,
+pub(crate) struct Match<'a> {
+    input: usize,
+    pub(crate) bits: Bits,
+    pub(crate) code: &'a str,
 }
 
-/// The index of the input that has the name and the number of bits of a variable.
-fn input_of(inputs: &[Input], variable: &Variable<'_>) -> Option<usize> {
+/// The input that has the name and the number of bits of a variable.
+fn input_of<'a>(inputs: &[Input], variable: &Variable<'a>) -> Option<Match<'a>> {
     match find(inputs, variable.name) {
-        Some((place, width)) if width == variable.width => Some(place),
+        Some((input, bits)) if bits.width == variable.width => Some(Match {
+            input,
+            bits,
+            code: variable.code,
+        }),
         _ => None,
     }
 }
 
-/// For each scope, the inputs that it has with the right number of bits.
-fn matches(
-    alloc: Global,
-    header: &Header<'_>,
+/// Adds the input that a variable stands for, if there is one.
+fn add_variable<'a>(
+    found: &mut Vec<Vec<Match<'a>>>,
     inputs: &[Input],
-) -> Result<Vec<Vec<Match>>, AllocError> {
-    let mut found = empty(alloc, header.scopes.len())?;
-    for (variable, each) in header.variables.iter().enumerate() {
-        if let Some(input) = input_of(inputs, each) {
-            add(&mut found, each.scope, Match { input, variable })?;
-        }
+    variable: &Variable<'a>,
+) -> Result<(), AllocError> {
+    match input_of(inputs, variable) {
+        Some(new) => add(found, variable.scope, new),
+        None => Ok(()),
+    }
+}
+
+/// For each scope, the inputs that it has with the right number of bits.
+fn matches<'a>(
+    alloc: Global,
+    header: &Header<'a>,
+    inputs: &[Input],
+) -> Result<Vec<Vec<Match<'a>>>, AllocError> {
+    let mut found = empty_lists(alloc, header.scopes.len())?;
+    for variable in header.variables.iter() {
+        add_variable(&mut found, inputs, variable)?;
     }
     Ok(found)
 }
 
-/// This number of empty lists.
-fn empty(alloc: Global, count: usize) -> Result<Vec<Vec<Match>>, AllocError> {
-    let mut lists = Vec::new(alloc);
-    for _ in 0..count {
-        lists.push(Vec::new(alloc))?;
-    }
-    Ok(lists)
-}
-
 /// Adds an input to those of a scope, unless it is among them.
-fn add(found: &mut Vec<Vec<Match>>, scope: usize, new: Match) -> Result<(), AllocError> {
-    let Some(list) = found.get_mut(scope) else {
-        return Ok(());
-    };
-    if !has(list.as_slice(), new.input) {
-        list.push(new)?;
+fn add<'a>(
+    found: &mut Vec<Vec<Match<'a>>>,
+    scope: usize,
+    new: Match<'a>,
+) -> Result<(), AllocError> {
+    match found.get_mut(scope) {
+        Some(list) if !has(list.as_slice(), new.input) => push(list, new),
+        _ => Ok(()),
     }
-    Ok(())
 }
 
 /// Whether an input is among some.
-fn has(list: &[Match], input: usize) -> bool {
+fn has(list: &[Match<'_>], input: usize) -> bool {
     for each in list {
         if each.input == input {
             return true;
@@ -65,12 +73,20 @@ fn has(list: &[Match], input: usize) -> bool {
     false
 }
 
+/// Whether the scope at an index has this number of inputs.
+fn has_count(found: &[Vec<Match<'_>>], place: usize, count: usize) -> bool {
+    match found.get(place) {
+        Some(list) => list.len() == count,
+        None => false,
+    }
+}
+
 /// The index of the deepest scope that has this number of inputs; the first, if there are several.
-fn deepest(scopes: &[Scope], found: &[Vec<Match>], count: usize) -> Option<usize> {
+fn deepest(scopes: &[Scope], found: &[Vec<Match<'_>>], count: usize) -> Option<usize> {
     let (mut best, mut deepest) = (None, 0usize);
-    for (place, (scope, list)) in scopes.iter().zip(found.iter()).enumerate() {
+    for (place, scope) in scopes.iter().enumerate() {
         let is_deeper = best.is_none() || deepest < scope.depth;
-        if list.len() == count && is_deeper {
+        if is_deeper && has_count(found, place, count) {
             best = Some(place);
             deepest = scope.depth;
         }
@@ -89,7 +105,7 @@ fn at_path(scopes: &[Scope], path: &str) -> Option<usize> {
 }
 
 /// The first input that is missing from a list.
-fn missing<'a>(inputs: &'a [Input], list: &[Match]) -> Option<&'a str> {
+fn missing<'a>(inputs: &'a [Input], list: &[Match<'_>]) -> Option<&'a str> {
     for (place, input) in inputs.iter().enumerate() {
         if !has(list, place) {
             return Some(input.name.as_str());
@@ -98,34 +114,37 @@ fn missing<'a>(inputs: &'a [Input], list: &[Match]) -> Option<&'a str> {
     None
 }
 
-/// The index of the requested scope, or of the deepest one that has all inputs.
-fn place(
-    header: &Header<'_>,
-    found: &[Vec<Match>],
-    count: usize,
-    path: Option<&str>,
-) -> Result<usize> {
-    let scopes = header.scopes.as_slice();
-    let Some(path) = path else {
-        return deepest(scopes, found, count).context(
-            "no scope has all inputs, each with its width: --scope names one",
-        );
-    };
+/// The index of the scope with a path, which has to be there.
+fn requested(scopes: &[Scope], path: &str) -> Result<usize> {
     match at_path(scopes, path) {
         Some(place) => Ok(place),
         None => Err(anyhow!("there is no scope {path}")),
     }
 }
 
-/// The variables of inputs, from one scope.
-pub(crate) fn choose(
-    alloc: Global,
+/// The index of the requested scope, or of the deepest one that has all inputs.
+fn place(
     header: &Header<'_>,
-    inputs: &[Input],
+    found: &[Vec<Match<'_>>],
+    count: usize,
     path: Option<&str>,
-) -> Result<Vec<Match>> {
-    let mut found = matches(alloc, header, inputs)?;
-    let place = place(header, found.as_slice(), inputs.len(), path)?;
+) -> Result<usize> {
+    let scopes = header.scopes.as_slice();
+    match path {
+        Some(path) => requested(scopes, path),
+        None => deepest(scopes, found, count).context(
+            "no scope has all inputs, each with its width: --scope names one",
+        ),
+    }
+}
+
+/// Takes the inputs of the scope at an index, which has to have all.
+fn chosen<'a>(
+    alloc: Global,
+    found: &mut Vec<Vec<Match<'a>>>,
+    place: usize,
+    inputs: &[Input],
+) -> Result<Vec<Match<'a>>> {
     let Some(list) = found.get_mut(place) else {
         return Ok(Vec::new(alloc));
     };
@@ -133,4 +152,16 @@ pub(crate) fn choose(
         Some(name) => Err(anyhow!("the scope has no {name} with its width")),
         None => Ok(std::mem::replace(list, Vec::new(alloc))),
     }
+}
+
+/// The variables of inputs, from one scope.
+pub(crate) fn choose<'a>(
+    alloc: Global,
+    header: &Header<'a>,
+    inputs: &[Input],
+    path: Option<&str>,
+) -> Result<Vec<Match<'a>>> {
+    let mut found = matches(alloc, header, inputs)?;
+    let place = place(header, found.as_slice(), inputs.len(), path)?;
+    chosen(alloc, &mut found, place, inputs)
 }

@@ -1,23 +1,19 @@
 //! The values of a VCD.
 
-use crate::changes::{Input, Stimuli, starts};
-use crate::header::Header;
+use crate::changes::{Bits, Input, no_changes, reach, set};
 use crate::scopes::Match;
 use crate::times::LATEST;
 use anyhow::{Context, Result, anyhow, bail};
 use indexmap::IndexSet;
 use std::alloc::{AllocError, Global};
-
-/// The bits of the variables with one code.
-#[derive(Clone, Copy)]
-struct Bits {
-    start: usize,
-    width: usize,
-}
+use std::str::SplitAsciiWhitespace;
+use vsim_netlist_design::{Level, Stimuli, empty_lists, push};
 
 /// The values of a VCD, as far as it has been read.
 pub(crate) struct Values<'a> {
+    /// The codes of variables that stand for inputs.
     codes: IndexSet<String>,
+    /// The bits that each code stands for.
     users: Vec<Vec<Bits>>,
     scale: u64,
     time: u64,
@@ -29,92 +25,92 @@ pub(crate) struct Values<'a> {
 
 /// The first byte of a word, and the rest.
 fn split_first(word: &str) -> (u8, &str) {
-    let first = word.bytes().next().unwrap_or(b' ');
+    let first = word.as_bytes().first().copied().unwrap_or(b' ');
     (first, word.get(1..).unwrap_or(""))
 }
 
 impl Drop for Values<'_> {
     fn drop(self) {
         let Values {
-            codes,
-            users,
+            codes: _codes,
+            users: _users,
             scale: _,
             time: _,
             value: _,
             is_comment: _,
-            stimuli,
+            stimuli: _stimuli,
         } = self;
-        drop((codes, users, stimuli));
     }
 }
 
-/// A list of some bits.
-fn list_of(alloc: Global, bits: Bits) -> Result<Vec<Bits>, AllocError> {
-    let mut list = Vec::new(alloc);
-    list.push(bits)?;
-    Ok(list)
+/// The refusal of a word.
+fn no_value(word: &str) -> anyhow::Error {
+    anyhow!("'{word}' is no value of a VCD")
 }
 
-/// No values yet, for inputs that are variables of a header.
+/// The time that a number stands for, in femtoseconds.
+fn scaled(number: &str, scale: u64) -> Option<u64> {
+    number.parse::<u64>().ok()?.checked_mul(scale)
+}
+
+/// Gives a value to some bits. Returns `false` if a letter of it is not a level.
+fn set_all(
+    stimuli: &mut Stimuli,
+    users: &[Bits],
+    time: u64,
+    value: &[u8],
+) -> Result<bool, AllocError> {
+    for bits in users {
+        if !set(stimuli, *bits, time, value)? {
+            return Ok(false);
+        }
+    }
+    Ok(true)
+}
+
+/// No values yet, for inputs that variables stand for, in a unit of time.
 pub(crate) fn make_values<'a>(
     alloc: Global,
-    header: &Header<'_>,
+    scale: u64,
     inputs: &[Input],
-    matches: &[Match],
+    matches: &[Match<'_>],
 ) -> Result<Values<'a>, AllocError> {
-    let stimuli = Stimuli::new(alloc, inputs)?;
-    let mut values = Values::new(alloc, header.scale, stimuli);
-    values.connect(alloc, header, inputs, matches)?;
+    let users = empty_lists(alloc, matches.len())?;
+    let stimuli = no_changes(alloc, inputs)?;
+    let mut values = Values {
+        codes: IndexSet::new(alloc),
+        users,
+        scale,
+        time: 0,
+        value: None,
+        is_comment: false,
+        stimuli,
+    };
+    values.connect(alloc, matches)?;
     Ok(values)
 }
 
 impl<'a> Values<'a> {
-    /// No values, and no variables.
-    fn new(alloc: Global, scale: u64, stimuli: Stimuli) -> Values<'a> {
-        Values {
-            codes: IndexSet::new(alloc),
-            users: Vec::new(alloc),
-            scale,
-            time: 0,
-            value: None,
-            is_comment: false,
-            stimuli,
-        }
+    /// The index of a code, which is added if it is new.
+    fn place(&mut self, alloc: Global, code: &str) -> Result<usize, AllocError> {
+        let code = String::from_str(alloc, code)?;
+        let (place, _) = self.codes.insert_full(code)?;
+        Ok(place)
     }
 
     /// Adds bits to those of a code.
     fn add(&mut self, alloc: Global, code: &str, bits: Bits) -> Result<(), AllocError> {
-        let (place, is_new) = self.codes.insert_full(String::from_str(alloc, code)?)?;
-        if is_new {
-            return self.add_first(alloc, bits);
+        let place = self.place(alloc, code)?;
+        match self.users.get_mut(place) {
+            Some(list) => push(list, bits),
+            None => Ok(()),
         }
-        if let Some(list) = self.users.get_mut(place) {
-            list.push(bits)?;
-        }
-        Ok(())
     }
 
-    /// Adds the bits of a new code.
-    fn add_first(&mut self, alloc: Global, bits: Bits) -> Result<(), AllocError> {
-        self.users.push(list_of(alloc, bits)?)?;
-        Ok(())
-    }
-
-    /// Connects the variables of a header with the inputs.
-    fn connect(
-        &mut self,
-        alloc: Global,
-        header: &Header<'_>,
-        inputs: &[Input],
-        matches: &[Match],
-    ) -> Result<(), AllocError> {
-        let starts = starts(alloc, inputs)?;
+    /// Connects variables with the inputs that they stand for.
+    fn connect(&mut self, alloc: Global, matches: &[Match<'_>]) -> Result<(), AllocError> {
         for each in matches {
-            let start = starts.get(each.input).copied().unwrap_or(0);
-            if let Some(variable) = header.variables.get(each.variable) {
-                let width = variable.width;
-                self.add(alloc, variable.code, Bits { start, width })?;
-            }
+            self.add(alloc, each.code, each.bits)?;
         }
         Ok(())
     }
@@ -122,45 +118,44 @@ impl<'a> Values<'a> {
     /// The stimuli that have been read.
     pub(crate) fn into_stimuli(self) -> Stimuli {
         let Values {
-            codes,
-            users,
+            codes: _codes,
+            users: _users,
             scale: _,
             time: _,
             value: _,
             is_comment: _,
             stimuli,
         } = self;
-        drop((codes, users));
         stimuli
+    }
+
+    /// Gives a value to the bits of a code from now on. Returns `false` if it is not of levels.
+    fn try_set(&mut self, code: &str, value: &[u8]) -> Result<bool, AllocError> {
+        let Some(place) = self.codes.get_index_of(code) else {
+            return Ok(true);
+        };
+        match self.users.get(place) {
+            Some(users) => set_all(&mut self.stimuli, users.as_slice(), self.time, value),
+            None => Ok(true),
+        }
     }
 
     /// Gives a value to the bits of a code from now on.
     fn set(&mut self, code: &str, value: &str) -> Result<()> {
-        let Some(place) = self.codes.get_index_of(code) else {
-            return Ok(());
-        };
-        let Some(users) = self.users.get(place) else {
-            return Ok(());
-        };
-        for bits in users.iter() {
-            let value = value.as_bytes();
-            if !self.stimuli.set(bits.start, bits.width, self.time, value)? {
-                bail!("an input has a value that is none of bits");
-            }
+        if !self.try_set(code, value.as_bytes())? {
+            bail!("an input has a value that is none of bits");
         }
         Ok(())
     }
 
     /// Advances to a time.
     fn go_to(&mut self, text: &str) -> Result<()> {
-        let time = text.parse::<u64>().ok();
-        let time = time.and_then(|it| it.checked_mul(self.scale));
-        let time = time.context("a time is no number, or too late")?;
+        let time = scaled(text, self.scale).context("a time is no number, or too late")?;
         if time < self.time || LATEST < time {
             bail!("the times fall, or are too late");
         }
         self.time = time;
-        self.stimuli.reach(time);
+        reach(&mut self.stimuli, time);
         Ok(())
     }
 
@@ -181,27 +176,15 @@ impl<'a> Values<'a> {
                 self.value = Some("x");
                 Ok(())
             }
-            b'0'
-            | b'1'
-            | b'x'
-            | b'X'
-            | b'z'
-            | b'Z'
-            | b'u'
-            | b'U'
-            | b'w'
-            | b'W'
-            | b'l'
-            | b'L'
-            | b'h'
-            | b'H'
-            | b'-' => self.set(rest, word.get(..1).unwrap_or("x")),
-            _ => Err(anyhow!("'{word}' is no value of a VCD")),
+            _ if Level::from_byte(first).is_some() => {
+                self.set(rest, word.get(..1).unwrap_or("x"))
+            }
+            _ => Err(no_value(word)),
         }
     }
 
     /// Reads the next word.
-    pub(crate) fn take(&mut self, word: &'a str) -> Result<()> {
+    fn take(&mut self, word: &'a str) -> Result<()> {
         if self.is_comment {
             self.is_comment = word != "$end";
             return Ok(());
@@ -213,6 +196,14 @@ impl<'a> Values<'a> {
                 self.set(word, value)
             }
         }
+    }
+
+    /// Reads all words.
+    pub(crate) fn take_all(&mut self, words: SplitAsciiWhitespace<'a>) -> Result<()> {
+        for word in words {
+            self.take(word)?;
+        }
+        Ok(())
     }
 
     /// Whether a word is missing after the last one.

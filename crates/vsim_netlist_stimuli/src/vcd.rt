@@ -1,6 +1,6 @@
 //! Reading stimuli.
 
-use crate::changes::{Change, Input, Stimuli};
+use crate::changes::Input;
 use crate::header::Header;
 use crate::lines::read_lines;
 use crate::scopes::choose;
@@ -8,15 +8,15 @@ use crate::values::{Values, make_values};
 use anyhow::{Context, Result, anyhow, bail};
 use std::alloc::Global;
 use std::str::SplitAsciiWhitespace;
+use vsim_netlist_design::{Change, Stimuli};
 
 /// The refusal of a VCD that ends too early.
 fn cut_off() -> anyhow::Error {
     anyhow!("the VCD is cut off")
 }
 
-/// Reads the header of a VCD.
-fn read_header<'a>(alloc: Global, words: &mut SplitAsciiWhitespace<'a>) -> Result<Header<'a>> {
-    let mut header = Header::new(alloc);
+/// Reads words up to the end of a header.
+fn take_header<'a>(header: &mut Header<'a>, words: &mut SplitAsciiWhitespace<'a>) -> Result<()> {
     for _ in 0..u64::MAX {
         let Some(word) = words.next() else {
             return Err(cut_off());
@@ -26,7 +26,18 @@ fn read_header<'a>(alloc: Global, words: &mut SplitAsciiWhitespace<'a>) -> Resul
             break;
         }
     }
-    Ok(header)
+    Ok(())
+}
+
+/// The values of a VCD with this header, of which none has been read.
+fn no_values<'a>(
+    alloc: Global,
+    header: &Header<'a>,
+    inputs: &[Input],
+    scope: Option<&str>,
+) -> Result<Values<'a>> {
+    let matches = choose(alloc, header, inputs, scope)?;
+    Ok(make_values(alloc, header.scale, inputs, matches.as_slice())?)
 }
 
 /// Reads the header of a VCD. Returns its inputs, without values yet.
@@ -36,18 +47,16 @@ fn begin_values<'a>(
     inputs: &[Input],
     scope: Option<&str>,
 ) -> Result<Values<'a>> {
-    let header = read_header(alloc, words)?;
-    let matches = choose(alloc, &header, inputs, scope)?;
-    Ok(make_values(alloc, &header, inputs, matches.as_slice())?)
+    let mut header = Header::new(alloc);
+    take_header(&mut header, words)?;
+    no_values(alloc, &header, inputs, scope)
 }
 
 /// Reads a VCD: its header, then its values.
 fn read_vcd(alloc: Global, text: &str, inputs: &[Input], scope: Option<&str>) -> Result<Stimuli> {
     let mut words = text.split_ascii_whitespace();
     let mut values = begin_values(alloc, &mut words, inputs, scope)?;
-    for word in words {
-        values.take(word)?;
-    }
+    values.take_all(words)?;
     if values.is_cut() || !text.ends_with("\n") {
         return Err(cut_off());
     }

@@ -1,11 +1,10 @@
 //! Stimuli as statements.
 
-use crate::tables::{Clock, Tables, later_changes};
+use crate::tables::{Clock, Tables, is_multiple, later_changes};
 use std::alloc::{AllocError, Global};
 use std::slice::Iter;
-use vsim_netlist_design::{Bit, Draft, Level, Netlist, Port, push_time};
+use vsim_netlist_design::{Bit, Change, Draft, Level, Netlist, Port, Stimuli, push, push_time};
 use vsim_netlist_signals::Statements;
-use vsim_netlist_stimuli::{Change, Stimuli};
 
 /// The maximum number of elements of a waveform.
 const ELEMENTS: usize = 16;
@@ -28,7 +27,7 @@ fn is_edge(change: &Change, first: Level, half: u64, number: usize) -> bool {
         (Level::Zero, 0) | (Level::One, 1) => Level::Zero,
         _ => Level::One,
     };
-    change.level == level && Some(change.time) == half.checked_mul(number as u64)
+    change.level == level && is_multiple(change.time, half, number as u64)
 }
 
 /// Half the period, if these are the changes of a clock that begins at time 0.
@@ -50,6 +49,18 @@ fn half_period(changes: &[Change]) -> Option<u64> {
     Some(half)
 }
 
+/// Adds the net of a bit with these changes, if it is one.
+fn push_net<'a>(
+    nets: &mut Vec<Driven<'a>>,
+    bit: Bit,
+    changes: &'a [Change],
+) -> Result<(), AllocError> {
+    match bit {
+        Bit::Net(place) => push(nets, one(place, changes)),
+        Bit::Constant(_) => Ok(()),
+    }
+}
+
 /// Adds the nets of an input, with the next lists of changes.
 fn push_nets<'a>(
     nets: &mut Vec<Driven<'a>>,
@@ -60,9 +71,7 @@ fn push_nets<'a>(
         let Some(changes) = lists.next() else {
             break;
         };
-        if let Bit::Net(place) = bit {
-            nets.push(one(*place, changes.as_slice()))?;
-        }
+        push_net(nets, *bit, changes.as_slice())?;
     }
     Ok(())
 }
@@ -111,17 +120,20 @@ fn last_edge(nets: &[Driven<'_>]) -> u64 {
     latest
 }
 
+/// Whether a net is a clock that ends before others.
+fn ends_early(net: &Driven<'_>, end: u64) -> bool {
+    match (net.half, net.changes.last()) {
+        (Some(half), Some(change)) => change.time.saturating_add(half) <= end,
+        (Some(_), None) => true,
+        (None, _) => false,
+    }
+}
+
 /// Clocks that end before others are not written as clocks.
 fn leave_whole_clocks(nets: &mut Vec<Driven<'_>>, end: u64) {
     for net in nets.iter_mut() {
-        if let Some(half) = net.half {
-            let next = match net.changes.last() {
-                Some(change) => change.time.saturating_add(half),
-                None => 0,
-            };
-            if next <= end {
-                net.half = None;
-            }
+        if ends_early(net, end) {
+            net.half = None;
         }
     }
 }
@@ -177,19 +189,25 @@ fn begin<'a>(statements: &mut Statements, net: &Driven<'a>) -> &'a [Change] {
     later_changes(net.changes)
 }
 
+/// Adds a clock that stops when a signal falls.
+fn push_clock(text: &mut Draft, clock: &str, running: &str, half: u64) {
+    text.push(clock);
+    text.push("<=");
+    text.push(clock);
+    text.push(" xor ");
+    text.push(running);
+    text.push(" after ");
+    push_time(text, half);
+    text.push(";\n");
+}
+
 /// Writes a clock that stops when a signal falls.
 fn put_clock(statements: &mut Statements, net: &Driven<'_>, half: u64, running: usize) {
     statements.signals.ensure(net.place);
     let _ = begin(statements, net);
     statements.count();
-    statements.push_name(net.place);
-    statements.body.push("<=");
-    statements.push_name(net.place);
-    statements.body.push(" xor ");
-    statements.push_name(running);
-    statements.body.push(" after ");
-    push_time(&mut statements.body, half);
-    statements.body.push(";\n");
+    let (signals, text) = (&statements.signals, &mut statements.body);
+    push_clock(text, signals.text(net.place), signals.text(running), half);
 }
 
 /// Writes that a net follows another one delta cycle later.
@@ -253,7 +271,10 @@ fn first_clock(nets: &[Driven<'_>], end: u64) -> Option<Clock> {
 
 /// Whether a clock depends on a net, given the same of all nets.
 fn is_clock(clocks: &[bool], net: &Driven<'_>) -> bool {
-    clocks.get(net.place).copied() == Some(true)
+    match clocks.get(net.place) {
+        Some(is_clock) => *is_clock,
+        None => false,
+    }
 }
 
 /// The inputs that may be in a table: those on which no clock depends.
@@ -265,10 +286,21 @@ fn table_inputs<'a>(
     let mut inputs = Vec::new(alloc);
     for net in nets {
         if net.half.is_none() && !is_clock(clocks, net) {
-            inputs.push((net.place, net.changes))?;
+            push(&mut inputs, (net.place, net.changes))?;
         }
     }
     Ok(inputs)
+}
+
+/// The tables of the inputs that change with a clock.
+fn tables_with(
+    alloc: Global,
+    clock: Clock,
+    nets: &[Driven<'_>],
+    clocks: &[bool],
+) -> Result<Tables, AllocError> {
+    let inputs = table_inputs(alloc, nets, clocks)?;
+    Tables::of(alloc, clock, inputs.as_slice())
 }
 
 /// The tables of the inputs that change with the first clock, one delta cycle after its edges;
@@ -284,8 +316,8 @@ fn tables(
     if manner.hold != 0 {
         return Ok(None);
     }
-    let inputs = table_inputs(alloc, nets, manner.clocks)?;
-    Ok(Some(Tables::of(alloc, clock, inputs.as_slice())?))
+    let tables = tables_with(alloc, clock, nets, manner.clocks)?;
+    Ok(Some(tables))
 }
 
 /// Whether a table has the changes of a net.
@@ -319,6 +351,19 @@ fn put_net(
     }
 }
 
+/// Writes the drivers of the inputs, except the tables.
+fn put_nets(
+    statements: &mut Statements,
+    once: &mut Draft,
+    nets: &[Driven<'_>],
+    manner: Manner<'_>,
+    tables: &Option<Tables>,
+) {
+    for net in nets {
+        put_net(statements, once, net, manner, tables);
+    }
+}
+
 /// Writes the drivers of the inputs.
 fn put_inputs(
     statements: &mut Statements,
@@ -327,13 +372,20 @@ fn put_inputs(
     manner: Manner<'_>,
 ) -> Result<(), AllocError> {
     let tables = tables(statements.alloc, nets, manner)?;
-    for net in nets {
-        put_net(statements, once, net, manner, &tables);
-    }
+    put_nets(statements, once, nets, manner, &tables);
     match &tables {
         Some(tables) => tables.put(statements),
         None => Ok(()),
     }
+}
+
+/// Adds a process that waits for a signal, with these statements.
+fn push_once(text: &mut Draft, never: &str, once: &Draft) {
+    text.push("process(");
+    text.push(never);
+    text.push(")begin\n");
+    text.push_draft(once);
+    text.push("end process;\n");
 }
 
 /// Writes the process that is executed once, with these statements.
@@ -343,11 +395,8 @@ fn put_once(statements: &mut Statements, once: &Draft) {
     }
     let never = statements.signals.constant(Level::Zero);
     statements.count_process();
-    statements.body.push("process(");
-    statements.push_name(never);
-    statements.body.push(")begin\n");
-    statements.body.push_draft(once);
-    statements.body.push("end process;\n");
+    let (signals, text) = (&statements.signals, &mut statements.body);
+    push_once(text, signals.text(never), once);
 }
 
 /// The signal that stops the clocks at a time.
@@ -360,6 +409,20 @@ fn put_run(statements: &mut Statements, once: &mut Draft, end: u64) -> usize {
     };
     push_changes(once, statements.signals.text(running), &[stop], 0);
     running
+}
+
+/// The signal that stops the clocks at a time, if there are any.
+fn put_running(
+    statements: &mut Statements,
+    once: &mut Draft,
+    nets: &[Driven<'_>],
+    end: u64,
+) -> Option<usize> {
+    if has_clock(nets) {
+        Some(put_run(statements, once, end))
+    } else {
+        None
+    }
 }
 
 /// Whether any net is a clock.
@@ -396,11 +459,7 @@ fn put_driven(
     end: u64,
 ) -> Result<(), AllocError> {
     let mut once = Draft::new(statements.alloc);
-    let running = if has_clock(nets) {
-        Some(put_run(statements, &mut once, end))
-    } else {
-        None
-    };
+    let running = put_running(statements, &mut once, nets, end);
     let manner = Manner {
         clocks,
         hold,

@@ -3,17 +3,25 @@
 ghost use Rattle.std.specs.Prelude.{◌≤◌, length};
 
 use std::alloc::{AllocError, Global};
-use vsim_netlist_design::{Draft, Level};
+use vsim_netlist_design::{Draft, Level, push};
 use vsim_netlist_signals::{Names, Signals, Statements};
 
 /// The changes of inputs at the edges of a clock in one direction, by the number of the edge, from
 /// 0.
-#[derive(Drop)]
 pub(crate) struct Table {
     /// For each change, the number of its edge and its index in `changes`.
     order: Vec<(usize, usize)>,
     /// The index of the net that changes, and its value.
     changes: Vec<(usize, Level)>,
+}
+
+impl Drop for Table {
+    fn drop(self) {
+        let Table {
+            order: _order,
+            changes: _changes,
+        } = self;
+    }
 }
 
 /// A bit of the counter of edges: its variable, and what it stands for.
@@ -34,9 +42,8 @@ impl Table {
 
     /// Adds a change at the edge with a number.
     pub(crate) fn push(&mut self, edge: usize, net: usize, level: Level) -> Result<(), AllocError> {
-        self.order.push((edge, self.changes.len()))?;
-        self.changes.push((net, level))?;
-        Ok(())
+        push(&mut self.order, (edge, self.changes.len()))?;
+        push(&mut self.changes, (net, level))
     }
 
     /// Sorts the changes by their edges.
@@ -75,7 +82,7 @@ fn counter(alloc: Global, names: &mut Names, edges: usize) -> Result<Vec<Counter
             break;
         }
         let name = names.fresh();
-        bits.push(CounterBit { name, weight })?;
+        push(&mut bits, CounterBit { name, weight })?;
         weight /= 2;
     }
     Ok(bits)
@@ -114,10 +121,16 @@ fn equal_bits(bits: &[CounterBit], number: usize, other: usize) -> usize {
     bits.len()
 }
 
+/// Adds a name and the part before it.
+fn push_part(text: &mut Draft, before: &str, name: &str) {
+    text.push(before);
+    text.push(name);
+}
+
 /// Adds the condition that a bit is as in a number.
 fn push_test(text: &mut Draft, word: &str, bit: &CounterBit, number: usize) {
-    let literal = if is_set(bit, number) { "='1'" } else { "='0'" };
-    text.push_all(&[word, bit.name.as_str(), literal]);
+    push_part(text, word, bit.name.as_str());
+    text.push(if is_set(bit, number) { "='1'" } else { "='0'" });
 }
 
 /// Begins an `if` for each bit of a range.
@@ -151,16 +164,21 @@ fn push_ends(text: &mut Draft, count: usize) {
 
 /// Adds the assignment of a level.
 fn push_assignment(text: &mut Draft, name: &str, level: Level) {
-    text.push_all(&[name, "<="]);
-    text.push_all(&[level.literal(), ";"]);
+    push_part(text, name, "<=");
+    push_part(text, level.literal(), ";");
+}
+
+/// Adds the assignment of the change at an index.
+fn push_change(text: &mut Draft, signals: &Signals, table: &Table, at: usize) {
+    if let Some((net, level)) = table.changes.get(at) {
+        push_assignment(text, signals.text(*net), *level);
+    }
 }
 
 /// Adds the assignments of changes.
 fn push_assignments(text: &mut Draft, signals: &Signals, table: &Table, order: &[(usize, usize)]) {
     for (_, at) in order {
-        if let Some((net, level)) = table.changes.get(*at) {
-            push_assignment(text, signals.text(*net), *level);
-        }
+        push_change(text, signals, table, *at);
     }
     text.push("\n");
 }
@@ -242,19 +260,18 @@ fn shared(bits: &[CounterBit], number: usize, others: &[(usize, usize)]) -> usiz
     }
 }
 
+/// Adds the negation of a bit, up to the branch that goes on with the next higher one.
+fn push_toggle(text: &mut Draft, name: &str) {
+    push_part(text, "if ", name);
+    push_part(text, "='0'then ", name);
+    push_part(text, ":='1';else ", name);
+    text.push(":='0';");
+}
+
 /// Adds one to the counter.
 fn push_increment(text: &mut Draft, bits: &[CounterBit]) {
     for bit in bits.iter().rev() {
-        let name = bit.name.as_str();
-        text.push_all(&[
-            "if ",
-            name,
-            "='0'then ",
-            name,
-            ":='1';else ",
-            name,
-            ":='0';",
-        ]);
+        push_toggle(text, bit.name.as_str());
     }
     push_ends(text, bits.len())
 }
@@ -263,7 +280,7 @@ fn push_increment(text: &mut Draft, bits: &[CounterBit]) {
 fn push_declaration(text: &mut Draft, bits: &[CounterBit]) {
     let mut before = "variable ";
     for bit in bits {
-        text.push_all(&[before, bit.name.as_str()]);
+        push_part(text, before, bit.name.as_str());
         before = ",";
     }
     text.push(":std_logic:='0';")
@@ -271,15 +288,32 @@ fn push_declaration(text: &mut Draft, bits: &[CounterBit]) {
 
 /// Adds the part of the process before the changes.
 fn push_head(text: &mut Draft, clock: &str, condition: &str, bits: &[CounterBit]) {
-    text.push_all(&["process(", clock, ")"]);
+    push_part(text, "process(", clock);
+    text.push(")");
     push_declaration(text, bits);
-    text.push_all(&["begin if ", condition, "(", clock, ")then\n"])
+    push_part(text, "begin if ", condition);
+    push_part(text, "(", clock);
+    text.push(")then\n")
 }
 
 /// Adds the part of the process after the changes.
 fn push_tail(text: &mut Draft, bits: &[CounterBit]) {
     push_increment(text, bits);
     text.push("end if;end process;\n")
+}
+
+/// Adds the process of a table, with a counter of these bits.
+fn push_table(
+    text: &mut Draft,
+    signals: &Signals,
+    table: &Table,
+    clock: usize,
+    condition: &str,
+    bits: &[CounterBit],
+) {
+    push_head(text, signals.text(clock), condition, bits);
+    push_edges(text, bits, signals, table);
+    push_tail(text, bits);
 }
 
 /// Writes the process of a table. It counts the edges of a clock for which `condition` holds, of
@@ -293,14 +327,7 @@ pub(crate) fn put_table(
 ) -> Result<(), AllocError> {
     let bits = counter(statements.alloc, &mut statements.signals.names, edges)?;
     statements.count_process();
-    let text = &mut statements.body;
-    push_head(
-        text,
-        statements.signals.text(clock),
-        condition,
-        bits.as_slice(),
-    );
-    push_edges(text, bits.as_slice(), &statements.signals, table);
-    push_tail(text, bits.as_slice());
+    let (signals, text) = (&statements.signals, &mut statements.body);
+    push_table(text, signals, table, clock, condition, bits.as_slice());
     Ok(())
 }

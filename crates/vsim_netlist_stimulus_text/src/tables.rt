@@ -2,9 +2,8 @@
 
 use crate::table::{Table, put_table};
 use std::alloc::{AllocError, Global};
-use vsim_netlist_design::Level;
+use vsim_netlist_design::{Change, Level};
 use vsim_netlist_signals::Statements;
-use vsim_netlist_stimuli::Change;
 
 /// A clock: its net, its initial level, half its period, and the time of its last edge.
 #[derive(Clone, Copy)]
@@ -16,11 +15,20 @@ pub(crate) struct Clock {
 }
 
 /// The tables of a clock: the changes of inputs at its rising and its falling edges.
-#[derive(Drop)]
 pub(crate) struct Tables {
     clock: Clock,
     rising: Option<Table>,
     falling: Option<Table>,
+}
+
+impl Drop for Tables {
+    fn drop(self) {
+        let Tables {
+            clock: _,
+            rising: _rising,
+            falling: _falling,
+        } = self;
+    }
 }
 
 /// An edge of a clock: whether it rises, and its number among those in the same direction, from 0.
@@ -30,10 +38,18 @@ struct Edge {
     number: usize,
 }
 
+/// Whether a time is a multiple of another one, by this number.
+pub(crate) fn is_multiple(time: u64, unit: u64, number: u64) -> bool {
+    match unit.checked_mul(number) {
+        Some(product) => product == time,
+        None => false,
+    }
+}
+
 /// The edge of a clock at a time, if there is one.
 fn edge_at(clock: &Clock, time: u64) -> Option<Edge> {
     let number = time.checked_div(clock.half)?;
-    if number == 0 || time > clock.end || number.checked_mul(clock.half) != Some(time) {
+    if number == 0 || time > clock.end || !is_multiple(time, clock.half, number) {
         return None;
     }
     let is_odd = number % 2 == 1;
@@ -68,6 +84,19 @@ fn are_at(clock: &Clock, changes: &[Change], rises: bool) -> bool {
     true
 }
 
+/// Adds a change of an input to a table.
+fn push_change(
+    table: &mut Table,
+    clock: &Clock,
+    net: usize,
+    change: &Change,
+) -> Result<(), AllocError> {
+    match edge_at(clock, change.time) {
+        Some(edge) => table.push(edge.number, net, change.level),
+        None => Ok(()),
+    }
+}
+
 /// Adds the changes of an input to a table.
 fn push_changes(
     table: &mut Table,
@@ -76,11 +105,37 @@ fn push_changes(
     changes: &[Change],
 ) -> Result<(), AllocError> {
     for change in changes {
-        if let Some(edge) = edge_at(clock, change.time) {
-            table.push(edge.number, net, change.level)?;
-        }
+        push_change(table, clock, net, change)?;
     }
     Ok(())
+}
+
+/// Adds the changes of an input to the table of the edges in one direction, if all are at these.
+fn push_input(
+    table: &mut Table,
+    clock: &Clock,
+    net: usize,
+    changes: &[Change],
+    rises: bool,
+) -> Result<(), AllocError> {
+    let changes = later_changes(changes);
+    if are_at(clock, changes, rises) {
+        return push_changes(table, clock, net, changes);
+    }
+    Ok(())
+}
+
+/// Adds the changes of inputs to a table of the edges in one direction, by their edges.
+fn push_inputs(
+    table: &mut Table,
+    clock: &Clock,
+    inputs: &[(usize, &[Change])],
+    rises: bool,
+) -> Result<(), AllocError> {
+    for (net, changes) in inputs {
+        push_input(table, clock, *net, changes, rises)?;
+    }
+    table.sort()
 }
 
 /// The table of the inputs, given by their nets and changes, that change at the edges of a clock in
@@ -92,14 +147,22 @@ fn table_of(
     rises: bool,
 ) -> Result<Option<Table>, AllocError> {
     let mut table = Table::new(alloc);
-    for (net, changes) in inputs {
-        let changes = later_changes(changes);
-        if are_at(clock, changes, rises) {
-            push_changes(&mut table, clock, *net, changes)?;
-        }
-    }
-    table.sort()?;
+    push_inputs(&mut table, clock, inputs, rises)?;
     Ok(if table.pays() { Some(table) } else { None })
+}
+
+/// Writes the process of a table, if there is one.
+fn put_one(
+    statements: &mut Statements,
+    table: &Option<Table>,
+    clock: usize,
+    condition: &str,
+    edges: usize,
+) -> Result<(), AllocError> {
+    match table {
+        Some(table) => put_table(statements, table, clock, condition, edges),
+        None => Ok(()),
+    }
 }
 
 impl Tables {
@@ -109,10 +172,12 @@ impl Tables {
         clock: Clock,
         inputs: &[(usize, &[Change])],
     ) -> Result<Tables, AllocError> {
+        let rising = table_of(alloc, &clock, inputs, true)?;
+        let falling = table_of(alloc, &clock, inputs, false)?;
         Ok(Tables {
-            rising: table_of(alloc, &clock, inputs, true)?,
-            falling: table_of(alloc, &clock, inputs, false)?,
             clock,
+            rising,
+            falling,
         })
     }
 
@@ -131,12 +196,7 @@ impl Tables {
         let clock = self.clock.net;
         let edges = edges_in_direction(&self.clock);
         statements.signals.ensure(clock);
-        if let Some(table) = &self.rising {
-            put_table(statements, table, clock, "rising_edge", edges)?;
-        }
-        if let Some(table) = &self.falling {
-            put_table(statements, table, clock, "falling_edge", edges)?;
-        }
-        Ok(())
+        put_one(statements, &self.rising, clock, "rising_edge", edges)?;
+        put_one(statements, &self.falling, clock, "falling_edge", edges)
     }
 }

@@ -7,4 +7,4 @@ mod uses;
 
 pub use loops::{Clocks, refuse_loops};
 pub use order::{all_within, writing_order};
-pub use uses::{Use, Uses, longest_within, wanted_nets};
+pub use uses::{Use, Uses, is_marked, longest_within, wanted_nets};

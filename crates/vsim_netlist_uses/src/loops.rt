@@ -3,7 +3,7 @@
 use crate::uses::Uses;
 use anyhow::{Result, anyhow};
 use std::alloc::{AllocError, Global};
-use vsim_netlist_design::{Bit, Cell, Gate, Netlist, Variable};
+use vsim_netlist_design::{Bit, Cell, Gate, Netlist, Variable, push};
 
 /// The net at the input of a buffer.
 fn source(netlist: &Netlist, uses: &Uses, place: usize) -> Option<usize> {
@@ -43,15 +43,26 @@ fn leads_back(netlist: &Netlist, uses: &Uses, marks: &mut Vec<usize>, start: usi
 
 /// Whether a variable has a net.
 fn has(variable: &Variable, place: usize) -> bool {
-    variable.bits.iter().any(|bit| *bit == Bit::Net(place))
+    for bit in variable.bits.iter() {
+        if let Bit::Net(net) = bit {
+            if *net == place {
+                return true;
+            }
+        }
+    }
+    false
+}
+
+/// The refusal of a loop of wires that has a name.
+fn named_refusal(name: &str) -> anyhow::Error {
+    anyhow!("{name} is in a loop of wires")
 }
 
 /// The refusal of a loop of wires.
 fn refusal(netlist: &Netlist, place: usize) -> anyhow::Error {
     for variable in netlist.variables.iter() {
         if has(variable, place) {
-            let name = variable.name.as_str();
-            return anyhow!("{name} is in a loop of wires");
+            return named_refusal(variable.name.as_str());
         }
     }
     anyhow!("there is a loop of wires")
@@ -66,6 +77,14 @@ pub fn refuse_loops(alloc: Global, netlist: &Netlist, uses: &Uses) -> Result<()>
         }
     }
     Ok(())
+}
+
+/// The last cell that drives a net, if there is one.
+fn driver(uses: &Uses, place: usize) -> Option<usize> {
+    match uses.nets.get(place) {
+        Some(net) if net.drivers > 0 => Some(net.driver),
+        _ => None,
+    }
 }
 
 /// The nets that clocks depend on: those of clocks, and those from which gates derive clocks.
@@ -88,7 +107,7 @@ impl Clocks {
         };
         if !*is_before {
             *is_before = true;
-            self.left.push(place)?;
+            return push(&mut self.left, place);
         }
         Ok(())
     }
@@ -113,19 +132,23 @@ impl Clocks {
         Ok(())
     }
 
+    /// Notes that a cell drives a clock, or what one depends on.
+    fn mark_driver(&mut self, netlist: &Netlist, driver: usize) -> Result<(), AllocError> {
+        self.derived = self.derived.saturating_add(1);
+        match netlist.cells.get(driver) {
+            Some(Cell::Gate(gate)) => self.mark_all(gate.inputs.as_slice()),
+            _ => Ok(()),
+        }
+    }
+
     /// Finds what clocks depend on, gate by gate.
     fn mark_gates(&mut self, netlist: &Netlist, uses: &Uses) -> Result<(), AllocError> {
         for _ in 0..uses.nets.len() {
             let Some(place) = self.left.pop() else {
                 break;
             };
-            let net = uses.nets.get(place).copied();
-            let Some(net) = net.filter(|it| it.drivers > 0) else {
-                continue;
-            };
-            self.derived = self.derived.saturating_add(1);
-            if let Some(Cell::Gate(gate)) = netlist.cells.get(net.driver) {
-                self.mark_all(gate.inputs.as_slice())?;
+            if let Some(driver) = driver(uses, place) {
+                self.mark_driver(netlist, driver)?;
             }
         }
         Ok(())

@@ -1,8 +1,8 @@
 //! The order in which gates are written: nested ones first.
 
-use crate::uses::{Uses, longest_within, may_stand_within};
+use crate::uses::{Uses, is_marked, longest_within, may_stand_within};
 use std::alloc::{AllocError, Global};
-use vsim_netlist_design::{Cell, Netlist};
+use vsim_netlist_design::{Cell, GateCell, Netlist, push};
 
 /// Whether the gate that drives a net may be nested in the cell that reads it.
 fn is_within(netlist: &Netlist, uses: &Uses, place: usize) -> bool {
@@ -29,7 +29,7 @@ pub fn all_within(
 ) -> Result<Vec<bool>, AllocError> {
     let mut within = Vec::new(alloc);
     for place in 0..uses.nets.len() {
-        within.push(!has_delays && is_within(netlist, uses, place))?;
+        push(&mut within, !has_delays && is_within(netlist, uses, place))?;
     }
     Ok(within)
 }
@@ -61,14 +61,19 @@ impl Pending {
         }
     }
 
-    /// A cell waits for one gate fewer, and may become ready.
-    fn release(&mut self, cell: usize) -> Result<(), AllocError> {
+    /// A cell waits for one gate fewer. Returns whether it waits for none.
+    fn is_released(&mut self, cell: usize) -> bool {
         let Some(count) = self.counts.get_mut(cell) else {
-            return Ok(());
+            return false;
         };
         *count = count.saturating_sub(1);
-        if *count == 0 {
-            self.ready.push(cell)?;
+        *count == 0
+    }
+
+    /// A cell waits for one gate fewer, and may become ready.
+    fn release(&mut self, cell: usize) -> Result<(), AllocError> {
+        if self.is_released(cell) {
+            return push(&mut self.ready, cell);
         }
         Ok(())
     }
@@ -81,46 +86,73 @@ impl Pending {
             }
             *is_placed = true;
         }
-        self.order.push(cell)?;
-        Ok(())
+        push(&mut self.order, cell)
     }
 }
 
 /// Counts for each cell the gates nested in it.
 fn count(pending: &mut Pending, uses: &Uses, within: &[bool]) {
-    for (net, is_within) in uses.nets.iter().zip(within.iter()) {
-        if *is_within {
+    for (place, net) in uses.nets.iter().enumerate() {
+        if is_marked(within, place) {
             pending.wait(net.reader);
         }
+    }
+}
+
+/// The gate at an index, if that is one.
+fn gate_at(netlist: &Netlist, cell: usize) -> Option<&GateCell> {
+    match netlist.cells.get(cell) {
+        Some(Cell::Gate(gate)) => Some(gate),
+        _ => None,
+    }
+}
+
+/// Whether a cell waits for no gate.
+fn is_ready(pending: &Pending, cell: usize) -> bool {
+    match pending.counts.get(cell) {
+        Some(count) => *count == 0,
+        None => false,
     }
 }
 
 /// Finds the gates that wait for no other.
 fn find_ready(pending: &mut Pending, netlist: &Netlist) -> Result<(), AllocError> {
     for place in (0..netlist.cells.len()).rev() {
-        let is_gate = match netlist.cells.get(place) {
-            Some(Cell::Gate(_)) => true,
-            _ => false,
-        };
-        if is_gate && pending.counts.get(place).copied() == Some(0) {
-            pending.ready.push(place)?;
+        if gate_at(netlist, place).is_some() && is_ready(pending, place) {
+            push(&mut pending.ready, place)?;
         }
     }
     Ok(())
 }
 
+/// The cell that reads a net, if it is a gate.
+fn reading_gate(netlist: &Netlist, uses: &Uses, net: usize) -> Option<usize> {
+    match uses.nets.get(net) {
+        Some(net) if gate_at(netlist, net.reader).is_some() => Some(net.reader),
+        _ => None,
+    }
+}
+
 /// The cell in which a gate is nested.
 fn waiting(netlist: &Netlist, uses: &Uses, within: &[bool], cell: usize) -> Option<usize> {
-    let Some(Cell::Gate(gate)) = netlist.cells.get(cell) else {
-        return None;
-    };
-    if within.get(gate.output).copied() != Some(true) {
-        return None;
-    }
-    let net = uses.nets.get(gate.output)?;
-    match netlist.cells.get(net.reader) {
-        Some(Cell::Gate(_)) => Some(net.reader),
+    match gate_at(netlist, cell) {
+        Some(gate) if is_marked(within, gate.output) => reading_gate(netlist, uses, gate.output),
         _ => None,
+    }
+}
+
+/// Places a gate that is ready.
+fn place_one(
+    pending: &mut Pending,
+    netlist: &Netlist,
+    uses: &Uses,
+    within: &[bool],
+    cell: usize,
+) -> Result<(), AllocError> {
+    pending.place(cell)?;
+    match waiting(netlist, uses, within, cell) {
+        Some(reader) => pending.release(reader),
+        None => Ok(()),
     }
 }
 
@@ -135,10 +167,7 @@ fn place_ready(
         let Some(cell) = pending.ready.pop() else {
             break;
         };
-        pending.place(cell)?;
-        if let Some(reader) = waiting(netlist, uses, within, cell) {
-            pending.release(reader)?;
-        }
+        place_one(pending, netlist, uses, within, cell)?;
     }
     Ok(())
 }
@@ -149,6 +178,17 @@ fn place_others(pending: &mut Pending, netlist: &Netlist) -> Result<(), AllocErr
         pending.place(cell)?;
     }
     Ok(())
+}
+
+/// Places all cells.
+fn place_all(
+    pending: &mut Pending,
+    netlist: &Netlist,
+    uses: &Uses,
+    within: &[bool],
+) -> Result<(), AllocError> {
+    place_ready(pending, netlist, uses, within)?;
+    place_others(pending, netlist)
 }
 
 /// The number of gates before each cell at first.
@@ -172,7 +212,6 @@ pub fn writing_order(
     within: &[bool],
 ) -> Result<Vec<usize>, AllocError> {
     let mut pending = first_pending(alloc, netlist, uses, within)?;
-    place_ready(&mut pending, netlist, uses, within)?;
-    place_others(&mut pending, netlist)?;
+    place_all(&mut pending, netlist, uses, within)?;
     Ok(pending.order)
 }

@@ -1,7 +1,7 @@
 //! Which cells read and drive the nets of a netlist.
 
 use std::alloc::{AllocError, Global};
-use vsim_netlist_design::{Bit, Cell, Control, Gate, GateCell, Netlist, Register, Style};
+use vsim_netlist_design::{Bit, Cell, Control, Gate, GateCell, Netlist, Register, Style, push};
 
 /// The cells that read and drive a net: their number, and the last of each.
 #[derive(Clone, Copy)]
@@ -141,12 +141,40 @@ impl Uses {
         };
         for net in netlist.nets.iter() {
             let is_kept = net.is_named;
-            uses.nets.push(Use { is_kept, ..UNUSED })?;
+            push(&mut uses.nets, Use { is_kept, ..UNUSED })?;
         }
         uses.take_ports(netlist);
         uses.take_cells(netlist, may_nest);
         Ok(uses)
     }
+}
+
+/// Whether a mark is set.
+pub fn is_marked(marks: &[bool], place: usize) -> bool {
+    match marks.get(place) {
+        Some(mark) => *mark,
+        None => false,
+    }
+}
+
+/// Whether a net whose gate is nested, or not, needs a name.
+fn is_wanted(net: &Use, is_within: bool) -> bool {
+    !is_within && (net.is_kept || net.readers > 0)
+}
+
+/// The nets that need names, each after a number that is smaller the more it is read.
+fn all_wanted(
+    alloc: Global,
+    uses: &Uses,
+    is_within: &[bool],
+) -> Result<Vec<(usize, usize)>, AllocError> {
+    let mut wanted = Vec::new(alloc);
+    for (place, net) in uses.nets.iter().enumerate() {
+        if is_wanted(net, is_marked(is_within, place)) {
+            push(&mut wanted, (usize::MAX.saturating_sub(net.readers), place))?;
+        }
+    }
+    Ok(wanted)
 }
 
 /// The nets that need names, each after a number that is smaller the more it is read, the smallest
@@ -156,13 +184,7 @@ pub fn wanted_nets(
     uses: &Uses,
     is_within: &[bool],
 ) -> Result<Vec<(usize, usize)>, AllocError> {
-    let mut wanted = Vec::new(alloc);
-    for (place, (net, within)) in uses.nets.iter().zip(is_within.iter()).enumerate() {
-        let is_used = net.is_kept || net.readers > 0;
-        if is_used && !*within {
-            wanted.push((usize::MAX.saturating_sub(net.readers), place))?;
-        }
-    }
+    let mut wanted = all_wanted(alloc, uses, is_within)?;
     wanted.sort()?;
     Ok(wanted)
 }

@@ -59,10 +59,17 @@ pub fn primary(alloc: Global, text: &str) -> Expression {
     }
 }
 
+/// Whether a byte, if there is one, is part of a word.
+fn is_word(byte: Option<&u8>) -> bool {
+    match byte {
+        Some(byte) => byte.is_ascii_alphanumeric(),
+        None => false,
+    }
+}
+
 /// Adds a space if the next part would otherwise join the word before it.
 fn push_space(text: &mut Draft, next: &str) {
-    let is_word = |byte: Option<u8>| byte.is_some_and(|it| it.is_ascii_alphanumeric());
-    if is_word(text.as_str().bytes().last()) && is_word(next.bytes().next()) {
+    if is_word(text.as_str().as_bytes().last()) && is_word(next.as_bytes().first()) {
         text.push(" ");
     }
 }

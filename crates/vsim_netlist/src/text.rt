@@ -3,11 +3,9 @@
 use crate::map::make_map;
 use anyhow::{Result, bail};
 use std::alloc::{AllocError, Global};
-use vsim_netlist_design::{Draft, Netlist};
-use vsim_netlist_expressions::NamedDelay;
+use vsim_netlist_design::{Draft, Netlist, Stimuli};
 use vsim_netlist_gate_text::put_cells;
-use vsim_netlist_signals::{Signals, Statements, make_signals};
-use vsim_netlist_stimuli::Stimuli;
+use vsim_netlist_signals::{NamedDelay, Signals, Statements, make_signals};
 use vsim_netlist_stimulus_text::put_stimuli;
 use vsim_netlist_uses::{Clocks, Uses, all_within, refuse_loops, wanted_nets};
 
@@ -18,21 +16,21 @@ const MOST_BYTES: usize = 1_048_576;
 const MOST: usize = 65_536;
 
 /// What to write.
-#[derive(Drop)]
-pub struct Request<'a> {
-    pub netlist: &'a Netlist,
-    pub stimuli: Option<&'a Stimuli>,
-    pub delays: &'a [NamedDelay],
+#[derive(Clone, Copy)]
+pub(crate) struct Request<'a> {
+    pub(crate) netlist: &'a Netlist,
+    pub(crate) stimuli: Option<&'a Stimuli>,
+    pub(crate) delays: &'a [NamedDelay],
     /// The hold time of inputs other than clocks, in femtoseconds.
-    pub hold: u64,
+    pub(crate) hold: u64,
 }
 
 /// A text, its map, and the number of clocks that gates or registers drive.
 #[derive(Drop)]
-pub struct Written {
-    pub text: String,
-    pub map: String,
-    pub derived_clocks: usize,
+pub(crate) struct Written {
+    pub(crate) text: String,
+    pub(crate) map: String,
+    pub(crate) derived_clocks: usize,
 }
 
 /// Refuses a number above a limit of vsim.
@@ -90,6 +88,14 @@ fn limited(statements: &Statements) -> Result<String> {
     Ok(text)
 }
 
+/// The time at which stimuli end; 0 without stimuli.
+fn end(stimuli: Option<&Stimuli>) -> u64 {
+    match stimuli {
+        Some(stimuli) => stimuli.end,
+        None => 0,
+    }
+}
+
 /// The finished text and map.
 fn finished(
     statements: &Statements,
@@ -97,7 +103,7 @@ fn finished(
     derived_clocks: usize,
 ) -> Result<Written> {
     let text = limited(statements)?;
-    let end = request.stimuli.map_or(0, |it| it.end);
+    let end = end(request.stimuli);
     let map = make_map(statements.alloc, request.netlist, &statements.signals, end)?;
     Ok(Written {
         text,
@@ -148,6 +154,12 @@ fn put_inputs(
     }
 }
 
+/// Adds the statements of the stimuli. Returns the text and the map.
+fn finish(statements: &mut Statements, request: &Request<'_>, clocks: &Clocks) -> Result<Written> {
+    put_inputs(statements, request, clocks.is_before.as_slice())?;
+    finished(statements, request, clocks.derived)
+}
+
 /// Writes the text of a netlist, given the uses of its nets.
 fn write_with(
     alloc: Global,
@@ -157,12 +169,11 @@ fn write_with(
 ) -> Result<Written> {
     let within = all_within(alloc, request.netlist, uses, !request.delays.is_empty())?;
     let mut statements = cell_statements(alloc, request, uses, within.as_slice())?;
-    put_inputs(&mut statements, request, clocks.is_before.as_slice())?;
-    finished(&statements, request, clocks.derived)
+    finish(&mut statements, request, clocks)
 }
 
 /// Writes the text of a netlist.
-pub fn write_text(alloc: Global, request: &Request<'_>) -> Result<Written> {
+pub(crate) fn write_text(alloc: Global, request: &Request<'_>) -> Result<Written> {
     let (uses, clocks) = uses(alloc, request)?;
     write_with(alloc, request, &uses, &clocks)
 }

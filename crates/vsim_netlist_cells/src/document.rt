@@ -4,7 +4,7 @@ use crate::object::{FromObject, read_object, read_value};
 use serde::{Case, Deserialize, Deserializer, Format, Kind, Name, NameKind};
 use std::alloc::Global;
 use std::default::MadeWith;
-use vsim_netlist_design::Level;
+use vsim_netlist_design::{Level, push};
 
 /// The name of a member, spelled exactly so.
 macro_rules! exact {
@@ -21,8 +21,8 @@ macro_rules! exact {
 
 /// The members of an object, in order.
 #[derive(Drop)]
-pub struct Members<T> {
-    pub entries: Vec<(String, T)>,
+pub(crate) struct Members<T> {
+    pub(crate) entries: Vec<(String, T)>,
 }
 
 /// A member: its name and its value.
@@ -35,6 +35,34 @@ fn member<'de, F: Format, T: Deserialize<'de>>(
     Ok((name, value))
 }
 
+/// Reads a member.
+fn read_entry<'de, F: Format, T: Deserialize<'de>>(
+    entries: &mut Vec<(String, T)>,
+    alloc: Global,
+    from: &mut Deserializer<'de, '_, F>,
+) -> Result<(), F::Error> {
+    let entry = member(alloc, from)?;
+    if push(entries, entry).is_err() {
+        return Err(from.no_memory());
+    }
+    Ok(())
+}
+
+/// Reads members up to the end of an object.
+fn read_entries<'de, F: Format, T: Deserialize<'de>>(
+    entries: &mut Vec<(String, T)>,
+    alloc: Global,
+    from: &mut Deserializer<'de, '_, F>,
+) -> Result<(), F::Error> {
+    for _ in 0..u64::MAX {
+        if !from.next_entry()? {
+            break;
+        }
+        read_entry(entries, alloc, from)?;
+    }
+    Ok(())
+}
+
 impl<'de, T: Deserialize<'de>> Deserialize<'de> for Members<T> {
     fn deserialize<F: Format>(
         alloc: Global,
@@ -42,15 +70,7 @@ impl<'de, T: Deserialize<'de>> Deserialize<'de> for Members<T> {
     ) -> Result<Members<T>, F::Error> {
         from.begin_map()?;
         let mut entries = Vec::new(alloc);
-        for _ in 0..u64::MAX {
-            if !from.next_entry()? {
-                break;
-            }
-            let entry = member(alloc, from)?;
-            if entries.push(entry).is_err() {
-                return Err(from.no_memory());
-            }
-        }
+        read_entries(&mut entries, alloc, from)?;
         Ok(Members { entries })
     }
 }
@@ -64,7 +84,7 @@ impl<T> MadeWith<Global> for Members<T> {
 
 /// A bit in the JSON: the number of a net, or a constant.
 #[derive(Clone, Copy)]
-pub enum WrittenBit {
+pub(crate) enum WrittenBit {
     Number(u64),
     Constant(Level),
 }
@@ -77,25 +97,42 @@ fn constant(text: &str) -> Option<WrittenBit> {
     }
 }
 
+/// Reads a number as a bit.
+fn read_number<'de, F: Format>(
+    alloc: Global,
+    from: &mut Deserializer<'de, '_, F>,
+) -> Result<WrittenBit, F::Error> {
+    let number = u64::deserialize(alloc, from)?;
+    Ok(WrittenBit::Number(number))
+}
+
+/// Reads a constant as a bit.
+fn read_constant<'de, F: Format>(
+    alloc: Global,
+    from: &mut Deserializer<'de, '_, F>,
+) -> Result<WrittenBit, F::Error> {
+    let text = String::deserialize(alloc, from)?;
+    match constant(text.as_str()) {
+        Some(bit) => Ok(bit),
+        None => Err(from.custom("a bit is a number, 0, 1, x or z")),
+    }
+}
+
 impl<'de> Deserialize<'de> for WrittenBit {
     fn deserialize<F: Format>(
         alloc: Global,
         from: &mut Deserializer<'de, '_, F>,
     ) -> Result<WrittenBit, F::Error> {
-        if from.peek()? == Kind::Unsigned {
-            return Ok(WrittenBit::Number(u64::deserialize(alloc, from)?));
-        }
-        let text = String::deserialize(alloc, from)?;
-        match constant(text.as_str()) {
-            Some(bit) => Ok(bit),
-            None => Err(from.custom("a bit is a number, 0, 1, x or z")),
+        match from.peek()? {
+            Kind::Unsigned => read_number(alloc, from),
+            _ => read_constant(alloc, from),
         }
     }
 }
 
 /// The text of an attribute; `None` if it is not a text.
 #[derive(Drop)]
-pub struct Text(pub Option<String>);
+pub(crate) struct Text(Option<String>);
 
 impl<'de> Deserialize<'de> for Text {
     fn deserialize<F: Format>(
@@ -112,7 +149,7 @@ impl<'de> Deserialize<'de> for Text {
 
 impl Text {
     /// The text, if it is one.
-    pub fn as_str(&self) -> Option<&str> {
+    pub(crate) fn as_str(&self) -> Option<&str> {
         match &self.0 {
             Some(text) => Some(text.as_str()),
             None => None,
@@ -128,10 +165,10 @@ impl MadeWith<Global> for Text {
 
 /// The attributes that matter here.
 #[derive(Drop)]
-pub struct Attributes {
-    pub src: Text,
-    pub top: Text,
-    pub init: Text,
+pub(crate) struct Attributes {
+    pub(crate) src: Text,
+    pub(crate) top: Text,
+    pub(crate) init: Text,
 }
 
 impl MadeWith<Global> for Attributes {
@@ -175,8 +212,8 @@ impl<'de> Deserialize<'de> for Attributes {
 
 /// The parameters that matter here.
 #[derive(Drop)]
-pub struct Parameters {
-    pub table: Text,
+pub(crate) struct Parameters {
+    pub(crate) table: Text,
 }
 
 impl MadeWith<Global> for Parameters {
@@ -216,9 +253,9 @@ impl<'de> Deserialize<'de> for Parameters {
 
 /// A port of a module.
 #[derive(Drop)]
-pub struct WrittenPort {
-    pub direction: String,
-    pub bits: Vec<WrittenBit>,
+pub(crate) struct WrittenPort {
+    pub(crate) direction: String,
+    pub(crate) bits: Vec<WrittenBit>,
 }
 
 impl MadeWith<Global> for WrittenPort {
@@ -260,11 +297,11 @@ impl<'de> Deserialize<'de> for WrittenPort {
 
 /// A cell of a module.
 #[derive(Drop)]
-pub struct WrittenCell {
-    pub kind: String,
-    pub connections: Members<Vec<WrittenBit>>,
-    pub parameters: Parameters,
-    pub attributes: Attributes,
+pub(crate) struct WrittenCell {
+    pub(crate) kind: String,
+    pub(crate) connections: Members<Vec<WrittenBit>>,
+    pub(crate) parameters: Parameters,
+    pub(crate) attributes: Attributes,
 }
 
 impl MadeWith<Global> for WrittenCell {
@@ -315,12 +352,12 @@ impl<'de> Deserialize<'de> for WrittenCell {
 
 /// A name and the bits that it stands for.
 #[derive(Drop)]
-pub struct WrittenName {
-    pub bits: Vec<WrittenBit>,
-    pub hide_name: u64,
-    pub offset: i64,
-    pub upto: u64,
-    pub attributes: Attributes,
+pub(crate) struct WrittenName {
+    pub(crate) bits: Vec<WrittenBit>,
+    pub(crate) hide_name: u64,
+    pub(crate) offset: i64,
+    pub(crate) upto: u64,
+    pub(crate) attributes: Attributes,
 }
 
 impl MadeWith<Global> for WrittenName {
@@ -374,11 +411,11 @@ impl<'de> Deserialize<'de> for WrittenName {
 
 /// A module.
 #[derive(Drop)]
-pub struct Module {
-    pub ports: Members<WrittenPort>,
-    pub cells: Members<WrittenCell>,
-    pub netnames: Members<WrittenName>,
-    pub attributes: Attributes,
+pub(crate) struct Module {
+    pub(crate) ports: Members<WrittenPort>,
+    pub(crate) cells: Members<WrittenCell>,
+    pub(crate) netnames: Members<WrittenName>,
+    pub(crate) attributes: Attributes,
 }
 
 impl MadeWith<Global> for Module {
@@ -429,8 +466,8 @@ impl<'de> Deserialize<'de> for Module {
 
 /// A netlist.
 #[derive(Drop)]
-pub struct Document {
-    pub modules: Members<Module>,
+pub(crate) struct Document {
+    pub(crate) modules: Members<Module>,
 }
 
 impl MadeWith<Global> for Document {

@@ -2,7 +2,7 @@
 
 use crate::expressions::{Expression, Outside, binary, negation, primary};
 use std::alloc::{AllocError, Global};
-use vsim_netlist_design::{Draft, Gate};
+use vsim_netlist_design::{Draft, Gate, push};
 
 /// Selects one of two expressions, the second by `1`. If both agree, the value is theirs even for
 /// an unknown selection, as in Verilog.
@@ -82,6 +82,20 @@ fn choice(
     }
 }
 
+/// Adds one of two expressions.
+fn push_choice(
+    alloc: Global,
+    items: &mut Vec<Expression>,
+    pair: &[Expression],
+    select: &Expression,
+    is_table: bool,
+) -> Result<(), AllocError> {
+    match pair {
+        [low, high] => push(items, choice(alloc, low, high, select, is_table)),
+        _ => Ok(()),
+    }
+}
+
 /// Selects one of each two expressions.
 fn halved(
     alloc: Global,
@@ -91,11 +105,20 @@ fn halved(
 ) -> Result<Vec<Expression>, AllocError> {
     let mut half = Vec::new(alloc);
     for pair in items.chunks(2) {
-        if let [low, high] = pair {
-            half.push(choice(alloc, low, high, select, is_table))?;
-        }
+        push_choice(alloc, &mut half, pair, select, is_table)?;
     }
     Ok(half)
+}
+
+/// Replaces expressions by one of each two.
+fn halve(
+    alloc: Global,
+    items: &mut Vec<Expression>,
+    select: &Expression,
+    is_table: bool,
+) -> Result<(), AllocError> {
+    *items = halved(alloc, items.as_slice(), select, is_table)?;
+    Ok(())
 }
 
 /// The last of these expressions.
@@ -118,7 +141,7 @@ fn chosen(
     };
     let mut half = halved(alloc, items, first, is_table)?;
     for select in others {
-        half = halved(alloc, half.as_slice(), select, is_table)?;
+        halve(alloc, &mut half, select, is_table)?;
     }
     Ok(last(alloc, half.as_slice()))
 }
@@ -135,12 +158,16 @@ fn multiplexer(
     }
 }
 
+/// The literal of a bit of a table.
+fn literal(alloc: Global, bit: u8) -> Expression {
+    primary(alloc, if bit == b'1' { "'1'" } else { "'0'" })
+}
+
 /// The literals of a table, lowest first.
 fn literals(alloc: Global, table: &str) -> Result<Vec<Expression>, AllocError> {
     let mut items = Vec::new(alloc);
-    for bit in table.bytes().rev() {
-        let literal = if bit == b'1' { "'1'" } else { "'0'" };
-        items.push(primary(alloc, literal))?;
+    for bit in table.as_bytes().iter().rev() {
+        push(&mut items, literal(alloc, *bit))?;
     }
     Ok(items)
 }

@@ -72,6 +72,18 @@ fn demand_all<'de, T: FromObject<'de>, F: Format>(
     Ok(())
 }
 
+/// Refuses a member that has been read.
+fn demand_new<'de, T: FromObject<'de>, F: Format>(
+    seen: u64,
+    member: usize,
+    from: &mut Deserializer<'de, '_, F>,
+) -> Result<(), F::Error> {
+    if seen & bit_of(member) != 0 {
+        return Err(from.duplicate(name_of(T::NAMES, member)));
+    }
+    Ok(())
+}
+
 /// Reads the members of an object, each of which may be there once.
 fn read_members<'de, T: FromObject<'de>, F: Format>(
     object: &mut T,
@@ -83,9 +95,7 @@ fn read_members<'de, T: FromObject<'de>, F: Format>(
         let Some(member) = from.next_key(T::NAMES)? else {
             break;
         };
-        if seen & bit_of(member) != 0 {
-            return Err(from.duplicate(name_of(T::NAMES, member)));
-        }
+        demand_new::<T, F>(seen, member, from)?;
         seen |= bit_of(member);
         read_one(object, member, alloc, from)?;
     }
