@@ -4,6 +4,7 @@ ghost use Rattle.std.specs.Prelude.{◌≡◌, ◌++◌, Some, IfOk, OnOk};
 ghost use Rattle.sim_flat_instances.specs.PortMaps.{port_of};
 ghost use Rattle.sim_flat_blocks.specs.Plans as spec;
 
+use crate::lists::push;
 use crate::names::meaning;
 use crate::{Instance as BlockInstance, Link, Links};
 use sim_flat_instances::instance::{architecture_place, entity_name};
@@ -136,10 +137,7 @@ fn add_instance(
 {
     match statement {
         Concurrent::Assignment(_) | Concurrent::Process(_) => Ok(()),
-        Concurrent::Instance(each) => {
-            found.push(instance(alloc, library, region, each)?)?;
-            Ok(())
-        }
+        Concurrent::Instance(each) => push(found, instance(alloc, library, region, each)),
     }
 }
 

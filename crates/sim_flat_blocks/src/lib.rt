@@ -7,6 +7,7 @@ mod block_processes;
 pub mod count;
 mod instances;
 pub mod links;
+mod lists;
 mod names;
 mod objects;
 pub mod parts;

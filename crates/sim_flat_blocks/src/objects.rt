@@ -4,6 +4,7 @@ ghost use Rattle.std.specs.Prelude.{◌≡◌, ◌++◌, IfOk, OnOk, map};
 ghost use Rattle.sim_flat_scope.specs.Ports.{ports_of};
 ghost use Rattle.sim_flat_blocks.specs.Plans as spec;
 
+use crate::lists::push;
 use crate::names::meaning;
 use crate::{Object, Port as BlockPort};
 use sim_flat_scope::port::ports_of;
@@ -85,7 +86,7 @@ fn each_port(
 {
     let mut found = Vec::with_capacity(alloc, ports.len())?;
     for each in ports {
-        found.push(port(alloc, region, each)?)?;
+        push(&mut found, port(alloc, region, each))?;
     }
     Ok(Items::from_vec(found))
 }
@@ -115,7 +116,7 @@ fn add_signals(
         ≡ found.old.items ++ map (spec.object (spec.seen region.now) mark.now first.now) names.now) }
 {
     for name in names {
-        found.push(object(alloc, region, mark, first, name)?)?;
+        push(found, object(alloc, region, mark, first, name))?;
     }
     Ok(())
 }

@@ -12,6 +12,7 @@ ghost use Rattle.sim_flat_blocks.specs.Plans as spec;
 use crate::block_processes::block_processes;
 use crate::count::object_count;
 use crate::instances::instances;
+use crate::lists::push;
 use crate::objects::{ports, signals};
 use crate::{Block, Object, Port, Ports};
 use sim_flat_instances::Library;
@@ -57,7 +58,7 @@ fn shared_ports(alloc: Global, declared: &[EntityPorts<'_>]) -> Result<Vec<Ports
 {
     let mut found = Vec::with_capacity(alloc, declared.len())?;
     for each in declared {
-        found.push(block_ports(alloc, each)?)?;
+        push(&mut found, block_ports(alloc, each))?;
     }
     Ok(found)
 }

@@ -6,6 +6,7 @@ use Rattle.sim_flat_design.specs.Bodies.{boolean_objects}
 use Rattle.sim_flat_blocks.proofs.ReadRules.{adds_both, adds_nothing, boolean_chain_reads, boolean_variable_reads}
 use Rattle.sim_flat_blocks.proofs.ReadRules.{booleans_compared_read, truth_reads}
 use Rattle.sim_flat_blocks.proofs.reads.+boolean.Goals as goal
+use Rattle.sim_flat_blocks.proofs.ReadRules.{booleans_read}
 
 pub add_boolean-returns-in-Literal : goal.add_boolean-returns-in-Literal
 add_boolean-returns-in-Literal t c =
@@ -42,3 +43,18 @@ add_booleans-loop-each-preserved t c = grind (arith, common_steps)
 
 pub add_booleans-returns : goal.add_booleans-returns
 add_booleans-returns t c = grind (arith, common_steps)
+
+pub add_boolean-returns-in-Event : goal.add_boolean-returns-in-Event
+add_boolean-returns-in-Event t c = grind (arith, booleans_read)
+
+pub add_boolean-returns-in-Edge : goal.add_boolean-returns-in-Edge
+add_boolean-returns-in-Edge t c = grind (arith, booleans_read)
+
+pub add_boolean-returns-in-Not : goal.add_boolean-returns-in-Not
+add_boolean-returns-in-Not t c = grind (arith, booleans_read)
+
+pub add_boolean-returns-in-Condition : goal.add_boolean-returns-in-Condition
+add_boolean-returns-in-Condition t c = grind (arith, booleans_read)
+
+pub add_boolean-returns-in-LogicComparison : goal.add_boolean-returns-in-LogicComparison
+add_boolean-returns-in-LogicComparison t c = grind (arith, booleans_read)

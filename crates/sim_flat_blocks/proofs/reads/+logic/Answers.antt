@@ -5,6 +5,7 @@ use Rattle.std.proofs.lemmas.Result.{on_ok_weaker}
 use Rattle.sim_flat_design.specs.Bodies.{logic_objects}
 use Rattle.sim_flat_blocks.proofs.ReadRules.{adds_both, adds_nothing, chain_reads, literal_reads, variable_reads}
 use Rattle.sim_flat_blocks.proofs.reads.+logic.Goals as goal
+use Rattle.sim_flat_blocks.proofs.ReadRules.{logics_read}
 
 pub add_logic-returns-in-Literal : goal.add_logic-returns-in-Literal
 add_logic-returns-in-Literal t c =
@@ -29,3 +30,9 @@ add_logics-loop-each-preserved t c = grind (arith, common_steps)
 
 pub add_logics-returns : goal.add_logics-returns
 add_logics-returns t c = grind (arith, common_steps)
+
+pub add_logic-returns-in_ok-push-in-Object : goal.add_logic-returns-in_ok-push-in-Object
+add_logic-returns-in_ok-push-in-Object t c = grind (arith, logics_read)
+
+pub add_logic-returns-in-Not : goal.add_logic-returns-in-Not
+add_logic-returns-in-Not t c = grind (arith, logics_read)

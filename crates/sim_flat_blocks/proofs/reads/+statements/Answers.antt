@@ -7,6 +7,7 @@ use Rattle.sim_flat_design.specs.Bodies.{boolean_objects, statement_objects}
 use Rattle.sim_flat_blocks.specs.Reads.{branch_objects}
 use Rattle.sim_flat_blocks.proofs.ReadRules.{adds_both, adds_nothing, branch_reads, if_reads, null_reads}
 use Rattle.sim_flat_blocks.proofs.reads.+statements.Goals as goal
+use Rattle.sim_flat_blocks.proofs.ReadRules.{statements_read}
 
 pub add_statement-returns-in-Null : goal.add_statement-returns-in-Null
 add_statement-returns-in-Null t c =
@@ -42,3 +43,12 @@ add_statements-loop-each-preserved t c = grind (arith, common_steps)
 
 pub add_statements-returns : goal.add_statements-returns
 add_statements-returns t c = grind (arith, common_steps)
+
+pub add_statement-returns-in-Signal : goal.add_statement-returns-in-Signal
+add_statement-returns-in-Signal t c = grind (arith, statements_read)
+
+pub add_statement-returns-in-LogicVariable : goal.add_statement-returns-in-LogicVariable
+add_statement-returns-in-LogicVariable t c = grind (arith, statements_read)
+
+pub add_statement-returns-in-BooleanVariable : goal.add_statement-returns-in-BooleanVariable
+add_statement-returns-in-BooleanVariable t c = grind (arith, statements_read)

@@ -4,6 +4,8 @@ use Rattle.sim_flat_scope.specs.Scopes.{means}
 use Rattle.sim_flat_design.proofs.Fitting.{branch_fitting, if_fits}
 use Rattle.sim_flat_bodies.proofs.StatementRules.{signal_is, variable_is, if_else_made, if_only_made}
 use Rattle.sim_flat_bodies.proofs.statements.+statements.Goals as goal
+use Rattle.sim_flat_bodies.proofs.StatementRules.{statements_are}
+use Rattle.sim_flat_design.proofs.Fitting.{statements_fit}
 
 pub statement-returns-in_ok-otherwise-in-Some-clause-value : goal.statement-returns-in_ok-otherwise-in-Some-clause-value
 statement-returns-in_ok-otherwise-in-Some-clause-value t c =
@@ -39,3 +41,21 @@ sequence-loop-each-preserved t c = grind (arith, common_steps)
 
 pub branches-loop-each-preserved : goal.branches-loop-each-preserved
 branches-loop-each-preserved t c = grind (arith, common_steps)
+
+pub branch-returns-clause-value : goal.branch-returns-clause-value
+branch-returns-clause-value t c = search (rules, statements_are, statements_fit)
+
+pub branches-returns-clause-value : goal.branches-returns-clause-value
+branches-returns-clause-value t c = grind (arith, common_steps)
+
+pub labelled-returns-clause-value : goal.labelled-returns-clause-value
+labelled-returns-clause-value t c = search (rules, statements_are)
+
+pub sequence-returns-clause-value : goal.sequence-returns-clause-value
+sequence-returns-clause-value t c = grind (arith, common_steps)
+
+pub statement-returns-in-Null-clause-value : goal.statement-returns-in-Null-clause-value
+statement-returns-in-Null-clause-value t c = search (rules, statements_are, statements_fit)
+
+pub statement-returns-in-Null-clause-fits : goal.statement-returns-in-Null-clause-fits
+statement-returns-in-Null-clause-fits t c = search (rules, statements_are, statements_fit)

@@ -4,3 +4,6 @@ use Rattle.sim_flat_bodies.proofs.waveforms.conditionals.Goals as goal
 
 pub loop-each-preserved : goal.loop-each-preserved
 loop-each-preserved c = grind (arith, common_steps)
+
+pub returns-clause-value : goal.returns-clause-value
+returns-clause-value c = grind (arith, common_steps)

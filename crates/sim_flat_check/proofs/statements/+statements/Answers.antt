@@ -1,3 +1,5 @@
+use Rattle.std.proofs.Common.{arith}
+use Rattle.std.proofs.lemmas.Grind.{common_steps}
 use Rattle.std.proofs.Common.{refl, ap, sym, ◌∙◌}
 use Rattle.sim_flat_scope.specs.Faults.{earliest}
 use Rattle.sim_flat_scope.specs.Scopes.{means}
@@ -5,6 +7,8 @@ use Rattle.sim_flat_check.specs.Statements.{branch_faults, branches_faults, sequ
 use Rattle.sim_flat_check.proofs.Sequences.{sequential_is, no_else, with_else}
 use Rattle.sim_flat_check.proofs.Turns.{one_more}
 use Rattle.sim_flat_check.proofs.statements.+statements.Goals as goal
+use Rattle.sim_flat_check.proofs.Sequences.{branch_is, statement_rules}
+use Rattle.sim_flat_scope.proofs.Faults.{of_both}
 
 pub branches-loop-each-preserved : goal.branches-loop-each-preserved
 unfolding branches_faults
@@ -33,3 +37,26 @@ pub statement-returns-in-None : goal.statement-returns-in-None
 statement-returns-in-None t c =
     no_else (means c.args.inner.now c.args.outer.now) c.args.first.now c.args.statement.now c.in-If.all c.in-If.otherwise c.in-If.label_repeated c.in-If.is
     c.in-None.is c.as_slice.result.now c.as_slice.ensures c.branches.new.first c.branches.ensures
+
+pub branches-returns : goal.branches-returns
+unfolding branches_faults earliest
+branches-returns t c = grind (arith, common_steps)
+
+pub if_branch-returns : goal.if_branch-returns
+if_branch-returns t c = grind (arith, branch_is, of_both)
+
+pub sequence-returns : goal.sequence-returns
+unfolding sequence_faults earliest
+sequence-returns t c = grind (arith, common_steps, sequential_is)
+
+pub statement-returns-in-Signal : goal.statement-returns-in-Signal
+unfolding earliest
+statement-returns-in-Signal t c = grind (arith, statement_rules)
+
+pub statement-returns-in-Variable : goal.statement-returns-in-Variable
+unfolding earliest
+statement-returns-in-Variable t c = grind (arith, statement_rules)
+
+pub statement-returns-in-Null : goal.statement-returns-in-Null
+unfolding earliest
+statement-returns-in-Null t c = grind (arith, statement_rules)

@@ -1,7 +1,11 @@
+use Rattle.std.proofs.Common.{arith}
+use Rattle.std.proofs.lemmas.Grind.{common_steps}
 use Rattle.sim_flat_scope.specs.Scopes.{means}
 use Rattle.sim_flat_check.specs.Carried.{Carried}
 use Rattle.sim_flat_check.proofs.TypeResults.{operand_joined, literal_carried, condition_carried, comparison_carried}
 use Rattle.sim_flat_check.proofs.types.+types.Goals as goal
+use Rattle.sim_flat_check.proofs.TypeResults.{carried_rules}
+use Rattle.sim_flat_check.specs.Carried.{carried_through}
 
 pub judge-returns-in-Condition : goal.judge-returns-in-Condition
 judge-returns-in-Condition t c =
@@ -27,3 +31,32 @@ operand-returns t c =
     let before : Carried = record { type = c.args.before.type_; named = c.args.before.named; first = c.args.first.now } in
     operand_joined (means c.args.inner.now c.args.outer.now) before c.args.next.now _ _ _ _ _ _
     c.judge-after.ensures c.joined.ensures.type_ c.joined.ensures.named c.joined.ensures.first
+
+pub judge-returns-in-Literal : goal.judge-returns-in-Literal
+judge-returns-in-Literal t c = grind (arith, carried_rules)
+
+pub judge-returns-in-Named : goal.judge-returns-in-Named
+judge-returns-in-Named t c = grind (arith, carried_rules)
+
+pub judge-returns-in-Event : goal.judge-returns-in-Event
+judge-returns-in-Event t c = grind (arith, carried_rules)
+
+pub judge-returns-in-Call : goal.judge-returns-in-Call
+judge-returns-in-Call t c = grind (arith, carried_rules)
+
+pub judge-returns-in-Parenthesized : goal.judge-returns-in-Parenthesized
+judge-returns-in-Parenthesized t c = grind (arith, carried_rules)
+
+pub judge-returns-in-Not : goal.judge-returns-in-Not
+judge-returns-in-Not t c = grind (arith, carried_rules)
+
+pub judge-returns-in-Chain : goal.judge-returns-in-Chain
+judge-returns-in-Chain t c = grind (arith, carried_rules)
+
+pub operands-loop-next-preserved : goal.operands-loop-next-preserved
+unfolding carried_through
+operands-loop-next-preserved t c = grind (arith, common_steps)
+
+pub operands-returns : goal.operands-returns
+unfolding carried_through
+operands-returns t c = grind (arith, common_steps)

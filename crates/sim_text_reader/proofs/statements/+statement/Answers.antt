@@ -5,6 +5,8 @@ use Rattle.sim_text_grammar.proofs.OneItemATurn.{one_more, no_more, one_after, n
 use Rattle.sim_text_reader.specs.Cursors.{view}
 use Rattle.sim_text_grammar.specs.Statements.{if_statement}
 use Rattle.sim_text_reader.proofs.statements.+statement.Goals as goal
+use Rattle.sim_text_grammar.proofs.Parts.{halves}
+use Rattle.sim_text_grammar.specs.Statements.{branches}
 
 pub sequence-returns-then-not-begins_statement : goal.sequence-returns-then-not-begins_statement
 sequence-returns-then-not-begins_statement t c = let e = one_more c.loop-turn.invariant c.loop-turn-test.true in grind (arith, common_steps)
@@ -47,3 +49,11 @@ unfolding if_statement
 if_statement-returns t c =
     let e = deeper (λ n. if_statement n c.args.label.now (view c.args.tokens.now)) c.args.depth (omega arith) in
     grind (arith, common_steps)
+
+pub branches-returns-in_err-push : goal.branches-returns-in_err-push
+unfolding branches
+branches-returns-in_err-push t c = grind (arith, halves)
+
+pub branches-loop-turn-init : goal.branches-loop-turn-init
+unfolding branches
+branches-loop-turn-init t c = grind (arith, halves)
