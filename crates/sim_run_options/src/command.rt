@@ -1,6 +1,5 @@
 //! The command line, as `clap` parses it.
-ghost use Rattle.std.specs.Prelude.{◌≡◌, ◌∷◌, [], IfOk, Some, codes, false, true};
-ghost use Rattle.clap.specs.Simple.{new_app, on_top, with_rule};
+ghost use Rattle.std.specs.Prelude.{◌≡◌, ◌∷◌, [], IfOk, Some, false};
 ghost use Rattle.clap.specs.Words.{rule_of, app_of};
 ghost use Rattle.sim_run_options.specs.Asks.{top_rule, stop_rule, limit_rule, workers_rule, valued, program};
 
@@ -120,31 +119,16 @@ fn workers_argument<'a>(alloc: Global) -> Arg<'a>
     number_argument(alloc, "workers", "N", value_parser!(usize), "1", help)
 }
 
-/// The command line without its options. Its words do not include the name of the program.
-fn without_options<'a>(alloc: Global) -> Command<'a>
-    ensures { app_of result ≡ on_top (λ s. record s { no_binary_name = true }) (new_app (codes "vsim")) }
+/// The command line of the program, whose words do not include its name.
+pub(crate) fn command_line<'a>(alloc: Global) -> Result<Command<'a>, AllocError>
+    ensures { IfOk result (λ c. app_of c ≡ program) }
 {
     Command::new(alloc, "vsim")
         .about(ABOUT)
         .after_help(MORE)
         .no_binary_name(true)
-}
-
-/// The command line with `--top` and `--stop`.
-fn with_run<'a>(alloc: Global) -> Result<Command<'a>, AllocError>
-    ensures { IfOk result (λ c. app_of c
-        ≡ with_rule (with_rule (on_top (λ s. record s { no_binary_name = true }) (new_app (codes "vsim"))) top_rule) stop_rule) }
-{
-    without_options(alloc)
         .arg(top_argument(alloc))?
-        .arg(stop_argument(alloc))
-}
-
-/// The command line of the program, whose words do not include its name.
-pub(crate) fn command_line<'a>(alloc: Global) -> Result<Command<'a>, AllocError>
-    ensures { IfOk result (λ c. app_of c ≡ program) }
-{
-    with_run(alloc)?
+        .arg(stop_argument(alloc))?
         .arg(limit_argument(alloc))?
         .arg(workers_argument(alloc))
 }
