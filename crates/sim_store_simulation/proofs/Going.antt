@@ -22,7 +22,7 @@ use Rattle.sim_standard.specs.Processes.{object_net, part, owned_after, process_
 use Rattle.sim_standard.proofs.Frame.{same_owned_after}
 use Rattle.sim_standard.proofs.ValuesKept.{values_kept}
 use Rattle.sim_logic.specs.Time.{largest_time}
-use Rattle.sim_exec.specs.Jobs.{IsJob, IsReady, Job, holds_bit, result_of, scene}
+use Rattle.sim_exec.specs.Jobs.{IsJob, IsReady, Job, holds_bit, job_state, result_of}
 use Rattle.sim_standard.specs.declared.record.Record.{Record}
 use Rattle.sim_standard.specs.Cycle.{is_at_once, is_resumed, is_waiting, updated}
 use Rattle.sim_standard.specs.Cycle.{Following, CycleAt, PostponedDelta, following, has_postponed_delta}
@@ -553,7 +553,7 @@ module _ {h : Simulation} {time delta : ℕ} {held : FlatState} {records : List 
   own-result d = record {
     number = d.number;
     resumed = d.resumed;
-    result = ap (λ (q : Process). owned_after q (scene job)) o.process ∙ ap (owned_after (process_at h.design.processes job.number)) o.shows;
+    result = ap (λ (q : Process). owned_after q (job_state job)) o.process ∙ ap (owned_after (process_at h.design.processes job.number)) o.shows;
   }
 
   pub own-ready : IsReady job.process.body job.time (result_of job) → IsReady (process_at h.design.processes job.number).body time (result_of job)

@@ -8,7 +8,7 @@ use Rattle.sim_flat_design.specs.Processes.{IsProcess}
 use Rattle.sim_standard.specs.State.{State, Owned, owned_at}
 use Rattle.sim_standard.specs.Processes.{part, owned_after, process_at}
 use Rattle.sim_logic.specs.Time.{largest_time}
-use Rattle.sim_exec.specs.Jobs.{IsReady, Job, scene}
+use Rattle.sim_exec.specs.Jobs.{IsReady, Job, job_state}
 use Rattle.sim_exec_code.specs.Codes.{Coded, AreCodesOf, FitsAll}
 use Rattle.sim_standard.specs.declared.record.Record.{Record}
 use Rattle.sim_store_state.specs.FlatState.{FlatState, flat_state_of, sources_of}
@@ -207,7 +207,7 @@ pub record IsSimulation (h : Simulation) (sensitive : List (List ℕ)) (codes : 
 -- The job has the process with its number, and the part of the state that this process sees.
 pub record IsOwn (h : Simulation) (job : Job) : Type 0 where
   pub process : job.process ≡ process_at h.design.processes job.number
-  pub shows : scene job ≡ part (process_at h.design.processes job.number) job.number (reached h)
+  pub shows : job_state job ≡ part (process_at h.design.processes job.number) job.number (reached h)
 
 -- This is the job of this process in this phase.
 pub record IsJobOf (h : Simulation) (p : ℕ) (job : Job) : Type 0 where

@@ -1,4 +1,5 @@
-use Rattle.std.proofs.Common.{◌∷◌, ◌∙◌, Bool, List, heap_items, subst, sym}
+use Rattle.std.proofs.Common.{◌∷◌, ◌∙◌, Bool, List, heap_items, subst, sym, arith}
+use Rattle.std.proofs.lemmas.Grind.{common_steps}
 use Rattle.std.specs.List.Sorted.{IsPermutation}
 use Rattle.sim_containers.specs.Entries.{Entry, entry, IsTaking}
 use Rattle.sim_containers.proofs.Taking.{live_goes, stale_goes}
@@ -20,3 +21,6 @@ returns-clause-taking c =
     (subst (λ (y : Entry). IsPermutation (heap_items c.args.heap.now) (y ∷ heap_items c.pop_top.new.heap))
     (c.pop_top.ensures.top ∙ c.requires.first c.pop_top.result) c.pop_top.ensures.permutation)
     c.requires.none_before c.requires.due (sym c.has_time.ensures ∙ c.if-not-has_time.false) c.requires.taking)
+
+pub insert-requires : goal.insert-requires
+insert-requires c = grind (arith, common_steps)

@@ -1,4 +1,5 @@
 use Rattle.std.proofs.Common.{◌∙◌, ap, arith, length, Bool, List, true}
+use Rattle.std.proofs.lemmas.Grind.{common_steps}
 use Rattle.std.proofs.lemmas.List.{get_or-set_other, length-set}
 use Rattle.sim_containers.specs.Numbers.{is_in}
 use Rattle.sim_containers.proofs.Ranges.{copied, copied_more}
@@ -25,3 +26,12 @@ loop-number-preserved c =
 pub returns : goal.returns
 returns c = copied c.loop-number.set c.args.others.now c.loop-number.from c.loop-number.invariant.len c.loop-number.invariant.done
     c.loop-number.invariant.rest c.in_default.ensures
+
+pub loop-number-init : goal.loop-number-init
+loop-number-init c = grind (arith, common_steps)
+
+pub insert-requires : goal.insert-requires
+insert-requires c = grind (arith, common_steps)
+
+pub loop-number-smaller : goal.loop-number-smaller
+loop-number-smaller c = grind (arith, common_steps)

@@ -1,4 +1,5 @@
 use Rattle.std.proofs.Common.{◌∙◌, ◌+◌, ap, arith, ℕ, length, replicate, false, sym}
+use Rattle.std.proofs.lemmas.Grind.{common_steps}
 use Rattle.sim_containers.specs.Numbers.{stamped}
 use Rattle.sim_containers.proofs.Stamped.{count, none_later, none_stamped}
 use Rattle.sim_containers.proofs.stamps.Stamps.clear.Goals as goal
@@ -13,3 +14,6 @@ pub returns : goal.returns
 returns c =
     none_later c.self.inside.stamp (c.self.inside.stamp + 1) c.self.inside.stamps.items (omega arith) c.self.invariant.past
     ∙ ap (λ (n : ℕ). replicate n false) (sym (count c.self.inside.stamp c.self.inside.stamps.items) ∙ ap length c.self.view_is)
+
+pub invariant_of-self : goal.invariant_of-self
+invariant_of-self c = grind (arith, common_steps)

@@ -1,5 +1,5 @@
-use Rattle.std.proofs.lemmas.Grind.{common_steps}
 use Rattle.std.proofs.Common.{◌≡◌, List, Option, ℕ, heap_items, rules, set, subst, arith}
+use Rattle.std.proofs.lemmas.Grind.{common_steps}
 use Rattle.sim_containers.specs.Entries.{HasLiveTop, StandsBut}
 use Rattle.sim_containers.proofs.Queues.{put_at, put_later}
 use Rattle.sim_containers.proofs.times.TimeQueue.change.Goals as goal
@@ -20,3 +20,6 @@ invariant_of-self-2 c =
 
 pub put-requires : goal.put-requires
 put-requires c = grind (arith, common_steps)
+
+pub put-requires-2 : goal.put-requires-2
+put-requires-2 c = grind (arith, common_steps)

@@ -1,4 +1,5 @@
-use Rattle.std.proofs.Common.{◌≡◌, ◌∙◌, List, Option, ℕ, ap, heap_items, subst, sym}
+use Rattle.std.proofs.Common.{◌≡◌, ◌∙◌, List, Option, ℕ, ap, heap_items, subst, sym, arith}
+use Rattle.std.proofs.lemmas.Grind.{common_steps}
 use Rattle.sim_containers.specs.Times.{cleared, those_at}
 use Rattle.sim_containers.specs.Entries.{those_later, HasLiveTop, IsQueue, NoneBefore, StandsBut}
 use Rattle.sim_containers.proofs.Least.{least_from_earliest}
@@ -25,3 +26,6 @@ invariant_of-self c =
     (subst (λ (times : List (Option ℕ)). StandsBut now later times heap) (c.as_slice-2.ensures.value ∙ all) c.drop_stale.ensures.stands)
     (subst (λ (times : List (Option ℕ)). HasLiveTop times heap) (c.as_slice-2.ensures.value ∙ all) c.drop_stale.ensures.live)
     c.next_time-self-inside.ensures)
+
+pub clear_each-requires : goal.clear_each-requires
+clear_each-requires c = grind (arith, common_steps)
