@@ -13,7 +13,7 @@ pub enum Initial {
 }
 
 /// A mode (6.5.2).
-#[derive(Clone, Copy)]
+#[derive(Clone, Copy, Debug, PartialEq, Eq)]
 pub enum Mode {
     In,
     Out,
