@@ -1,4 +1,5 @@
-use Rattle.std.proofs.Common.{ap, sym, ◌∙◌, subst, length}
+use Rattle.std.proofs.Common.{ap, sym, ◌∙◌, subst, length, arith}
+use Rattle.std.proofs.lemmas.Grind.{common_steps}
 use Rattle.std.specs.List.{All}
 use Rattle.sim_standard.specs.Drivers.{DriverState}
 use Rattle.sim_wave.specs.Rising.{RisesFrom}
@@ -42,3 +43,6 @@ returns-clause-assigned g c =
     c.drivers.inside.parts.ok.0 in
     next_as (g.N.Nets.look c.args.nets.now) c.args.now c.args.quick.now c.assign_in_rows.result.0 c.assign_in_rows.result.1 _ _ _ _ owned (sym d.there)
     e.assigned
+
+pub assign_in_rows-requires-clause-drivers : goal.assign_in_rows-requires-clause-drivers
+assign_in_rows-requires-clause-drivers g c = grind (arith, common_steps)

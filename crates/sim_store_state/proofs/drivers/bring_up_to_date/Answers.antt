@@ -1,5 +1,6 @@
 use Rattle.std.proofs.Common.{◌∷◌, [], ◌≡◌, ap, length, arith, ◌∙◌}
 use Rattle.std.proofs.lemmas.List.{get_or_default, length-set}
+use Rattle.std.proofs.lemmas.Grind.{common_steps}
 use Rattle.sim_standard.specs.Drivers.{DriverState, next_time}
 use Rattle.sim_containers.specs.RowArray.{joined}
 use Rattle.sim_containers.specs.Times.{time_of}
@@ -60,3 +61,6 @@ returns c = record {
   };
   ok = all-times c.loop-number.queue (joined c.args.drivers.now) c.loop-number.invariant.sized (walk_done c.loop-number.invariant.walked c.in_default.ensures);
 }
+
+pub loop-number-smaller : goal.loop-number-smaller
+loop-number-smaller c = grind (arith, common_steps)

@@ -1,4 +1,5 @@
-use Rattle.std.proofs.Common.{set, subst, sym}
+use Rattle.std.proofs.Common.{set, subst, sym, arith}
+use Rattle.std.proofs.lemmas.Grind.{common_steps}
 use Rattle.sim_store_state.specs.Changes.{AreTallied}
 use Rattle.sim_store_state.specs.Tallies.{TallyLists}
 use Rattle.sim_store_state.proofs.Noting.{tallied-noted}
@@ -8,3 +9,9 @@ pub returns-then-ne-clause-tallied : goal.returns-then-ne-clause-tallied
 returns-then-ne-clause-tallied c sources before =
     subst (λ (t : TallyLists). AreTallied sources (set c.args.driving.now c.args.number c.args.value) t) (sym c.note.ensures)
     (tallied-noted sources c.args.driving.now c.args.tallies.now c.args.number c.args.value c.requires before)
+
+pub returns-then-ne-clause-kept : goal.returns-then-ne-clause-kept
+returns-then-ne-clause-kept c = grind (arith, common_steps)
+
+pub returns-else-ne-clause-driving : goal.returns-else-ne-clause-driving
+returns-else-ne-clause-driving c = grind (arith, common_steps)

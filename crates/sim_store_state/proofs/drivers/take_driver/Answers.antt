@@ -1,4 +1,5 @@
-use Rattle.std.proofs.Common.{set, ap, [], ◌∷◌, ◌∙◌}
+use Rattle.std.proofs.Common.{set, ap, [], ◌∷◌, ◌∙◌, arith}
+use Rattle.std.proofs.lemmas.Grind.{common_steps}
 use Rattle.sim_standard.specs.Drivers.{DriverState, next_time, taken}
 use Rattle.sim_standard.proofs.Names.{no_driver}
 use Rattle.sim_containers.specs.RowArray.{joined}
@@ -36,3 +37,9 @@ pub returns-clause-value : goal.returns-clause-value
 returns-clause-value c =
     c.take_at.ensures.value ∙ ap (λ (w : DriverState). (taken c.args.time w).value)
     (item-read c.drivers.view_is c.item_place-part.ensures c.as_slice.ensures.value c.as_mut_slice.ensures.value no_driver)
+
+pub take_at-requires-clause-part : goal.take_at-requires-clause-part
+take_at-requires-clause-part c = grind (arith, common_steps)
+
+pub take_at-requires-clause-place : goal.take_at-requires-clause-place
+take_at-requires-clause-place c = grind (arith, common_steps)

@@ -1,5 +1,6 @@
 use Rattle.std.proofs.Common.{arith, refl, ap, sym, true, length, ◌∙◌}
 use Rattle.std.proofs.lemmas.List.{length-set}
+use Rattle.std.proofs.lemmas.Grind.{common_steps}
 use Rattle.sim_standard.specs.Drivers.{taken}
 use Rattle.sim_standard.specs.State.{driver_at}
 use Rattle.sim_containers.specs.RowArray.{joined}
@@ -73,3 +74,6 @@ returns c =
       tallied = i.tallied;
       told = all-told i.told c.in_default.ensures;
     }
+
+pub loop-number-smaller : goal.loop-number-smaller
+loop-number-smaller c = grind (arith, common_steps)

@@ -1,5 +1,6 @@
-use Rattle.std.proofs.Common.{List, [], ◌∷◌, set, ap, sym, ◌∙◌}
+use Rattle.std.proofs.Common.{List, [], ◌∷◌, set, ap, sym, ◌∙◌, arith}
 use Rattle.std.proofs.lemmas.List.{get_or-set_same}
+use Rattle.std.proofs.lemmas.Grind.{common_steps}
 use Rattle.sim_logic.specs.declared.logic.Logic.{Logic}
 use Rattle.sim_standard.specs.Drivers.{DriverState, next_time, taken}
 use Rattle.sim_standard.specs.State.{driver_at, driver_values}
@@ -25,3 +26,9 @@ returns-clause-told c is =
     let d = taken c.args.time (driver_at old n) in
     c.is_queued.ensures.here is ∙ (e.next ∙ ap (λ (w : DriverState). next_time (w ∷ []))
     (sym (ap (λ (ws : List DriverState). driver_at ws n) e.drivers ∙ get_or-set_same old n d no_driver c.requires.at)))
+
+pub note_value-requires : goal.note_value-requires
+note_value-requires c = grind (arith, common_steps)
+
+pub returns-clause-reached : goal.returns-clause-reached
+returns-clause-reached c = grind (arith, common_steps)

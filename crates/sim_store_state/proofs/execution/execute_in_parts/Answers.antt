@@ -1,4 +1,5 @@
-use Rattle.std.proofs.Common.{[], ◌≡◌, false, ap, sym, ◌∙◌, subst, length, map, get_or}
+use Rattle.std.proofs.Common.{[], ◌≡◌, false, ap, sym, ◌∙◌, subst, length, map, get_or, arith}
+use Rattle.std.proofs.lemmas.Grind.{common_steps}
 use Rattle.std.specs.Prelude.{OnOk}
 use Rattle.std.proofs.lemmas.Result.{IfOk-weaker}
 use Rattle.sim_exec.specs.Jobs.{IsReady, holds_bit}
@@ -115,3 +116,9 @@ returns-clause-idle g c =
     IfOk-weaker c.execute_in_rows.result (λ done. done ≡ false → get_or c.execute_in_rows.new.drivers c.place_of-owned.result.1 [] ≡ _)
     (λ done. done ≡ false → _ ≡ get_or c.args.drivers.now c.args.number [])
     (λ done same idle. d.there ∙ (same idle ∙ owned)) e.idle
+
+pub execute_in_rows-requires-clause-drivers : goal.execute_in_rows-requires-clause-drivers
+execute_in_rows-requires-clause-drivers g c = grind (arith, common_steps)
+
+pub execute_in_rows-requires-clause-variables : goal.execute_in_rows-requires-clause-variables
+execute_in_rows-requires-clause-variables g c = grind (arith, common_steps)

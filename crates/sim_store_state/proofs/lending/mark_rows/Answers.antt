@@ -1,4 +1,5 @@
 use Rattle.std.proofs.Common.{arith, ◌∙◌, refl}
+use Rattle.std.proofs.lemmas.Grind.{common_steps}
 use Rattle.sim_store_state.proofs.Walks.{member_within, not_both, walk_done, walk_more, walk_start}
 use Rattle.sim_store_state.proofs.lending.mark_rows.Goals as goal
 
@@ -38,3 +39,6 @@ returns c = record {
   kept = c.loop-number.invariant.kept;
   marked = walk_done c.loop-number.invariant.walked c.in_default.ensures;
 }
+
+pub loop-number-smaller : goal.loop-number-smaller
+loop-number-smaller c = grind (arith, common_steps)

@@ -1,4 +1,5 @@
 use Rattle.std.proofs.Common.{◌++◌, refl, sym, arith}
+use Rattle.std.proofs.lemmas.Grind.{common_steps}
 use Rattle.sim_store_state.specs.FlatState.{views_of}
 use Rattle.sim_standard.specs.Records.{changes_from}
 use Rattle.sim_store_state.proofs.Skips.{changes-step, changes-end}
@@ -47,3 +48,9 @@ pub returns : goal.returns
 returns c =
     changes-end c.loop-number.changes.items (c.args.changes.now.items ++ changes_from 0 (views_of c.args.values.now c.args.values_before.now))
     c.requires.touched (sym c.requires.same) c.in_default.ensures c.loop-number.invariant.done
+
+pub overflow_add-from : goal.overflow_add-from
+overflow_add-from c = grind (arith, common_steps)
+
+pub loop-number-smaller : goal.loop-number-smaller
+loop-number-smaller c = grind (arith, common_steps)

@@ -1,5 +1,6 @@
 use Rattle.std.proofs.Common.{refl, set, sym, arith, ◌∙◌}
 use Rattle.std.proofs.lemmas.List.{length-set}
+use Rattle.std.proofs.lemmas.Grind.{common_steps}
 use Rattle.sim_store_state.specs.Changes.{value_at}
 use Rattle.sim_store_state.proofs.Walks.{member_within, walk_start, walk_done}
 use Rattle.sim_store_state.proofs.Values.{same-everywhere, walk-each}
@@ -35,3 +36,9 @@ loop-net-preserved c =
 pub returns : goal.returns
 returns c = same-everywhere c.loop-net.values_before c.args.values.now c.loop-net.invariant.long
     (λ n _. walk_done c.loop-net.invariant.walked c.in_default.ensures n)
+
+pub overflow_add-from : goal.overflow_add-from
+overflow_add-from c = grind (arith, common_steps)
+
+pub loop-net-smaller : goal.loop-net-smaller
+loop-net-smaller c = grind (arith, common_steps)

@@ -1,5 +1,6 @@
 use Rattle.std.proofs.Common.{◌<◌, [], refl, set, ap, sym, length, map, get_or, arith, ◌∙◌}
 use Rattle.std.proofs.lemmas.List.{length-map, length-set}
+use Rattle.std.proofs.lemmas.Grind.{common_steps}
 use Rattle.sim_store_state.specs.Changes.{row_from, value_from}
 use Rattle.sim_store_state.proofs.Walks.{member_within, walk_start, walk_done}
 use Rattle.sim_store_state.proofs.Values.{same-everywhere, value-here, walk-value}
@@ -40,3 +41,12 @@ returns c =
     same-everywhere c.loop-net.values all (omega (arith, l, c.loop-net.invariant.long, c.requires.sources))
     (λ n lt. walk_done c.loop-net.invariant.walked c.in_default.ensures n (omega (arith, lt, c.loop-net.invariant.long))
     ∙ sym (value-here all c.args.sources.now (row_from c.args.driving.now) n refl (omega (arith, lt, l, c.loop-net.invariant.long, c.requires.sources))))
+
+pub bounds-values-net : goal.bounds-values-net
+bounds-values-net c = grind (arith, common_steps)
+
+pub overflow_add-from : goal.overflow_add-from
+overflow_add-from c = grind (arith, common_steps)
+
+pub loop-net-smaller : goal.loop-net-smaller
+loop-net-smaller c = grind (arith, common_steps)

@@ -1,5 +1,6 @@
 use Rattle.std.proofs.Common.{◌+◌, get_or, take, length, ap, sym, ◌∙◌, arith}
 use Rattle.std.proofs.lemmas.List.{length-set}
+use Rattle.std.proofs.lemmas.Grind.{common_steps}
 use Rattle.sim_logic.specs.declared.logic.Logic.TheVariants.{U}
 use Rattle.sim_logic.specs.Tables.{column_of}
 use Rattle.sim_store_state.specs.Tallies.{count_at}
@@ -25,3 +26,6 @@ loop-value-preserved c =
           ∙ (count-raised counts x v before.sized
           ∙ (ap (λ k. k + one x v) (before.counted v) ∙ sym (times-more v c.args.values.now i c.loop-value-test.true)));
     }
+
+pub returns-clause-counted : goal.returns-clause-counted
+returns-clause-counted c = grind (arith, common_steps)

@@ -1,4 +1,5 @@
 use Rattle.std.proofs.Common.{arith, refl, ◌<◌, length}
+use Rattle.std.proofs.lemmas.Grind.{common_steps}
 use Rattle.sim_store_state.proofs.Counts.{some-before, room-after, tally-set}
 use Rattle.sim_store_state.proofs.tally.exchange.Goals as goal
 
@@ -18,3 +19,6 @@ returns-clause-tally c =
     let there : c.args.place < length c.args.values.now = omega (arith, c.if-place-values.false) in
     tally-set c.args.values.now c.args.counts.now c.args.place _ c.args.value c.lower.new.counts c.raise.new.counts c.requires.tally there refl c.lower.ensures
     c.raise.ensures
+
+pub returns-then-place-values-clause-values : goal.returns-then-place-values-clause-values
+returns-then-place-values-clause-values c = grind (arith, common_steps)

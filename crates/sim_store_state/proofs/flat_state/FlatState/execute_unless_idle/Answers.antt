@@ -1,6 +1,7 @@
-use Rattle.std.proofs.Common.{ℕ, List, ◌≡◌, refl, ap, sym, ◌∙◌, subst, get_or, set}
+use Rattle.std.proofs.Common.{ℕ, List, ◌≡◌, refl, ap, sym, ◌∙◌, subst, get_or, set, arith}
 use Rattle.std.proofs.lemmas.List.{set-get_or}
 use Rattle.std.proofs.lemmas.Result.{on_ok_weaker}
+use Rattle.std.proofs.lemmas.Grind.{common_steps}
 use Rattle.sim_standard.specs.declared.net_view.NetView.{NetView}
 use Rattle.sim_standard.specs.State.{Owned, net_at}
 use Rattle.sim_standard.specs.Statements.{executed}
@@ -43,3 +44,6 @@ returns-in-Some-clause-ok c =
 
 pub returns-in-Some-clause-ready : goal.returns-in-Some-clause-ready
 returns-in-Some-clause-ready c = c.execute_quick_unless_idle.ensures.ready c.args.process.now.body c.requires.ready
+
+pub returns-then-is_idle-clause-alone : goal.returns-then-is_idle-clause-alone
+returns-then-is_idle-clause-alone c = grind (arith, common_steps)

@@ -1,5 +1,6 @@
-use Rattle.std.proofs.Common.{◌≡◌, ap, sym, ◌∙◌, get_or, set}
+use Rattle.std.proofs.Common.{◌≡◌, ap, sym, ◌∙◌, get_or, set, arith}
 use Rattle.std.proofs.lemmas.List.{set-get_or}
+use Rattle.std.proofs.lemmas.Grind.{common_steps}
 use Rattle.sim_standard.specs.Statements.{executed}
 use Rattle.sim_standard.proofs.Names.{nothing_owned}
 use Rattle.sim_store_state.specs.FlatState.{views_of}
@@ -15,3 +16,6 @@ returns-then-is_idle-clause-ok c =
     let same : executed (seen (views_of c.args.values.now c.args.values_before.now) process.nets) c.args.time process.body.statements own ≡ own =
     c.is_idle.ensures process.body process.nets c.args.time own c.if-is_idle.true c.requires.code c.requires.nets in
     sym (set-get_or all place nothing_owned) ∙ ap (set all place) (sym same)
+
+pub returns-then-is_idle-clause-alone : goal.returns-then-is_idle-clause-alone
+returns-then-is_idle-clause-alone c = grind (arith, common_steps)

@@ -1,4 +1,5 @@
-use Rattle.std.proofs.Common.{◌≡◌, ◌++◌, [], ◌∷◌, List, ap, ◌∙◌}
+use Rattle.std.proofs.Common.{◌≡◌, ◌++◌, [], ◌∷◌, List, ap, ◌∙◌, arith}
+use Rattle.std.proofs.lemmas.Grind.{common_steps}
 use Rattle.sim_standard.specs.State.{Owned}
 use Rattle.sim_store_state.specs.FlatState.{owned_lists}
 use Rattle.sim_store_state.proofs.Sharing.{counts-long, parts-more}
@@ -16,3 +17,6 @@ returns c =
     rw (ed, ev) (parts-more s.drivers.items s.variables.items long parts.result.0 parts.result.1
     ∙ (ap (λ (w : List (List Owned)). w ++ owned_lists parts.result.0 parts.result.1 ∷ []) c.self.view_is
     ∙ ap (λ (w : List Owned). c.args.self.now ++ w ∷ []) parts.ensures.lists))
+
+pub invariant_of-self-2 : goal.invariant_of-self-2
+invariant_of-self-2 c = grind (arith, common_steps)
