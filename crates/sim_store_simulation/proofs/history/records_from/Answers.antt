@@ -4,3 +4,6 @@ use Rattle.sim_store_simulation.proofs.history.records_from.Goals as goal
 
 pub loop-place-preserved : goal.loop-place-preserved
 loop-place-preserved c = grind (arith, common_steps)
+
+pub returns : goal.returns
+returns c = grind (arith, common_steps)

@@ -1,4 +1,5 @@
 use Rattle.std.proofs.Common.{◌+◌, ◌<◌, ◌≡◌, length, set, true, refl, ◌∙◌, ap, sym, subst, arith}
+use Rattle.std.proofs.lemmas.Grind.{common_steps}
 use Rattle.sim_store_simulation.specs.Contents.{simulation_of, simulation_with}
 use Rattle.sim_store_simulation.specs.Simulation.{Simulation, IsComplete, those_in, with_marks}
 use Rattle.sim_store_simulation.proofs.Listed.{executed-marked, of-marked, simulation-marked}
@@ -60,3 +61,6 @@ returns-clause-complete c =
     let i = c.loop-number.invariant in
     subst IsComplete (sym (simulation-marked c.args.design.now c.loop-number.contents i.marked))
     (none-missing i.of.state c.loop-number.from i.passed c.in_default.ensures.value)
+
+pub loop-number-smaller : goal.loop-number-smaller
+loop-number-smaller c = grind (arith, common_steps)

@@ -1,5 +1,6 @@
 use Rattle.std.proofs.Common.{rules, tests, IsTrue, ◌≡◌, ◌<◌, false, List, length, map, ap, sym, ◌∙◌, subst, arith}
 use Rattle.std.proofs.lemmas.List.{get_or_default}
+use Rattle.std.proofs.lemmas.Grind.{common_steps}
 use Rattle.sim_flat_design.specs.Processes.{Process}
 use Rattle.sim_standard.specs.Processes.{process_at}
 use Rattle.sim_standard.proofs.Names.{no_process}
@@ -51,3 +52,6 @@ returns c =
         given ∙ (own-owned i job own out ∙ sym held),
       )),
     )
+
+pub returns-then-not-same : goal.returns-then-not-same
+returns-then-not-same c = grind (arith, common_steps)
