@@ -1,4 +1,4 @@
-use Rattle.std.proofs.Common.{◌==◌, [], get_or, refl, arith}
+use Rattle.std.proofs.Common.{◌==◌, [], get_or, arith}
 use Rattle.std.proofs.lemmas.List.{get_or_default}
 use Rattle.std.proofs.lemmas.Grind.{common_steps}
 use Rattle.sim_logic.specs.declared.logic.Logic.TheVariants.{U}

@@ -1,4 +1,4 @@
-use Rattle.std.proofs.Common.{◌+◌, get_or, take, length, ap, sym, ◌∙◌, arith}
+use Rattle.std.proofs.Common.{◌+◌, get_or, length, ap, sym, ◌∙◌, arith}
 use Rattle.std.proofs.lemmas.List.{length-set}
 use Rattle.std.proofs.lemmas.Grind.{common_steps}
 use Rattle.sim_logic.specs.declared.logic.Logic.TheVariants.{U}
