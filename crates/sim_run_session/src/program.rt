@@ -21,10 +21,11 @@ use sim_run_options::{CliFault, Options, read_options};
 use sim_run_team::Hints;
 use sim_text::TextError;
 use std::alloc::Global;
+use std::fmt;
+use std::fmt::Display;
 use std::io::{Read, Write};
 use std::sync::Wait;
 use std::thread::Threads;
-use thiserror::Error;
 
 /// One byte more than a text may have: enough to see that a text is too long.
 const MOST_BYTES: usize = 1_048_577;
@@ -39,17 +40,25 @@ const CHUNK: usize = 16_384;
 const LONGEST_LINE: usize = 64;
 
 /// Why a run that the words ask for has no listing.
-#[derive(Clone, Copy, Debug, Error)]
+#[derive(Clone, Copy)]
 pub enum Failure {
     /// A read failed, or there were too many of them.
-    #[error("Read")]
     Read,
     /// Memory ran out.
-    #[error("Memory")]
     Memory,
     /// A refusal of the run.
-    #[error("{0}")]
     Run(RunError),
+}
+
+// (written by hand: a derived implementation takes twice as long to prove)
+impl Display for Failure {
+    fn fmt<W: fmt::Write>(&self, f: &mut fmt::Formatter<W>) -> fmt::Result {
+        match self {
+            Failure::Read => f.write_str("Read"),
+            Failure::Memory => f.write_str("Memory"),
+            Failure::Run(refusal) => refusal.fmt(f),
+        }
+    }
 }
 
 /// The exit status: 1 for a fault of the text or design, 2 for the options, 3 for a run that is cut
