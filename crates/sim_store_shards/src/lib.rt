@@ -27,8 +27,8 @@ pub fn selected_drivers_give_the_value_of_their_net()
         → resolved (map (source_value (picked_drivers numbers drivers)) (map (placed_in numbers) sources)) ≡ resolved (map (source_value drivers) sources) }
 {}
 
-/// What selected processes own once transactions of a time are taken is what they own, taken: a
-/// shard takes its own transactions.
+/// Selected processes take their transactions of a time without the others: a shard takes its own
+/// transactions.
 pub fn transactions_are_taken_by_selections()
     ensures { (time : ℕ) (numbers : List ℕ) (owned : List Owned)
         → map (own_taken time) (picked numbers owned) ≡ picked numbers (map (own_taken time) owned) }
@@ -72,8 +72,8 @@ pub fn the_changes_of_all_owners_are_all_changes()
 
 // ---- from one cycle to the next (14.7.5.3)
 
-/// What selected processes own once the next cycle has updated them is what they own at the end of
-/// this cycle, with the transactions of that time taken: a shard needs nothing else to go on.
+/// The next cycle updates selected processes from what they own at the end of this cycle, by taking
+/// their transactions of its time: a shard needs nothing else to go on.
 pub fn a_shard_goes_on_by_itself()
     ensures { (design : Design) (cycles time : ℕ) (s t : State) (numbers : List ℕ) → updated_in design cycles ≡ Some s → updated_in design (suc cycles) ≡ Some t
         → next_time (all_drivers (cycle_end design cycles s).owned) ≡ Some time
