@@ -1,6 +1,6 @@
 -- Numbers as bits, 64 in each word.
 -- Implementation only: what `simulate` promises does not rest on this file.
-use Rattle.std.specs.Prelude.{ℕ, ◌≡◌, ◌<◌, ◌≤◌, ◌/◌, ◌%◌, ◌==◌, Bool, true, false, not, List, slice_index}
+use Rattle.std.specs.Prelude.{ℕ, ◌≡◌, ◌≢◌, ◌<◌, ◌≤◌, ◌/◌, ◌%◌, ◌==◌, Bool, true, false, not, List, slice_index}
 use Rattle.std.specs.Int.{bit_at}
 
 -- whether a bit of a word is set
@@ -28,3 +28,8 @@ pub record IsNext (test : ℕ → Bool) (from n : ℕ) : Type 0 where
   pub further : from ≤ n
   pub passes : test n ≡ true
   pub first : (m : ℕ) → from ≤ m → m < n → test m ≡ false
+
+-- This number passes the test, and no other does.
+pub record IsOnly (test : ℕ → Bool) (n : ℕ) : Type 0 where
+  pub passes : test n ≡ true
+  pub others : (m : ℕ) → m ≢ n → test m ≡ false

@@ -3,7 +3,7 @@
 ghost use Rattle.std.specs.Prelude.{ℕ, ◌≡◌, ◌<◌, ◌≤◌, ◌-◌, ◌↔◌, length, true, false, []};
 ghost use Rattle.std.specs.Prelude.{replicate, slice_set, slice_index_or, vec_capacity, vec_len, IfNone, IfOk, IfSome, IsTrue, MatchOption};
 ghost use Rattle.std.specs.List.{insert};
-ghost use Rattle.sim_containers.specs.Words.{IsNext, NoneFrom};
+ghost use Rattle.sim_containers.specs.Words.{IsNext, IsOnly, NoneFrom};
 ghost use Rattle.sim_containers.specs.Numbers.{is_beside, is_in, members};
 
 use crate::bit_set::BitSet;
@@ -116,6 +116,18 @@ impl NumberSet {
         mem::swap(&mut self.is_listed, &mut other.is_listed);
         mem::swap(&mut self.end, &mut other.end);
         mem::swap(&mut self.bits, &mut other.bits);
+    }
+
+    /// The only member. If there is one, this may still be `None`, unless the members were added in
+    /// order since the set was empty.
+    #[inline(always)]
+    pub fn only(&self) -> Option<usize>
+        ensures { IfSome result (IsOnly (is_in self.now)) }
+    {
+        if self.list.len() == 1 {
+            return Some(self.list[0]);
+        }
+        None
     }
 
     /// Adds a number. It takes no memory.
@@ -284,10 +296,26 @@ impl NumberSet {
     }
 
     /// Replaces the contents of `numbers` by the members, in order. It takes no memory.
+    #[inline(always)]
     pub fn list(&self, numbers: &mut Vec<usize>)
         requires { length self.now ≤ vec_capacity numbers.old }
         ensures numbers { numbers.new.items ≡ members self.now }
-        ensures capacity { vec_capacity numbers.new ≡ vec_capacity numbers.old }
+        ensures capacity { vec_capacity numbers.old ≤ vec_capacity numbers.new }
+    {
+        if self.list.len() == 1 {
+            numbers.clear();
+            numbers.push_reserved(self.list[0]);
+            return;
+        }
+        self.list_all(numbers);
+    }
+
+    /// The same, for any number of members.
+    #[inline(never)]
+    fn list_all(&self, numbers: &mut Vec<usize>)
+        requires { length self.now ≤ vec_capacity numbers.old }
+        ensures numbers { numbers.new.items ≡ members self.now }
+        ensures capacity { vec_capacity numbers.old ≤ vec_capacity numbers.new }
     {
         numbers.clear();
         if self.is_listed {
@@ -533,9 +561,10 @@ fn push_each(list: &mut Vec<usize>, numbers: &[usize])
     requires empty { length list.old.items ≡ 0 }
     requires room { length numbers.now ≤ vec_capacity list.old }
     ensures items { list.new.items ≡ numbers.now }
-    ensures capacity { vec_capacity list.new ≡ vec_capacity list.old }
+    ensures capacity { vec_capacity list.old ≤ vec_capacity list.new }
 {
-    for place in 0..numbers.len() {
-        list.push_reserved(numbers[place]);
+    match list.extend_from_slice(numbers) {
+        Ok(()) => {}
+        Err(_) => unreachable!(),
     }
 }

@@ -1,8 +1,10 @@
 //! For each driver the time of its next transaction, with fast access to the least time.
 
-ghost use Rattle.std.specs.Prelude.{◌≡◌, ◌<◌, ◌⊎◌, ℕ, length, false, Option, None, Some, OnOk, OnErr, IfOk, MatchOption, replicate, slice_set};
+ghost use Rattle.std.specs.Prelude.{◌≡◌, ◌≢◌, ◌<◌, ◌⊎◌, ℕ, length, false, Option, None, Some, OnOk, OnErr, IfOk, IfNone, IfSome, MatchOption, replicate, slice_set};
 ghost use Rattle.std.specs.BinaryHeap.{heap_items, IsHeap};
 ghost use Rattle.sim_containers.specs.Times.{clear, cleared, due_at, earlier, earliest, is_at, those_at};
+ghost use Rattle.sim_containers.specs.Numbers.{is_in};
+ghost use Rattle.sim_containers.specs.Words.{IsOnly};
 ghost use Rattle.sim_containers.specs.Entries.{entry_cmp, those_later, NoneBefore, StandsBut};
 
 use crate::entries::{Heap, add_entry, drop_stale, is_time, take_least, top_time, trim};
@@ -182,6 +184,34 @@ impl TimeQueue {
         self.front_time = next_time(&self.front, self.front_time, time);
     }
 
+    /// Removes the only driver with the least time. If it returns `None`, nothing changes; there may
+    /// be one all the same. It takes no memory.
+    #[inline(always)]
+    pub fn take_only(&mut self, time: u64) -> Option<usize>
+        requires { earliest self.old ≡ Some time }
+        ensures none { IfNone result (self.new ≡ self.old) }
+        ensures only { IfSome result (IsOnly (is_in (those_at time self.old))) }
+        ensures queue { IfSome result (λ _. self.new ≡ cleared time self.old) }
+    {
+        let driver = only_at(
+            self.front_time,
+            self.later_time,
+            &self.front,
+            &self.later,
+            time,
+        )?;
+        clear_at(self.front_time, &mut self.front, &mut self.later, time);
+        self.times[driver] = None;
+        drop_stale(
+            &mut self.heap,
+            self.times.as_slice(),
+            self.front_time,
+            self.later_time,
+        );
+        self.front_time = next_time(&self.front, self.front_time, time);
+        Some(driver)
+    }
+
     /// Removes the drivers with the least time and lists them in order. It takes memory for as many
     /// numbers as there are drivers. If allocation fails, nothing changes.
     pub fn take_due(&mut self, alloc: Global, time: u64) -> Result<Vec<usize>, AllocError>
@@ -260,6 +290,40 @@ fn take_out(
         return;
     }
     take_least(heap, times, now, later, time, taken);
+}
+
+/// The only driver at a time, if that is the time of one of the sets.
+#[inline(always)]
+fn only_at(
+    now: u64,
+    later: u64,
+    front: &NumberSet,
+    laters: &NumberSet,
+    time: u64,
+) -> Option<usize>
+    ensures front { IfSome result (λ d. time ≡ now → IsOnly (is_in front.now) d) }
+    ensures later { IfSome result (λ d. time ≢ now → (time ≡ later) × IsOnly (is_in laters.now) d) }
+{
+    if time == now {
+        return front.only();
+    }
+    if time == later {
+        return laters.only();
+    }
+    None
+}
+
+/// Clears the set of the drivers at a time, which is that of one of the sets.
+#[inline(always)]
+fn clear_at(now: u64, front: &mut NumberSet, laters: &mut NumberSet, time: u64)
+    ensures front { time ≡ now → (front.new ≡ replicate (length front.old) false) × (laters.new ≡ laters.old) }
+    ensures later { time ≢ now → (front.new ≡ front.old) × (laters.new ≡ replicate (length laters.old) false) }
+{
+    if time == now {
+        front.clear();
+    } else {
+        laters.clear();
+    }
 }
 
 /// Clears the times of these drivers.

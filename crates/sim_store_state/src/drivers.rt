@@ -1,12 +1,13 @@
 //! Drivers, one after another (IEEE 1076-2008, 14.7.2).
 
-ghost use Rattle.std.specs.Prelude.{ℕ, List, ◌≡◌, ◌≢◌, ◌<◌, ◌≤◌, ◌⊎◌, [], ◌∷◌, true, false, length, map, slice_index_or, slice_set, IfOk, OnOk};
+ghost use Rattle.std.specs.Prelude.{ℕ, List, ◌≡◌, ◌≢◌, ◌<◌, ◌≤◌, ◌⊎◌, [], ◌∷◌, true, false, Some, length, map, slice_index_or, slice_set, IfOk, OnOk};
 ghost use Rattle.std.specs.Bool.{Decides};
 ghost use Rattle.sim_standard.specs.Drivers.{DriverState, taken};
 ghost use Rattle.sim_containers.specs.RowArray.{joined};
 ghost use Rattle.sim_containers.specs.Numbers.{is_in};
 ghost use Rattle.sim_standard.specs.State.{driver_at, driver_values};
-ghost use Rattle.sim_containers.specs.Times.{time_of};
+ghost use Rattle.sim_containers.specs.Times.{cleared, those_at, time_of};
+ghost use Rattle.sim_containers.specs.Words.{IsOnly};
 ghost use Rattle.sim_store_state.specs.Changes.{AreReached, AreTallied, AreTimes, AreTold, first_times, time_at, value_at};
 ghost use Rattle.sim_flat_design.specs.declared.design.Source.{Source};
 ghost use Rattle.sim_standard.specs.Drivers as spec;
@@ -30,7 +31,25 @@ pub fn first_time(driver: &Driver) -> Option<u64>
 
 /// Puts the first pending time of each stale driver into the queue, which then has that of every
 /// driver. If allocation fails, stale drivers may have any time. It looks at no other drivers.
+#[inline(always)]
 pub fn bring_up_to_date(
+    queue: &mut TimeQueue,
+    stale: &NumberSet,
+    drivers: &DividedRows<Driver>,
+) -> Result<(), AllocError>
+    requires { AreTimes queue.old stale.now (joined drivers.now) }
+    ensures times { AreTimes queue.new stale.now (joined drivers.now) }
+    ensures ok { OnOk result (queue.new ≡ first_times (joined drivers.now)) }
+{
+    if stale.is_empty() {
+        return Ok(());
+    }
+    put_first_times(queue, stale, drivers)
+}
+
+/// The same, where a driver may be stale.
+#[inline(never)]
+fn put_first_times(
     queue: &mut TimeQueue,
     stale: &NumberSet,
     drivers: &DividedRows<Driver>,
@@ -132,6 +151,7 @@ pub fn tell_changed(
 
 /// A driver takes its first transaction, if its time has come (14.7.2). Returns its value after
 /// that, and its first pending time.
+#[inline(always)]
 fn take_value(driver: &mut Driver, time: u64) -> (Logic, Option<u64>)
     ensures after { driver.new ≡ taken time driver.old }
     ensures value { result.0 ≡ driver.new.value }
@@ -142,6 +162,7 @@ fn take_value(driver: &mut Driver, time: u64) -> (Logic, Option<u64>)
 }
 
 /// The same, of the driver at a place.
+#[inline(always)]
 fn take_among(drivers: &mut [Driver], place: usize, time: u64) -> (Logic, Option<u64>)
     requires { place < length drivers.old }
     ensures drivers { drivers.new ≡ slice_set drivers.old place (taken time (driver_at drivers.old place)) }
@@ -152,6 +173,7 @@ fn take_among(drivers: &mut [Driver], place: usize, time: u64) -> (Logic, Option
 }
 
 /// The same, in lists of drivers by process.
+#[inline(always)]
 fn take_in(drivers: &mut RowArray<Driver>, place: usize, time: u64) -> (Logic, Option<u64>)
     requires { place < length (joined drivers.old) }
     ensures rows { map length drivers.new ≡ map length drivers.old }
@@ -163,6 +185,7 @@ fn take_in(drivers: &mut RowArray<Driver>, place: usize, time: u64) -> (Logic, O
 }
 
 /// The same, in one of the parts of these lists.
+#[inline(always)]
 fn take_at(
     parts: &mut [RowArray<Driver>],
     part: usize,
@@ -183,6 +206,7 @@ fn take_at(
 
 /// The driver with a number takes its first transaction, if its time has come. Returns its value
 /// after that, and its first pending time.
+#[inline(always)]
 fn take_driver(drivers: &mut DividedRows<Driver>, number: usize, time: u64) -> (Logic, Option<u64>)
     requires { number < length (joined drivers.old) }
     ensures rows { map length drivers.new ≡ map length drivers.old }
@@ -196,6 +220,7 @@ fn take_driver(drivers: &mut DividedRows<Driver>, number: usize, time: u64) -> (
 
 /// Notes the value of a driver. If it is a new one, the nets of the driver are touched (14.7.3.2),
 /// and the values kept of nets of many sources follow.
+#[inline(always)]
 fn note_value(
     driving: &mut [Logic],
     number: usize,
@@ -219,6 +244,7 @@ fn note_value(
 }
 
 /// Puts the time of a driver into the queue. Returns whether there was memory for it.
+#[inline(always)]
 fn is_queued(queue: &mut TimeQueue, number: usize, time: Option<u64>) -> bool
     requires { number < length queue.old }
     ensures sized { length queue.new ≡ length queue.old }
@@ -232,7 +258,7 @@ fn is_queued(queue: &mut TimeQueue, number: usize, time: Option<u64>) -> bool
 }
 
 /// No driver is stale any more, if the queue has the time of each.
-pub fn forget(stale: &mut NumberSet, told: bool)
+fn forget(stale: &mut NumberSet, told: bool)
     ensures sized { length stale.new ≡ length stale.old }
     ensures same { told ≡ false → stale.new ≡ stale.old }
 {
@@ -243,6 +269,7 @@ pub fn forget(stale: &mut NumberSet, told: bool)
 
 /// The driver with a number takes its first transaction, if its time has come. If that is a new
 /// value, these nets are touched. Returns whether the queue has its first pending time.
+#[inline(always)]
 fn take_one(
     drivers: &mut DividedRows<Driver>,
     driving: &mut [Logic],
@@ -276,7 +303,7 @@ fn take_one(
 /// The due drivers take their transactions of a time (14.7.5.3 c), and the nets of each whose value
 /// is a new one are touched. The other drivers have none to take, and are not looked at. Returns
 /// whether the queue has the first pending time of each due driver.
-pub fn take_due(
+fn take_due(
     drivers: &mut DividedRows<Driver>,
     driving: &mut [Logic],
     time: u64,
@@ -312,8 +339,122 @@ pub fn take_due(
         place = place.wrapping_add(1);
         from = number + 1;
     }
-    touched.arrange();
     told
+}
+
+/// The only active driver takes its transaction of a time, and so on.
+#[inline(always)]
+fn take_alone(
+    drivers: &mut DividedRows<Driver>,
+    driving: &mut [Logic],
+    time: u64,
+    number: usize,
+    fan_out: &RowArray<usize>,
+    queue: &mut TimeQueue,
+    stale: &mut NumberSet,
+    touched: &mut NumberSet,
+    tallies: &mut Tallies,
+)
+    requires only { IsOnly (is_in (those_at time (first_times (joined drivers.old)))) number }
+    requires next { spec.next_time (joined drivers.old) ≡ Some time }
+    requires queue { queue.old ≡ cleared time (first_times (joined drivers.old)) }
+    requires stale { length stale.old ≡ length (joined drivers.old) }
+    requires fan_out { length fan_out.now ≡ length (joined drivers.old) }
+    requires driving { driving.old ≡ driver_values (joined drivers.old) }
+    ensures drivers { drivers.new ≡ map (map (taken time)) drivers.old }
+    ensures driving { driving.new ≡ driver_values (joined drivers.new) }
+    ensures sized { length touched.new ≡ length touched.old }
+    ensures reached { (d : ℕ) → AreReached touched.new (slice_index_or fan_out.now d []) (driver_at (joined drivers.old) d).value
+        (taken time (driver_at (joined drivers.old) d)).value }
+    ensures tallied { (sources : List (List Source)) → AreTallied sources driving.old tallies.old → AreTallied sources driving.new tallies.new }
+    ensures times { AreTimes queue.new stale.new (joined drivers.new) }
+{
+    let nets = fan_out.row(number);
+    let told = take_one(
+        drivers, driving, number, time, nets, queue, touched, tallies,
+    );
+    forget_all_but(stale, number, told);
+}
+
+/// No driver is stale any more, but one whose first pending time the queue may not have.
+#[inline(always)]
+fn forget_all_but(stale: &mut NumberSet, number: usize, told: bool)
+    requires { number < length stale.old }
+    ensures sized { length stale.new ≡ length stale.old }
+    ensures untold { told ≡ false → is_in stale.new number ≡ true }
+{
+    stale.clear();
+    if !told {
+        stale.insert(number);
+    }
+}
+
+/// The active drivers take their transactions of a time, and so on.
+fn take_all(
+    drivers: &mut DividedRows<Driver>,
+    driving: &mut [Logic],
+    time: u64,
+    fan_out: &RowArray<usize>,
+    queue: &mut TimeQueue,
+    stale: &mut NumberSet,
+    touched: &mut NumberSet,
+    tallies: &mut Tallies,
+)
+    requires next { spec.next_time (joined drivers.old) ≡ Some time }
+    requires queue { queue.old ≡ first_times (joined drivers.old) }
+    requires stale { length stale.old ≡ length (joined drivers.old) }
+    requires fan_out { length fan_out.now ≡ length (joined drivers.old) }
+    requires driving { driving.old ≡ driver_values (joined drivers.old) }
+    ensures drivers { drivers.new ≡ map (map (taken time)) drivers.old }
+    ensures driving { driving.new ≡ driver_values (joined drivers.new) }
+    ensures sized { length touched.new ≡ length touched.old }
+    ensures reached { (d : ℕ) → AreReached touched.new (slice_index_or fan_out.now d []) (driver_at (joined drivers.old) d).value
+        (taken time (driver_at (joined drivers.old) d)).value }
+    ensures tallied { (sources : List (List Source)) → AreTallied sources driving.old tallies.old → AreTallied sources driving.new tallies.new }
+    ensures times { AreTimes queue.new stale.new (joined drivers.new) }
+{
+    queue.take(time, stale);
+    let told = take_due(
+        drivers, driving, time, stale, fan_out, queue, touched, tallies,
+    );
+    forget(stale, told);
+}
+
+/// Each active driver takes its transaction of a time (14.7.5.3 c), and the nets of each whose value
+/// is a new one are touched. The other drivers have none to take, and are not looked at. The queue
+/// has the next times of drivers that are not stale.
+pub fn take_active(
+    drivers: &mut DividedRows<Driver>,
+    driving: &mut [Logic],
+    time: u64,
+    fan_out: &RowArray<usize>,
+    queue: &mut TimeQueue,
+    stale: &mut NumberSet,
+    touched: &mut NumberSet,
+    tallies: &mut Tallies,
+)
+    requires next { spec.next_time (joined drivers.old) ≡ Some time }
+    requires queue { queue.old ≡ first_times (joined drivers.old) }
+    requires stale { length stale.old ≡ length (joined drivers.old) }
+    requires fan_out { length fan_out.now ≡ length (joined drivers.old) }
+    requires driving { driving.old ≡ driver_values (joined drivers.old) }
+    ensures drivers { drivers.new ≡ map (map (taken time)) drivers.old }
+    ensures driving { driving.new ≡ driver_values (joined drivers.new) }
+    ensures sized { length touched.new ≡ length touched.old }
+    ensures reached { (d : ℕ) → AreReached touched.new (slice_index_or fan_out.now d []) (driver_at (joined drivers.old) d).value
+        (taken time (driver_at (joined drivers.old) d)).value }
+    ensures tallied { (sources : List (List Source)) → AreTallied sources driving.old tallies.old → AreTallied sources driving.new tallies.new }
+    ensures times { AreTimes queue.new stale.new (joined drivers.new) }
+{
+    if let Some(number) = queue.take_only(time) {
+        take_alone(
+            drivers, driving, time, number, fan_out, queue, stale, touched, tallies,
+        );
+        return;
+    }
+    take_all(
+        drivers, driving, time, fan_out, queue, stale, touched, tallies,
+    );
 }
 
 /// Makes the drivers of the process with a number stale, as others may take their place.

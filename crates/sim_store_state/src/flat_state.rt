@@ -29,15 +29,14 @@ ghost use Rattle.sim_standard.specs.Records.{changes_from, values_of};
 ghost use Rattle.sim_wave.specs.Rising.{RisesFrom};
 
 use crate::assignment::assign_in_parts_and_tell;
-use crate::drivers::{
-    are_same, bring_up_to_date, copied, forget, mark_stale, take_due, tell_changed,
-};
+use crate::drivers::{are_same, bring_up_to_date, copied, mark_stale, tell_changed};
 use crate::execution::{as_done, execute_in_parts, may_have_changed};
 use crate::in_turn::execute_in_one_part;
 use crate::log::Log;
 use crate::nets::{ByNumber, Seen, SeenBy, are_views, end_events, resolve_touched, views_at};
 use crate::start::{connections, first_contents, nothing_pending};
 use crate::tallies::Tallies;
+use crate::touched::Touched;
 use sim_containers::{DividedRows, NumberSet, RowArray, TimeQueue};
 use sim_exec::NetView;
 use sim_exec_code::{Codes, Frame, SingleAssignment};
@@ -67,7 +66,7 @@ pub struct FlatState {
     queue: TimeQueue,
     stale: NumberSet,
     /// The nets that may have an event.
-    touched: NumberSet,
+    touched: Touched,
     /// The values of the sources of nets that have many.
     tallies: Tallies,
 }
@@ -126,7 +125,7 @@ pub struct Lists {
     pub fan_out: RowArray<usize>,
     pub queue: TimeQueue,
     pub stale: NumberSet,
-    pub touched: NumberSet,
+    pub touched: Touched,
     pub tallies: Tallies,
 }
 
@@ -394,20 +393,16 @@ impl FlatState {
             self.values.as_slice(),
             &self.touched,
         );
-        self.touched.clear();
         // c) Each active driver takes its transaction.
-        self.queue.take(time, &mut self.stale);
-        let told = take_due(
+        self.touched.take_active(
             &mut self.drivers,
             self.driving.as_mut_slice(),
             time,
-            &self.stale,
             &self.fan_out,
             &mut self.queue,
-            &mut self.touched,
+            &mut self.stale,
             &mut self.tallies,
         );
-        forget(&mut self.stale, told);
         // d) Nets of changed drivers take the values of their sources.
         resolve_touched(
             self.values.as_mut_slice(),

@@ -12,6 +12,7 @@ use crate::flat_state::{FlatState, Lists};
 use crate::sets::insert_range;
 use crate::shares::Shares;
 use crate::tallies::Tallies;
+use crate::touched::Touched;
 use sim_containers::{DividedRows, NumberSet, RowArray, TimeQueue};
 use sim_flat_design::Source;
 use sim_logic::Logic;
@@ -26,7 +27,7 @@ pub struct UpdateLists {
     pub fan_out: RowArray<usize>,
     pub queue: TimeQueue,
     pub stale: NumberSet,
-    pub touched: NumberSet,
+    pub touched: Touched,
     pub tallies: Tallies,
     /// The number of processes of each share but the last.
     pub each: usize,

@@ -19,6 +19,7 @@ mod shares;
 mod start;
 mod tallies;
 mod tally;
+mod touched;
 
 pub use execution::execute_at;
 pub use flat_state::{FlatState, Lists, Part};

@@ -7,7 +7,7 @@ ghost use Rattle.sim_store_state.specs.FlatState.{views_of};
 ghost use Rattle.sim_standard.specs.Records.{all_changes, changes_from};
 ghost use Rattle.sim_store_state.specs.Log.{end_mark, record_at};
 
-use sim_containers::NumberSet;
+use crate::touched::Touched;
 use sim_logic::Logic;
 use std::alloc::{AllocError, Global};
 use std::marker::Model;
@@ -39,7 +39,7 @@ fn append_changes(
     changes: &mut Vec<(u32, Logic)>,
     values: &[Logic],
     values_before: &[Logic],
-    touched: &NumberSet,
+    touched: &Touched,
 )
     requires same { length values_before.now ≡ length values.now }
     requires touched { AreTouched values.now values_before.now touched.now }
@@ -47,12 +47,10 @@ fn append_changes(
     requires room { vec_len changes.old + length values.now ≤ vec_capacity changes.old }
     ensures { changes.new.items ≡ changes.old.items ++ changes_from 0 (views_of values.now values_before.now) }
 {
-    let mut place = 0;
-    let mut from = 0;
-    while let Some(number) = touched.next_at(place, from) {
+    let nets = touched.numbers();
+    for place in 0..nets.len() {
+        let number = nets[place];
         append_change(changes, number, values[number], values_before[number]);
-        place = place.wrapping_add(1);
-        from = number + 1;
     }
 }
 
@@ -181,7 +179,7 @@ impl Log {
         delta: u64,
         values: &[Logic],
         values_before: &[Logic],
-        touched: &NumberSet,
+        touched: &Touched,
     )
         requires same { length values_before.now ≡ length values.now }
         requires touched { AreTouched values.now values_before.now touched.now }

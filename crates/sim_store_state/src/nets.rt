@@ -10,7 +10,8 @@ ghost use Rattle.sim_store_state.specs.FlatState as spec;
 ghost use Rattle.sim_store_state.specs.FlatState.{views_of};
 
 use crate::tallies::Tallies;
-use sim_containers::{NumberSet, RowArray};
+use crate::touched::Touched;
+use sim_containers::RowArray;
 use sim_exec::{NetView, Nets};
 use sim_flat_design::{Process, Source};
 use sim_logic::{Logic, resolve_two};
@@ -89,17 +90,15 @@ fn resolved_value(tallies: &Tallies, net: usize, sources: &[Source], driving: &[
 
 /// The values before the cycle of touched nets become their values; those of other nets are already
 /// equal.
-pub fn end_events(values_before: &mut [Logic], values: &[Logic], touched: &NumberSet)
+pub fn end_events(values_before: &mut [Logic], values: &[Logic], touched: &Touched)
     requires sized { length values_before.old ≡ length values.now }
     requires touched { AreTouched values.now values_before.old touched.now }
     ensures { values_before.new ≡ values.now }
 {
-    let mut place = 0;
-    let mut from = 0;
-    while let Some(net) = touched.next_at(place, from) {
+    let nets = touched.numbers();
+    for place in 0..nets.len() {
+        let net = nets[place];
         values_before[net] = values[net];
-        place = place.wrapping_add(1);
-        from = net + 1;
     }
 }
 
@@ -107,7 +106,7 @@ pub fn end_events(values_before: &mut [Logic], values: &[Logic], touched: &Numbe
 /// of many sources costs no look at each.
 pub fn resolve_touched(
     values: &mut [Logic],
-    touched: &NumberSet,
+    touched: &Touched,
     sources: &RowArray<Source>,
     driving: &[Logic],
     tallies: &Tallies,
@@ -119,12 +118,10 @@ pub fn resolve_touched(
         → value_at values.old n ≡ row_from driving.now (slice_index_or sources.now n []) }
     ensures { values.new ≡ map (row_from driving.now) sources.now }
 {
-    let mut place = 0;
-    let mut from = 0;
-    while let Some(net) = touched.next_at(place, from) {
+    let nets = touched.numbers();
+    for place in 0..nets.len() {
+        let net = nets[place];
         values[net] = resolved_value(tallies, net, sources.row(net), driving);
-        place = place.wrapping_add(1);
-        from = net + 1;
     }
 }
 

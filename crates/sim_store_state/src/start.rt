@@ -15,6 +15,7 @@ use crate::counting::tallies;
 use crate::lists::{add, empty_lists, in_rows};
 use crate::nets::net_value;
 use crate::tallies::Tallies;
+use crate::touched::Touched;
 use sim_containers::{DividedRows, NumberSet, RowArray, TimeQueue};
 use sim_flat_design::{Design, DriverOf, Held, Net, Process, Source};
 use sim_logic::Logic;
@@ -269,13 +270,13 @@ pub fn nothing_pending(
     alloc: Global,
     drivers: usize,
     nets: usize,
-) -> Result<(TimeQueue, NumberSet, NumberSet), AllocError>
+) -> Result<(TimeQueue, NumberSet, Touched), AllocError>
     ensures queue { IfOk result (λ r. r.0 ≡ replicate drivers None) }
     ensures stale { IfOk result (λ r. r.1 ≡ replicate drivers false) }
     ensures touched { IfOk result (λ r. r.2 ≡ replicate nets false) }
 {
     let queue = TimeQueue::new(alloc, drivers)?;
     let stale = NumberSet::new(alloc, drivers)?;
-    let touched = NumberSet::new(alloc, nets)?;
+    let touched = Touched::none(alloc, nets)?;
     Ok((queue, stale, touched))
 }

@@ -1,7 +1,7 @@
 use Rattle.std.proofs.Common.{◌∙◌, ◌≡◌, ap, arith, length}
 use Rattle.sim_containers.specs.Numbers.{is_in, members}
 use Rattle.sim_containers.proofs.Ranges.{few_below}
-use Rattle.sim_containers.proofs.numbers.NumberSet.list.Goals as goal
+use Rattle.sim_containers.proofs.numbers.NumberSet.list_all.Goals as goal
 
 pub push_each-requires-clause-room : goal.push_each-requires-clause-room
 push_each-requires-clause-room c =
