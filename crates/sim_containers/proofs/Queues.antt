@@ -3,16 +3,16 @@ use Rattle.std.proofs.Common.{ℕ, zero, suc, ◌<◌, ◌≤◌, ◌≡◌, ◌
 use Rattle.std.proofs.Common.{inl, inr, ◌⊎◌, Option, None, Some}
 use Rattle.std.proofs.Math.ListN.{replicate}
 use Rattle.std.proofs.lemmas.Bool.Decides.{nat_tests}
-use Rattle.std.proofs.lemmas.List.{ext_get_or, get_or-set_other, length-map, map-set, set-get_or}
+use Rattle.std.proofs.lemmas.List.{ext_get_or, get_or-set_same, get_or-set_other, length-set, length-map, map-set, set-get_or}
 use Rattle.std.proofs.lemmas.Option.{same_Some}
 use Rattle.std.specs.BinaryHeap.{IsHeap}
-use Rattle.sim_containers.specs.Words.{NoneFrom}
+use Rattle.sim_containers.specs.Words.{IsOnly, NoneFrom}
 use Rattle.sim_containers.specs.Numbers.{is_in}
 use Rattle.sim_containers.specs.Times.{is_at, time_of, clear, cleared, those_at}
 use Rattle.sim_containers.specs.Entries.{Entry, entry_cmp, those_later, HasLiveTop, IsQueue, StandsBut}
 use Rattle.sim_containers.proofs.Bits.{not_both}
 use Rattle.sim_containers.proofs.Heaps.{at_from_time, none_in_empty, stands_with}
-use Rattle.sim_containers.proofs.Sets.{in_none}
+use Rattle.sim_containers.proofs.Sets.{in_none, member_within}
 use Rattle.sim_containers.proofs.Taking.{cleared_time, in_those_at}
 
 -- no driver has a time
@@ -329,3 +329,74 @@ turned times now later time next front laters items f g order stands live (inr (
     not_now : (d t : ℕ) → time_of (cleared time times) d ≡ Some t → t ≡ now → ⊥
     not_now d t e now_is =
         not_both (is_at now (time_of (cleared time times) d)) (none d) (at_from_time now (time_of (cleared time times) d) (e ∙ ap Some now_is))
+
+-- ---- the only driver at a time is taken
+
+pub only_cleared : (time : ℕ) (times : List (Option ℕ)) (driver : ℕ) → IsOnly (is_in (those_at time times)) driver
+    → set times driver None ≡ cleared time times
+only_cleared time times driver only =
+    let a : length (set times driver None) ≡ length times = length-set times driver None in
+    let b : length (cleared time times) ≡ length times = length-map times (clear time) in
+    ext_get_or None (set times driver None) (cleared time times) (omega arith) (λ d _. go d (eqb d driver) refl ∙ sym (at_cleared time times d))
+  where
+    within : driver < length times
+    within =
+        let l : length (those_at time times) ≡ length times = length-map times (is_at time) in
+        let w : driver < length (those_at time times) = member_within (those_at time times) driver only.passes in
+        omega arith
+
+    go : (d : ℕ) (b : Bool) → eqb d driver ≡ b → time_of (set times driver None) d ≡ clear time (time_of times d)
+    go d true q =
+        let same : d ≡ driver = grind (arith, nat_tests) in
+        ap (time_of (set times driver None)) same ∙ (get_or-set_same times driver None None within
+        ∙ (sym (ap (λ (b : Bool). cond b None (time_of times driver)) (sym (in_those_at time times driver) ∙ only.passes))
+        ∙ ap (λ (k : ℕ). clear time (time_of times k)) (sym same)))
+    go d false q =
+        let differ : d ≢ driver = grind (arith, nat_tests) in
+        get_or-set_other times driver d None None differ
+        ∙ sym (ap (λ (b : Bool). cond b None (time_of times d)) (sym (in_those_at time times d) ∙ only.others d differ))
+
+-- if it is the only one in the set of that time
+pub is_alone : (times : List (Option ℕ)) (now later time driver : ℕ) (front laters : List Bool) (items : List Entry)
+    → IsQueue times now later front laters items → (time ≡ now → IsOnly (is_in front) driver)
+    → (time ≢ now → (time ≡ later) × IsOnly (is_in laters) driver) → IsOnly (is_in (those_at time times)) driver
+is_alone times now later time driver front laters items queue first second = go (eqb time now) refl
+  where
+    go : (b : Bool) → eqb time now ≡ b → IsOnly (is_in (those_at time times)) driver
+    go true q =
+        let same : time ≡ now = grind (arith, nat_tests) in
+        subst (λ (set' : List Bool). IsOnly (is_in set') driver) (queue.front_is ∙ ap (λ (t : ℕ). those_at t times) (sym same)) (first same)
+    go false q =
+        let differ : time ≢ now = grind (arith, nat_tests) in
+        let found = second differ in
+        subst (λ (set' : List Bool). IsOnly (is_in set') driver)
+        (queue.later_is ∙ (all_later now later times (λ e. differ (found.0 ∙ e)) ∙ ap (λ (t : ℕ). those_at t times) (sym found.0))) found.1
+
+-- the sets that are left
+pub sets_left : (times : List (Option ℕ)) (now later time : ℕ) (front laters front' laters' : List Bool) (items : List Entry)
+    → IsQueue times now later front laters items → (time ≢ now → time ≡ later)
+    → (time ≡ now → (front' ≡ replicate (length front) false) × (laters' ≡ laters))
+    → (time ≢ now → (front' ≡ front) × (laters' ≡ replicate (length laters) false))
+    → (front' ≡ those_at now (cleared time times)) × (laters' ≡ those_later now later (cleared time times))
+sets_left times now later time front laters front' laters' items queue which first second = go (eqb time now) refl
+  where
+    front_sized : length front ≡ length times
+    front_sized = ap length queue.front_is ∙ length-map times (is_at now)
+
+    later_sized : length laters ≡ length times
+    later_sized = ap length queue.later_is ∙ (length-map (cleared now times) (is_at later) ∙ length-map times (clear now))
+
+    go : (b : Bool) → eqb time now ≡ b → (front' ≡ those_at now (cleared time times)) × (laters' ≡ those_later now later (cleared time times))
+    go true q =
+        let same : time ≡ now = grind (arith, nat_tests) in
+        let left = first same in (
+          left.0 ∙ (none_left time (length front) times front_sized ∙ ap (λ (t : ℕ). those_at t (cleared time times)) same),
+          left.1 ∙ (queue.later_is ∙ (front_taken now later times ∙ ap (λ (t : ℕ). those_later now later (cleared t times)) (sym same))),
+        )
+    go false q =
+        let differ : time ≢ now = grind (arith, nat_tests) in
+        let left = second differ in (
+          left.0 ∙ (queue.front_is ∙ others_left time now times differ),
+          left.1 ∙ (later_taken now later (length laters) times later_sized
+              ∙ ap (λ (t : ℕ). those_later now later (cleared t times)) (sym (which differ))),
+        )

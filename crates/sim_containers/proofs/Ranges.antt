@@ -10,7 +10,7 @@ use Rattle.std.proofs.Math.ListN.{get_or-append}
 use Rattle.std.proofs.lemmas.List.Prefix.{front_rest}
 use Rattle.std.proofs.lemmas.List.FromFn.{filter_of_map_range_with_len_more}
 use Rattle.std.specs.List.{filter, range_with_len, insert}
-use Rattle.sim_containers.specs.Words.{IsNext, NoneFrom}
+use Rattle.sim_containers.specs.Words.{IsNext, IsOnly, NoneFrom}
 use Rattle.sim_containers.proofs.Bits.{not_both}
 use Rattle.sim_containers.proofs.Sets.{in_none, member_within}
 use Rattle.sim_containers.specs.Numbers.{is_in, members, IsListed}
@@ -491,6 +491,18 @@ pub next_here : (set' : List Bool) (from k n : ℕ) (list : List ℕ) → list �
     → (0 < k → get_or list (k - 1) 0 < from) → n ≡ get_or list k 0 → IsNext (is_in set') from n
 next_here set' from k n list e l after before named =
     next_listed set' from k list (Some n) e (omega (arith, l)) (λ _. after) before (l, named) tt
+
+-- the only number that is listed
+pub only_listed : (set' : List Bool) (list : List ℕ) (n : ℕ) → list ≡ members set' → length list ≡ 1 → n ≡ get_or list 0 0 → IsOnly (is_in set') n
+only_listed set' list n e one named = record { passes = next.passes; others = λ m differ. go m differ (side m n) }
+  where
+    next : IsNext (is_in set') 0 n
+    next = next_here set' 0 0 n list e (omega (arith, one)) (omega arith) (λ h. absurd (omega (arith, h))) named
+
+    go : (m : ℕ) → m ≢ n → (m < n) ⊎ (n ≤ m) → is_in set' m ≡ false
+    go m differ (inl lt) = next.first m (omega arith) lt
+    go m differ (inr ge) =
+        outside set' (suc n) 1 list e (omega (arith, one)) (λ _. omega (arith, named)) (omega (arith, one)) m (omega (arith, ge, differ))
 
 -- the bits and the set have the same bound
 pub bits_sized : (set' bits : List Bool) (list : List ℕ) (capacity : ℕ) (is_listed : Bool) (end : ℕ) → IsListed set' bits list capacity is_listed end

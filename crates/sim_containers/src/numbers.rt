@@ -302,9 +302,9 @@ impl NumberSet {
         ensures numbers { numbers.new.items ≡ members self.now }
         ensures capacity { vec_capacity numbers.old ≤ vec_capacity numbers.new }
     {
-        if self.list.len() == 1 {
+        if let [only] = self.list.as_slice() {
             numbers.clear();
-            numbers.push_reserved(self.list[0]);
+            numbers.push_reserved(*only);
             return;
         }
         self.list_all(numbers);

@@ -294,13 +294,7 @@ fn take_out(
 
 /// The only driver at a time, if that is the time of one of the sets.
 #[inline(always)]
-fn only_at(
-    now: u64,
-    later: u64,
-    front: &NumberSet,
-    laters: &NumberSet,
-    time: u64,
-) -> Option<usize>
+fn only_at(now: u64, later: u64, front: &NumberSet, laters: &NumberSet, time: u64) -> Option<usize>
     ensures front { IfSome result (λ d. time ≡ now → IsOnly (is_in front.now) d) }
     ensures later { IfSome result (λ d. time ≢ now → (time ≡ later) × IsOnly (is_in laters.now) d) }
 {
