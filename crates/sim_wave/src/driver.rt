@@ -20,6 +20,17 @@ pub type Transaction = (u64, Logic);
 /// The number of pending transactions that a driver holds itself, without an allocation.
 pub const IN_PLACE: usize = 2;
 
+/// The time of the first of these transactions, if there is one.
+#[inline(never)]
+fn first_time(transactions: &[Transaction]) -> Option<u64>
+    ensures { result ≡ next_of transactions.now }
+{
+    match transactions.first() {
+        None => None,
+        Some(transaction) => Some(transaction.0),
+    }
+}
+
 /// A driver: its current value and its pending transactions, whose times strictly ascend.
 pub struct Driver {
     value: Logic,
@@ -83,18 +94,41 @@ impl Driver {
     }
 
     /// The time of the first pending transaction in femtoseconds, if there is one.
+    #[inline(always)]
     pub fn next(&self) -> Option<u64>
         ensures { result ≡ next_of self.now.pending }
     {
-        match self.pending.as_slice().first() {
-            None => None,
-            Some(transaction) => Some(transaction.0),
+        match &self.pending {
+            Pending::Nothing => None,
+            Pending::One(only) => Some(only.0),
+            _ => first_time(self.pending.as_slice()),
         }
     }
 
     /// Takes the first pending transaction if its time is `time` in femtoseconds; returns whether
     /// it did. If none was earlier than `time`, those that remain are later.
+    #[inline(always)]
     pub fn take(&mut self, time: u64) -> bool
+        ensures due { IsTrue result ↔ (next_of self.old.pending ≡ Some time) }
+        ensures after { self.new ≡ taken time self.old }
+        ensures later { IsTrue result → RisesFrom (suc time) self.new.pending }
+        ensures past { RisesFrom time self.old.pending → RisesFrom (suc time) self.new.pending }
+    {
+        if let Pending::One(only) = &self.pending {
+            let (due, value) = *only;
+            if due != time {
+                return false;
+            }
+            self.value = value;
+            self.pending = Pending::Nothing;
+            return true;
+        }
+        self.take_first(time)
+    }
+
+    /// The same, whatever is pending. It is out of line to keep the frequent case short.
+    #[inline(never)]
+    fn take_first(&mut self, time: u64) -> bool
         ensures due { IsTrue result ↔ (next_of self.old.pending ≡ Some time) }
         ensures after { self.new ≡ taken time self.old }
         ensures later { IsTrue result → RisesFrom (suc time) self.new.pending }
