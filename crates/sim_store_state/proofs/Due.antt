@@ -35,11 +35,14 @@ time-of-first [] d = refl
 time-of-first (w ∷ ds) zero = refl
 time-of-first (w ∷ ds) (suc d) = time-of-first ds d
 
+pub first-count : (ds : List DriverState) → length (first_times ds) ≡ length ds
+first-count ds = length-map ds (λ (d : DriverState). next_time (d ∷ []))
+
 -- once it is up to date, any set of drivers may be stale
 pub up-to-date : (times : List (Option ℕ)) (stale : List Bool) (ds : List DriverState) → times ≡ first_times ds → length stale ≡ length ds
     → AreTimes times stale ds
 up-to-date times stale ds e l = record {
-  sized = ap length e ∙ length-map ds (λ (d : DriverState). next_time (d ∷ []));
+  sized = ap length e ∙ first-count ds;
   marked = l;
   current = λ d _. ap (λ w. time_of w d) e ∙ time-of-first ds d;
 }
@@ -140,7 +143,7 @@ others-keep ds times due time e et ed d other =
 pub times-taken : (ds es : List DriverState) (times times' : List (Option ℕ)) (due : List Bool) (time : ℕ) → next_time ds ≡ Some time → times ≡ first_times ds
     → due ≡ those_at time times → times' ≡ cleared time times → es ≡ map (taken time) ds → AreTimes times' due es
 times-taken ds es times times' due time e et ed ec ee =
-    let l : length times ≡ length ds = ap length et ∙ length-map ds (λ (d : DriverState). next_time (d ∷ [])) in
+    let l : length times ≡ length ds = ap length et ∙ first-count ds in
     let k : length es ≡ length ds = ap length ee ∙ length-map ds (taken time) in
     record {
       sized = omega (arith, ap length ec, length-map times (clear time), l, k);
@@ -157,9 +160,9 @@ times-taken ds es times times' due time e et ed ec ee =
 pub all-times : (times : List (Option ℕ)) (ds : List DriverState) → length times ≡ length ds → ((d : ℕ) → time_of times d ≡ time_at ds d)
     → times ≡ first_times ds
 all-times times ds l same =
-    same_lists times (first_times ds) (l ∙ sym (length-map ds (λ (d : DriverState). next_time (d ∷ []))))
+    same_lists times (first_times ds) (l ∙ sym (first-count ds))
     (λ d x lt. get_or_default times d x None lt ∙ (same d ∙ (sym (time-of-first ds d)
-    ∙ get_or_default (first_times ds) d None x (omega (arith, l, lt, length-map ds (λ (d : DriverState). next_time (d ∷ [])))))))
+    ∙ get_or_default (first_times ds) d None x (omega (arith, l, lt, first-count ds)))))
 
 -- one more has its time
 pub times-more : (times times' : List (Option ℕ)) (ds : List DriverState) (t : Option ℕ) {stale : List Bool} {from n : ℕ}

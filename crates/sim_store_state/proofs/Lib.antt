@@ -16,6 +16,7 @@ pub mod Updating
 pub mod Skips
 pub mod Ranges
 pub mod Taking
+pub mod Alone
 pub mod Values
 pub mod Items
 pub mod Placed

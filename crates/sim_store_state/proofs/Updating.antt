@@ -1,21 +1,20 @@
 -- An update keeps what is kept beside a state.
-use Rattle.std.proofs.Common.{ℕ, ◌≡◌, Bool, true, false, List, [], length, get_or, map, Option, Some, ap, sym, ◌∙◌, arith}
+use Rattle.std.proofs.Common.{ℕ, ◌≡◌, Bool, true, false, List, [], length, get_or, map, Option, ap, sym, ◌∙◌, arith}
 use Rattle.std.proofs.Math.Decide.{dec_lt}
 use Rattle.std.proofs.lemmas.List.{get_or_past, length-map}
 use Rattle.sim_logic.specs.declared.logic.Logic.{Logic}
 use Rattle.sim_logic.specs.declared.logic.Logic.TheVariants.{U}
 use Rattle.sim_flat_design.specs.declared.held.Held.{Held}
 use Rattle.sim_flat_design.specs.declared.design.Source.{Source}
-use Rattle.sim_standard.specs.Drivers.{DriverState, taken, next_time}
+use Rattle.sim_standard.specs.Drivers.{DriverState, taken}
 use Rattle.sim_containers.specs.RowArray.{joined}
 use Rattle.sim_containers.proofs.Flat.{joined-map}
 use Rattle.sim_containers.specs.Numbers.{is_in}
-use Rattle.sim_containers.specs.Times.{cleared, those_at}
 use Rattle.sim_standard.specs.State.{driver_at, driver_values}
 use Rattle.sim_standard.proofs.Names.{no_driver}
-use Rattle.sim_store_state.specs.Changes.{AreFanOut, AreReached, AreTallied, IsConsistent, first_times, is_source, row_from, row_value, value_at}
+use Rattle.sim_store_state.specs.Changes.{AreFanOut, AreReached, AreTallied, AreTimes, IsConsistent, is_source, row_from, row_value, value_at}
 use Rattle.sim_store_state.specs.Tallies.{TallyLists}
-use Rattle.sim_store_state.proofs.Due.{driver-taken, times-taken}
+use Rattle.sim_store_state.proofs.Due.{driver-taken}
 use Rattle.sim_store_state.proofs.Reaching.{fan_out-there, same_row}
 use Rattle.sim_store_state.proofs.Values.{rows-from, value-here}
 
@@ -46,16 +45,13 @@ pub update-keeps : {values values_before driving : List Logic} {dss : List (List
     (List Source)} {fan_out : List (List ℕ)}
     {times : List (Option ℕ)} {stale touched : List Bool} {tallies : TallyLists}
     → IsConsistent values values_before driving dss vss sources fan_out times stale touched tallies
-    → (time : ℕ) (values' values_before' driving' : List Logic) (dss' : List (List DriverState)) (times₁ times' : List (Option ℕ))
+    → (time : ℕ) (values' values_before' driving' : List Logic) (dss' : List (List DriverState)) (times' : List (Option ℕ))
     (stale' touched' : List Bool) (tallies' : TallyLists)
-    → next_time (joined dss) ≡ Some time → times₁ ≡ first_times (joined dss) → values_before' ≡ values → stale' ≡ those_at time times₁
-    → times' ≡ cleared time times₁ → dss' ≡ map (map (taken time)) dss → AllReached touched' fan_out (joined dss) time → length touched' ≡ length touched
+    → values_before' ≡ values → dss' ≡ map (map (taken time)) dss → AllReached touched' fan_out (joined dss) time → length touched' ≡ length touched
     → driving' ≡ driver_values (joined dss') → values' ≡ map (row_from driving') sources → AreTallied sources driving' tallies'
-    → IsConsistent values' values_before' driving' dss' vss sources fan_out times' stale' touched' tallies'
+    → AreTimes times' stale' (joined dss') → IsConsistent values' values_before' driving' dss' vss sources fan_out times' stale' touched' tallies'
 update-keeps {values} {values_before} {driving} {dss} {vss} {sources} {fan_out} {times} {stale} {touched} i time values' values_before' driving'
-    dss' times₁ times' stale'
-    touched' tallies' en et el
-    es ec ed reached lt ew ev tallied =
+    dss' times' stale' touched' tallies' el ed reached lt ew ev tallied timed =
     let eds : joined dss' ≡ map (taken time) (joined dss) = ap joined ed ∙ joined-map (taken time) dss in
     let count : length (joined dss') ≡ length (joined dss) = ap length eds ∙ length-map (joined dss) (taken time) in
     let old : length values ≡ length sources = ap length i.resolving ∙ length-map sources (row_value (joined dss)) in
@@ -68,7 +64,7 @@ update-keeps {values} {values_before} {driving} {dss} {vss} {sources} {fan_out} 
         owned = omega (arith, ap length ed, length-map dss (map (taken time)), i.lists.owned);
       };
       valued = ew;
-      timed = times-taken (joined dss) (joined dss') times₁ times' stale' time en et es ec eds;
+      timed = timed;
       fan_out_count = i.fan_out_count ∙ sym count;
       fanned = i.fanned;
       resolving = now;

@@ -1,66 +1,13 @@
-use Rattle.std.proofs.Common.{◌∷◌, [], ◌≡◌, ap, length, arith, ◌∙◌}
-use Rattle.std.proofs.lemmas.List.{get_or_default, length-set}
-use Rattle.std.proofs.lemmas.Grind.{common_steps}
-use Rattle.sim_standard.specs.Drivers.{DriverState, next_time}
+-- If no driver is stale, the queue has all times.
+use Rattle.std.proofs.Common.{ap, length, refl, ◌∙◌}
+use Rattle.sim_containers.specs.Numbers.{is_in}
 use Rattle.sim_containers.specs.RowArray.{joined}
-use Rattle.sim_containers.specs.Times.{time_of}
-use Rattle.sim_standard.specs.State.{driver_at}
-use Rattle.sim_standard.proofs.Names.{no_driver}
-use Rattle.sim_store_state.proofs.Walks.{member_within, walk_start, walk_done, walk_others}
-use Rattle.sim_store_state.proofs.Due.{all-times, times-more}
+use Rattle.sim_containers.proofs.Sets.{in_none}
+use Rattle.sim_store_state.proofs.Due.{all-times}
 use Rattle.sim_store_state.proofs.drivers.bring_up_to_date.Goals as goal
 
-pub loop-number-init : goal.loop-number-init
-loop-number-init c = record {
-  sized = c.requires.sized;
-  within = omega arith;
-  walked = walk_start c.args.stale.now c.requires.current;
-}
-
-pub put-requires : goal.put-requires
-put-requires c =
-    omega (arith, member_within c.args.stale.now c.in-Some.number c.in-Some.ensures.passes, c.requires.marked, c.loop-number.invariant.sized)
-
-pub item-requires : goal.item-requires
-item-requires c = omega (arith, member_within c.args.stale.now c.in-Some.number c.in-Some.ensures.passes, c.requires.marked)
-
-pub overflow_add-from : goal.overflow_add-from
-overflow_add-from c =
-    omega (arith, member_within c.args.stale.now c.in-Some.number c.in-Some.ensures.passes, c.len-count.ensures, c.len-count.type_inv)
-
-pub loop-number-preserved : goal.loop-number-preserved
-loop-number-preserved c =
-    let n = c.in-Some.number in
-    let ds = joined c.args.drivers.now in
-    let within = member_within c.args.stale.now n c.in-Some.ensures.passes in
-    let here : c.item.result.now ≡ driver_at ds n =
-    c.item.ensures ∙ get_or_default ds n c.item.result.now no_driver (omega (arith, within, c.requires.marked)) in
-    record {
-      sized = ap length c.in_ok-put.ensures.ok ∙ (length-set c.loop-number.queue n c.first_time.result ∙ c.loop-number.invariant.sized);
-      within = omega (arith, within, c.requires.marked);
-      walked = times-more c.loop-number.queue c.put.new.self ds c.first_time.result c.loop-number.invariant.walked c.in-Some.ensures
-          (omega (arith, within, c.requires.marked, c.loop-number.invariant.sized)) c.in_ok-put.ensures.ok
-          (c.first_time.ensures ∙ ap (λ (w : DriverState). next_time (w ∷ [])) here);
-    }
-
-pub returns-in_err-put-clause-times : goal.returns-in_err-put-clause-times
-returns-in_err-put-clause-times c =
-    let is = c.in_err-put.ensures.err in
-    record {
-      sized = ap length is ∙ c.loop-number.invariant.sized;
-      marked = c.requires.marked;
-      current = λ d fresh. ap (λ w. time_of w d) is ∙ walk_others c.loop-number.invariant.walked d fresh;
-    }
-
-pub returns : goal.returns
-returns c = record {
-  times = record {
-    sized = c.loop-number.invariant.sized;
-    marked = c.requires.marked;
-    current = walk_others c.loop-number.invariant.walked;
-  };
-  ok = all-times c.loop-number.queue (joined c.args.drivers.now) c.loop-number.invariant.sized (walk_done c.loop-number.invariant.walked c.in_default.ensures);
-}
-
-pub loop-number-smaller : goal.loop-number-smaller
-loop-number-smaller c = grind (arith, common_steps)
+pub returns-then-is_empty-clause-ok : goal.returns-then-is_empty-clause-ok
+returns-then-is_empty-clause-ok c =
+    let none = c.if-is_empty.ensures.0 refl in
+    all-times c.args.queue.now (joined c.args.drivers.now) c.requires.sized
+    (λ d. c.requires.current d (ap (λ s. is_in s d) none ∙ in_none (length c.args.stale.now) d))

@@ -69,8 +69,8 @@ returns c =
       drivers = each-item (taken c.args.time) c.args.drivers.now c.loop-number.drivers i.rows
           (all-same (joined c.loop-number.drivers) (joined c.args.drivers.now) c.args.time i.long (λ d. (each d).driver));
       driving = i.valued;
-      sized = ap length c.arrange.ensures ∙ i.sized;
-      reached = λ d. rw c.arrange.ensures ((each d).nets);
+      sized = i.sized;
+      reached = λ d. (each d).nets;
       tallied = i.tallied;
       told = all-told i.told c.in_default.ensures;
     }

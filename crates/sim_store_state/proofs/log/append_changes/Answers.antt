@@ -1,56 +1,62 @@
-use Rattle.std.proofs.Common.{◌++◌, refl, sym, arith}
-use Rattle.std.proofs.lemmas.Grind.{common_steps}
+use Rattle.std.proofs.Common.{ℕ, ◌≡◌, ◌+◌, ◌-◌, ◌≤◌, ◌++◌, length, drop, vec_capacity, vec_len, add-one, refl, sym, subst, arith}
+use Rattle.sim_containers.proofs.Ranges.{member_small}
 use Rattle.sim_store_state.specs.FlatState.{views_of}
 use Rattle.sim_standard.specs.Records.{changes_from}
 use Rattle.sim_store_state.proofs.Skips.{changes-step, changes-end}
-use Rattle.sim_store_state.proofs.Walks.{member_within}
+use Rattle.sim_store_state.proofs.Walks.{bound_at, listed_step, none_listed}
 use Rattle.sim_store_state.proofs.log.append_changes.Goals as goal
 
-pub loop-number-init : goal.loop-number-init
-loop-number-init c = record { within = omega arith; room = omega (arith, c.requires.room); done = refl }
+pub loop-place-init : goal.loop-place-init
+loop-place-init c = record { room = omega (arith, c.requires.room); done = refl }
 
 pub bounds-values-number : goal.bounds-values-number
-bounds-values-number c = omega (arith, member_within c.args.touched.now c.in-Some.number c.in-Some.ensures.passes, c.requires.touched.sized)
+bounds-values-number c =
+    let within = member_small c.args.touched.now c.numbers-nets.result.now c.loop-place.place c.numbers-nets.ensures c.loop-place-test.true in
+    omega (arith, within, c.requires.touched.sized)
 
 pub bounds-values_before-number : goal.bounds-values_before-number
 bounds-values_before-number c =
-    omega (arith, member_within c.args.touched.now c.in-Some.number c.in-Some.ensures.passes, c.requires.touched.sized, c.requires.same)
+    let within = member_small c.args.touched.now c.numbers-nets.result.now c.loop-place.place c.numbers-nets.ensures c.loop-place-test.true in
+    omega (arith, within, c.requires.touched.sized, c.requires.same)
 
 pub append_change-requires : goal.append_change-requires
 append_change-requires c =
-    let within = member_within c.args.touched.now c.in-Some.number c.in-Some.ensures.passes in
+    let nets = c.numbers-nets.result.now in
+    let place = c.loop-place.place in
+    let within = member_small c.args.touched.now nets place c.numbers-nets.ensures c.loop-place-test.true in
+    let next = listed_step c.args.touched.now nets place c.numbers-nets.ensures c.loop-place-test.true in
     record {
       few = omega (arith, within, c.requires.touched.sized, c.requires.few);
-      room = omega (arith, within, c.requires.touched.sized, c.in-Some.ensures.further, c.loop-number.invariant.room);
+      room = omega (arith, within, c.requires.touched.sized, next.further, c.loop-place.invariant.room);
     }
 
-pub loop-number-preserved : goal.loop-number-preserved
-loop-number-preserved c =
-    let within = member_within c.args.touched.now c.in-Some.number c.in-Some.ensures.passes in
+pub loop-place-preserved : goal.loop-place-preserved
+loop-place-preserved c =
+    let nets = c.numbers-nets.result.now in
+    let place = c.loop-place.place in
     let views = views_of c.args.values.now c.args.values_before.now in
+    let total = c.args.changes.now.items ++ changes_from 0 views in
+    let new = c.append_change.new.changes in
+    let within = member_small c.args.touched.now nets place c.numbers-nets.ensures c.loop-place-test.true in
+    let next = listed_step c.args.touched.now nets place c.numbers-nets.ensures c.loop-place-test.true in
     record {
-      within = omega (arith, within, c.requires.touched.sized);
-      room = omega (
+      room = subst (λ (k : ℕ). vec_len new + (length c.args.values.now - bound_at nets k) ≤ vec_capacity new) (sym (add-one place)) (omega (
         arith,
         within,
         c.requires.touched.sized,
-        c.in-Some.ensures.further,
-        c.loop-number.invariant.room,
+        next.further,
+        c.loop-place.invariant.room,
         c.append_change.ensures.longer,
         c.append_change.ensures.capacity,
-      );
-      done = changes-step c.loop-number.changes.items c.append_change.new.changes.items (c.args.changes.now.items ++ changes_from 0 views) c.requires.touched
-          (sym c.requires.same) c.in-Some.ensures (omega (arith, within, c.requires.touched.sized)) c.append_change.ensures.changed
-          c.append_change.ensures.same c.loop-number.invariant.done;
+      ));
+      done = subst (λ (k : ℕ). new.items ++ changes_from (bound_at nets k) (drop (bound_at nets k) views) ≡ total) (sym (add-one place))
+          (changes-step c.loop-place.changes.items new.items total c.requires.touched (sym c.requires.same) next
+          (omega (arith, within, c.requires.touched.sized)) c.append_change.ensures.changed c.append_change.ensures.same c.loop-place.invariant.done);
     }
 
 pub returns : goal.returns
 returns c =
-    changes-end c.loop-number.changes.items (c.args.changes.now.items ++ changes_from 0 (views_of c.args.values.now c.args.values_before.now))
-    c.requires.touched (sym c.requires.same) c.in_default.ensures c.loop-number.invariant.done
-
-pub overflow_add-from : goal.overflow_add-from
-overflow_add-from c = grind (arith, common_steps)
-
-pub loop-number-smaller : goal.loop-number-smaller
-loop-number-smaller c = grind (arith, common_steps)
+    changes-end c.loop-place.changes.items (c.args.changes.now.items ++ changes_from 0 (views_of c.args.values.now c.args.values_before.now))
+    c.requires.touched (sym c.requires.same)
+    (none_listed c.args.touched.now c.numbers-nets.result.now c.loop-place.place c.numbers-nets.ensures c.loop-place-test.false c.loop-place.auto.place-end)
+    c.loop-place.invariant.done

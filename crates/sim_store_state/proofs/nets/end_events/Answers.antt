@@ -1,44 +1,42 @@
-use Rattle.std.proofs.Common.{refl, set, sym, arith, ◌∙◌}
+use Rattle.std.proofs.Common.{get_or, refl, set, sym, arith, ◌∙◌}
 use Rattle.std.proofs.lemmas.List.{length-set}
-use Rattle.std.proofs.lemmas.Grind.{common_steps}
+use Rattle.sim_containers.proofs.Ranges.{member_small}
 use Rattle.sim_store_state.specs.Changes.{value_at}
-use Rattle.sim_store_state.proofs.Walks.{member_within, walk_start, walk_done}
+use Rattle.sim_store_state.proofs.Walks.{listed_step, walk_listed, walk_on, walk_start}
 use Rattle.sim_store_state.proofs.Values.{same-everywhere, walk-each}
 use Rattle.sim_store_state.proofs.nets.end_events.Goals as goal
 
-pub loop-net-init : goal.loop-net-init
-loop-net-init c = record {
+pub loop-place-init : goal.loop-place-init
+loop-place-init c = record {
   long = c.requires.sized;
-  within = omega arith;
   walked = walk_start c.args.touched.now (λ n e. sym (c.requires.touched.still n e));
 }
 
 pub bounds-values-net : goal.bounds-values-net
-bounds-values-net c = omega (arith, member_within c.args.touched.now c.in-Some.net c.in-Some.ensures.passes, c.requires.touched.sized)
+bounds-values-net c =
+    let within = member_small c.args.touched.now c.numbers-nets.result.now c.loop-place.place c.numbers-nets.ensures c.loop-place-test.true in
+    omega (arith, within, c.requires.touched.sized)
 
 pub bounds-values_before-net : goal.bounds-values_before-net
 bounds-values_before-net c =
-    omega (arith, member_within c.args.touched.now c.in-Some.net c.in-Some.ensures.passes, c.requires.touched.sized, c.loop-net.invariant.long)
+    let within = member_small c.args.touched.now c.numbers-nets.result.now c.loop-place.place c.numbers-nets.ensures c.loop-place-test.true in
+    omega (arith, within, c.requires.touched.sized, c.loop-place.invariant.long)
 
-pub loop-net-preserved : goal.loop-net-preserved
-loop-net-preserved c =
-    let n = c.in-Some.net in
+pub loop-place-preserved : goal.loop-place-preserved
+loop-place-preserved c =
+    let nets = c.numbers-nets.result.now in
+    let place = c.loop-place.place in
+    let n = get_or nets place 0 in
     let values = c.args.values.now in
-    let within = member_within c.args.touched.now n c.in-Some.ensures.passes in
+    let within = member_small c.args.touched.now nets place c.numbers-nets.ensures c.loop-place-test.true in
     record {
-      long = length-set c.loop-net.values_before n (value_at values n) ∙ c.loop-net.invariant.long;
-      within = omega (arith, within, c.requires.touched.sized);
-      walked = walk-each c.loop-net.values_before (set c.loop-net.values_before n (value_at values n)) (value_at values n)
-          (value_at values) c.loop-net.invariant.walked
-          c.in-Some.ensures (omega (arith, within, c.requires.touched.sized, c.loop-net.invariant.long)) refl refl;
+      long = length-set c.loop-place.values_before n (value_at values n) ∙ c.loop-place.invariant.long;
+      walked = walk_on nets place (walk-each c.loop-place.values_before (set c.loop-place.values_before n (value_at values n)) (value_at values n)
+          (value_at values) c.loop-place.invariant.walked (listed_step c.args.touched.now nets place c.numbers-nets.ensures c.loop-place-test.true)
+          (omega (arith, within, c.requires.touched.sized, c.loop-place.invariant.long)) refl refl);
     }
 
 pub returns : goal.returns
-returns c = same-everywhere c.loop-net.values_before c.args.values.now c.loop-net.invariant.long
-    (λ n _. walk_done c.loop-net.invariant.walked c.in_default.ensures n)
-
-pub overflow_add-from : goal.overflow_add-from
-overflow_add-from c = grind (arith, common_steps)
-
-pub loop-net-smaller : goal.loop-net-smaller
-loop-net-smaller c = grind (arith, common_steps)
+returns c = same-everywhere c.loop-place.values_before c.args.values.now c.loop-place.invariant.long
+    (λ n _. walk_listed c.numbers-nets.result.now c.loop-place.place c.numbers-nets.ensures c.loop-place-test.false c.loop-place.auto.place-end
+    c.loop-place.invariant.walked n)

@@ -1,17 +1,13 @@
-use Rattle.std.proofs.Common.{◌≡◌, List, [], Some, get_or, length, map, refl, ap, sym, subst, arith, ◌∙◌}
+use Rattle.std.proofs.Common.{◌≡◌, List, [], get_or, length, map, refl, ap, sym, subst, arith, ◌∙◌}
 use Rattle.sim_logic.specs.declared.logic.Logic.{Logic}
 use Rattle.sim_standard.specs.State.{driver_values}
-use Rattle.std.proofs.lemmas.List.{length-map, length-replicate}
-use Rattle.std.specs.Prelude.{false}
+use Rattle.std.proofs.lemmas.List.{length-map}
 use Rattle.sim_standard.specs.Drivers.{taken, next_time}
 use Rattle.sim_containers.specs.RowArray.{joined}
 use Rattle.sim_containers.proofs.Flat.{joined-map, written_back}
-use Rattle.sim_containers.specs.Times.{clear, earliest, is_at}
 use Rattle.sim_store_state.specs.Changes.{AreTallied, row_from, row_value, value_at}
 use Rattle.sim_store_state.proofs.Contents.{drivers-by, held-updated}
-use Rattle.sim_store_state.proofs.Due.{earliest-next, others-keep}
 use Rattle.sim_store_state.proofs.Putting.{times-keep}
-use Rattle.sim_store_state.proofs.Taking.{told-times}
 use Rattle.sim_store_state.proofs.Updating.{unreached, update-keeps}
 use Rattle.sim_store_state.proofs.Values.{row-from, rows-from, value-here}
 use Rattle.sim_store_state.proofs.flat_state.FlatState.update.Goals as goal
@@ -25,76 +21,56 @@ end_events-requires c = record {
   touched = rw (c.as_slice.ensures.value, c.as_mut_slice.ensures.value) c.self.invariant.touching;
 }
 
-pub take-requires : goal.take-requires
-take-requires c =
-    let ds = joined c.self.inside.drivers in
-    let next : next_time ds ≡ Some c.args.time = ap next_time (sym (drivers-by c.self.view_is c.self.invariant.lists)) ∙ c.requires.next in
-    record {
-      least = ap earliest c.in_ok-bring_up_to_date.ensures.ok ∙ (earliest-next ds ∙ next);
-      sized = c.self.invariant.timed.marked ∙ sym c.bring_up_to_date.ensures.times.sized;
-    }
-
-pub take_due-told-requires : goal.take_due-told-requires
-take_due-told-requires c =
-    let ds = joined c.self.inside.drivers in
-    let queue = c.bring_up_to_date.new.queue in
-    let next : next_time ds ≡ Some c.args.time = ap next_time (sym (drivers-by c.self.view_is c.self.invariant.lists)) ∙ c.requires.next in
-    record {
-      due = ap length c.take.ensures.taken ∙ (length-map queue (is_at c.args.time) ∙ c.bring_up_to_date.ensures.times.sized);
-      fan_out = c.self.invariant.fan_out_count;
-      queue = ap length c.take.ensures.queue ∙ (length-map queue (clear c.args.time) ∙ c.bring_up_to_date.ensures.times.sized);
-      driving = c.as_mut_slice-2.ensures.value ∙ c.self.invariant.valued;
-      others = others-keep ds queue c.take.new.taken c.args.time next c.in_ok-bring_up_to_date.ensures.ok c.take.ensures.taken;
-    }
+pub take_active-requires : goal.take_active-requires
+take_active-requires c = record {
+  next = ap next_time (sym (drivers-by c.self.view_is c.self.invariant.lists)) ∙ c.requires.next;
+  queue = c.in_ok-bring_up_to_date.ensures.ok;
+  stale = c.self.invariant.timed.marked;
+  fan_out = c.self.invariant.fan_out_count;
+  driving = c.as_mut_slice-2.ensures.value ∙ c.self.invariant.valued;
+}
 
 pub resolve_touched-requires : goal.resolve_touched-requires
 resolve_touched-requires c =
     let s = c.self.inside in
     let i = c.self.invariant in
     let ds = joined s.drivers in
-    let now = joined c.take_due-told.new.drivers in
-    let es : now ≡ map (taken c.args.time) ds = ap joined c.take_due-told.ensures.drivers ∙ joined-map (taken c.args.time) s.drivers in
-    let long : length c.take_due-told.new.touched ≡ length s.values.items =
-    c.take_due-told.ensures.sized ∙ (ap length c.clear.ensures ∙ (length-replicate (length s.touched) false ∙ i.touching.sized)) in
+    let now = joined c.take_active.new.drivers in
+    let es : now ≡ map (taken c.args.time) ds = ap joined c.take_active.ensures.drivers ∙ joined-map (taken c.args.time) s.drivers in
+    let long : length c.take_active.new.self ≡ length s.values.items = c.take_active.ensures.sized ∙ i.touching.sized in
     let nets : length s.values.items ≡ length s.sources = ap length i.resolving ∙ length-map s.sources (row_value ds) in
     let back : length c.as_mut_slice-3.result.now ≡ length s.values.items = ap length c.as_mut_slice-3.ensures.value in
-    let written = written_back c.take_due-told.new.driving s.driving.items s.driving.len
-    (omega (arith, c.take_due-told.auto.driving, ap length c.as_mut_slice-2.ensures.value, s.driving.ok)) in
-    let driving : c.as_slice-2.result.now ≡ driver_values now = c.as_slice-2.ensures.value ∙ (written ∙ c.take_due-told.ensures.driving) in
+    let written = written_back c.take_active.new.driving s.driving.items s.driving.len
+    (omega (arith, c.take_active.auto.driving, ap length c.as_mut_slice-2.ensures.value, s.driving.ok)) in
+    let driving : c.as_slice-2.result.now ≡ driver_values now = c.as_slice-2.ensures.value ∙ (written ∙ c.take_active.ensures.driving) in
     record {
-      tallied = subst (λ (w : List Logic). AreTallied s.sources w c.take_due-told.new.tallies) (sym (c.as_slice-2.ensures.value ∙ written))
-          (c.take_due-told.ensures.tallied s.sources (subst (λ (w : List Logic). AreTallied s.sources w s.tallies) (sym c.as_mut_slice-2.ensures.value)
+      tallied = subst (λ (w : List Logic). AreTallied s.sources w c.take_active.new.tallies) (sym (c.as_slice-2.ensures.value ∙ written))
+          (c.take_active.ensures.tallied s.sources (subst (λ (w : List Logic). AreTallied s.sources w s.tallies) (sym c.as_mut_slice-2.ensures.value)
           i.tallied));
       touched = long ∙ sym back;
       sources = sym nets ∙ sym back;
       others = λ n other lt. ap (λ w. value_at w n) c.as_mut_slice-3.ensures.value ∙ (value-here s.values.items s.sources (row_value ds) n i.resolving
-          (omega (arith, lt, back)) ∙ (sym (unreached s.sources s.fan_out ds now c.take_due-told.new.touched c.args.time n i.fanned
-          i.fan_out_count (long ∙ nets) es c.take_due-told.ensures.reached other) ∙ (sym (row-from now (get_or s.sources n []))
+          (omega (arith, lt, back)) ∙ (sym (unreached s.sources s.fan_out ds now c.take_active.new.self c.args.time n i.fanned
+          i.fan_out_count (long ∙ nets) es c.take_active.ensures.reached other) ∙ (sym (row-from now (get_or s.sources n []))
           ∙ ap (λ ws. row_from ws (get_or s.sources n [])) (sym driving))));
     }
 
 pub invariant_of-self-2 : goal.invariant_of-self-2
 invariant_of-self-2 c =
     let s = c.self.inside in
-    let ds = joined s.drivers in
-    let next : next_time ds ≡ Some c.args.time = ap next_time (sym (drivers-by c.self.view_is c.self.invariant.lists)) ∙ c.requires.next in
+    let e = c.take_active.ensures in
     let values = written_back c.resolve_touched.new.values s.values.items s.values.len
     (omega (arith, c.resolve_touched.auto.values, ap length c.as_mut_slice-3.ensures.value, s.values.ok)) in
     let values_before = written_back c.end_events.new.values_before s.values_before.items s.values_before.len
     (omega (arith, c.end_events.auto.values_before, ap length c.as_mut_slice.ensures.value, s.values_before.ok)) in
-    let driving = written_back c.take_due-told.new.driving s.driving.items s.driving.len
-    (omega (arith, c.take_due-told.auto.driving, ap length c.as_mut_slice-2.ensures.value, s.driving.ok)) in
-    let held = update-keeps c.self.invariant c.args.time _ _ _ c.take_due-told.new.drivers c.bring_up_to_date.new.queue c.take.new.self c.take.new.taken
-    c.take_due-told.new.touched c.take_due-told.new.tallies next c.in_ok-bring_up_to_date.ensures.ok
-    (values_before ∙ (c.end_events.ensures ∙ c.as_slice.ensures.value)) c.take.ensures.taken c.take.ensures.queue c.take_due-told.ensures.drivers
-    c.take_due-told.ensures.reached
-    (c.take_due-told.ensures.sized ∙ (ap length c.clear.ensures ∙ length-replicate (length s.touched) false)) (driving ∙ c.take_due-told.ensures.driving)
+    let driving = written_back c.take_active.new.driving s.driving.items s.driving.len
+    (omega (arith, c.take_active.auto.driving, ap length c.as_mut_slice-2.ensures.value, s.driving.ok)) in
+    update-keeps c.self.invariant c.args.time _ _ _ c.take_active.new.drivers c.take_active.new.queue c.take_active.new.stale c.take_active.new.self
+    c.take_active.new.tallies (values_before ∙ (c.end_events.ensures ∙ c.as_slice.ensures.value)) e.drivers e.reached e.sized (driving ∙ e.driving)
     (values ∙ (c.resolve_touched.ensures ∙ ap (λ (w : List Logic). map (row_from w) s.sources) c.as_slice-2.ensures.value))
-    (subst (λ (w : List Logic). AreTallied s.sources w c.take_due-told.new.tallies) (sym driving)
-    (c.take_due-told.ensures.tallied s.sources (subst (λ (w : List Logic). AreTallied s.sources w s.tallies) (sym c.as_mut_slice-2.ensures.value)
-    c.self.invariant.tallied))) in
-    times-keep held c.take_due-told.new.queue c.forget.new.stale (told-times c.take_due-told.result held.timed c.take_due-told.ensures.told
-    c.forget.ensures.sized c.forget.ensures.same)
+    (subst (λ (w : List Logic). AreTallied s.sources w c.take_active.new.tallies) (sym driving)
+    (e.tallied s.sources (subst (λ (w : List Logic). AreTallied s.sources w s.tallies) (sym c.as_mut_slice-2.ensures.value) c.self.invariant.tallied)))
+    e.times
 
 pub returns : goal.returns
 returns c =
@@ -104,14 +80,14 @@ returns c =
     (omega (arith, c.resolve_touched.auto.values, ap length c.as_mut_slice-3.ensures.value, s.values.ok)) in
     let values_before = written_back c.end_events.new.values_before s.values_before.items s.values_before.len
     (omega (arith, c.end_events.auto.values_before, ap length c.as_mut_slice.ensures.value, s.values_before.ok)) in
-    let driving : c.as_slice-2.result.now ≡ driver_values (joined c.take_due-told.new.drivers) =
-    c.as_slice-2.ensures.value ∙ (written_back c.take_due-told.new.driving s.driving.items s.driving.len
-    (omega (arith, c.take_due-told.auto.driving, ap length c.as_mut_slice-2.ensures.value, s.driving.ok)) ∙ c.take_due-told.ensures.driving) in
-    let nets : map (row_from c.as_slice-2.result.now) s.sources ≡ map (row_value (joined c.take_due-told.new.drivers)) s.sources =
-    ap (λ (w : List Logic). map (row_from w) s.sources) driving ∙ rows-from (joined c.take_due-told.new.drivers) s.sources in
+    let driving : c.as_slice-2.result.now ≡ driver_values (joined c.take_active.new.drivers) =
+    c.as_slice-2.ensures.value ∙ (written_back c.take_active.new.driving s.driving.items s.driving.len
+    (omega (arith, c.take_active.auto.driving, ap length c.as_mut_slice-2.ensures.value, s.driving.ok)) ∙ c.take_active.ensures.driving) in
+    let nets : map (row_from c.as_slice-2.result.now) s.sources ≡ map (row_value (joined c.take_active.new.drivers)) s.sources =
+    ap (λ (w : List Logic). map (row_from w) s.sources) driving ∙ rows-from (joined c.take_active.new.drivers) s.sources in
     record {
-      ok = λ design state is. held-updated c.self.view_is i.lists c.args.time _ _ c.take_due-told.new.drivers (joined c.take_due-told.new.drivers)
-          (sym (ap length i.resolving ∙ length-map s.sources (row_value (joined s.drivers)))) c.take_due-told.ensures.drivers refl
+      ok = λ design state is. held-updated c.self.view_is i.lists c.args.time _ _ c.take_active.new.drivers (joined c.take_active.new.drivers)
+          (sym (ap length i.resolving ∙ length-map s.sources (row_value (joined s.drivers)))) c.take_active.ensures.drivers refl
           (values ∙ (c.resolve_touched.ensures ∙ nets)) (values_before ∙ (c.end_events.ensures ∙ c.as_slice.ensures.value)) design state is;
       err = tt;
     }

@@ -3,7 +3,7 @@ use Rattle.sim_containers.specs.RowArray.{joined}
 use Rattle.sim_containers.specs.Times.{time_of}
 use Rattle.sim_store_state.specs.Changes.{time_at}
 use Rattle.sim_store_state.proofs.Walks.{Walked}
-use Rattle.sim_store_state.proofs.drivers.bring_up_to_date.Given as goal
+use Rattle.sim_store_state.proofs.drivers.put_first_times.Given as goal
 
 abbrev pub invariant-loop-number : goal.invariant-loop-number
 invariant-loop-number l = record {
