@@ -1,10 +1,9 @@
 -- Pending times: the least of them.
 use Rattle.std.proofs.Common.{◌≡◌, ℕ, zero, suc, ◌<◌, ◌≤◌, min, List, [], ◌∷◌, ◌++◌, length}
 use Rattle.std.proofs.Common.{get_or, map, Option, Some, None, refl, ap, sym, ◌∙◌, arith}
-use Rattle.std.proofs.Common.{unwrap_or, MatchOption, fold, ◌⊎◌, inl, inr}
+use Rattle.std.proofs.Common.{MatchOption, fold, ◌⊎◌, inl, inr}
 use Rattle.std.proofs.Math.Decide.{dec_lt}
 use Rattle.std.specs.List.{All, Contains, reduce}
-use Rattle.std.specs.Prelude.{slice_get}
 use Rattle.std.proofs.lemmas.List.Concat.{flat_map-append}
 use Rattle.std.proofs.lemmas.List.Sums.{fold-append}
 use Rattle.sim_standard.specs.Drivers.{Transaction, DriverState, next_time}
@@ -93,17 +92,5 @@ next_is_least ds = is_least (pending_times ds)
 
 -- ---- the first pending time
 
-pub none_first : (d : DriverState) (xs : List Transaction) → xs ≡ d.pending → RisesFrom 0 xs → None ≡ slice_get xs 0 → None ≡ next_time (d ∷ [])
-none_first d xs is r e = first_none xs e ∙ sym (only_next 0 d xs is r)
-  where
-    first_none : (xs : List Transaction) → None ≡ slice_get xs 0 → None ≡ next_of xs
-    first_none [] e = refl
-    first_none (x ∷ xs) e = absurd cc
-
-pub some_first : (d : DriverState) (xs : List Transaction) (x : Transaction) → xs ≡ d.pending → RisesFrom 0 xs → Some x ≡ slice_get xs 0 → Some x.0 ≡ next_time
-    (d ∷ [])
-some_first d xs x is r e = first_some xs e ∙ sym (only_next 0 d xs is r)
-  where
-    first_some : (xs : List Transaction) → Some x ≡ slice_get xs 0 → Some x.0 ≡ next_of xs
-    first_some [] e = absurd cc
-    first_some (y ∷ xs) e = ap (λ (z : Transaction). Some z.0) (ap (λ (o : Option Transaction). unwrap_or o x) e)
+pub first_is : (d : DriverState) (xs : List Transaction) → xs ≡ d.pending → RisesFrom 0 xs → next_of d.pending ≡ next_time (d ∷ [])
+first_is d xs is r = ap next_of (sym is) ∙ sym (only_next 0 d xs is r)

@@ -23,10 +23,8 @@ use std::alloc::{AllocError, Global};
 pub fn first_time(driver: &Driver) -> Option<u64>
     ensures { result ≡ spec.next_time (driver.now ∷ []) }
 {
-    match driver.pending().first() {
-        None => None,
-        Some(transaction) => Some(transaction.0),
-    }
+    let _pending = driver.pending();
+    driver.next()
 }
 
 /// Puts the first pending time of each stale driver into the queue, which then has that of every
