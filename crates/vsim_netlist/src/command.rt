@@ -45,8 +45,8 @@ pub(crate) struct Options<'a> {
     map: &'a str,
 }
 
-/// What is to be told about arguments instead of a text: help, or a refusal, or that there is no
-/// memory for them.
+/// A message about the arguments, in place of a text: help, a refusal, or that there is no memory
+/// for them.
 pub(crate) enum Notice {
     Help(String),
     Refused(String),
@@ -161,7 +161,7 @@ pub(crate) fn make_options<'a>(matches: &'a ArgMatches<'_>) -> Options<'a> {
     }
 }
 
-/// What is to be told about invalid arguments, or on a request for help.
+/// The message for invalid arguments, or for a request for help.
 pub(crate) fn make_notice(alloc: Global, error: clap::Error) -> Notice {
     let kind = error.kind();
     let Ok(text) = error.to_string(alloc) else {
