@@ -1,6 +1,6 @@
 -- Pending times: the least of them.
 use Rattle.std.proofs.Common.{◌≡◌, ℕ, zero, suc, ◌<◌, ◌≤◌, min, List, [], ◌∷◌, ◌++◌, length}
-use Rattle.std.proofs.Common.{get_or, map, Option, Some, None, refl, ap, sym, ◌∙◌, arith}
+use Rattle.std.proofs.Common.{get_or, map, Some, None, refl, ap, sym, ◌∙◌, arith}
 use Rattle.std.proofs.Common.{MatchOption, fold, ◌⊎◌, inl, inr}
 use Rattle.std.proofs.Math.Decide.{dec_lt}
 use Rattle.std.specs.List.{All, Contains, reduce}
