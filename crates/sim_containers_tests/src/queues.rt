@@ -86,6 +86,22 @@ fn members_are_removed(rt: HostRuntime) -> Result<(), Fail> {
     Ok(())
 }
 
+/// The only member of a set, once these numbers are added.
+fn only_with(set: &mut NumberSet, numbers: &[usize]) -> Option<usize> {
+    put_each(set, numbers, true);
+    set.only()
+}
+
+#[test]
+fn a_single_member_is_known(rt: HostRuntime) -> Result<(), Fail> {
+    let mut set = NumberSet::new(rt.alloc(), 130)?;
+    assert!(rt; set.only().is_none());
+    assert!(rt; only_with(&mut set, &[64]) == Some(64));
+    assert!(rt; lists(rt.alloc(), &set, &[64])?);
+    assert!(rt; only_with(&mut set, &[3]).is_none());
+    Ok(())
+}
+
 /// Drivers 1 and 2 at 3.
 fn put_both_at_3(queue: &mut TimeQueue) -> Result<(), AllocError>
     requires { length queue.old ≡ 3 }
@@ -161,5 +177,39 @@ fn takes_at_one_time_again(alloc: Global, queue: &mut TimeQueue) -> Result<bool,
 fn a_time_taken_before_can_be_queued_again(rt: HostRuntime) -> Result<(), Fail> {
     let mut queue = three(rt.alloc())?;
     assert!(rt; takes_at_one_time_again(rt.alloc(), &mut queue)?);
+    Ok(())
+}
+
+/// Whether this is the least time, and this the driver that is taken by itself then, if any.
+fn is_alone(queue: &mut TimeQueue, time: u64, wanted: Option<usize>) -> bool
+    ensures { length queue.new ≡ length queue.old }
+{
+    if queue.least() != Some(time) {
+        return false;
+    }
+    queue.take_only(time) == wanted
+}
+
+/// Whether a driver that is alone at 3 is taken by itself, and two at 3 are not.
+fn takes_one_alone(alloc: Global, queue: &mut TimeQueue) -> Result<bool, AllocError>
+    requires { length queue.old ≡ 3 }
+{
+    queue.put(1, Some(3))?;
+    let is_taken = is_alone(queue, 3, Some(1));
+    put_both_at_3(queue)?;
+    Ok(is_taken && is_alone(queue, 3, None) && are_due(alloc, queue, 3, &[1, 2])?)
+}
+
+/// A queue of three drivers without times.
+fn no_times(alloc: Global) -> Result<TimeQueue, AllocError>
+    ensures { IfOk result (λ queue. length queue ≡ 3) }
+{
+    TimeQueue::new(alloc, 3)
+}
+
+#[test]
+fn a_driver_that_is_alone_is_taken_by_itself(rt: HostRuntime) -> Result<(), Fail> {
+    let mut queue = no_times(rt.alloc())?;
+    assert!(rt; takes_one_alone(rt.alloc(), &mut queue)?);
     Ok(())
 }
