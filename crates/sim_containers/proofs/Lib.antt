@@ -9,3 +9,4 @@ pub mod Least
 pub mod Queues
 pub mod Flat
 pub mod Divided
+pub mod Lists

@@ -1,5 +1,5 @@
 -- The steps of a queue.
-use Rattle.std.proofs.Common.{ℕ, zero, suc, ◌<◌, ◌≤◌, ◌≡◌, ◌≢◌, eqb, Bool, true, false, cond, List, [], ◌∷◌, length, set, refl, ap, sym, ◌∙◌, subst, arith}
+use Rattle.std.proofs.Common.{get_or, ℕ, zero, suc, ◌<◌, ◌≤◌, ◌≡◌, ◌≢◌, eqb, Bool, true, false, cond, List, [], ◌∷◌, length, set, refl, ap, sym, ◌∙◌, subst, arith}
 use Rattle.std.proofs.Common.{inl, inr, ◌⊎◌, Option, None, Some}
 use Rattle.std.proofs.Math.ListN.{replicate}
 use Rattle.std.proofs.lemmas.Bool.Decides.{nat_tests}
@@ -8,9 +8,10 @@ use Rattle.std.proofs.lemmas.Option.{same_Some}
 use Rattle.std.specs.BinaryHeap.{IsHeap}
 use Rattle.sim_containers.specs.Words.{IsOnly, NoneFrom}
 use Rattle.sim_containers.specs.Numbers.{is_in}
-use Rattle.sim_containers.specs.Times.{is_at, time_of, clear, cleared, those_at}
+use Rattle.sim_containers.specs.Times.{due_at, is_at, time_of, clear, cleared, those_at}
 use Rattle.sim_containers.specs.Entries.{Entry, entry_cmp, those_later, HasLiveTop, IsQueue, StandsBut}
 use Rattle.sim_containers.proofs.Bits.{not_both}
+use Rattle.sim_containers.proofs.Ranges.{count, each_passes, stands}
 use Rattle.sim_containers.proofs.Heaps.{at_from_time, none_in_empty, stands_with}
 use Rattle.sim_containers.proofs.Sets.{in_none, member_within}
 use Rattle.sim_containers.proofs.Taking.{cleared_time, in_those_at}
@@ -264,6 +265,27 @@ all_cleared time old new taken from len gone others rest none is =
     go d true q (inr le) = absurd (not_both (is_in taken d) (none d le) q)
     go d false q (inl l) = others d l q ∙ kept d q
     go d false q (inr le) = rest d le ∙ kept d q
+
+-- if those in a list are cleared, and no others
+pub listed_cleared : (time : ℕ) (old new : List (Option ℕ)) (drivers : List ℕ) → drivers ≡ due_at time old → length new ≡ length old
+    → ((k : ℕ) → k < length drivers → time_of new (get_or drivers k 0) ≡ None)
+    → ((d : ℕ) → ((k : ℕ) → k < length drivers → get_or drivers k 0 ≢ d) → time_of new d ≡ time_of old d) → new ≡ cleared time old
+listed_cleared time old new drivers e len gone others =
+    let l : length (cleared time old) ≡ length old = length-map old (clear time) in
+    ext_get_or None new (cleared time old) (omega (arith, l, len)) (λ d _. go d (is_in (those_at time old) d) refl ∙ sym (at_cleared time old d))
+  where
+    go : (d : ℕ) (b : Bool) → is_in (those_at time old) d ≡ b → time_of new d ≡ clear time (time_of old d)
+    go d true q =
+        let at = stands (is_in (those_at time old)) d (length (those_at time old)) (member_within (those_at time old) d q) q in
+        let k = count (is_in (those_at time old)) d in
+        let named : get_or drivers k 0 ≡ d = ap (λ (xs : List ℕ). get_or xs k 0) e ∙ at.1 in
+        ap (time_of new) (sym named) ∙ (gone k (omega (arith, at.0, ap length e))
+        ∙ sym (ap (λ (b : Bool). cond b None (time_of old d)) (sym (in_those_at time old d) ∙ q)))
+    go d false q =
+        others d (λ k lt is. not_both (is_in (those_at time old) d) q
+        (ap (is_in (those_at time old)) (sym is ∙ ap (λ (xs : List ℕ). get_or xs k 0) e)
+        ∙ each_passes (is_in (those_at time old)) (length (those_at time old)) k (omega (arith, lt, ap length e))))
+        ∙ sym (ap (λ (b : Bool). cond b None (time_of old d)) (sym (in_those_at time old d) ∙ q))
 
 -- ---- the sets after one time is cleared
 

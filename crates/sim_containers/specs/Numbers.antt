@@ -1,6 +1,6 @@
 -- A set of numbers below a bound: for each number, whether it is a member.
 -- Implementation only: what `simulate` promises does not rest on this file.
-use Rattle.std.specs.Prelude.{All, ◌==◌, [], true, replicate, ℕ, ◌≡◌, ◌<◌, ◌≤◌, ◌+◌, ◌*◌, ◌/◌, ◌^◌, ◌&&◌, Bool, false, not, List, length, map, filter}
+use Rattle.std.specs.Prelude.{All, ◌==◌, [], true, replicate, ℕ, ◌≡◌, ◌<◌, ◌≤◌, ◌+◌, ◌*◌, ◌/◌, ◌^◌, ◌&&◌, ◌||◌, suc, ⊤, Bool, false, not, List, ◌∷◌, length, map, filter}
 use Rattle.std.specs.Prelude.{slice_index, slice_index_or}
 use Rattle.std.specs.List.{range_with_len}
 use Rattle.sim_containers.specs.Words.{has, AreTops}
@@ -51,3 +51,24 @@ pub record IsListed (set bits : List Bool) (list : List ℕ) (capacity : ℕ) (i
   pub within : end ≤ length set
   pub none : (n : ℕ) → end ≤ n → is_in set n ≡ false
   pub fits : length set < 2 ^ 64
+
+-- ---- held as a list of its members
+
+-- whether a number is among these
+abbrev pub is_among : List ℕ → ℕ → Bool
+is_among [] n = false
+is_among (m ∷ ms) n = (m == n) || is_among ms n
+
+-- the set of these numbers, as far as they are below a bound
+unfoldable pub set_with : List ℕ → ℕ → List Bool
+set_with numbers bound = map (is_among numbers) (range_with_len 0 bound)
+
+-- The numbers rise, from one on, and are below a bound.
+abbrev pub RiseWithin : ℕ → ℕ → List ℕ → Type 0
+RiseWithin from bound [] = ⊤
+RiseWithin from bound (n ∷ ns) = (from ≤ n) × (n < bound) × RiseWithin (suc n) bound ns
+
+-- The list has the members of the set of its numbers, in order, and room for all numbers below the bound.
+pub record IsListOf (numbers : List ℕ) (capacity bound : ℕ) : Type 0 where
+  pub listed : numbers ≡ members (set_with numbers bound)
+  pub room : bound ≤ capacity

@@ -4,6 +4,7 @@
 mod bit_set;
 mod divided_rows;
 mod entries;
+mod number_list;
 mod numbers;
 mod row_array;
 mod stamps;
@@ -11,6 +12,7 @@ mod times;
 mod words;
 
 pub use divided_rows::{DividedRows, item_place, place_of};
+pub use number_list::NumberList;
 pub use numbers::NumberSet;
 pub use row_array::{RowArray, bounds};
 pub use times::TimeQueue;

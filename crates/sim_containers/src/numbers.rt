@@ -130,6 +130,17 @@ impl NumberSet {
         None
     }
 
+    /// The members, in order, if they were added nearly in order since the set was empty.
+    #[inline(always)]
+    pub fn listed(&self) -> Option<&[usize]>
+        ensures { IfSome result (λ list. list.now ≡ members self.now) }
+    {
+        if self.is_listed {
+            return Some(self.list.as_slice());
+        }
+        None
+    }
+
     /// Adds a number. It takes no memory.
     #[inline(always)]
     pub fn insert(&mut self, number: usize)
@@ -274,18 +285,6 @@ impl NumberSet {
         self.end = 0;
     }
 
-    /// Lists the members again if their order was lost, so that walks are fast. It takes no memory.
-    #[inline(always)]
-    pub fn arrange(&mut self)
-        ensures { self.new ≡ self.old }
-    {
-        if self.is_listed {
-            return;
-        }
-        relist(&mut self.list, &mut self.bits);
-        self.is_listed = true;
-    }
-
     /// Makes the set equal to another one. It visits members alone.
     pub fn copy_from(&mut self, others: &NumberSet)
         requires { length others.now ≡ length self.old }
@@ -398,7 +397,7 @@ fn list_one(list: &mut Vec<usize>, set: &Stamps, number: usize) -> bool
 
 /// Whether the members from a number on begin at an index of an ascending list.
 #[inline(always)]
-fn is_place(list: &[usize], place: usize, from: usize) -> bool
+pub(crate) fn is_place(list: &[usize], place: usize, from: usize) -> bool
     ensures within { result ≡ true → place < length list.now }
     ensures from { result ≡ true → from ≤ slice_index_or list.now place 0 }
     ensures before { result ≡ true → 0 < place → slice_index_or list.now (place - 1) 0 < from }
@@ -413,7 +412,7 @@ fn is_place(list: &[usize], place: usize, from: usize) -> bool
 }
 
 /// The index at which the members from a number on begin in an ascending list.
-fn place_from(list: &[usize], from: usize) -> usize
+pub(crate) fn place_from(list: &[usize], from: usize) -> usize
     ensures within { result ≤ length list.now }
     ensures from { result < length list.now → from ≤ slice_index_or list.now result 0 }
     ensures before { 0 < result → slice_index_or list.now (result - 1) 0 < from }
@@ -433,7 +432,7 @@ fn place_from(list: &[usize], from: usize) -> usize
 
 /// The number at an index of a list.
 #[inline(always)]
-fn at_place(list: &[usize], place: usize) -> Option<usize>
+pub(crate) fn at_place(list: &[usize], place: usize) -> Option<usize>
     ensures some { IfSome result (λ n. (place < length list.now) × (n ≡ slice_index_or list.now place 0)) }
     ensures none { IfNone result (length list.now ≤ place) }
 {
@@ -473,19 +472,6 @@ fn put_each(bits: &mut BitSet, numbers: &[usize], set: &Stamps)
     for place in 0..numbers.len() {
         bits.put(numbers[place], true);
     }
-}
-
-/// Moves the members from the bits to the list.
-#[inline(never)]
-fn relist(list: &mut Vec<usize>, bits: &mut BitSet)
-    requires empty { length list.old.items ≡ 0 }
-    requires room { length bits.old ≤ vec_capacity list.old }
-    ensures items { list.new.items ≡ members bits.old }
-    ensures capacity { vec_capacity list.new ≡ vec_capacity list.old }
-    ensures bits { bits.new ≡ replicate (length bits.old) false }
-{
-    push_marked(list, bits);
-    bits.clear();
 }
 
 /// Appends the members of the bits to an empty list.
@@ -557,7 +543,7 @@ fn insert_each(set: &mut NumberSet, others: &NumberSet)
 }
 
 /// Appends numbers to an empty list.
-fn push_each(list: &mut Vec<usize>, numbers: &[usize])
+pub(crate) fn push_each(list: &mut Vec<usize>, numbers: &[usize])
     requires empty { length list.old.items ≡ 0 }
     requires room { length numbers.now ≤ vec_capacity list.old }
     ensures items { list.new.items ≡ numbers.now }

@@ -1,6 +1,6 @@
 //! For each driver the time of its next transaction, with fast access to the least time.
 
-ghost use Rattle.std.specs.Prelude.{◌≡◌, ◌≢◌, ◌<◌, ◌⊎◌, ℕ, length, false, Option, None, Some, replicate, slice_set};
+ghost use Rattle.std.specs.Prelude.{◌≡◌, ◌≢◌, ◌<◌, ◌⊎◌, ℕ, length, false, Option, None, Some, replicate, slice_index_or, slice_set};
 ghost use Rattle.std.specs.Prelude.{OnOk, OnErr, IfOk, IfNone, IfSome, MatchOption};
 ghost use Rattle.std.specs.BinaryHeap.{heap_items, IsHeap};
 ghost use Rattle.sim_containers.specs.Times.{clear, cleared, due_at, earlier, earliest, is_at, those_at};
@@ -321,16 +321,35 @@ fn clear_at(now: u64, front: &mut NumberSet, laters: &mut NumberSet, time: u64)
     }
 }
 
-/// Clears the times of these drivers.
+/// Clears the times of the drivers with a time.
 fn clear_each(times: &mut Vec<Option<u64>>, taken: &NumberSet)
     requires { length taken.now ≡ length times.old.items }
     ensures { (time : ℕ) → taken.now ≡ those_at time times.old.items → times.new.items ≡ cleared time times.old.items }
 {
-    let mut place = 0;
+    match taken.listed() {
+        Some(drivers) => clear_listed(times, drivers),
+        None => clear_unlisted(times, taken),
+    }
+}
+
+/// The same, for drivers in a list.
+fn clear_listed(times: &mut Vec<Option<u64>>, drivers: &[usize])
+    requires { (k : ℕ) → k < length drivers.now → slice_index_or drivers.now k 0 < length times.old.items }
+    ensures { (time : ℕ) → drivers.now ≡ due_at time times.old.items → times.new.items ≡ cleared time times.old.items }
+{
+    for place in 0..drivers.len() {
+        times[drivers[place]] = None;
+    }
+}
+
+/// The same, for drivers in a set whose order was lost.
+fn clear_unlisted(times: &mut Vec<Option<u64>>, taken: &NumberSet)
+    requires { length taken.now ≡ length times.old.items }
+    ensures { (time : ℕ) → taken.now ≡ those_at time times.old.items → times.new.items ≡ cleared time times.old.items }
+{
     let mut from = 0;
-    while let Some(driver) = taken.next_at(place, from) {
+    while let Some(driver) = taken.next(from) {
         times[driver] = None;
-        place = place.wrapping_add(1);
         from = driver + 1;
     }
 }

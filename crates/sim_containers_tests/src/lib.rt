@@ -2,6 +2,8 @@
 #![tactic(auto)]
 
 #[cfg(test)]
+mod lists;
+#[cfg(test)]
 mod queues;
 #[cfg(test)]
 mod rows;

@@ -1,0 +1,93 @@
+ghost use Rattle.std.specs.Prelude.{◌≡◌, length};
+
+use sim_containers::{NumberList, NumberSet};
+use std::test::Fail;
+
+/// Numbers below ten, and whether a list takes them as its members at once: only if they rise.
+static RISING: [(&[usize], bool); 7] = [
+    (&[], true),
+    (&[9], true),
+    (&[10], false),
+    (&[0, 3, 9], true),
+    (&[3, 3], false),
+    (&[4, 3], false),
+    (&[3, 10], false),
+];
+
+/// Whether the list takes exactly the numbers in the table that rise, and keeps its members else.
+fn takes_rising_numbers(list: &mut NumberList) -> bool {
+    for row in RISING.iter() {
+        list.set_only(5);
+        let taken = list.set_rising(row.0);
+        if taken != row.1 {
+            return false;
+        }
+        let wanted: &[usize] = if taken { row.0 } else { &[5] };
+        if list.numbers() != wanted {
+            return false;
+        }
+    }
+    true
+}
+
+/// Where the search for a member of 0, 3 and 9 starts, and the next member; the next but 3.
+static NEXT: [(usize, Option<usize>, Option<usize>); 5] = [
+    (0, Some(0), Some(0)),
+    (1, Some(3), Some(9)),
+    (3, Some(3), Some(9)),
+    (4, Some(9), Some(9)),
+    (10, None, None),
+];
+
+/// Whether the search finds the next member from each place in the table, and a number is a member
+/// if it is the next one from itself.
+fn finds_each_next(list: &NumberList, three: &NumberSet) -> bool {
+    for row in NEXT.iter() {
+        if list.next(row.0) != row.1 || list.next_beside(three, row.0) != row.2 {
+            return false;
+        }
+        if list.contains(row.0) != (row.1 == Some(row.0)) {
+            return false;
+        }
+    }
+    true
+}
+
+/// Makes these numbers, which are below the bound, the members of a set.
+fn set_to(set: &mut NumberSet, numbers: &[usize])
+    ensures { length set.new ≡ length set.old }
+{
+    set.clear();
+    for number in numbers {
+        if *number < set.len() {
+            set.insert(*number);
+        }
+    }
+}
+
+#[test]
+fn numbers_that_rise_are_taken_at_once(rt: HostRuntime) -> Result<(), Fail> {
+    let mut list = NumberList::new(rt.alloc(), 10)?;
+    assert!(rt; list.len() == 10);
+    assert!(rt; list.numbers().is_empty());
+    assert!(rt; takes_rising_numbers(&mut list));
+    list.set_only(10);
+    assert!(rt; list.numbers().is_empty());
+    Ok(())
+}
+
+#[test]
+fn a_list_has_the_members_of_a_set(rt: HostRuntime) -> Result<(), Fail> {
+    let mut list = NumberList::new(rt.alloc(), 10)?;
+    let mut set = NumberSet::new(rt.alloc(), 10)?;
+    set_to(&mut set, &[9, 0, 3]);
+    list.set_from(&set);
+    assert!(rt; list.numbers() == [0, 3, 9].as_slice());
+    set_to(&mut set, &[3]);
+    assert!(rt; finds_each_next(&list, &set));
+    list.copy_to(&mut set);
+    assert!(rt; set.contains(9) && !set.contains(4));
+    list.clear();
+    assert!(rt; list.next(0).is_none());
+    Ok(())
+}
