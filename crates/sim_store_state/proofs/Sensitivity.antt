@@ -10,6 +10,7 @@ use Rattle.sim_standard.specs.State.{net_at}
 use Rattle.sim_standard.specs.Processes.{process_at}
 use Rattle.sim_store_state.specs.Sensitive.{AreSensitive, is_sensitive, is_resumed_by, has_event_in}
 use Rattle.sim_standard.specs.Orders.{is_among}
+use Rattle.sim_containers.specs.Numbers as contained
 
 -- ---- truth values
 
@@ -257,3 +258,15 @@ processes-more processes i p n q was now new lt is e f =
     let front = is_among (process_at (take i processes) p).sensitivity n in
     f ∙ (ap (λ b. b || (is_among q.sensitivity n && (i == p))) e ∙ (or-assoc was front (is_among q.sensitivity n && (i == p))
     ∙ ap (λ b. was || b) (sym (process-more processes i p n q lt is))))
+
+-- those sensitive to the net of a single change
+pub resumed-by-one : (sensitive : List (List ℕ)) (changes : List (ℕ × Logic)) (p : ℕ) (d : ℕ × Logic) → length changes ≡ 1
+    → is_resumed_by sensitive changes p ≡ is_among (get_or sensitive (get_or changes 0 d).0 []) p
+resumed-by-one sensitive [] p d one = absurd (omega (arith, one))
+resumed-by-one sensitive (x ∷ y ∷ xs) p d one = absurd (omega (arith, one))
+resumed-by-one sensitive (x ∷ []) p d one = or_false (is_among (get_or sensitive x.0 []) p)
+
+-- a number is among others by either definition
+pub among-both : (numbers : List ℕ) (n : ℕ) → contained.is_among numbers n ≡ is_among numbers n
+among-both [] n = refl
+among-both (m ∷ ms) n = ap (λ b. (m == n) || b) (among-both ms n)

@@ -4,7 +4,7 @@ ghost use Rattle.std.specs.Prelude.{ℕ, List, ◌≡◌, ◌≢◌, ◌<◌, �
 ghost use Rattle.std.specs.Bool.{Decides};
 ghost use Rattle.sim_standard.specs.Drivers.{DriverState, taken};
 ghost use Rattle.sim_containers.specs.RowArray.{joined};
-ghost use Rattle.sim_containers.specs.Numbers.{is_in};
+ghost use Rattle.sim_containers.specs.Numbers.{is_in, members};
 ghost use Rattle.sim_standard.specs.State.{driver_at, driver_values};
 ghost use Rattle.sim_containers.specs.Times.{cleared, those_at, time_of};
 ghost use Rattle.sim_containers.specs.Words.{IsOnly};
@@ -12,9 +12,9 @@ ghost use Rattle.sim_store_state.specs.Changes.{AreReached, AreTallied, AreTimes
 ghost use Rattle.sim_flat_design.specs.declared.design.Source.{Source};
 ghost use Rattle.sim_standard.specs.Drivers as spec;
 
-use crate::sets::{insert_each, insert_range};
+use crate::sets::{insert_each, insert_range, replace_by};
 use crate::tallies::Tallies;
-use sim_containers::{DividedRows, NumberSet, RowArray, TimeQueue, item_place};
+use sim_containers::{DividedRows, NumberList, NumberSet, RowArray, TimeQueue, item_place};
 use sim_logic::Logic;
 use sim_wave::Driver;
 use std::alloc::{AllocError, Global};
@@ -324,25 +324,161 @@ fn take_due(
     ensures tallied { (sources : List (List Source)) → AreTallied sources driving.old tallies.old → AreTallied sources driving.new tallies.new }
     ensures told { AreTold result due.now queue.old queue.new (joined drivers.new) }
 {
-    let _count = due.len();
+    match due.listed() {
+        Some(numbers) => take_listed(
+            drivers, driving, time, due, numbers, fan_out, queue, touched, tallies,
+        ),
+        None => take_unlisted(
+            drivers, driving, time, due, fan_out, queue, touched, tallies,
+        ),
+    }
+}
+
+/// The same, with the due drivers in a list.
+fn take_listed(
+    drivers: &mut DividedRows<Driver>,
+    driving: &mut [Logic],
+    time: u64,
+    due: &NumberSet,
+    numbers: &[usize],
+    fan_out: &RowArray<usize>,
+    queue: &mut TimeQueue,
+    touched: &mut NumberSet,
+    tallies: &mut Tallies,
+) -> bool
+    requires due { length due.now ≡ length (joined drivers.old) }
+    requires numbers { numbers.now ≡ members due.now }
+    requires fan_out { length fan_out.now ≡ length (joined drivers.old) }
+    requires queue { length queue.old ≡ length (joined drivers.old) }
+    requires driving { driving.old ≡ driver_values (joined drivers.old) }
+    requires others { (d : ℕ) → is_in due.now d ≡ false → taken time (driver_at (joined drivers.old) d) ≡ driver_at (joined drivers.old) d }
+    ensures drivers { drivers.new ≡ map (map (taken time)) drivers.old }
+    ensures driving { driving.new ≡ driver_values (joined drivers.new) }
+    ensures sized { length touched.new ≡ length touched.old }
+    ensures reached { (d : ℕ) → AreReached touched.new (slice_index_or fan_out.now d []) (driver_at (joined drivers.old) d).value
+        (taken time (driver_at (joined drivers.old) d)).value }
+    ensures tallied { (sources : List (List Source)) → AreTallied sources driving.old tallies.old → AreTallied sources driving.new tallies.new }
+    ensures told { AreTold result due.now queue.old queue.new (joined drivers.new) }
+{
     let mut told = true;
-    let mut place = 0;
-    let mut from = 0;
-    while let Some(number) = due.next_at(place, from) {
+    for place in 0..numbers.len() {
+        let number = numbers[place];
         let nets = fan_out.row(number);
         let is_known = take_one(
             drivers, driving, number, time, nets, queue, touched, tallies,
         );
         told = is_known & told;
-        place = place.wrapping_add(1);
+    }
+    told
+}
+
+/// The same, with the due drivers in a set whose order was lost.
+fn take_unlisted(
+    drivers: &mut DividedRows<Driver>,
+    driving: &mut [Logic],
+    time: u64,
+    due: &NumberSet,
+    fan_out: &RowArray<usize>,
+    queue: &mut TimeQueue,
+    touched: &mut NumberSet,
+    tallies: &mut Tallies,
+) -> bool
+    requires due { length due.now ≡ length (joined drivers.old) }
+    requires fan_out { length fan_out.now ≡ length (joined drivers.old) }
+    requires queue { length queue.old ≡ length (joined drivers.old) }
+    requires driving { driving.old ≡ driver_values (joined drivers.old) }
+    requires others { (d : ℕ) → is_in due.now d ≡ false → taken time (driver_at (joined drivers.old) d) ≡ driver_at (joined drivers.old) d }
+    ensures drivers { drivers.new ≡ map (map (taken time)) drivers.old }
+    ensures driving { driving.new ≡ driver_values (joined drivers.new) }
+    ensures sized { length touched.new ≡ length touched.old }
+    ensures reached { (d : ℕ) → AreReached touched.new (slice_index_or fan_out.now d []) (driver_at (joined drivers.old) d).value
+        (taken time (driver_at (joined drivers.old) d)).value }
+    ensures tallied { (sources : List (List Source)) → AreTallied sources driving.old tallies.old → AreTallied sources driving.new tallies.new }
+    ensures told { AreTold result due.now queue.old queue.new (joined drivers.new) }
+{
+    let _count = due.len();
+    let mut told = true;
+    let mut from = 0;
+    while let Some(number) = due.next(from) {
+        let nets = fan_out.row(number);
+        let is_known = take_one(
+            drivers, driving, number, time, nets, queue, touched, tallies,
+        );
+        told = is_known & told;
         from = number + 1;
     }
     told
 }
 
-/// The only active driver takes its transaction of a time, and so on.
+/// Notes the value of the only driver that is active. If it is a new one, its nets are the touched
+/// ones, else there are none.
 #[inline(always)]
-fn take_alone(
+fn note_alone(
+    driving: &mut [Logic],
+    number: usize,
+    value: Logic,
+    nets: &[usize],
+    touched: &mut NumberList,
+    set: &mut NumberSet,
+    tallies: &mut Tallies,
+)
+    requires at { number < length driving.old }
+    requires set { length set.old ≡ length touched.old }
+    ensures driving { driving.new ≡ slice_set driving.old number value }
+    ensures sized { length touched.new ≡ length touched.old }
+    ensures set { length set.new ≡ length set.old }
+    ensures reached { AreReached touched.new nets.now (value_at driving.old number) value }
+    ensures tallied { (sources : List (List Source)) → AreTallied sources driving.old tallies.old → AreTallied sources driving.new tallies.new }
+{
+    if driving[number] == value {
+        touched.clear();
+        return;
+    }
+    driving[number] = value;
+    replace_by(touched, set, nets);
+    tallies.note(number, value);
+}
+
+/// The driver with a number, which alone is active, takes its first transaction, if its time has
+/// come. If that is a new value, these nets are the touched ones, else there are none. Returns
+/// whether the queue has its first pending time.
+#[inline(always)]
+fn take_one_alone(
+    drivers: &mut DividedRows<Driver>,
+    driving: &mut [Logic],
+    number: usize,
+    time: u64,
+    nets: &[usize],
+    queue: &mut TimeQueue,
+    touched: &mut NumberList,
+    set: &mut NumberSet,
+    tallies: &mut Tallies,
+) -> bool
+    requires at { number < length (joined drivers.old) }
+    requires queue { length queue.old ≡ length (joined drivers.old) }
+    requires driving { driving.old ≡ driver_values (joined drivers.old) }
+    requires set { length set.old ≡ length touched.old }
+    ensures rows { map length drivers.new ≡ map length drivers.old }
+    ensures drivers { joined drivers.new ≡ slice_set (joined drivers.old) number (taken time (driver_at (joined drivers.old) number)) }
+    ensures driving { driving.new ≡ driver_values (joined drivers.new) }
+    ensures sized { length touched.new ≡ length touched.old }
+    ensures set { length set.new ≡ length set.old }
+    ensures reached { AreReached touched.new nets.now (driver_at (joined drivers.old) number).value
+        (taken time (driver_at (joined drivers.old) number)).value }
+    ensures tallied { (sources : List (List Source)) → AreTallied sources driving.old tallies.old → AreTallied sources driving.new tallies.new }
+    ensures times { length queue.new ≡ length queue.old }
+    ensures told { result ≡ true → time_of queue.new number ≡ time_at (joined drivers.new) number }
+    ensures untold { (d : ℕ) → d ≢ number → time_of queue.new d ≡ time_of queue.old d }
+{
+    let (value, next) = take_driver(drivers, number, time);
+    note_alone(driving, number, value, nets, touched, set, tallies);
+    is_queued(queue, number, next)
+}
+
+/// The same, of the only driver that is active, whose nets replace those that were touched. The queue
+/// has let go of its time.
+#[inline(always)]
+pub fn take_alone(
     drivers: &mut DividedRows<Driver>,
     driving: &mut [Logic],
     time: u64,
@@ -350,9 +486,11 @@ fn take_alone(
     fan_out: &RowArray<usize>,
     queue: &mut TimeQueue,
     stale: &mut NumberSet,
-    touched: &mut NumberSet,
+    touched: &mut NumberList,
+    set: &mut NumberSet,
     tallies: &mut Tallies,
 )
+    requires set { length set.old ≡ length touched.old }
     requires only { IsOnly (is_in (those_at time (first_times (joined drivers.old)))) number }
     requires next { spec.next_time (joined drivers.old) ≡ Some time }
     requires queue { queue.old ≡ cleared time (first_times (joined drivers.old)) }
@@ -361,6 +499,7 @@ fn take_alone(
     requires driving { driving.old ≡ driver_values (joined drivers.old) }
     ensures drivers { drivers.new ≡ map (map (taken time)) drivers.old }
     ensures driving { driving.new ≡ driver_values (joined drivers.new) }
+    ensures set { length set.new ≡ length set.old }
     ensures sized { length touched.new ≡ length touched.old }
     ensures reached { (d : ℕ) → AreReached touched.new (slice_index_or fan_out.now d []) (driver_at (joined drivers.old) d).value
         (taken time (driver_at (joined drivers.old) d)).value }
@@ -368,8 +507,8 @@ fn take_alone(
     ensures times { AreTimes queue.new stale.new (joined drivers.new) }
 {
     let nets = fan_out.row(number);
-    let told = take_one(
-        drivers, driving, number, time, nets, queue, touched, tallies,
+    let told = take_one_alone(
+        drivers, driving, number, time, nets, queue, touched, set, tallies,
     );
     forget_all_but(stale, number, told);
 }
@@ -387,8 +526,10 @@ fn forget_all_but(stale: &mut NumberSet, number: usize, told: bool)
     }
 }
 
-/// The active drivers take their transactions of a time, and so on.
-fn take_all(
+/// Each active driver takes its transaction of a time (14.7.5.3 c), and the nets of each whose value
+/// is a new one are touched. The other drivers have none to take, and are not looked at. The queue
+/// has the next times of drivers that are not stale.
+pub fn take_all(
     drivers: &mut DividedRows<Driver>,
     driving: &mut [Logic],
     time: u64,
@@ -416,43 +557,6 @@ fn take_all(
         drivers, driving, time, stale, fan_out, queue, touched, tallies,
     );
     forget(stale, told);
-}
-
-/// Each active driver takes its transaction of a time (14.7.5.3 c), and the nets of each whose value
-/// is a new one are touched. The other drivers have none to take, and are not looked at. The queue
-/// has the next times of drivers that are not stale.
-pub fn take_active(
-    drivers: &mut DividedRows<Driver>,
-    driving: &mut [Logic],
-    time: u64,
-    fan_out: &RowArray<usize>,
-    queue: &mut TimeQueue,
-    stale: &mut NumberSet,
-    touched: &mut NumberSet,
-    tallies: &mut Tallies,
-)
-    requires next { spec.next_time (joined drivers.old) ≡ Some time }
-    requires queue { queue.old ≡ first_times (joined drivers.old) }
-    requires stale { length stale.old ≡ length (joined drivers.old) }
-    requires fan_out { length fan_out.now ≡ length (joined drivers.old) }
-    requires driving { driving.old ≡ driver_values (joined drivers.old) }
-    ensures drivers { drivers.new ≡ map (map (taken time)) drivers.old }
-    ensures driving { driving.new ≡ driver_values (joined drivers.new) }
-    ensures sized { length touched.new ≡ length touched.old }
-    ensures reached { (d : ℕ) → AreReached touched.new (slice_index_or fan_out.now d []) (driver_at (joined drivers.old) d).value
-        (taken time (driver_at (joined drivers.old) d)).value }
-    ensures tallied { (sources : List (List Source)) → AreTallied sources driving.old tallies.old → AreTallied sources driving.new tallies.new }
-    ensures times { AreTimes queue.new stale.new (joined drivers.new) }
-{
-    if let Some(number) = queue.take_only(time) {
-        take_alone(
-            drivers, driving, time, number, fan_out, queue, stale, touched, tallies,
-        );
-        return;
-    }
-    take_all(
-        drivers, driving, time, fan_out, queue, stale, touched, tallies,
-    );
 }
 
 /// Makes the drivers of the process with a number stale, as others may take their place.

@@ -25,7 +25,7 @@ pub use execution::execute_at;
 pub use flat_state::{FlatState, Lists, Part};
 pub use lending::{SplitState, UpdateLists, put_together, take_apart};
 pub use log::{Log, Mark};
-pub use resumption::{find_resumed, sensitive};
+pub use resumption::{find_resumed, find_resumed_by_one, sensitive};
 pub use share::Share;
 pub use shares::Shares;
 pub use sim_standard::Record;

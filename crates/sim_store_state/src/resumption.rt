@@ -1,6 +1,6 @@
 //! Which processes a cycle resumes (IEEE 1076-2008, 14.7.5.3 f).
 
-ghost use Rattle.std.specs.Prelude.{ℕ, ◌≡◌, ◌<◌, ◌||◌, ◌&&◌, ◌==◌, [], List, length, slice_index_or, IfOk, OnOk};
+ghost use Rattle.std.specs.Prelude.{ℕ, ◌≡◌, ◌<◌, ◌||◌, ◌&&◌, ◌==◌, true, [], List, length, slice_index_or, IfOk, OnOk};
 ghost use Rattle.sim_flat_design.specs.Processes.{Process as process_value};
 ghost use Rattle.sim_standard.specs.declared.net_view.NetView.{NetView};
 ghost use Rattle.sim_standard.specs.Records.{changes_from};
@@ -11,7 +11,7 @@ ghost use Rattle.sim_standard.specs.Orders.{is_among};
 
 use crate::lists::{add, empty_lists, in_rows};
 use crate::sets::insert_each;
-use sim_containers::{NumberSet, RowArray};
+use sim_containers::{NumberList, NumberSet, RowArray};
 use sim_flat_design::{Design, Process};
 use sim_logic::Logic;
 use sqlite_items::Items;
@@ -85,4 +85,24 @@ pub fn find_resumed(resumed: &mut NumberSet, changes: &[(u32, Logic)], sensitive
 {
     resumed.clear();
     resume_sensitive(resumed, changes, sensitive);
+}
+
+/// The same, if a single net changed and the numbers of the processes sensitive to it rise; returns
+/// whether that is so. They are copied at once.
+#[inline(always)]
+pub fn find_resumed_by_one(
+    resumed: &mut NumberList,
+    changes: &[(u32, Logic)],
+    sensitive: &RowArray<usize>,
+) -> bool
+    ensures sized { length resumed.new ≡ length resumed.old }
+    ensures found { result ≡ true → (nets : List NetView) (processes : List process_value) (p : ℕ) → changes.now ≡ changes_from 0 nets
+        → length sensitive.now ≡ length nets → AreSensitive processes sensitive.now
+        → is_in resumed.new p ≡ has_event_in nets (process_at processes p).sensitivity }
+{
+    if changes.len() != 1 {
+        return false;
+    }
+    let (net, _value) = changes[0];
+    resumed.set_rising(sensitive_to(sensitive, net as usize))
 }

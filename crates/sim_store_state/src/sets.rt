@@ -4,7 +4,7 @@ ghost use Rattle.std.specs.Prelude.{ℕ, ◌≡◌, ◌<◌, ◌≤◌, ◌⊎�
 ghost use Rattle.sim_containers.specs.Numbers.{is_in};
 ghost use Rattle.sim_standard.specs.Orders.{is_among};
 
-use sim_containers::NumberSet;
+use sim_containers::{NumberList, NumberSet};
 
 /// Inserts a number, if it is below the bound.
 fn insert_below(set: &mut NumberSet, number: usize)
@@ -37,4 +37,32 @@ pub fn insert_range(set: &mut NumberSet, start: usize, end: usize)
     for number in start..end {
         set.insert(number);
     }
+}
+
+/// Makes those of these numbers that are below the bound the members of a list, and gathers them in
+/// a set if they are several.
+#[inline(always)]
+pub fn replace_by(list: &mut NumberList, set: &mut NumberSet, numbers: &[usize])
+    requires { length set.old ≡ length list.old }
+    ensures sized { length list.new ≡ length list.old }
+    ensures set { length set.new ≡ length set.old }
+    ensures members { (n : ℕ) → n < length list.old → is_in list.new n ≡ is_among numbers.now n }
+{
+    match numbers {
+        [number] => list.set_only(*number),
+        numbers => gather(list, set, numbers),
+    }
+}
+
+/// The same, for any number of numbers.
+#[inline(never)]
+fn gather(list: &mut NumberList, set: &mut NumberSet, numbers: &[usize])
+    requires { length set.old ≡ length list.old }
+    ensures sized { length list.new ≡ length list.old }
+    ensures set { length set.new ≡ length set.old }
+    ensures members { (n : ℕ) → n < length list.old → is_in list.new n ≡ is_among numbers.now n }
+{
+    set.clear();
+    insert_each(set, numbers);
+    list.set_from(set);
 }

@@ -9,39 +9,38 @@ ghost use Rattle.sim_standard.specs.Drivers as spec;
 ghost use Rattle.sim_standard.specs.State.{driver_at, driver_values};
 ghost use Rattle.sim_store_state.specs.Changes.{AreReached, AreTallied, AreTimes, first_times};
 
-use crate::drivers::take_active;
+use crate::drivers::{take_all, take_alone};
 use crate::tallies::Tallies;
-use sim_containers::{DividedRows, NumberSet, RowArray, TimeQueue};
+use sim_containers::{DividedRows, NumberList, NumberSet, RowArray, TimeQueue};
 use sim_logic::Logic;
 use sim_wave::Driver;
 use std::alloc::{AllocError, Global};
 use std::marker::Model;
 
-/// The nets that may have an event, as a set and by number. Contracts see for each net whether it
-/// is one of them.
+/// The nets that may have an event. Contracts see for each net whether it is one of them.
 pub struct Touched {
+    list: NumberList,
+    /// In which they are gathered, if they are those of several drivers.
     set: NumberSet,
-    numbers: Vec<usize>,
 }
 
 /// Written by hand so that code which drops it needs no proof about its contents.
 impl Drop for Touched {
     fn drop(self) {
-        let Touched { set, numbers } = self;
+        let Touched { list, set } = self;
+        drop(list);
         drop(set);
-        drop(numbers);
     }
 }
 
 impl Model for Touched {
-    ghost use Rattle.std.specs.Prelude.{◌≡◌, ◌≤◌, List, Bool, length, vec_capacity};
-    ghost use Rattle.sim_containers.specs.Numbers.{members};
+    ghost use Rattle.std.specs.Prelude.{◌≡◌, List, Bool, length};
 
     ghost Value = { List Bool };
 
-    ghost view = { λ t. t.set };
+    ghost view = { λ t. t.list };
 
-    ghost invariant = { λ t. (t.numbers.items ≡ members t.set) × (length t.set ≤ vec_capacity t.numbers) };
+    ghost invariant = { λ t. length t.set ≡ length t.list };
 }
 
 impl Touched {
@@ -49,17 +48,16 @@ impl Touched {
     pub fn none(alloc: Global, nets: usize) -> Result<Touched, AllocError>
         ensures { IfOk result (λ t. t ≡ replicate nets false) }
     {
+        let list = NumberList::new(alloc, nets)?;
         let set = NumberSet::new(alloc, nets)?;
-        let mut numbers = Vec::with_capacity(alloc, nets)?;
-        set.list(&mut numbers);
-        Ok(Touched { set, numbers })
+        Ok(Touched { list, set })
     }
 
     /// The numbers of the nets, rising.
     pub fn numbers(&self) -> &[usize]
         ensures { result.now ≡ members self.now }
     {
-        self.numbers.as_slice()
+        self.list.numbers()
     }
 
     /// Each active driver takes its transaction of a time (14.7.5.3 c). The nets of those whose value
@@ -88,18 +86,17 @@ impl Touched {
         ensures tallied { (sources : List (List Source)) → AreTallied sources driving.old tallies.old → AreTallied sources driving.new tallies.new }
         ensures times { AreTimes queue.new stale.new (joined drivers.new) }
     {
+        if let Some(number) = queue.take_only(time) {
+            let list = &mut self.list;
+            let set = &mut self.set;
+            take_alone(
+                drivers, driving, time, number, fan_out, queue, stale, list, set, tallies,
+            );
+            return;
+        }
         self.set.clear();
-        take_active(
-            drivers,
-            driving,
-            time,
-            fan_out,
-            queue,
-            stale,
-            &mut self.set,
-            tallies,
-        );
-        self.set.arrange();
-        self.set.list(&mut self.numbers);
+        let set = &mut self.set;
+        take_all(drivers, driving, time, fan_out, queue, stale, set, tallies);
+        self.list.set_from(&self.set);
     }
 }

@@ -14,13 +14,14 @@ row-nets-requires c =
     let lt = alone-within c.args.time (joined c.args.drivers.now) c.args.number c.requires.only in
     omega (arith, lt, c.requires.fan_out)
 
-pub take_one-told-requires : goal.take_one-told-requires
-take_one-told-requires c =
+pub take_one_alone-told-requires : goal.take_one_alone-told-requires
+take_one_alone-told-requires c =
     let ds = joined c.args.drivers.now in
     record {
       at = alone-within c.args.time ds c.args.number c.requires.only;
       queue = ap length c.requires.queue ∙ (length-map (first_times ds) (clear c.args.time) ∙ first-count ds);
       driving = c.requires.driving;
+      set = c.requires.set;
     }
 
 pub forget_all_but-requires : goal.forget_all_but-requires
@@ -33,17 +34,18 @@ returns c =
     let time = c.args.time in
     let k = c.args.number in
     let ds = joined c.args.drivers.now in
-    let es = joined c.take_one-told.new.drivers in
-    let e = c.take_one-told.ensures in
+    let es = joined c.take_one_alone-told.new.drivers in
+    let e = c.take_one_alone-told.ensures in
     let f = c.forget_all_but.ensures in
     let all = alone-taken time ds es k c.requires.next c.requires.only e.drivers in
     record {
-      drivers = each-item (taken time) c.args.drivers.now c.take_one-told.new.drivers e.rows all;
+      drivers = each-item (taken time) c.args.drivers.now c.take_one_alone-told.new.drivers e.rows all;
       driving = e.driving;
+      set = e.set;
       sized = e.sized;
-      reached = alone-reached time ds k c.args.fan_out.now c.row-nets.result.now c.take_one-told.new.touched c.requires.next c.requires.only
+      reached = alone-reached time ds k c.args.fan_out.now c.row-nets.result.now c.take_one_alone-told.new.touched c.requires.next c.requires.only
           c.row-nets.ensures e.reached;
       tallied = e.tallied;
-      times = alone-times time ds es k c.args.queue.now c.take_one-told.new.queue c.forget_all_but.new.stale c.take_one-told.result c.requires.next
+      times = alone-times time ds es k c.args.queue.now c.take_one_alone-told.new.queue c.forget_all_but.new.stale c.take_one_alone-told.result c.requires.next
           c.requires.only c.requires.queue all e.times (f.sized ∙ c.requires.stale) e.told e.untold f.untold;
     }
