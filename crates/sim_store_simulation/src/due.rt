@@ -12,36 +12,35 @@ ghost use Rattle.sim_store_state.specs.Sensitive.{AreSensitive, has_event_in};
 ghost use Rattle.sim_store_simulation.specs.Simulation.{listed, those_in};
 
 use crate::waiting::Waiting;
-use sim_containers::{NumberSet, RowArray};
-use sim_store_state::{Log, find_resumed};
+use sim_containers::{NumberList, NumberSet, RowArray};
+use sim_store_state::{Log, find_resumed, find_resumed_by_one};
 use std::alloc::{AllocError, Global};
 use std::marker::Model;
 
-/// Which processes are due, as a set and by number. Contracts see for each process whether it is
-/// due.
+/// Which processes are due. Contracts see for each process whether it is due.
 pub struct Due {
+    list: NumberList,
+    /// In which they are gathered, if several nets have an event.
     set: NumberSet,
-    numbers: Vec<usize>,
 }
 
 /// Written by hand so that code which drops it needs no proof about its contents.
 impl Drop for Due {
     fn drop(self) {
-        let Due { set, numbers } = self;
+        let Due { list, set } = self;
+        drop(list);
         drop(set);
-        drop(numbers);
     }
 }
 
 impl Model for Due {
-    ghost use Rattle.std.specs.Prelude.{◌≡◌, ◌≤◌, List, Bool, length, vec_capacity};
-    ghost use Rattle.sim_store_simulation.specs.Simulation.{listed};
+    ghost use Rattle.std.specs.Prelude.{◌≡◌, List, Bool, length};
 
     ghost Value = { List Bool };
 
-    ghost view = { λ d. d.set };
+    ghost view = { λ d. d.list };
 
-    ghost invariant = { λ d. (d.numbers.items ≡ listed d.set) × (length d.set ≤ vec_capacity d.numbers) };
+    ghost invariant = { λ d. length d.set ≡ length d.list };
 }
 
 impl Due {
@@ -56,24 +55,24 @@ impl Due {
             ≡ (those_in waiting.old.waiting p || those_in waiting.old.postponed p)) }
     {
         let mut set = NumberSet::full(alloc, count)?;
-        let mut numbers = Vec::with_capacity(alloc, count)?;
+        let mut list = NumberList::new(alloc, count)?;
         waiting.set_aside(&mut set);
-        set.list(&mut numbers);
-        Ok(Due { set, numbers })
+        list.set_from(&set);
+        Ok(Due { list, set })
     }
 
     /// Whether the process with a number is due.
     pub fn has(&self, number: usize) -> bool
         ensures { result ≡ those_in self.now number }
     {
-        self.set.contains(number)
+        self.list.contains(number)
     }
 
     /// The first due process from a number on.
     pub fn next(&self, from: usize) -> Option<usize>
         ensures { MatchOption result (NoneFrom (those_in self.now) from) (IsNext (those_in self.now) from) }
     {
-        self.set.next(from)
+        self.list.next(from)
     }
 
     /// The first due process from a number on that is not in another set.
@@ -81,7 +80,8 @@ impl Due {
         ensures value { MatchOption result (NoneFrom (is_beside self.now others.now) from) (IsNext (is_beside self.now others.now) from) }
         ensures bound { IfSome result (λ n. n + 1 < 2 ^ 64) }
     {
-        self.set.next_beside(others, from)
+        let _count = self.list.len();
+        self.list.next_beside(others, from)
     }
 
     /// Makes the due processes the members of a set. It takes no memory.
@@ -90,14 +90,14 @@ impl Due {
         ensures sized { length set.new ≡ length set.old }
         ensures same { (p : ℕ) → those_in set.new p ≡ those_in self.now p }
     {
-        set.copy_from(&self.set);
+        self.list.copy_to(set);
     }
 
     /// The numbers of the due processes, rising.
     pub fn numbers(&self) -> &[usize]
         ensures { result.now ≡ listed self.now }
     {
-        self.numbers.as_slice()
+        self.list.numbers()
     }
 
     /// Finds the processes due in the cycle of the last record: those sensitive to a net with
@@ -118,11 +118,16 @@ impl Due {
             → those_in waiting.new.waiting p ≡ (those_in waiting.old.waiting p
             || (has_event_in nets (process_at processes p).sensitivity && those_in waiting.old.postponed p)) }
     {
+        let changes = log.changes(log.len() - 1);
+        if !waiting.has_postponed() {
+            if find_resumed_by_one(&mut self.list, changes, sensitive) {
+                return;
+            }
+        }
         // f.2) Processes resume; the postponed ones wait for h.4.
-        find_resumed(&mut self.set, log.changes(log.len() - 1), sensitive);
+        find_resumed(&mut self.set, changes, sensitive);
         waiting.set_aside(&mut self.set);
-        self.set.arrange();
-        self.set.list(&mut self.numbers);
+        self.list.set_from(&self.set);
     }
 
     /// Makes the waiting processes due, and no others. It takes no memory.
@@ -132,6 +137,6 @@ impl Due {
         ensures same { (p : ℕ) → those_in self.new p ≡ those_in waiting.now.waiting p }
     {
         waiting.copy_to(&mut self.set);
-        self.set.list(&mut self.numbers);
+        self.list.set_from(&self.set);
     }
 }

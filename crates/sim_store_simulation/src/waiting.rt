@@ -97,6 +97,13 @@ impl Waiting {
         set_aside(set, &self.postponed, &mut self.waiting);
     }
 
+    /// Whether a process is postponed.
+    pub fn has_postponed(&self) -> bool
+        ensures { result ≡ false → (p : ℕ) → is_in self.now.postponed p ≡ false }
+    {
+        !self.postponed.is_empty()
+    }
+
     /// Whether no process waits.
     pub fn is_empty(&self) -> bool
         ensures { IsTrue result ↔ ((p : ℕ) → is_in self.now.waiting p ≡ false) }
