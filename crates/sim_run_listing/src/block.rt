@@ -13,7 +13,7 @@ use std::io::Write;
 use std::marker::Model;
 
 /// The number of bytes of a full block.
-pub const SIZE: usize = 8192;
+pub const SIZE: usize = 32768;
 
 /// The bytes that are buffered for a writer.
 #[derive(Drop)]
@@ -29,7 +29,7 @@ impl Model for Block {
 
     ghost view = { λ s. take s.len s.bytes };
 
-    ghost invariant = { λ s. s.len ≤ 8192 };
+    ghost invariant = { λ s. s.len ≤ 32768 };
 }
 
 impl Block {
