@@ -7,7 +7,7 @@ use Rattle.sim_logic.specs.Resolution.{resolved}
 use Rattle.sim_flat_design.specs.declared.held.Held.{Held}
 use Rattle.sim_flat_design.specs.declared.design.Source.{Source}
 use Rattle.sim_flat_design.specs.declared.design.Source.TheVariants as source
-use Rattle.sim_standard.specs.Drivers.{DriverState, next_time}
+use Rattle.sim_standard.specs.Drivers.{DriverState, next_time, taken}
 use Rattle.sim_containers.specs.RowArray.{joined}
 use Rattle.sim_containers.specs.Numbers.{is_in}
 use Rattle.sim_containers.specs.Times.{time_of}
@@ -93,6 +93,18 @@ pub record AreTouched (values values_before : List Logic) (touched : List Bool) 
 -- If the value of a driver is now another one than before, these nets are touched.
 abbrev pub AreReached : List Bool → List ℕ → Logic → Logic → Type 0
 AreReached touched nets before now = (n : ℕ) → n < length touched → is_in touched n ≡ false → is_among nets n ≡ true → now ≡ before
+
+-- ---- an update
+
+-- The drivers have taken their transactions of a time (14.7.2). Their values are noted, in the tallies too, and the nets of those with a new value are
+-- touched.
+pub record AreTaken (time : ℕ) (fan_out : List (List ℕ)) (before drivers : List (List DriverState)) (driving_before driving : List Logic)
+    (touched_before touched : List Bool) (tallies_before tallies : TallyLists) : Type 0 where
+  pub drivers_are : drivers ≡ map (map (taken time)) before
+  pub driving_are : driving ≡ driver_values (joined drivers)
+  pub sized : length touched ≡ length touched_before
+  pub reached : (d : ℕ) → AreReached touched (slice_index_or fan_out d []) (driver_at (joined before) d).value (taken time (driver_at (joined before) d)).value
+  pub tallied : (sources : List (List Source)) → AreTallied sources driving_before tallies_before → AreTallied sources driving tallies
 
 -- ---- all of it
 

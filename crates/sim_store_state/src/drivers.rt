@@ -8,7 +8,7 @@ ghost use Rattle.sim_containers.specs.Numbers.{is_in, members};
 ghost use Rattle.sim_standard.specs.State.{driver_at, driver_values};
 ghost use Rattle.sim_containers.specs.Times.{cleared, those_at, time_of};
 ghost use Rattle.sim_containers.specs.Words.{IsOnly};
-ghost use Rattle.sim_store_state.specs.Changes.{AreReached, AreTallied, AreTimes, AreTold, first_times, time_at, value_at};
+ghost use Rattle.sim_store_state.specs.Changes.{AreReached, AreTaken, AreTallied, AreTimes, AreTold, first_times, time_at, value_at};
 ghost use Rattle.sim_flat_design.specs.declared.design.Source.{Source};
 ghost use Rattle.sim_standard.specs.Drivers as spec;
 
@@ -316,12 +316,7 @@ fn take_due(
     requires queue { length queue.old ≡ length (joined drivers.old) }
     requires driving { driving.old ≡ driver_values (joined drivers.old) }
     requires others { (d : ℕ) → is_in due.now d ≡ false → taken time (driver_at (joined drivers.old) d) ≡ driver_at (joined drivers.old) d }
-    ensures drivers { drivers.new ≡ map (map (taken time)) drivers.old }
-    ensures driving { driving.new ≡ driver_values (joined drivers.new) }
-    ensures sized { length touched.new ≡ length touched.old }
-    ensures reached { (d : ℕ) → AreReached touched.new (slice_index_or fan_out.now d []) (driver_at (joined drivers.old) d).value
-        (taken time (driver_at (joined drivers.old) d)).value }
-    ensures tallied { (sources : List (List Source)) → AreTallied sources driving.old tallies.old → AreTallied sources driving.new tallies.new }
+    ensures taken { AreTaken time fan_out.now drivers.old drivers.new driving.old driving.new touched.old touched.new tallies.old tallies.new }
     ensures told { AreTold result due.now queue.old queue.new (joined drivers.new) }
 {
     match due.listed() {
@@ -352,12 +347,7 @@ fn take_listed(
     requires queue { length queue.old ≡ length (joined drivers.old) }
     requires driving { driving.old ≡ driver_values (joined drivers.old) }
     requires others { (d : ℕ) → is_in due.now d ≡ false → taken time (driver_at (joined drivers.old) d) ≡ driver_at (joined drivers.old) d }
-    ensures drivers { drivers.new ≡ map (map (taken time)) drivers.old }
-    ensures driving { driving.new ≡ driver_values (joined drivers.new) }
-    ensures sized { length touched.new ≡ length touched.old }
-    ensures reached { (d : ℕ) → AreReached touched.new (slice_index_or fan_out.now d []) (driver_at (joined drivers.old) d).value
-        (taken time (driver_at (joined drivers.old) d)).value }
-    ensures tallied { (sources : List (List Source)) → AreTallied sources driving.old tallies.old → AreTallied sources driving.new tallies.new }
+    ensures taken { AreTaken time fan_out.now drivers.old drivers.new driving.old driving.new touched.old touched.new tallies.old tallies.new }
     ensures told { AreTold result due.now queue.old queue.new (joined drivers.new) }
 {
     let mut told = true;
@@ -388,12 +378,7 @@ fn take_unlisted(
     requires queue { length queue.old ≡ length (joined drivers.old) }
     requires driving { driving.old ≡ driver_values (joined drivers.old) }
     requires others { (d : ℕ) → is_in due.now d ≡ false → taken time (driver_at (joined drivers.old) d) ≡ driver_at (joined drivers.old) d }
-    ensures drivers { drivers.new ≡ map (map (taken time)) drivers.old }
-    ensures driving { driving.new ≡ driver_values (joined drivers.new) }
-    ensures sized { length touched.new ≡ length touched.old }
-    ensures reached { (d : ℕ) → AreReached touched.new (slice_index_or fan_out.now d []) (driver_at (joined drivers.old) d).value
-        (taken time (driver_at (joined drivers.old) d)).value }
-    ensures tallied { (sources : List (List Source)) → AreTallied sources driving.old tallies.old → AreTallied sources driving.new tallies.new }
+    ensures taken { AreTaken time fan_out.now drivers.old drivers.new driving.old driving.new touched.old touched.new tallies.old tallies.new }
     ensures told { AreTold result due.now queue.old queue.new (joined drivers.new) }
 {
     let _count = due.len();
@@ -497,13 +482,8 @@ pub fn take_alone(
     requires stale { length stale.old ≡ length (joined drivers.old) }
     requires fan_out { length fan_out.now ≡ length (joined drivers.old) }
     requires driving { driving.old ≡ driver_values (joined drivers.old) }
-    ensures drivers { drivers.new ≡ map (map (taken time)) drivers.old }
-    ensures driving { driving.new ≡ driver_values (joined drivers.new) }
+    ensures taken { AreTaken time fan_out.now drivers.old drivers.new driving.old driving.new touched.old touched.new tallies.old tallies.new }
     ensures set { length set.new ≡ length set.old }
-    ensures sized { length touched.new ≡ length touched.old }
-    ensures reached { (d : ℕ) → AreReached touched.new (slice_index_or fan_out.now d []) (driver_at (joined drivers.old) d).value
-        (taken time (driver_at (joined drivers.old) d)).value }
-    ensures tallied { (sources : List (List Source)) → AreTallied sources driving.old tallies.old → AreTallied sources driving.new tallies.new }
     ensures times { AreTimes queue.new stale.new (joined drivers.new) }
 {
     let nets = fan_out.row(number);
@@ -544,12 +524,7 @@ pub fn take_all(
     requires stale { length stale.old ≡ length (joined drivers.old) }
     requires fan_out { length fan_out.now ≡ length (joined drivers.old) }
     requires driving { driving.old ≡ driver_values (joined drivers.old) }
-    ensures drivers { drivers.new ≡ map (map (taken time)) drivers.old }
-    ensures driving { driving.new ≡ driver_values (joined drivers.new) }
-    ensures sized { length touched.new ≡ length touched.old }
-    ensures reached { (d : ℕ) → AreReached touched.new (slice_index_or fan_out.now d []) (driver_at (joined drivers.old) d).value
-        (taken time (driver_at (joined drivers.old) d)).value }
-    ensures tallied { (sources : List (List Source)) → AreTallied sources driving.old tallies.old → AreTallied sources driving.new tallies.new }
+    ensures taken { AreTaken time fan_out.now drivers.old drivers.new driving.old driving.new touched.old touched.new tallies.old tallies.new }
     ensures times { AreTimes queue.new stale.new (joined drivers.new) }
 {
     queue.take(time, stale);

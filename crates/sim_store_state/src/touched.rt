@@ -7,7 +7,7 @@ ghost use Rattle.sim_containers.specs.RowArray.{joined};
 ghost use Rattle.sim_standard.specs.Drivers.{taken};
 ghost use Rattle.sim_standard.specs.Drivers as spec;
 ghost use Rattle.sim_standard.specs.State.{driver_at, driver_values};
-ghost use Rattle.sim_store_state.specs.Changes.{AreReached, AreTallied, AreTimes, first_times};
+ghost use Rattle.sim_store_state.specs.Changes.{AreTaken, AreTimes, first_times};
 
 use crate::drivers::{take_all, take_alone};
 use crate::tallies::Tallies;
@@ -78,12 +78,7 @@ impl Touched {
         requires stale { length stale.old ≡ length (joined drivers.old) }
         requires fan_out { length fan_out.now ≡ length (joined drivers.old) }
         requires driving { driving.old ≡ driver_values (joined drivers.old) }
-        ensures drivers { drivers.new ≡ map (map (taken time)) drivers.old }
-        ensures driving { driving.new ≡ driver_values (joined drivers.new) }
-        ensures sized { length self.new ≡ length self.old }
-        ensures reached { (d : ℕ) → AreReached self.new (slice_index_or fan_out.now d []) (driver_at (joined drivers.old) d).value
-            (taken time (driver_at (joined drivers.old) d)).value }
-        ensures tallied { (sources : List (List Source)) → AreTallied sources driving.old tallies.old → AreTallied sources driving.new tallies.new }
+        ensures taken { AreTaken time fan_out.now drivers.old drivers.new driving.old driving.new self.old self.new tallies.old tallies.new }
         ensures times { AreTimes queue.new stale.new (joined drivers.new) }
     {
         if let Some(number) = queue.take_only(time) {

@@ -35,12 +35,8 @@ returns c =
     let dss = c.args.drivers.now in
     let e = c.take_due-told.ensures in
     let were = times-taken (joined dss) (joined c.take_due-told.new.drivers) c.args.queue.now c.take.new.self c.take.new.taken time c.requires.next
-    c.requires.queue c.take.ensures.taken c.take.ensures.queue (ap joined e.drivers ∙ joined-map (taken time) dss) in
+    c.requires.queue c.take.ensures.taken c.take.ensures.queue (ap joined e.taken.drivers_are ∙ joined-map (taken time) dss) in
     record {
-      drivers = e.drivers;
-      driving = e.driving;
-      sized = e.sized;
-      reached = e.reached;
-      tallied = e.tallied;
+      taken = e.taken;
       times = told-times c.take_due-told.result were e.told c.forget.ensures.sized c.forget.ensures.same;
     }

@@ -39,13 +39,15 @@ returns c =
     let f = c.forget_all_but.ensures in
     let all = alone-taken time ds es k c.requires.next c.requires.only e.drivers in
     record {
-      drivers = each-item (taken time) c.args.drivers.now c.take_one_alone-told.new.drivers e.rows all;
-      driving = e.driving;
+      taken = record {
+        drivers_are = each-item (taken time) c.args.drivers.now c.take_one_alone-told.new.drivers e.rows all;
+        driving_are = e.driving;
+        sized = e.sized;
+        reached = alone-reached time ds k c.args.fan_out.now c.row-nets.result.now c.take_one_alone-told.new.touched c.requires.next c.requires.only
+            c.row-nets.ensures e.reached;
+        tallied = e.tallied;
+      };
       set = e.set;
-      sized = e.sized;
-      reached = alone-reached time ds k c.args.fan_out.now c.row-nets.result.now c.take_one_alone-told.new.touched c.requires.next c.requires.only
-          c.row-nets.ensures e.reached;
-      tallied = e.tallied;
       times = alone-times time ds es k c.args.queue.now c.take_one_alone-told.new.queue c.forget_all_but.new.stale c.take_one_alone-told.result c.requires.next
           c.requires.only c.requires.queue all e.times (f.sized ∙ c.requires.stale) e.told e.untold f.untold;
     }

@@ -70,11 +70,13 @@ returns c =
     let none = none_listed c.args.due.now c.args.numbers.now c.loop-place.place c.requires.numbers c.loop-place-test.false c.loop-place.auto.place-end in
     let each = walk_listed c.args.numbers.now c.loop-place.place c.requires.numbers c.loop-place-test.false c.loop-place.auto.place-end i.walked in
     record {
-      drivers = each-item (taken c.args.time) c.args.drivers.now c.loop-place.drivers i.rows
-          (all-same (joined c.loop-place.drivers) (joined c.args.drivers.now) c.args.time i.long (λ d. (each d).driver));
-      driving = i.valued;
-      sized = i.sized;
-      reached = λ d. (each d).nets;
-      tallied = i.tallied;
+      taken = record {
+        drivers_are = each-item (taken c.args.time) c.args.drivers.now c.loop-place.drivers i.rows
+            (all-same (joined c.loop-place.drivers) (joined c.args.drivers.now) c.args.time i.long (λ d. (each d).driver));
+        driving_are = i.valued;
+        sized = i.sized;
+        reached = λ d. (each d).nets;
+        tallied = i.tallied;
+      };
       told = all-told i.told none;
     }

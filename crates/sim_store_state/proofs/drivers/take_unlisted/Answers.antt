@@ -66,12 +66,14 @@ returns c =
     let i = c.loop-number.invariant in
     let each = walk_done i.walked c.in_default.ensures in
     record {
-      drivers = each-item (taken c.args.time) c.args.drivers.now c.loop-number.drivers i.rows
-          (all-same (joined c.loop-number.drivers) (joined c.args.drivers.now) c.args.time i.long (λ d. (each d).driver));
-      driving = i.valued;
-      sized = i.sized;
-      reached = λ d. (each d).nets;
-      tallied = i.tallied;
+      taken = record {
+        drivers_are = each-item (taken c.args.time) c.args.drivers.now c.loop-number.drivers i.rows
+            (all-same (joined c.loop-number.drivers) (joined c.args.drivers.now) c.args.time i.long (λ d. (each d).driver));
+        driving_are = i.valued;
+        sized = i.sized;
+        reached = λ d. (each d).nets;
+        tallied = i.tallied;
+      };
       told = all-told i.told c.in_default.ensures;
     }
 

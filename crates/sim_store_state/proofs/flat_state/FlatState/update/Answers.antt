@@ -36,29 +36,29 @@ resolve_touched-requires c =
     let i = c.self.invariant in
     let ds = joined s.drivers in
     let now = joined c.take_active.new.drivers in
-    let es : now ≡ map (taken c.args.time) ds = ap joined c.take_active.ensures.drivers ∙ joined-map (taken c.args.time) s.drivers in
-    let long : length c.take_active.new.self ≡ length s.values.items = c.take_active.ensures.sized ∙ i.touching.sized in
+    let es : now ≡ map (taken c.args.time) ds = ap joined c.take_active.ensures.taken.drivers_are ∙ joined-map (taken c.args.time) s.drivers in
+    let long : length c.take_active.new.self ≡ length s.values.items = c.take_active.ensures.taken.sized ∙ i.touching.sized in
     let nets : length s.values.items ≡ length s.sources = ap length i.resolving ∙ length-map s.sources (row_value ds) in
     let back : length c.as_mut_slice-3.result.now ≡ length s.values.items = ap length c.as_mut_slice-3.ensures.value in
     let written = written_back c.take_active.new.driving s.driving.items s.driving.len
     (omega (arith, c.take_active.auto.driving, ap length c.as_mut_slice-2.ensures.value, s.driving.ok)) in
-    let driving : c.as_slice-2.result.now ≡ driver_values now = c.as_slice-2.ensures.value ∙ (written ∙ c.take_active.ensures.driving) in
+    let driving : c.as_slice-2.result.now ≡ driver_values now = c.as_slice-2.ensures.value ∙ (written ∙ c.take_active.ensures.taken.driving_are) in
     record {
       tallied = subst (λ (w : List Logic). AreTallied s.sources w c.take_active.new.tallies) (sym (c.as_slice-2.ensures.value ∙ written))
-          (c.take_active.ensures.tallied s.sources (subst (λ (w : List Logic). AreTallied s.sources w s.tallies) (sym c.as_mut_slice-2.ensures.value)
+          (c.take_active.ensures.taken.tallied s.sources (subst (λ (w : List Logic). AreTallied s.sources w s.tallies) (sym c.as_mut_slice-2.ensures.value)
           i.tallied));
       touched = long ∙ sym back;
       sources = sym nets ∙ sym back;
       others = λ n other lt. ap (λ w. value_at w n) c.as_mut_slice-3.ensures.value ∙ (value-here s.values.items s.sources (row_value ds) n i.resolving
           (omega (arith, lt, back)) ∙ (sym (unreached s.sources s.fan_out ds now c.take_active.new.self c.args.time n i.fanned
-          i.fan_out_count (long ∙ nets) es c.take_active.ensures.reached other) ∙ (sym (row-from now (get_or s.sources n []))
+          i.fan_out_count (long ∙ nets) es c.take_active.ensures.taken.reached other) ∙ (sym (row-from now (get_or s.sources n []))
           ∙ ap (λ ws. row_from ws (get_or s.sources n [])) (sym driving))));
     }
 
 pub invariant_of-self-2 : goal.invariant_of-self-2
 invariant_of-self-2 c =
     let s = c.self.inside in
-    let e = c.take_active.ensures in
+    let e = c.take_active.ensures.taken in
     let values = written_back c.resolve_touched.new.values s.values.items s.values.len
     (omega (arith, c.resolve_touched.auto.values, ap length c.as_mut_slice-3.ensures.value, s.values.ok)) in
     let values_before = written_back c.end_events.new.values_before s.values_before.items s.values_before.len
@@ -66,11 +66,11 @@ invariant_of-self-2 c =
     let driving = written_back c.take_active.new.driving s.driving.items s.driving.len
     (omega (arith, c.take_active.auto.driving, ap length c.as_mut_slice-2.ensures.value, s.driving.ok)) in
     update-keeps c.self.invariant c.args.time _ _ _ c.take_active.new.drivers c.take_active.new.queue c.take_active.new.stale c.take_active.new.self
-    c.take_active.new.tallies (values_before ∙ (c.end_events.ensures ∙ c.as_slice.ensures.value)) e.drivers e.reached e.sized (driving ∙ e.driving)
+    c.take_active.new.tallies (values_before ∙ (c.end_events.ensures ∙ c.as_slice.ensures.value)) e.drivers_are e.reached e.sized (driving ∙ e.driving_are)
     (values ∙ (c.resolve_touched.ensures ∙ ap (λ (w : List Logic). map (row_from w) s.sources) c.as_slice-2.ensures.value))
     (subst (λ (w : List Logic). AreTallied s.sources w c.take_active.new.tallies) (sym driving)
     (e.tallied s.sources (subst (λ (w : List Logic). AreTallied s.sources w s.tallies) (sym c.as_mut_slice-2.ensures.value) c.self.invariant.tallied)))
-    e.times
+    c.take_active.ensures.times
 
 pub returns : goal.returns
 returns c =
@@ -82,12 +82,12 @@ returns c =
     (omega (arith, c.end_events.auto.values_before, ap length c.as_mut_slice.ensures.value, s.values_before.ok)) in
     let driving : c.as_slice-2.result.now ≡ driver_values (joined c.take_active.new.drivers) =
     c.as_slice-2.ensures.value ∙ (written_back c.take_active.new.driving s.driving.items s.driving.len
-    (omega (arith, c.take_active.auto.driving, ap length c.as_mut_slice-2.ensures.value, s.driving.ok)) ∙ c.take_active.ensures.driving) in
+    (omega (arith, c.take_active.auto.driving, ap length c.as_mut_slice-2.ensures.value, s.driving.ok)) ∙ c.take_active.ensures.taken.driving_are) in
     let nets : map (row_from c.as_slice-2.result.now) s.sources ≡ map (row_value (joined c.take_active.new.drivers)) s.sources =
     ap (λ (w : List Logic). map (row_from w) s.sources) driving ∙ rows-from (joined c.take_active.new.drivers) s.sources in
     record {
       ok = λ design state is. held-updated c.self.view_is i.lists c.args.time _ _ c.take_active.new.drivers (joined c.take_active.new.drivers)
-          (sym (ap length i.resolving ∙ length-map s.sources (row_value (joined s.drivers)))) c.take_active.ensures.drivers refl
+          (sym (ap length i.resolving ∙ length-map s.sources (row_value (joined s.drivers)))) c.take_active.ensures.taken.drivers_are refl
           (values ∙ (c.resolve_touched.ensures ∙ nets)) (values_before ∙ (c.end_events.ensures ∙ c.as_slice.ensures.value)) design state is;
       err = tt;
     }
