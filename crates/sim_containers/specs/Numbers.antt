@@ -1,6 +1,7 @@
 -- A set of numbers below a bound: for each number, whether it is a member.
 -- Implementation only: what `simulate` promises does not rest on this file.
-use Rattle.std.specs.Prelude.{All, ◌==◌, [], true, replicate, ℕ, ◌≡◌, ◌<◌, ◌≤◌, ◌+◌, ◌*◌, ◌/◌, ◌^◌, ◌&&◌, ◌||◌, suc, ⊤, Bool, false, not, List, ◌∷◌, length, map, filter}
+use Rattle.std.specs.Prelude.{All, ◌==◌, [], true, replicate, ℕ, ◌≡◌, ◌<◌, ◌≤◌, ◌+◌, ◌*◌, ◌/◌, ◌^◌, ◌&&◌, ◌||◌, suc, ⊤, Bool}
+use Rattle.std.specs.Prelude.{false, not, List, ◌∷◌, length, map, filter}
 use Rattle.std.specs.Prelude.{slice_index, slice_index_or}
 use Rattle.std.specs.List.{range_with_len}
 use Rattle.sim_containers.specs.Words.{has, AreTops}

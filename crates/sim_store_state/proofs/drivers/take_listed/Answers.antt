@@ -1,4 +1,4 @@
-use Rattle.std.proofs.Common.{ℕ, ◌≤◌, ◌≡◌, ◌&&◌, List, [], arith, add-one, get_or, refl, ap, sym, subst, true, length, ◌∙◌}
+use Rattle.std.proofs.Common.{ℕ, ◌≤◌, ◌≡◌, ◌&&◌, arith, add-one, get_or, refl, ap, sym, subst, true, length, ◌∙◌}
 use Rattle.std.proofs.lemmas.List.{length-set}
 use Rattle.sim_standard.specs.Drivers.{taken}
 use Rattle.sim_standard.specs.State.{driver_at}
@@ -56,7 +56,8 @@ loop-place-preserved c =
       rest = subst (λ (j : ℕ). (d : ℕ) → bound_at numbers j ≤ d → driver_at new d ≡ driver_at old d) (sym (add-one place))
           (rest-more c.args.time old now new from k next.further i.rest e.drivers);
       tallied = λ sources before. e.tallied sources (i.tallied sources before);
-      told = subst (λ (j : ℕ). IsTold (c.take_one-is_known.result && c.loop-place.told) c.args.due.now (bound_at numbers j) c.args.queue.now c.take_one-is_known.new.queue new) (sym (add-one place))
+      told = subst (λ (j : ℕ). IsTold (c.take_one-is_known.result && c.loop-place.told) c.args.due.now (bound_at numbers j) c.args.queue.now
+          c.take_one-is_known.new.queue new) (sym (add-one place))
           (told-more k c.take_one-is_known.result _ c.take_one-is_known.new.queue new (taken c.args.time (driver_at now k)) i.told next refl
           e.drivers e.times e.told e.untold);
       walked = walk_on numbers place (taken-more c.args.time old c.args.fan_out.now now new c.loop-place.touched c.take_one-is_known.new.touched
