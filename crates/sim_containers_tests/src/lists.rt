@@ -1,5 +1,3 @@
-ghost use Rattle.std.specs.Prelude.{◌≡◌, length};
-
 use sim_containers::{NumberList, NumberSet};
 use std::test::Fail;
 
@@ -54,15 +52,31 @@ fn finds_each_next(list: &NumberList, three: &NumberSet) -> bool {
 }
 
 /// Makes these numbers, which are below the bound, the members of a set.
-fn set_to(set: &mut NumberSet, numbers: &[usize])
-    ensures { length set.new ≡ length set.old }
-{
+fn set_to(set: &mut NumberSet, numbers: &[usize]) {
     set.clear();
     for number in numbers {
         if *number < set.len() {
             set.insert(*number);
         }
     }
+}
+
+/// Gives the members of a set to a list, if both have one bound, and returns whether they have.
+fn is_given(list: &mut NumberList, set: &NumberSet) -> bool {
+    if list.len() != set.len() {
+        return false;
+    }
+    list.set_from(set);
+    true
+}
+
+/// Gives the members of a list to a set, if both have one bound, and returns whether they have.
+fn is_given_back(list: &NumberList, set: &mut NumberSet) -> bool {
+    if list.len() != set.len() {
+        return false;
+    }
+    list.copy_to(set);
+    true
 }
 
 #[test]
@@ -81,11 +95,11 @@ fn a_list_has_the_members_of_a_set(rt: HostRuntime) -> Result<(), Fail> {
     let mut list = NumberList::new(rt.alloc(), 10)?;
     let mut set = NumberSet::new(rt.alloc(), 10)?;
     set_to(&mut set, &[9, 0, 3]);
-    list.set_from(&set);
+    assert!(rt; is_given(&mut list, &set));
     assert!(rt; list.numbers() == [0, 3, 9].as_slice());
     set_to(&mut set, &[3]);
     assert!(rt; finds_each_next(&list, &set));
-    list.copy_to(&mut set);
+    assert!(rt; is_given_back(&list, &mut set));
     assert!(rt; set.contains(9) && !set.contains(4));
     list.clear();
     assert!(rt; list.next(0).is_none());
