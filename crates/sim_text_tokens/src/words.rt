@@ -1,6 +1,7 @@
 //! The reserved words and the delimiters.
 
 ghost use Rattle.std.specs.Prelude.{◌≡◌, map, [], ◌∷◌};
+ghost use Rattle.std.specs.Str.{bytes_eq};
 ghost use Rattle.sim_text_tokens.specs.Pieces.{kind_in, delimiters, reserved_words};
 
 use crate::kind::Kind;
@@ -46,12 +47,20 @@ const RESERVED_WORDS: [(&[u8], Kind); 37] = [
     (b"xor", Kind::Xor),
 ];
 
+/// Whether two words are the same. Most differ in length already.
+#[inline(always)]
+fn is_same(a: &[u8], b: &[u8]) -> bool
+    ensures { result ≡ bytes_eq a.now b.now }
+{
+    a.len() == b.len() && a == b
+}
+
 /// The kind of a word in the table, or `None`.
 fn find(mut table: &[(&[u8], Kind)], word: &[u8]) -> Option<Kind>
     ensures { result ≡ kind_in (map (λ e. (e.0.now, e.1)) table.entry.now) word.now }
 {
     while let [entry, rest @ ..] = table {
-        if entry.0 == word {
+        if is_same(entry.0, word) {
             return Some(entry.1);
         }
         table = rest;
