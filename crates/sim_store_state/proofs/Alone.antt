@@ -1,5 +1,5 @@
 -- The only driver that is due takes its transaction; the others have none to take.
-use Rattle.std.proofs.Common.{ℕ, ◌<◌, ◌≡◌, ◌≢◌, eqb, Bool, Option, Some, true, false, List, [], length, get_or, set, map, refl, ap, sym, ◌∙◌, subst, arith}
+use Rattle.std.proofs.Common.{ℕ, ◌<◌, ◌≡◌, ◌≢◌, eqb, Bool, Option, None, Some, true, false, List, [], length, get_or, set, map, refl, ap, sym, ◌∙◌, subst, arith}
 use Rattle.std.proofs.lemmas.Bool.Decides.{nat_tests}
 use Rattle.std.proofs.lemmas.List.{get_or-set_same, get_or-set_other, length-map, length-set}
 use Rattle.sim_standard.specs.Drivers.{DriverState, next_time, taken}
@@ -9,7 +9,7 @@ use Rattle.sim_containers.specs.Words.{IsOnly}
 use Rattle.sim_standard.specs.State.{driver_at}
 use Rattle.sim_standard.proofs.Names.{no_driver}
 use Rattle.sim_store_state.specs.Changes.{AreReached, AreTimes, first_times, time_at}
-use Rattle.sim_store_state.proofs.Due.{first-count, others-keep, times-taken}
+use Rattle.sim_store_state.proofs.Due.{due-cleared, first-count, others-keep, times-taken}
 use Rattle.sim_store_state.proofs.Taking.{all-same}
 use Rattle.sim_store_state.proofs.Walks.{member_within, not_both}
 
@@ -26,6 +26,11 @@ others-take-none : (time : ℕ) (ds : List DriverState) (k : ℕ) → next_time 
     → taken time (driver_at ds d) ≡ driver_at ds d
 others-take-none time ds k e only d apart =
     others-keep ds (first_times ds) (those_at time (first_times ds)) time e refl refl d (only.others d apart)
+
+-- and the queue has let go of its time
+pub alone-cleared : (time : ℕ) (ds : List DriverState) (k : ℕ) (times : List (Option ℕ)) → IsAloneAt time ds k → times ≡ cleared time (first_times ds)
+    → time_of times k ≡ None
+alone-cleared time ds k times only e = due-cleared (first_times ds) times (those_at time (first_times ds)) time k refl e only.passes
 
 -- so each driver takes its transaction
 pub alone-taken : (time : ℕ) (ds es : List DriverState) (k : ℕ) → next_time ds ≡ Some time → IsAloneAt time ds k

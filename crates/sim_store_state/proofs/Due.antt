@@ -155,6 +155,16 @@ times-taken ds es times times' due time e et ed ec ee =
           (sym (others-keep ds times due time e et ed d other) ∙ (sym (driver-taken time ds d) ∙ ap (λ w. driver_at w d) (sym ee)))))));
     }
 
+clear-same : (time : ℕ) (o : Option ℕ) → is_at time o ≡ true → clear time o ≡ None
+clear-same time o e = ap (λ b. cond b None o) e
+
+-- the queue has let go of the times of the due drivers
+pub due-cleared : (times times' : List (Option ℕ)) (due : List Bool) (time d : ℕ) → due ≡ those_at time times → times' ≡ cleared time times
+    → is_in due d ≡ true → time_of times' d ≡ None
+due-cleared times times' due time d ed ec e =
+    ap (λ w. time_of w d) ec ∙ (time-cleared time times d ∙ clear-same time (time_of times d) (sym (in-those-at time times d)
+    ∙ (ap (λ w. is_in w d) (sym ed) ∙ e)))
+
 -- ---- bringing up to date
 
 pub all-times : (times : List (Option ℕ)) (ds : List DriverState) → length times ≡ length ds → ((d : ℕ) → time_of times d ≡ time_at ds d)

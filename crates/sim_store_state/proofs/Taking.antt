@@ -60,6 +60,13 @@ rest-more time old now now' from k le rest en d lt =
     let apart : d ≢ k = omega arith in
     ap (λ w. driver_at w d) en ∙ (get_or-set_other now k d (taken time (driver_at now k)) no_driver apart ∙ rest d (omega arith))
 
+-- the times beyond one that was put into the queue are as they were
+pub unset-more : (before times times' : List (Option ℕ)) (from k : ℕ) → from ≤ k → ((d : ℕ) → d ≢ k → time_of times' d ≡ time_of times d)
+    → ((d : ℕ) → from ≤ d → time_of times d ≡ time_of before d) → (d : ℕ) → k + 1 ≤ d → time_of times' d ≡ time_of before d
+unset-more before times times' from k le untold i d lt =
+    let apart : d ≢ k = omega arith in
+    untold d apart ∙ i d (omega (arith, lt, le))
+
 -- If so told, the queue has the times of the due drivers that were passed; the times of the others are as they were.
 pub record IsTold (told : Bool) (due : List Bool) (from : ℕ) (before times : List (Option ℕ)) (now : List DriverState) : Type 0 where
   pub sized : length times ≡ length before

@@ -1,6 +1,6 @@
 //! Drivers, one after another (IEEE 1076-2008, 14.7.2).
 
-ghost use Rattle.std.specs.Prelude.{ℕ, List, ◌≡◌, ◌≢◌, ◌<◌, ◌≤◌, ◌⊎◌, [], ◌∷◌, true, false, Some, length, map, slice_index_or, slice_set, IfOk, OnOk};
+ghost use Rattle.std.specs.Prelude.{ℕ, List, ◌≡◌, ◌≢◌, ◌<◌, ◌≤◌, ◌⊎◌, [], ◌∷◌, true, false, None, Some, length, map, slice_index_or, slice_set, IfOk, OnOk};
 ghost use Rattle.std.specs.Bool.{Decides};
 ghost use Rattle.sim_standard.specs.Drivers.{DriverState, taken};
 ghost use Rattle.sim_containers.specs.RowArray.{joined};
@@ -223,32 +223,38 @@ fn note_value(
     driving: &mut [Logic],
     number: usize,
     value: Logic,
-    nets: &[usize],
+    fan_out: &RowArray<usize>,
     touched: &mut NumberSet,
     tallies: &mut Tallies,
 )
-    requires { number < length driving.old }
+    requires at { number < length driving.old }
+    requires fan_out { number < length fan_out.now }
     ensures driving { driving.new ≡ slice_set driving.old number value }
     ensures sized { length touched.new ≡ length touched.old }
     ensures kept { (n : ℕ) → is_in touched.new n ≡ false → is_in touched.old n ≡ false }
-    ensures reached { AreReached touched.new nets.now (value_at driving.old number) value }
+    ensures reached { AreReached touched.new (slice_index_or fan_out.now number []) (value_at driving.old number) value }
     ensures tallied { (sources : List (List Source)) → AreTallied sources driving.old tallies.old → AreTallied sources driving.new tallies.new }
 {
     if driving[number] != value {
         driving[number] = value;
-        insert_each(touched, nets);
+        insert_each(touched, fan_out.row(number));
         tallies.note(number, value);
     }
 }
 
-/// Puts the time of a driver into the queue. Returns whether there was memory for it.
+/// Puts the time of a driver into the queue, which has none of it. Returns whether there was memory
+/// for it.
 #[inline(always)]
 fn is_queued(queue: &mut TimeQueue, number: usize, time: Option<u64>) -> bool
-    requires { number < length queue.old }
+    requires at { number < length queue.old }
+    requires none { time_of queue.old number ≡ None }
     ensures sized { length queue.new ≡ length queue.old }
     ensures here { result ≡ true → time_of queue.new number ≡ time }
     ensures others { (d : ℕ) → d ≢ number → time_of queue.new d ≡ time_of queue.old d }
 {
+    if time.is_none() {
+        return true;
+    }
     match queue.put(number, time) {
         Ok(()) => true,
         Err(_) => false,
@@ -266,27 +272,30 @@ fn forget(stale: &mut NumberSet, told: bool)
 }
 
 /// The driver with a number takes its first transaction, if its time has come. If that is a new
-/// value, these nets are touched. Returns whether the queue has its first pending time.
+/// value, its nets are touched. Returns whether the queue, which has let go of its time, has its first
+/// pending time.
 #[inline(always)]
 fn take_one(
     drivers: &mut DividedRows<Driver>,
     driving: &mut [Logic],
     number: usize,
     time: u64,
-    nets: &[usize],
+    fan_out: &RowArray<usize>,
     queue: &mut TimeQueue,
     touched: &mut NumberSet,
     tallies: &mut Tallies,
 ) -> bool
     requires at { number < length (joined drivers.old) }
     requires queue { length queue.old ≡ length (joined drivers.old) }
+    requires none { time_of queue.old number ≡ None }
+    requires fan_out { length fan_out.now ≡ length (joined drivers.old) }
     requires driving { driving.old ≡ driver_values (joined drivers.old) }
     ensures rows { map length drivers.new ≡ map length drivers.old }
     ensures drivers { joined drivers.new ≡ slice_set (joined drivers.old) number (taken time (driver_at (joined drivers.old) number)) }
     ensures driving { driving.new ≡ driver_values (joined drivers.new) }
     ensures sized { length touched.new ≡ length touched.old }
     ensures kept { (n : ℕ) → is_in touched.new n ≡ false → is_in touched.old n ≡ false }
-    ensures reached { AreReached touched.new nets.now (driver_at (joined drivers.old) number).value
+    ensures reached { AreReached touched.new (slice_index_or fan_out.now number []) (driver_at (joined drivers.old) number).value
         (taken time (driver_at (joined drivers.old) number)).value }
     ensures tallied { (sources : List (List Source)) → AreTallied sources driving.old tallies.old → AreTallied sources driving.new tallies.new }
     ensures times { length queue.new ≡ length queue.old }
@@ -294,7 +303,7 @@ fn take_one(
     ensures untold { (d : ℕ) → d ≢ number → time_of queue.new d ≡ time_of queue.old d }
 {
     let (value, next) = take_driver(drivers, number, time);
-    note_value(driving, number, value, nets, touched, tallies);
+    note_value(driving, number, value, fan_out, touched, tallies);
     is_queued(queue, number, next)
 }
 
@@ -316,6 +325,7 @@ fn take_due(
     requires queue { length queue.old ≡ length (joined drivers.old) }
     requires driving { driving.old ≡ driver_values (joined drivers.old) }
     requires others { (d : ℕ) → is_in due.now d ≡ false → taken time (driver_at (joined drivers.old) d) ≡ driver_at (joined drivers.old) d }
+    requires none { (d : ℕ) → is_in due.now d ≡ true → time_of queue.old d ≡ None }
     ensures taken { AreTaken time fan_out.now drivers.old drivers.new driving.old driving.new touched.old touched.new tallies.old tallies.new }
     ensures told { AreTold result due.now queue.old queue.new (joined drivers.new) }
 {
@@ -347,15 +357,15 @@ fn take_listed(
     requires queue { length queue.old ≡ length (joined drivers.old) }
     requires driving { driving.old ≡ driver_values (joined drivers.old) }
     requires others { (d : ℕ) → is_in due.now d ≡ false → taken time (driver_at (joined drivers.old) d) ≡ driver_at (joined drivers.old) d }
+    requires none { (d : ℕ) → is_in due.now d ≡ true → time_of queue.old d ≡ None }
     ensures taken { AreTaken time fan_out.now drivers.old drivers.new driving.old driving.new touched.old touched.new tallies.old tallies.new }
     ensures told { AreTold result due.now queue.old queue.new (joined drivers.new) }
 {
     let mut told = true;
     for place in 0..numbers.len() {
         let number = numbers[place];
-        let nets = fan_out.row(number);
         let is_known = take_one(
-            drivers, driving, number, time, nets, queue, touched, tallies,
+            drivers, driving, number, time, fan_out, queue, touched, tallies,
         );
         told = is_known & told;
     }
@@ -378,6 +388,7 @@ fn take_unlisted(
     requires queue { length queue.old ≡ length (joined drivers.old) }
     requires driving { driving.old ≡ driver_values (joined drivers.old) }
     requires others { (d : ℕ) → is_in due.now d ≡ false → taken time (driver_at (joined drivers.old) d) ≡ driver_at (joined drivers.old) d }
+    requires none { (d : ℕ) → is_in due.now d ≡ true → time_of queue.old d ≡ None }
     ensures taken { AreTaken time fan_out.now drivers.old drivers.new driving.old driving.new touched.old touched.new tallies.old tallies.new }
     ensures told { AreTold result due.now queue.old queue.new (joined drivers.new) }
 {
@@ -385,9 +396,8 @@ fn take_unlisted(
     let mut told = true;
     let mut from = 0;
     while let Some(number) = due.next(from) {
-        let nets = fan_out.row(number);
         let is_known = take_one(
-            drivers, driving, number, time, nets, queue, touched, tallies,
+            drivers, driving, number, time, fan_out, queue, touched, tallies,
         );
         told = is_known & told;
         from = number + 1;
@@ -426,7 +436,7 @@ fn note_alone(
 
 /// The driver with a number, which alone is active, takes its first transaction, if its time has
 /// come. If that is a new value, these nets are the touched ones, else there are none. Returns
-/// whether the queue has its first pending time.
+/// whether the queue, which has let go of its time, has its first pending time.
 #[inline(always)]
 fn take_one_alone(
     drivers: &mut DividedRows<Driver>,
@@ -441,6 +451,7 @@ fn take_one_alone(
 ) -> bool
     requires at { number < length (joined drivers.old) }
     requires queue { length queue.old ≡ length (joined drivers.old) }
+    requires none { time_of queue.old number ≡ None }
     requires driving { driving.old ≡ driver_values (joined drivers.old) }
     requires set { length set.old ≡ length touched.old }
     ensures rows { map length drivers.new ≡ map length drivers.old }

@@ -8,7 +8,7 @@ use Rattle.sim_store_state.proofs.drivers.note_value.Goals as goal
 pub returns-then-ne-clause-tallied : goal.returns-then-ne-clause-tallied
 returns-then-ne-clause-tallied c sources before =
     subst (λ (t : TallyLists). AreTallied sources (set c.args.driving.now c.args.number c.args.value) t) (sym c.note.ensures)
-    (tallied-noted sources c.args.driving.now c.args.tallies.now c.args.number c.args.value c.requires before)
+    (tallied-noted sources c.args.driving.now c.args.tallies.now c.args.number c.args.value c.requires.at before)
 
 pub returns-then-ne-clause-kept : goal.returns-then-ne-clause-kept
 returns-then-ne-clause-kept c = grind (arith, common_steps)

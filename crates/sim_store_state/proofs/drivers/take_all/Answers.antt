@@ -4,7 +4,7 @@ use Rattle.sim_standard.specs.Drivers.{taken}
 use Rattle.sim_containers.specs.RowArray.{joined}
 use Rattle.sim_containers.specs.Times.{clear, earliest, is_at}
 use Rattle.sim_containers.proofs.Flat.{joined-map}
-use Rattle.sim_store_state.proofs.Due.{earliest-next, first-count, others-keep, times-taken}
+use Rattle.sim_store_state.proofs.Due.{due-cleared, earliest-next, first-count, others-keep, times-taken}
 use Rattle.sim_store_state.proofs.Taking.{told-times}
 use Rattle.sim_store_state.proofs.drivers.take_all.Goals as goal
 
@@ -27,6 +27,7 @@ take_due-told-requires c =
       queue = ap length c.take.ensures.queue ∙ (length-map queue (clear c.args.time) ∙ long);
       driving = c.requires.driving;
       others = others-keep ds queue c.take.new.taken c.args.time c.requires.next c.requires.queue c.take.ensures.taken;
+      none = λ d e. due-cleared queue c.take.new.self c.take.new.taken c.args.time d c.take.ensures.taken c.take.ensures.queue e;
     }
 
 pub returns : goal.returns

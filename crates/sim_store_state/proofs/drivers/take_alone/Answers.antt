@@ -4,7 +4,7 @@ use Rattle.sim_standard.specs.Drivers.{taken}
 use Rattle.sim_containers.specs.RowArray.{joined}
 use Rattle.sim_containers.specs.Times.{clear}
 use Rattle.sim_store_state.specs.Changes.{first_times}
-use Rattle.sim_store_state.proofs.Alone.{alone-reached, alone-taken, alone-times, alone-within}
+use Rattle.sim_store_state.proofs.Alone.{alone-cleared, alone-reached, alone-taken, alone-times, alone-within}
 use Rattle.sim_store_state.proofs.Due.{first-count}
 use Rattle.sim_store_state.proofs.Items.{each-item}
 use Rattle.sim_store_state.proofs.drivers.take_alone.Goals as goal
@@ -20,6 +20,7 @@ take_one_alone-told-requires c =
     record {
       at = alone-within c.args.time ds c.args.number c.requires.only;
       queue = ap length c.requires.queue ∙ (length-map (first_times ds) (clear c.args.time) ∙ first-count ds);
+      none = alone-cleared c.args.time ds c.args.number c.args.queue.now c.requires.only c.requires.queue;
       driving = c.requires.driving;
       set = c.requires.set;
     }

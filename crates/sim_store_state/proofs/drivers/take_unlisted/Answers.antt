@@ -5,7 +5,7 @@ use Rattle.sim_standard.specs.Drivers.{taken}
 use Rattle.sim_standard.specs.State.{driver_at}
 use Rattle.sim_containers.specs.RowArray.{joined}
 use Rattle.sim_store_state.proofs.Walks.{member_within, walk_done}
-use Rattle.sim_store_state.proofs.Taking.{all-told, none-taken, none-told, taken-more, told-more, rest-more, all-same}
+use Rattle.sim_store_state.proofs.Taking.{all-told, none-taken, none-told, taken-more, told-more, rest-more, unset-more, all-same}
 use Rattle.sim_store_state.proofs.Items.{each-item}
 use Rattle.sim_store_state.proofs.drivers.take_unlisted.Goals as goal
 
@@ -17,19 +17,18 @@ loop-number-init c = record {
   valued = c.requires.driving;
   within = omega arith;
   rest = λ d le. refl;
+  unset = λ d le. refl;
   tallied = λ sources before. before;
   told = none-told true c.args.due.now c.args.queue.now (joined c.args.drivers.now);
   walked = none-taken c.args.time (joined c.args.drivers.now) c.args.fan_out.now c.args.touched.now c.args.due.now c.requires.others;
 }
 
-pub row-nets-requires : goal.row-nets-requires
-row-nets-requires c =
-    omega (arith, member_within c.args.due.now c.in-Some.number c.in-Some.ensures.passes, c.requires.due, c.requires.fan_out)
-
 pub take_one-is_known-requires : goal.take_one-is_known-requires
 take_one-is_known-requires c = record {
   at = omega (arith, member_within c.args.due.now c.in-Some.number c.in-Some.ensures.passes, c.requires.due, c.loop-number.invariant.long);
   queue = c.loop-number.invariant.told.sized ∙ (c.requires.queue ∙ sym c.loop-number.invariant.long);
+  none = c.loop-number.invariant.unset c.in-Some.number c.in-Some.ensures.further ∙ c.requires.none c.in-Some.number c.in-Some.ensures.passes;
+  fan_out = c.requires.fan_out ∙ sym c.loop-number.invariant.long;
   driving = c.loop-number.invariant.valued;
 }
 
@@ -53,12 +52,13 @@ loop-number-preserved c =
       valued = e.driving;
       within = omega (arith, within, c.requires.due);
       rest = rest-more c.args.time old now new c.loop-number.from k c.in-Some.ensures.further i.rest e.drivers;
+      unset = unset-more c.args.queue.now c.loop-number.queue c.take_one-is_known.new.queue c.loop-number.from k c.in-Some.ensures.further e.untold i.unset;
       tallied = λ sources before. e.tallied sources (i.tallied sources before);
       told = told-more k c.take_one-is_known.result _ c.take_one-is_known.new.queue new (taken c.args.time (driver_at now k)) i.told c.in-Some.ensures refl
           e.drivers e.times e.told e.untold;
       walked = taken-more c.args.time old c.args.fan_out.now now new c.loop-number.touched c.take_one-is_known.new.touched c.args.due.now
           c.loop-number.from k i.walked c.in-Some.ensures (omega (arith, within, c.requires.due, i.long)) (i.rest k c.in-Some.ensures.further) e.drivers
-          e.sized e.kept (rw c.row-nets.ensures at e.reached);
+          e.sized e.kept e.reached;
     }
 
 pub returns : goal.returns

@@ -2,6 +2,7 @@ use Rattle.std.proofs.Common.{ℕ, ◌≡◌, ◌≤◌, ◌-◌, List, length, 
 use Rattle.sim_flat_design.specs.declared.design.Source.{Source}
 use Rattle.sim_store_state.specs.Changes.{AreTallied}
 use Rattle.sim_containers.specs.RowArray.{joined}
+use Rattle.sim_containers.specs.Times.{time_of}
 use Rattle.sim_standard.specs.State.{driver_at, driver_values}
 use Rattle.sim_store_state.proofs.Walks.{Walked}
 use Rattle.sim_store_state.proofs.Taking.{IsTaken, IsTold}
@@ -15,6 +16,7 @@ invariant-loop-number l = record {
   valued : l.driving ≡ driver_values (joined l.drivers);
   within : l.from ≤ length (joined l.initial.drivers);
   rest : (d : ℕ) → l.from ≤ d → driver_at (joined l.drivers) d ≡ driver_at (joined l.initial.drivers) d;
+  unset : (d : ℕ) → l.from ≤ d → time_of l.queue d ≡ time_of l.initial.queue d;
   told : IsTold l.told l.due l.from l.initial.queue l.queue (joined l.drivers);
   tallied : (sources : List (List Source)) → AreTallied sources l.initial.driving l.initial.tallies → AreTallied sources l.driving l.tallies;
   walked : Walked l.due l.from (IsTaken l.time (joined l.initial.drivers) l.fan_out (joined l.drivers) l.touched);
