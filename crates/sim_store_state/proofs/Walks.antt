@@ -109,3 +109,13 @@ walk_on {P} {set'} list place w = subst (λ (k : ℕ). Walked set' (bound_at lis
 pub walk_listed : {P : ℕ → Type 0} {set' : List Bool} (list : List ℕ) (place : ℕ) → list ≡ members set' → length list ≤ place → place ≤ length list
     → Walked set' (bound_at list place) P → (k : ℕ) → P k
 walk_listed {P} {set'} list place e most within w = walk_done w (none_listed set' list place e most within)
+
+-- ---- of a list of a single member
+
+-- it is the first one
+pub only_step : (set' : List Bool) (list : List ℕ) → list ≡ members set' → length list ≡ 1 → IsNext (is_in set') 0 (get_or list 0 0)
+only_step set' list e one = listed_step set' list 0 e (omega (arith, one))
+
+-- and after it there is none
+pub none_else : (set' : List Bool) (list : List ℕ) → list ≡ members set' → length list ≡ 1 → NoneFrom (is_in set') (get_or list 0 0 + 1)
+none_else set' list e one = none_listed set' list 1 e (omega (arith, one)) (omega (arith, one))

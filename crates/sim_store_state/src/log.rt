@@ -21,6 +21,7 @@ pub struct Mark {
 }
 
 /// Appends the change of a net, if it has changed.
+#[inline(always)]
 fn append_change(changes: &mut Vec<(u32, Logic)>, number: usize, value: Logic, before: Logic)
     requires few { number < 2 ^ 32 }
     requires room { vec_len changes.old < vec_capacity changes.old }
@@ -34,7 +35,8 @@ fn append_change(changes: &mut Vec<(u32, Logic)>, number: usize, value: Logic, b
     }
 }
 
-/// Appends the changes of nets, in net order. It looks only at touched nets.
+/// Appends the changes of nets, in net order. It looks only at touched nets; a single one costs no
+/// loop.
 fn append_changes(
     changes: &mut Vec<(u32, Logic)>,
     values: &[Logic],
@@ -48,6 +50,11 @@ fn append_changes(
     ensures { changes.new.items ≡ changes.old.items ++ changes_from 0 (views_of values.now values_before.now) }
 {
     let nets = touched.numbers();
+    if nets.len() == 1 {
+        let only = nets[0];
+        append_change(changes, only, values[only], values_before[only]);
+        return;
+    }
     for place in 0..nets.len() {
         let number = nets[place];
         append_change(changes, number, values[number], values_before[number]);

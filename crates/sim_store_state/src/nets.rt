@@ -78,6 +78,7 @@ fn several_value(tallies: &Tallies, net: usize, sources: &[Source], driving: &[L
 }
 
 /// The same; a net of one source costs no more than a look at it.
+#[inline(always)]
 fn resolved_value(tallies: &Tallies, net: usize, sources: &[Source], driving: &[Logic]) -> Logic
     requires { 0 < length (slice_index_or tallies.now.rows net []) → slice_index_or tallies.now.rows net [] ≡ map (value_from driving.now) sources.now }
     ensures { result ≡ row_from driving.now sources.now }
@@ -89,13 +90,18 @@ fn resolved_value(tallies: &Tallies, net: usize, sources: &[Source], driving: &[
 }
 
 /// The values before the cycle of touched nets become their values; those of other nets are already
-/// equal.
+/// equal. A single touched net, which is the usual case, costs no loop.
 pub fn end_events(values_before: &mut [Logic], values: &[Logic], touched: &Touched)
     requires sized { length values_before.old ≡ length values.now }
     requires touched { AreTouched values.now values_before.old touched.now }
     ensures { values_before.new ≡ values.now }
 {
     let nets = touched.numbers();
+    if nets.len() == 1 {
+        let only = nets[0];
+        values_before[only] = values[only];
+        return;
+    }
     for place in 0..nets.len() {
         let net = nets[place];
         values_before[net] = values[net];
@@ -103,7 +109,7 @@ pub fn end_events(values_before: &mut [Logic], values: &[Logic], touched: &Touch
 }
 
 /// Touched nets take the values of their sources (14.7.5.3 d); other nets have them already. A net
-/// of many sources costs no look at each.
+/// of many sources costs no look at each, and a single touched net no loop.
 pub fn resolve_touched(
     values: &mut [Logic],
     touched: &Touched,
@@ -119,6 +125,11 @@ pub fn resolve_touched(
     ensures { values.new ≡ map (row_from driving.now) sources.now }
 {
     let nets = touched.numbers();
+    if nets.len() == 1 {
+        let only = nets[0];
+        values[only] = resolved_value(tallies, only, sources.row(only), driving);
+        return;
+    }
     for place in 0..nets.len() {
         let net = nets[place];
         values[net] = resolved_value(tallies, net, sources.row(net), driving);

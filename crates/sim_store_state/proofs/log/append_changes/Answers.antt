@@ -3,8 +3,37 @@ use Rattle.sim_containers.proofs.Ranges.{member_small}
 use Rattle.sim_store_state.specs.FlatState.{views_of}
 use Rattle.sim_standard.specs.Records.{changes_from}
 use Rattle.sim_store_state.proofs.Skips.{changes-step, changes-end}
-use Rattle.sim_store_state.proofs.Walks.{bound_at, listed_step, none_listed}
+use Rattle.sim_store_state.proofs.Walks.{bound_at, listed_step, none_else, none_listed, only_step}
 use Rattle.sim_store_state.proofs.log.append_changes.Goals as goal
+
+pub bounds-values-only : goal.bounds-values-only
+bounds-values-only c =
+    let within = member_small c.args.touched.now c.numbers-nets.result.now 0 c.numbers-nets.ensures (omega (arith, c.if-nets-eq1.true)) in
+    omega (arith, within, c.requires.touched.sized)
+
+pub bounds-values_before-only : goal.bounds-values_before-only
+bounds-values_before-only c =
+    let within = member_small c.args.touched.now c.numbers-nets.result.now 0 c.numbers-nets.ensures (omega (arith, c.if-nets-eq1.true)) in
+    omega (arith, within, c.requires.touched.sized, c.requires.same)
+
+pub append_change-requires : goal.append_change-requires
+append_change-requires c =
+    let within = member_small c.args.touched.now c.numbers-nets.result.now 0 c.numbers-nets.ensures (omega (arith, c.if-nets-eq1.true)) in
+    record {
+      few = omega (arith, within, c.requires.touched.sized, c.requires.few);
+      room = omega (arith, within, c.requires.touched.sized, c.requires.room);
+    }
+
+pub returns-then-nets-eq1 : goal.returns-then-nets-eq1
+returns-then-nets-eq1 c =
+    let nets = c.numbers-nets.result.now in
+    let total = c.args.changes.now.items ++ changes_from 0 (views_of c.args.values.now c.args.values_before.now) in
+    let within = member_small c.args.touched.now nets 0 c.numbers-nets.ensures (omega (arith, c.if-nets-eq1.true)) in
+    let next = only_step c.args.touched.now nets c.numbers-nets.ensures c.if-nets-eq1.true in
+    let none = none_else c.args.touched.now nets c.numbers-nets.ensures c.if-nets-eq1.true in
+    changes-end c.append_change.new.changes.items total c.requires.touched (sym c.requires.same) none
+    (changes-step c.args.changes.now.items c.append_change.new.changes.items total c.requires.touched (sym c.requires.same) next
+    (omega (arith, within, c.requires.touched.sized)) c.append_change.ensures.changed c.append_change.ensures.same refl)
 
 pub loop-place-init : goal.loop-place-init
 loop-place-init c = record { room = omega (arith, c.requires.room); done = refl }
@@ -19,8 +48,8 @@ bounds-values_before-number c =
     let within = member_small c.args.touched.now c.numbers-nets.result.now c.loop-place.place c.numbers-nets.ensures c.loop-place-test.true in
     omega (arith, within, c.requires.touched.sized, c.requires.same)
 
-pub append_change-requires : goal.append_change-requires
-append_change-requires c =
+pub append_change-requires-in-loop-place : goal.append_change-requires-in-loop-place
+append_change-requires-in-loop-place c =
     let nets = c.numbers-nets.result.now in
     let place = c.loop-place.place in
     let within = member_small c.args.touched.now nets place c.numbers-nets.ensures c.loop-place-test.true in
@@ -36,7 +65,7 @@ loop-place-preserved c =
     let place = c.loop-place.place in
     let views = views_of c.args.values.now c.args.values_before.now in
     let total = c.args.changes.now.items ++ changes_from 0 views in
-    let new = c.append_change.new.changes in
+    let new = c.append_change-in-loop-place.new.changes in
     let within = member_small c.args.touched.now nets place c.numbers-nets.ensures c.loop-place-test.true in
     let next = listed_step c.args.touched.now nets place c.numbers-nets.ensures c.loop-place-test.true in
     record {
@@ -46,12 +75,13 @@ loop-place-preserved c =
         c.requires.touched.sized,
         next.further,
         c.loop-place.invariant.room,
-        c.append_change.ensures.longer,
-        c.append_change.ensures.capacity,
+        c.append_change-in-loop-place.ensures.longer,
+        c.append_change-in-loop-place.ensures.capacity,
       ));
       done = subst (λ (k : ℕ). new.items ++ changes_from (bound_at nets k) (drop (bound_at nets k) views) ≡ total) (sym (add-one place))
           (changes-step c.loop-place.changes.items new.items total c.requires.touched (sym c.requires.same) next
-          (omega (arith, within, c.requires.touched.sized)) c.append_change.ensures.changed c.append_change.ensures.same c.loop-place.invariant.done);
+          (omega (arith, within, c.requires.touched.sized)) c.append_change-in-loop-place.ensures.changed c.append_change-in-loop-place.ensures.same
+          c.loop-place.invariant.done);
     }
 
 pub returns : goal.returns
