@@ -1,5 +1,6 @@
 -- The only driver that is due takes its transaction; the others have none to take.
-use Rattle.std.proofs.Common.{ℕ, ◌<◌, ◌≡◌, ◌≢◌, eqb, Bool, Option, None, Some, true, false, List, [], length, get_or, set, map, refl, ap, sym, ◌∙◌, subst, arith}
+use Rattle.std.proofs.Common.{ℕ, ◌<◌, ◌≡◌, ◌≢◌, eqb, Bool, Option, None, Some, true, false, List, [], length, get_or, set, map}
+use Rattle.std.proofs.Common.{refl, ap, sym, ◌∙◌, subst, arith}
 use Rattle.std.proofs.lemmas.Bool.Decides.{nat_tests}
 use Rattle.std.proofs.lemmas.List.{get_or-set_same, get_or-set_other, length-map, length-set}
 use Rattle.sim_standard.specs.Drivers.{DriverState, next_time, taken}
