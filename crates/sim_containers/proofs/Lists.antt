@@ -1,6 +1,6 @@
 -- Sets held as lists of their members.
 use Rattle.std.proofs.Common.{ℕ, zero, suc, ◌+◌, ◌<◌, ◌≤◌, ◌≡◌, ◌≢◌, ◌⊎◌, inl, inr, Bool, true, false, ◌||◌, List, [], ◌∷◌, ◌++◌, length, get_or}
-use Rattle.std.proofs.Common.{refl, ap, ◌∙◌, sym, arith, eqb, replicate}
+use Rattle.std.proofs.Common.{refl, ap, ◌∙◌, sym, subst, arith, eqb, replicate}
 use Rattle.std.proofs.lemmas.Bool.Decides.{nat_tests}
 use Rattle.std.proofs.lemmas.List.{append-nil, append_assoc, ext_get_or, get_or_past}
 use Rattle.std.proofs.lemmas.List.FromFn.{length-map-range_with_len, get_or-map-range_with_len}
@@ -162,3 +162,13 @@ only_among set' (y ∷ []) x one e within test n = go (side n (length set'))
     go : (n < length set') ⊎ (length set' ≤ n) → is_in set' n ≡ is_among (y ∷ []) n
     go (inl lt) = test n lt ∙ (ap (λ (k : ℕ). eqb k n) e ∙ sym (or_false (eqb y n)))
     go (inr ge) = get_or_past set' n false ge ∙ sym (ap (λ (b : Bool). b || false) (differs y n (omega (arith, e, within, ge))))
+
+-- ---- the bound of a list of numbers
+
+pub within_bound : (own : List ℕ) (bound : ℕ) (set' : List Bool) (ns : List ℕ) → set_with own bound ≡ set' → RiseWithin 0 (length set') ns
+    → RiseWithin 0 bound ns
+within_bound own bound set' ns e rises = subst (λ (b : ℕ). RiseWithin 0 b ns) (sym (ap length e) ∙ sized own bound) rises
+
+pub within_length : (own : List ℕ) (bound : ℕ) (set' : List Bool) (ns : List ℕ) → set_with own bound ≡ set' → RiseWithin 0 bound ns
+    → RiseWithin 0 (length set') ns
+within_length own bound set' ns e rises = subst (λ (b : ℕ). RiseWithin 0 b ns) (sym (sized own bound) ∙ ap length e) rises

@@ -69,6 +69,10 @@ abbrev pub RiseWithin : ℕ → ℕ → List ℕ → Type 0
 RiseWithin from bound [] = ⊤
 RiseWithin from bound (n ∷ ns) = (from ≤ n) × (n < bound) × RiseWithin (suc n) bound ns
 
+-- Lists of which this is said rise and are below a bound.
+abbrev pub AreRising : List (List ℕ) → ℕ → List Bool → Type 0
+AreRising rows bound rises = (n : ℕ) → slice_index_or rises n false ≡ true → RiseWithin 0 bound (slice_index_or rows n [])
+
 -- The list has the members of the set of its numbers, in order, and room for all numbers below the bound.
 pub record IsListOf (numbers : List ℕ) (capacity bound : ℕ) : Type 0 where
   pub listed : numbers ≡ members (set_with numbers bound)

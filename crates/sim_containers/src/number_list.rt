@@ -1,10 +1,11 @@
 //! Sets of numbers below a bound that are replaced as a whole and then walked.
 
-ghost use Rattle.std.specs.Prelude.{ℕ, ◌≡◌, ◌==◌, ◌<◌, length, true, false, replicate, IfOk, MatchOption};
+ghost use Rattle.std.specs.Prelude.{ℕ, ◌≡◌, ◌==◌, ◌<◌, [], length, true, false, replicate, slice_index_or, IfOk, MatchOption};
 ghost use Rattle.sim_containers.specs.Words.{IsNext, NoneFrom};
 ghost use Rattle.sim_containers.specs.Numbers.{is_among, is_beside, is_in, members, RiseWithin};
 
 use crate::numbers::{NumberSet, at_place, is_place, place_from, push_each};
+use crate::rising_rows::RisingRows;
 use std::alloc::{AllocError, Global};
 use std::marker::Model;
 
@@ -137,42 +138,52 @@ impl NumberList {
         set.list(&mut self.numbers);
     }
 
-    /// Makes these numbers the members if they rise and are below the bound; returns whether they
-    /// are. If not, nothing changes. It takes no memory.
+    /// Makes the numbers of a list the members, if it is known to rise and to be below the bound;
+    /// returns whether it is. If not, nothing changes. It takes no memory, and looks at no number.
     #[inline(always)]
-    pub fn set_rising(&mut self, numbers: &[usize]) -> bool
+    pub fn set_rising(&mut self, rows: &RisingRows, number: usize) -> bool
         ensures sized { length self.new ≡ length self.old }
-        ensures rising { result ≡ true → (n : ℕ) → is_in self.new n ≡ is_among numbers.now n }
+        ensures rising { result ≡ true → (n : ℕ) → is_in self.new n ≡ is_among (slice_index_or rows.now number []) n }
         ensures same { result ≡ false → self.new ≡ self.old }
+    {
+        if !rows.rises(number, self.bound) {
+            return false;
+        }
+        self.set_to(rows.row(number));
+        true
+    }
+
+    /// Makes these numbers the members, which rise and are below the bound.
+    #[inline(always)]
+    fn set_to(&mut self, numbers: &[usize])
+        requires { RiseWithin 0 (length self.old) numbers.now }
+        ensures sized { length self.new ≡ length self.old }
+        ensures members { (n : ℕ) → is_in self.new n ≡ is_among numbers.now n }
     {
         if numbers.len() == 1 {
             let number = numbers[0];
             if number < self.len() {
                 self.set_only(number);
-                return true;
+                return;
             }
         }
-        self.set_several(numbers)
+        self.set_several(numbers);
     }
 
     /// The same, for any number of numbers.
     #[inline(never)]
-    fn set_several(&mut self, numbers: &[usize]) -> bool
+    fn set_several(&mut self, numbers: &[usize])
+        requires { RiseWithin 0 (length self.old) numbers.now }
         ensures sized { length self.new ≡ length self.old }
-        ensures rising { result ≡ true → (n : ℕ) → is_in self.new n ≡ is_among numbers.now n }
-        ensures same { result ≡ false → self.new ≡ self.old }
+        ensures members { (n : ℕ) → is_in self.new n ≡ is_among numbers.now n }
     {
-        if !rise_below(numbers, self.bound) {
-            return false;
-        }
         self.numbers.clear();
         push_each(&mut self.numbers, numbers);
-        true
     }
 }
 
 /// Whether numbers rise and are below a bound.
-fn rise_below(mut numbers: &[usize], bound: usize) -> bool
+pub(crate) fn rise_below(mut numbers: &[usize], bound: usize) -> bool
     ensures { result ≡ true → RiseWithin 0 bound numbers.entry.now }
 {
     let mut least = 0;

@@ -1,4 +1,5 @@
-use sim_containers::{NumberList, NumberSet};
+use sim_containers::{NumberList, NumberSet, RisingRows, RowArray};
+use std::alloc::{AllocError, Global};
 use std::test::Fail;
 
 /// Numbers below ten, and whether a list takes them as its members at once: only if they rise.
@@ -12,18 +13,29 @@ static RISING: [(&[usize], bool); 7] = [
     (&[3, 10], false),
 ];
 
+/// The lists of the table.
+fn lists(alloc: Global) -> Result<RowArray<usize>, AllocError> {
+    let mut rows = RowArray::new(alloc)?;
+    for row in RISING.iter() {
+        rows.push_row(row.0)?;
+    }
+    Ok(rows)
+}
+
 /// Whether the list takes exactly the numbers in the table that rise, and keeps its members else.
-fn takes_rising_numbers(list: &mut NumberList) -> bool {
+fn takes_rising_numbers(list: &mut NumberList, rows: &RisingRows) -> bool {
+    let mut place = 0;
     for row in RISING.iter() {
         list.set_only(5);
-        let taken = list.set_rising(row.0);
+        let taken = list.set_rising(rows, place);
         if taken != row.1 {
             return false;
         }
         let wanted: &[usize] = if taken { row.0 } else { &[5] };
-        if list.numbers() != wanted {
+        if list.numbers() != wanted || rows.row(place) != row.0 {
             return false;
         }
+        place += 1;
     }
     true
 }
@@ -84,7 +96,12 @@ fn numbers_that_rise_are_taken_at_once(rt: HostRuntime) -> Result<(), Fail> {
     let mut list = NumberList::new(rt.alloc(), 10)?;
     assert!(rt; list.len() == 10);
     assert!(rt; list.numbers().is_empty());
-    assert!(rt; takes_rising_numbers(&mut list));
+    let rows = RisingRows::of(rt.alloc(), lists(rt.alloc())?, 10)?;
+    assert!(rt; takes_rising_numbers(&mut list, &rows));
+    assert!(rt; !list.set_rising(&rows, 7));
+    assert!(rt; rows.row(7).is_empty() && rows.rows().len() == 7);
+    let others = RisingRows::of(rt.alloc(), lists(rt.alloc())?, 11)?;
+    assert!(rt; !list.set_rising(&others, 1));
     list.set_only(10);
     assert!(rt; list.numbers().is_empty());
     Ok(())

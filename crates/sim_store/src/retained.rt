@@ -10,7 +10,7 @@ ghost use Rattle.sim_store_state.specs.Lending.{AreShares, counts};
 
 use crate::design_type::DesignType;
 use crate::phase_input::{PhaseFields, PhaseInput};
-use sim_containers::{NumberSet, RowArray};
+use sim_containers::{NumberSet, RisingRows};
 use sim_exec_code::Frame;
 use sim_flat_design::Design;
 use sim_store_simulation::{Compiled, Contents, Waiting};
@@ -22,7 +22,7 @@ use std::marker::PhantomData;
 #[derive(Drop)]
 pub struct RetainedContents {
     pub delta: u64,
-    pub sensitive: RowArray<usize>,
+    pub sensitive: RisingRows,
     pub frame: Frame,
     pub update_lists: UpdateLists,
     pub log: Log,

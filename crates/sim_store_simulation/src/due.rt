@@ -12,7 +12,7 @@ ghost use Rattle.sim_store_state.specs.Sensitive.{AreSensitive, has_event_in};
 ghost use Rattle.sim_store_simulation.specs.Simulation.{listed, those_in};
 
 use crate::waiting::Waiting;
-use sim_containers::{NumberList, NumberSet, RowArray};
+use sim_containers::{NumberList, NumberSet, RisingRows};
 use sim_store_state::{Log, find_resumed, find_resumed_by_one};
 use std::alloc::{AllocError, Global};
 use std::marker::Model;
@@ -102,7 +102,7 @@ impl Due {
 
     /// Finds the processes due in the cycle of the last record: those sensitive to a net with
     /// an event, except the postponed ones, which wait (14.7.5.3 f.2). It takes no memory.
-    pub fn find(&mut self, log: &Log, sensitive: &RowArray<usize>, waiting: &mut Waiting)
+    pub fn find(&mut self, log: &Log, sensitive: &RisingRows, waiting: &mut Waiting)
         requires begun { 0 < length log.now.records }
         requires processes { length waiting.old.postponed ≡ length self.old }
         ensures postponed { waiting.new.postponed ≡ waiting.old.postponed }
@@ -125,7 +125,7 @@ impl Due {
             }
         }
         // f.2) Processes resume; the postponed ones wait for h.4.
-        find_resumed(&mut self.set, changes, sensitive);
+        find_resumed(&mut self.set, changes, sensitive.rows());
         waiting.set_aside(&mut self.set);
         self.list.set_from(&self.set);
     }

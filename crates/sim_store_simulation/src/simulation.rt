@@ -25,7 +25,7 @@ use crate::history::records_from;
 use crate::phase::{Phase, Upcoming};
 use crate::totals::{count_last, none};
 use crate::waiting::Waiting;
-use sim_containers::{NumberSet, RowArray};
+use sim_containers::{NumberSet, RisingRows};
 use sim_exec::{Done, Job, Results};
 use sim_exec_code::{Codes, Frame};
 use sim_flat_design::{Design, Process};
@@ -107,7 +107,7 @@ fn leave(waiting: &mut Waiting, phase: Phase)
 /// its code, and a frame to execute code on.
 #[derive(Drop)]
 pub struct Compiled {
-    pub sensitive: RowArray<usize>,
+    pub sensitive: RisingRows,
     pub codes: Codes,
     pub frame: Frame,
 }

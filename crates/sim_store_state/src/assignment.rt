@@ -10,23 +10,12 @@ ghost use Rattle.sim_containers.specs.RowArray.{joined};
 ghost use Rattle.sim_store_state.specs.Changes.{AreTimes};
 ghost use Rattle.sim_store_state.specs.Assignments as spec;
 
-use crate::drivers::{first_time, tell};
+use crate::drivers::tell;
 use sim_containers::{DividedRows, NumberSet, RowArray, TimeQueue, bounds, place_of};
 use sim_exec::Nets;
 use sim_exec_code::SingleAssignment;
 use sim_wave::Driver;
 use std::alloc::AllocError;
-
-/// The first pending time of the driver at a place, if there is one.
-#[inline(always)]
-fn next_at(drivers: &[Driver], place: usize) -> Option<u64>
-    ensures { result ≡ next_time (driver_at drivers.now place ∷ []) }
-{
-    if place >= drivers.len() {
-        return None;
-    }
-    first_time(&drivers[place])
-}
 
 /// Carries out an assignment on the drivers of its process. Returns also the first pending time of
 /// its driver after that.
@@ -41,9 +30,7 @@ fn assign_on<N: Nets>(
     requires pending { All (λ d. RisesFrom now d.pending) drivers.old }
     ensures { spec.AreAssignedNext (N.look nets.now) now quick.now result.0 result.1 drivers.old drivers.new }
 {
-    let place = quick.driver();
-    let done = quick.execute(nets, now, drivers);
-    (done, next_at(drivers, place))
+    quick.execute(nets, now, drivers)
 }
 
 /// The same, of a process whose drivers are between these bounds.
@@ -139,7 +126,8 @@ pub fn assign_and_tell<N: Nets>(
         return Ok(());
     }
     let (done, next) = assign_in_rows(nets, now, quick, number, drivers);
-    tell(queue, stale, start + place, next);
+    let own = start + place;
+    tell(queue, stale, own, next);
     done
 }
 

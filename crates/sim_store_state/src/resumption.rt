@@ -11,7 +11,7 @@ ghost use Rattle.sim_standard.specs.Orders.{is_among};
 
 use crate::lists::{add, empty_lists, in_rows};
 use crate::sets::insert_each;
-use sim_containers::{NumberList, NumberSet, RowArray};
+use sim_containers::{NumberList, NumberSet, RisingRows, RowArray};
 use sim_flat_design::{Design, Process};
 use sim_logic::Logic;
 use sqlite_items::Items;
@@ -46,13 +46,26 @@ fn add_processes(sensitive: &mut [Items<usize>], processes: &[Process]) -> Resul
 
 /// For each net of a design, the processes sensitive to it. The time is proportional to the number
 /// of nets plus the length of all sensitivity lists.
-pub fn sensitive(alloc: Global, design: &Design) -> Result<RowArray<usize>, AllocError>
+pub fn sensitive(alloc: Global, design: &Design) -> Result<RisingRows, AllocError>
     ensures value { IfOk result (λ r. AreSensitive design.now.processes r) }
     ensures nets { IfOk result (λ r. length r ≡ length design.now.nets) }
 {
+    let processes = design.processes();
     let mut lists = empty_lists(alloc, design.nets().len())?;
-    add_processes(lists.as_mut_slice(), design.processes())?;
-    in_rows(alloc, lists.as_slice())
+    add_processes(lists.as_mut_slice(), processes)?;
+    rising_rows(alloc, lists.as_slice(), processes.len())
+}
+
+/// Lists of the numbers of so many processes.
+fn rising_rows(
+    alloc: Global,
+    lists: &[Items<usize>],
+    processes: usize,
+) -> Result<RisingRows, AllocError>
+    ensures { IfOk result (λ r. r ≡ lists.now) }
+{
+    let rows = in_rows(alloc, lists)?;
+    RisingRows::of(alloc, rows, processes)
 }
 
 /// The processes sensitive to the net with a number; none if there is no such net.
@@ -87,13 +100,13 @@ pub fn find_resumed(resumed: &mut NumberSet, changes: &[(u32, Logic)], sensitive
     resume_sensitive(resumed, changes, sensitive);
 }
 
-/// The same, if a single net changed and the numbers of the processes sensitive to it rise; returns
-/// whether that is so. They are copied at once.
+/// The same, if a single net changed and the numbers of the processes sensitive to it are known to
+/// rise; returns whether that is so. They are copied at once.
 #[inline(always)]
 pub fn find_resumed_by_one(
     resumed: &mut NumberList,
     changes: &[(u32, Logic)],
-    sensitive: &RowArray<usize>,
+    sensitive: &RisingRows,
 ) -> bool
     ensures sized { length resumed.new ≡ length resumed.old }
     ensures found { result ≡ true → (nets : List NetView) (processes : List process_value) (p : ℕ) → changes.now ≡ changes_from 0 nets
@@ -104,5 +117,5 @@ pub fn find_resumed_by_one(
         return false;
     }
     let (net, _value) = changes[0];
-    resumed.set_rising(sensitive_to(sensitive, net as usize))
+    resumed.set_rising(sensitive, net as usize)
 }
