@@ -24,8 +24,8 @@ fn lists(alloc: Global) -> Result<RowArray<usize>, AllocError> {
 
 /// Whether the list takes exactly the numbers in the table that rise, and keeps its members else.
 fn takes_rising_numbers(list: &mut NumberList, rows: &RisingRows) -> bool {
-    let mut place = 0;
-    for row in RISING.iter() {
+    for place in 0..RISING.len() {
+        let row = &RISING[place];
         list.set_only(5);
         let taken = list.set_rising(rows, place);
         if taken != row.1 {
@@ -35,7 +35,6 @@ fn takes_rising_numbers(list: &mut NumberList, rows: &RisingRows) -> bool {
         if list.numbers() != wanted || rows.row(place) != row.0 {
             return false;
         }
-        place += 1;
     }
     true
 }
