@@ -13,13 +13,13 @@ static RISING: [(&[usize], bool); 7] = [
     (&[3, 10], false),
 ];
 
-/// The lists of the table.
-fn lists(alloc: Global) -> Result<RowArray<usize>, AllocError> {
+/// The lists of the table, of which it is known which rise and are below a bound.
+fn rising(alloc: Global, bound: usize) -> Result<RisingRows, AllocError> {
     let mut rows = RowArray::new(alloc)?;
     for row in RISING.iter() {
         rows.push_row(row.0)?;
     }
-    Ok(rows)
+    RisingRows::of(alloc, rows, bound)
 }
 
 /// Whether the list takes exactly the numbers in the table that rise, and keeps its members else.
@@ -95,11 +95,11 @@ fn numbers_that_rise_are_taken_at_once(rt: HostRuntime) -> Result<(), Fail> {
     let mut list = NumberList::new(rt.alloc(), 10)?;
     assert!(rt; list.len() == 10);
     assert!(rt; list.numbers().is_empty());
-    let rows = RisingRows::of(rt.alloc(), lists(rt.alloc())?, 10)?;
+    let rows = rising(rt.alloc(), 10)?;
     assert!(rt; takes_rising_numbers(&mut list, &rows));
     assert!(rt; !list.set_rising(&rows, 7));
     assert!(rt; rows.row(7).is_empty() && rows.rows().len() == 7);
-    let others = RisingRows::of(rt.alloc(), lists(rt.alloc())?, 11)?;
+    let others = rising(rt.alloc(), 11)?;
     assert!(rt; !list.set_rising(&others, 1));
     list.set_only(10);
     assert!(rt; list.numbers().is_empty());
