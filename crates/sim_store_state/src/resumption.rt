@@ -56,7 +56,7 @@ pub fn sensitive(alloc: Global, design: &Design) -> Result<RisingRows, AllocErro
     rising_rows(alloc, lists.as_slice(), processes.len())
 }
 
-/// Lists of the numbers of so many processes.
+/// These lists of process numbers as rows, of which it is known which rise.
 fn rising_rows(
     alloc: Global,
     lists: &[Items<usize>],
