@@ -1,5 +1,7 @@
 pub mod ExpressionRules
 pub mod StatementRules
+mod OperatorsNegated
+mod ConditionsTested
 pub mod ExpressionsRight
 pub mod OneByOne
 pub mod BodiesRight

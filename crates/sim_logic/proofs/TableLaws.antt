@@ -1,4 +1,4 @@
--- Laws of the resolution table. Each law is one computed test over the whole table.
+-- Laws of tables. Each law is one computed test over a whole table.
 use Rattle.std.proofs.Common.{◌≡◌, Bool, true, false, ◌&&◌, refl}
 use Rattle.sim_logic.specs.declared.logic.Logic.{Logic}
 use Rattle.sim_logic.specs.declared.logic.Logic.TheVariants.{U, X, Zero, One, Z, W, L, H, Dash}
@@ -7,7 +7,7 @@ use Rattle.sim_logic.specs.Tables.{resolution_table}
 use Rattle.sim_logic.proofs.SameValues.{same_from_is_same}
 
 -- whether a test holds of each value
-abbrev holds_of_all : (Logic → Bool) → Bool
+abbrev pub holds_of_all : (Logic → Bool) → Bool
 holds_of_all p = p U && (p X && (p Zero && (p One && (p Z && (p W && (p L && (p H && p Dash)))))))
 
 and-left : (a b : Bool) → (a && b) ≡ true → a ≡ true
@@ -36,6 +36,12 @@ holds_of_all-at p all Dash =
     and-right (p H) _ (and-right (p L) _
     (and-right (p W) _ (and-right (p Z) _ (and-right (p One) _ (and-right (p Zero) _ (and-right (p X) _ (and-right (p U) _ all)))))))
 
+-- Two tables with the same entries give the same.
+pub same_tables : (f g : Logic → Logic → Logic) → holds_of_all (λ x. holds_of_all (λ y. is_same (f x y) (g x y))) ≡ true → (a b : Logic) → f a b ≡ g a b
+same_tables f g all a b =
+    let at_a = holds_of_all-at (λ x. holds_of_all (λ y. is_same (f x y) (g x y))) all a in
+    same_from_is_same _ _ (holds_of_all-at (λ y. is_same (f a y) (g a y)) at_a b)
+
 abbrev is_associative_at : Logic → Logic → Logic → Bool
 is_associative_at a b c =
     is_same (resolution_table (resolution_table a b) c) (resolution_table a (resolution_table b c))
@@ -47,21 +53,9 @@ resolution_table-assoc a b c =
     let at_b = holds_of_all-at (λ y. holds_of_all (λ z. is_associative_at a y z)) at_a b in
     same_from_is_same _ _ (holds_of_all-at (λ z. is_associative_at a b z) at_b c)
 
-abbrev is_commutative_at : Logic → Logic → Bool
-is_commutative_at a b = is_same (resolution_table a b) (resolution_table b a)
-
 pub resolution_table-comm : (a b : Logic) → resolution_table a b ≡ resolution_table b a
-resolution_table-comm a b =
-    let all : holds_of_all (λ x. holds_of_all (λ y. is_commutative_at x y)) ≡ true = refl in
-    let at_a = holds_of_all-at (λ x. holds_of_all (λ y. is_commutative_at x y)) all a in
-    same_from_is_same _ _ (holds_of_all-at (λ y. is_commutative_at a y) at_a b)
-
-abbrev passes_z_at : Logic → Logic → Bool
-passes_z_at a b = is_same (resolution_table a (resolution_table Z b)) (resolution_table a b)
+resolution_table-comm = same_tables resolution_table (λ x y. resolution_table y x) refl
 
 -- a 'Z' between two values changes nothing
 pub resolution_table-passes_z : (a b : Logic) → resolution_table a (resolution_table Z b) ≡ resolution_table a b
-resolution_table-passes_z a b =
-    let all : holds_of_all (λ x. holds_of_all (λ y. passes_z_at x y)) ≡ true = refl in
-    let at_a = holds_of_all-at (λ x. holds_of_all (λ y. passes_z_at x y)) all a in
-    same_from_is_same _ _ (holds_of_all-at (λ y. passes_z_at a y) at_a b)
+resolution_table-passes_z = same_tables (λ x y. resolution_table x (resolution_table Z y)) resolution_table refl
