@@ -1,4 +1,8 @@
 pub mod Logs
 pub mod Selections
-pub mod Steps
+mod Parts
+mod PartsExecuted
+mod PartsPassed
+mod PartsJoined
+mod PartsTimes
 pub mod Times

@@ -5,7 +5,7 @@ use Rattle.std.specs.List.{enumerate_from, filter}
 use Rattle.sim_logic.specs.declared.logic.Logic.{Logic}
 use Rattle.sim_standard.specs.declared.net_view.NetView.{NetView}
 use Rattle.sim_standard.specs.Records.{changes_from}
-use Rattle.sim_store_shards.specs.Shards.{RiseFrom, changes_of}
+use Rattle.sim_store_shards.specs.Logs.{RiseFrom, changes_of}
 
 abbrev Change : Type 0
 Change = ℕ × Logic

@@ -7,7 +7,8 @@ use Rattle.std.proofs.lemmas.List.Sums.{fold-append}
 use Rattle.sim_logic.specs.declared.logic.Logic.{Logic}
 use Rattle.sim_standard.specs.Drivers.{Transaction, DriverState, next_time, taken}
 use Rattle.sim_standard.specs.State.{Owned, all_drivers}
-use Rattle.sim_store_shards.specs.Shards.{AreFrom, earlier, own_taken, pending_times}
+use Rattle.sim_store_shards.specs.Selections.{own_taken}
+use Rattle.sim_store_shards.specs.Times.{AreFrom, earlier, pending_times}
 
 abbrev times : List Transaction → List ℕ
 times xs = map (λ (x : Transaction). x.0) xs
@@ -22,7 +23,7 @@ fold_min : (m n : ℕ) (xs : List ℕ) → fold min (min m n) xs ≡ min m (fold
 fold_min m n [] = refl
 fold_min m n (x ∷ xs) = ap (λ k. fold min k xs) (omega arith) ∙ fold_min m (min n x) xs
 
-reduce_append : (xs ys : List ℕ) → reduce min (xs ++ ys) ≡ earlier (reduce min xs) (reduce min ys)
+pub reduce_append : (xs ys : List ℕ) → reduce min (xs ++ ys) ≡ earlier (reduce min xs) (reduce min ys)
 reduce_append [] ys = refl
 reduce_append (x ∷ xs) [] = ap (λ (l : List ℕ). reduce min l) (append_none (x ∷ xs))
 reduce_append (x ∷ xs) (y ∷ ys) = ap (λ k. Some k) (fold-append min x xs (y ∷ ys) ∙ fold_min (fold min x xs) y ys)

@@ -1,1 +1,4 @@
-pub mod Shards
+pub mod Selections
+pub mod Times
+pub mod Logs
+pub mod Parts

@@ -1,52 +1,84 @@
-//! Laws by which a run could be carried out in shards, each by a thread of its own: a shard owns
-//! some of the processes for the whole run, and the nets that these alone drive. Each law is what an
-//! empty function ensures.
+//! Laws by which a run could be carried out in shards, each by a thread of its own. A shard carries
+//! out the cycles of a part of the design: some of the processes, and one more that stands in for
+//! all others, with those of their drivers whose transactions it is told. So a shard is an ordinary
+//! design. Each law is what an empty function ensures.
 #![tactic(auto)]
 
-ghost use Rattle.std.specs.Prelude.{ℕ, suc, List, Some, ◌≡◌, ◌<◌, ◌++◌, map, length, slice_index_or};
+ghost use Rattle.std.specs.Prelude.{ℕ, Bool, true, List, Some, ◌≡◌, ◌<◌, map, length};
+ghost use Rattle.std.specs.List.{All, AllByRecursion, list_any, range_with_len};
 ghost use Rattle.sim_logic.specs.declared.logic.Logic as logic;
-ghost use Rattle.sim_logic.specs.Resolution.{resolved};
-ghost use Rattle.sim_flat_design.specs.declared.design.Source as design_source;
-ghost use Rattle.sim_flat_design.specs.Designs.{Design, Net};
+ghost use Rattle.sim_flat_design.specs.Designs.{Design};
+ghost use Rattle.sim_flat_design.specs.Processes.{IsProcess};
 ghost use Rattle.sim_standard.specs.declared.net_view.NetView as net_view;
-ghost use Rattle.sim_standard.specs.Cycle.{cycle_end, updated};
-ghost use Rattle.sim_standard.specs.Drivers.{DriverState, next_time};
-ghost use Rattle.sim_standard.specs.Midway.{updated_in};
-ghost use Rattle.sim_standard.specs.Nets.{source_value};
+ghost use Rattle.sim_standard.specs.Cycle.{cycle_end, first_executed, is_delta_next, updated};
+ghost use Rattle.sim_standard.specs.Drivers.{next_time};
+ghost use Rattle.sim_standard.specs.Orders.{is_among};
+ghost use Rattle.sim_standard.specs.Processes.{place_in};
 ghost use Rattle.sim_standard.specs.Records.{changes_from};
-ghost use Rattle.sim_standard.specs.State.{Owned, State, all_drivers, net_at, owned_at};
-ghost use Rattle.sim_store_shards.specs.Shards.{AreAmong, AreFrom, RiseFrom, changed_to, changes_of, earlier, own_taken, pending_times};
-ghost use Rattle.sim_store_shards.specs.Shards.{picked, picked_drivers, placed_in};
+ghost use Rattle.sim_standard.specs.State.{Owned, State, all_drivers, owned_at};
+ghost use Rattle.sim_store_shards.specs.Parts.{AreDriven, AreNumbered, AreResolved, FollowsAll, HasNothingAt, OwnTheirs};
+ghost use Rattle.sim_store_shards.specs.Parts.{IsPartBetween, IsPartState, IsPartTold, Part, RestIn, cut, ended_as, news, part_of, with_told};
+ghost use Rattle.sim_store_shards.specs.Times.{AreFrom, earliest, pending_times};
+ghost use Rattle.sim_store_shards.specs.Logs.{RiseFrom, changes_of};
+ghost use Rattle.sim_store_shards.specs.Selections.{picked};
 
-// ---- drivers and nets (14.7.2, 14.7.3)
+// ---- a part, from cycle to cycle (14.7.5.3)
 
-/// A net has the value of its sources' drivers alone, whichever drivers there are besides: a shard
-/// resolves the nets whose drivers it has.
-pub fn selected_drivers_give_the_value_of_their_net()
-    ensures { (drivers : List DriverState) (numbers : List ℕ) (sources : List design_source.Source) → AreAmong numbers sources
-        → resolved (map (source_value (picked_drivers numbers drivers)) (map (placed_in numbers) sources)) ≡ resolved (map (source_value drivers) sources) }
+/// A part can be cut out of the whole at any time; from the end of a cycle on its time and its events
+/// count no more; and told the transactions that others take at the time of the next cycle, it is
+/// ready for its update.
+pub fn a_part_is_cut_out_and_told()
+    ensures cut { (part : Part) (s : State) → IsPartState part s (cut part s) }
+    ensures between { (part : Part) (s t : State) → IsPartState part s t → IsPartBetween part s t }
+    ensures told { (part : Part) (time : ℕ) (s t : State) → IsPartBetween part s t
+        → IsPartTold part time s (with_told part (news time (all_drivers s.owned) part.told) t) }
 {}
 
-/// Selected processes take their transactions of a time without the others: a shard takes its own
-/// transactions.
-pub fn transactions_are_taken_by_selections()
-    ensures { (time : ℕ) (numbers : List ℕ) (owned : List Owned)
-        → map (own_taken time) (picked numbers owned) ≡ picked numbers (map (own_taken time) owned) }
+/// A part is updated by itself, once it is told which transactions of others are taken at the time
+/// of the cycle: what its processes own, the values of the drivers that it is told, and the nets
+/// that it follows are those of the whole (14.7.5.3 a, c, d).
+pub fn a_part_is_updated_by_itself()
+    ensures { (design : Design) (part : Part) (s t : State) (time : ℕ) → AreNumbered 0 design.processes → OwnTheirs design.processes s.owned
+        → AllByRecursion (λ n. n < length design.processes) part.members → IsPartTold part time s t → length s.nets ≡ length design.nets
+        → length t.nets ≡ length design.nets → AllByRecursion (λ n. n < length design.nets) part.followed → AreDriven design part
+        → IsPartState part (updated design s time) (updated (part_of design part) t time) }
 {}
 
-/// If nothing of theirs is pending at a time or before it, processes own what they owned once the
-/// transactions of that time are taken: a shard that has none at a time is passed over.
-pub fn who_has_nothing_at_a_time_takes_nothing()
-    ensures { (time : ℕ) (owned : List Owned) → AreFrom (suc time) (pending_times (all_drivers owned)) → map (own_taken time) owned ≡ owned }
+/// A part is executed by itself, once it is told whether a delta cycle follows, for which postponed
+/// processes wait: to the end of the cycle its state is that of the whole (14.7.5.3 f to h).
+pub fn a_part_is_executed_by_itself()
+    ensures ended { (design : Design) (part : Part) → All IsProcess design.processes → AllByRecursion (λ n. n < length design.processes) part.members
+        → FollowsAll design part → (delta : Bool) (cycles : ℕ) (s t : State) → IsPartState part s t → length s.owned ≡ length design.processes
+        → IsPartState part (ended_as delta design cycles s) (ended_as delta (part_of design part) cycles t) }
+    ensures standard { (design : Design) (cycles : ℕ) (s : State)
+        → cycle_end design cycles s ≡ ended_as (is_delta_next cycles (first_executed design cycles s)) design cycles s }
+{}
+
+/// A part that has nothing to take at the time of a cycle, and of which no process is executed in
+/// it, is passed over.
+pub fn a_part_with_nothing_to_do_is_passed_over()
+    ensures updated { (design : Design) (part : Part) (s : State) (time : ℕ) → AreNumbered 0 design.processes → OwnTheirs design.processes s.owned
+        → AllByRecursion (λ n. n < length design.processes) part.members → HasNothingAt part time s → (t : State) → IsPartBetween part s t
+        → length s.nets ≡ length design.nets → AllByRecursion (λ n. n < length design.nets) part.followed → AreDriven design part
+        → AreResolved design part s → IsPartBetween part (updated design s time) t }
+    ensures ended { (design : Design) (part : Part) → All IsProcess design.processes → AllByRecursion (λ n. n < length design.processes) part.members
+        → (delta : Bool) (cycles : ℕ) (s t : State) → length s.owned ≡ length design.processes → RestIn design part cycles s → IsPartBetween part s t
+        → IsPartBetween part (ended_as delta design cycles s) t }
+{}
+
+/// What processes own is what the parts own to which they belong: the parts can be joined again.
+pub fn what_parts_own_is_what_the_whole_owns()
+    ensures { (owned : List Owned) (members_with : ℕ → List ℕ) → ((n : ℕ) → n < length owned → is_among (members_with n) n ≡ true)
+        → map (λ n. owned_at (picked (members_with n) owned) (place_in (members_with n) n)) (range_with_len 0 (length owned)) ≡ owned }
 {}
 
 // ---- the time of the next cycle (14.7.5.1)
 
-/// The time of the next cycle is the earlier of the two that parts of the processes have, and so the
-/// earliest that any shard has.
-pub fn the_next_time_is_the_earlier_of_both_parts()
-    ensures { (before after : List Owned)
-        → next_time (all_drivers (before ++ after)) ≡ earlier (next_time (all_drivers before)) (next_time (all_drivers after)) }
+/// The time of the next cycle is the earliest that any of some parts has, if each process belongs to
+/// one of them (14.7.5.1).
+pub fn the_next_time_is_the_earliest_of_all_parts()
+    ensures { (owned : List Owned) (parts : List (List ℕ)) → ((n : ℕ) → n < length owned → list_any (λ members. is_among members n) parts ≡ true)
+        → earliest (map (λ members. next_time (all_drivers (picked members owned))) parts) ≡ next_time (all_drivers owned) }
 {}
 
 /// If nothing is pending before a time, and something of one process at it, the next cycle has that
@@ -68,24 +100,4 @@ pub fn changes_rise()
 pub fn the_changes_of_all_owners_are_all_changes()
     ensures { (owner : ℕ → ℕ) (low : ℕ) (merged changes : List (ℕ × logic.Logic)) → RiseFrom low merged → RiseFrom low changes
         → ((who : ℕ) → changes_of owner who merged ≡ changes_of owner who changes) → merged ≡ changes }
-{}
-
-// ---- from one cycle to the next (14.7.5.3)
-
-/// The next cycle updates selected processes from what they own at the end of this cycle, by taking
-/// their transactions of its time: a shard needs nothing else to go on.
-pub fn a_shard_goes_on_by_itself()
-    ensures { (design : Design) (cycles time : ℕ) (s t : State) (numbers : List ℕ) → updated_in design cycles ≡ Some s → updated_in design (suc cycles) ≡ Some t
-        → next_time (all_drivers (cycle_end design cycles s).owned) ≡ Some time
-        → picked numbers t.owned ≡ map (own_taken time) (picked numbers (cycle_end design cycles s).owned) }
-{}
-
-/// A net whose drivers are among the selected ones has in the next cycle the value of these, once
-/// their transactions are taken, and an event if that is a new value.
-pub fn a_net_of_a_shard_goes_on_by_its_drivers()
-    ensures { (design : Design) (time net : ℕ) (s : State) (numbers : List ℕ) (none : Net) → net < length design.nets → length s.nets ≡ length design.nets
-        → AreAmong numbers (slice_index_or design.nets net none).sources
-        → net_at (updated design s time).nets net
-        ≡ changed_to (resolved (map (source_value (picked_drivers numbers (all_drivers (map (own_taken time) s.owned))))
-        (map (placed_in numbers) (slice_index_or design.nets net none).sources))) (net_at s.nets net).value }
 {}
