@@ -4,5 +4,7 @@ mod Parts
 mod PartsExecuted
 mod PartsPassed
 mod PartsJoined
+mod PartsFit
+mod PartsBegun
 mod PartsTimes
 pub mod Times

@@ -171,7 +171,7 @@ values_told ds [] = refl
 values_told ds (n ∷ ns) = ap (λ (l : List Logic). value_of ds n ∷ l) (values_told ds ns)
 
 -- the values of the part's drivers
-values_of_part : (ps : List Process) (os : List Owned) (members told : List ℕ) → AreNumbered 0 ps → OwnTheirs ps os
+pub values_of_part : (ps : List Process) (os : List Owned) (members told : List ℕ) → AreNumbered 0 ps → OwnTheirs ps os
     → AllByRecursion (λ (n : ℕ). n < length ps) members
     → driver_values (all_drivers (picked members os ++ stand_in (all_drivers os) told ∷ [])) ≡ map (value_of (all_drivers os)) (drivers_of ps members ++ told)
 values_of_part ps os members told a own below =
@@ -204,7 +204,7 @@ module _ (ds own : List DriverState) (numbers : List ℕ) (are : driver_values o
       sym (get_or-map (λ (d : DriverState). d.value) own (place_in numbers n) no_driver)
       ∙ (ap (λ (l : List Logic). slice_index_or l (place_in numbers n) U) are ∙ placed_value (value_of ds) numbers n among)
 
-  sources_of_part : (ss : List Source) → AreAmong numbers ss → map (source_value own) (map (placed_in numbers) ss) ≡ map (source_value ds) ss
+  pub sources_of_part : (ss : List Source) → AreAmong numbers ss → map (source_value own) (map (placed_in numbers) ss) ≡ map (source_value ds) ss
   sources_of_part [] among = refl
   sources_of_part (s ∷ ss) among = rw (source_of_part s among.0, sources_of_part ss among.1) refl
 
@@ -213,12 +213,12 @@ module _ (ds own : List DriverState) (numbers : List ℕ) (are : driver_values o
 abbrev no_sources : Net
 no_sources = record { name = []; sources = [] }
 
-length-nets : (numbers followed : List ℕ) (k : ℕ) (nets : List Net) → length (part_nets numbers followed k nets) ≡ length nets
+pub length-nets : (numbers followed : List ℕ) (k : ℕ) (nets : List Net) → length (part_nets numbers followed k nets) ≡ length nets
 unfolding part_nets
 length-nets numbers followed k [] = refl
 length-nets numbers followed k (net ∷ nets) = ap suc (length-nets numbers followed (suc k) nets)
 
-net_of_part : (numbers followed : List ℕ) (k i n : ℕ) (nets : List Net) → n ≡ k + i → i < length nets → is_among followed n ≡ true
+pub net_of_part : (numbers followed : List ℕ) (k i n : ℕ) (nets : List Net) → n ≡ k + i → i < length nets → is_among followed n ≡ true
     → (slice_index_or (part_nets numbers followed k nets) i no_sources).sources ≡ map (placed_in numbers) (slice_index_or nets i no_sources).sources
 unfolding part_nets
 net_of_part numbers followed k i n [] e lt among = absurd (omega (arith, lt))

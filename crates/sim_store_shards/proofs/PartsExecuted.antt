@@ -34,7 +34,7 @@ pub length-picked : (members : List ℕ) (os : List Owned) → length (picked me
 length-picked [] os = refl
 length-picked (n ∷ members) os = ap suc (length-picked members os)
 
-length-processes : (ps : List Process) (count first : ℕ) (members : List ℕ) → length (part_processes ps count first members) ≡ suc (length members)
+pub length-processes : (ps : List Process) (count first : ℕ) (members : List ℕ) → length (part_processes ps count first members) ≡ suc (length members)
 unfolding part_processes
 length-processes ps count first [] = refl
 length-processes ps count first (n ∷ members) = ap suc (length-processes ps count (first + (process_at ps n).body.drivers) members)
@@ -64,7 +64,7 @@ holds_at P (n ∷ members) (suc i) h lt = holds_at P members i h.1 (omega (arith
 
 -- ---- nets that are followed
 
-holds_of : (P : ℕ → Type 0) (followed : List ℕ) (n : ℕ) → is_among followed n ≡ true → AllByRecursion P followed → P n
+pub holds_of : (P : ℕ → Type 0) (followed : List ℕ) (n : ℕ) → is_among followed n ≡ true → AllByRecursion P followed → P n
 holds_of P [] n e h = absurd cc
 holds_of P (m ∷ followed) n e h = go (eqb m n) refl e (λ more. holds_of P followed n more h.1)
   where
@@ -183,6 +183,9 @@ pub first_length : (design : Design) → All IsProcess design.processes → (cyc
 first_length design is cycles s len =
     ap (λ (x : State). length x.owned) (set_is_together design is (is_at_once design cycles s) s len)
     ∙ (length-merged (is_at_once design cycles s) (result design s) 0 s.owned ∙ len)
+
+pub nobody_waits_at_first : (members : List ℕ) → [] ≡ waiting_in members []
+nobody_waits_at_first members = sym (ranged (λ place. false) 0 (length members) ∙ counted-none (λ place. false) 0 (length members) (λ q. refl))
 
 stand_in_is : (first count : ℕ) → IsProcess (stand_in_process first count)
 unfolding rising objects_of
@@ -356,9 +359,6 @@ module _ (design : Design) (p : Part) (is : All IsProcess design.processes) (bel
           let rest = filter_more h (i + 1) n (ap h next ∙ e) in
           ap (λ (l : List ℕ). if h i then i ∷ l else l) rest
 
-  nobody_waits : [] ≡ waiting_in p.members []
-  nobody_waits = sym (ranged (λ place. false) 0 (length p.members) ∙ counted-none (λ place. false) 0 (length p.members) (λ q. refl))
-
   pub ended_of_part : (delta : Bool) (cycles : ℕ) (s t : State) → IsPartState p s t → length s.owned ≡ length design.processes
       → IsPartState p (ended_as delta design cycles s) (ended_as delta (part_of design p) cycles t)
   ended_of_part true cycles s t a len =
@@ -372,4 +372,4 @@ module _ (design : Design) (p : Part) (is : All IsProcess design.processes) (bel
   ended_of_part false cycles s t a len =
       let y = set_of_part (is_waiting design cycles s) (is_waiting (part_of design p) cycles t) (first_executed design cycles s)
       (first_executed (part_of design p) cycles t) (first_of_part cycles s t a len) (first_length design is cycles s len) (waiting_same cycles s t a) in
-      record { time = y.time; owned = y.owned; waiting = nobody_waits; nets = y.nets }
+      record { time = y.time; owned = y.owned; waiting = nobody_waits_at_first p.members; nets = y.nets }

@@ -1,13 +1,14 @@
 -- A part of a design, by which a shard carries a run on: some of its processes, with their drivers; one process more, which does nothing and stands in for
 -- all others, with those of their drivers whose values are told to the part; and the nets that the part follows.
 -- Implementation only: what `simulate` promises does not rest on this file.
-use Rattle.std.specs.Prelude.{ℕ, suc, ◌+◌, ◌≡◌, ◌==◌, List, [], ◌∷◌, ◌++◌, Bool, true, false, if◌then◌else◌}
+use Rattle.std.specs.Prelude.{ℕ, suc, ◌+◌, ◌≡◌, ◌<◌, ◌≤◌, ◌==◌, List, [], ◌∷◌, ◌++◌, Bool, true, false, if◌then◌else◌}
 use Rattle.std.specs.Prelude.{map, flat_map, filter, length, slice_index_or, slice_set}
 use Rattle.std.specs.List.{AllByRecursion, range_with_len}
 use Rattle.sim_logic.specs.declared.logic.Logic.TheVariants.{U}
+use Rattle.sim_flat_design.specs.declared.design.DriverOf.{DriverOf}
 use Rattle.sim_flat_design.specs.declared.design.Source.{Source}
 use Rattle.sim_flat_design.specs.declared.design.Source.TheVariants as source
-use Rattle.sim_flat_design.specs.Designs.{Design, Net}
+use Rattle.sim_flat_design.specs.Designs.{Design, Net, most}
 use Rattle.sim_flat_design.specs.Processes.{Process}
 use Rattle.sim_standard.specs.Cycle.{first_executed, is_at_once, is_waiting, processes_where}
 use Rattle.sim_standard.specs.Drivers.{DriverState, Transaction, taken}
@@ -53,11 +54,11 @@ drivers_of processes members = flat_map (λ (n : ℕ). range_with_len (process_a
 abbrev pub numbers_of : Design → Part → List ℕ
 numbers_of design part = drivers_of design.processes part.members ++ part.told
 
--- the nets from a number on: those that are followed, with the part's numbers of their drivers, and the others without drivers
+-- the nets from a number on, without names: those that are followed, with the part's numbers of their drivers, and the others without drivers
 unfoldable pub part_nets : List ℕ → List ℕ → ℕ → List Net → List Net
 part_nets numbers followed n [] = []
 part_nets numbers followed n (net ∷ nets) =
-    record net { sources = if is_among followed n then map (placed_in numbers) net.sources else source.Constant U ∷ [] }
+    record { name = []; sources = if is_among followed n then map (placed_in numbers) net.sources else source.Constant U ∷ [] }
     ∷ part_nets numbers followed (suc n) nets
 
 -- the same process, whose drivers begin at a number
@@ -81,11 +82,27 @@ part_processes processes count first [] = stand_in_process first count ∷ []
 part_processes processes count first (n ∷ members) =
     with_drivers_from first (process_at processes n) ∷ part_processes processes count (first + (process_at processes n).body.drivers) members
 
+-- the driver with a number
+abbrev pub driver_of_at : List DriverOf → ℕ → DriverOf
+driver_of_at drivers n = slice_index_or drivers n (record { process = 0; net = 0; first = U })
+
+-- the drivers with these numbers, as those of a process
+abbrev pub given_to : ℕ → List DriverOf → List ℕ → List DriverOf
+given_to process drivers numbers = map (λ (n : ℕ). record (driver_of_at drivers n) { process = process }) numbers
+
+-- the drivers of the processes from a place on, and of the one that stands in for the others
+unfoldable pub part_drivers : List Process → List DriverOf → List ℕ → ℕ → List ℕ → List DriverOf
+part_drivers processes drivers told place [] = given_to place drivers told
+part_drivers processes drivers told place (n ∷ members) =
+    given_to place drivers (range_with_len (process_at processes n).first_driver (process_at processes n).body.drivers)
+    ++ part_drivers processes drivers told (place + 1) members
+
 -- the part as a design
 abbrev pub part_of : Design → Part → Design
-part_of design part = record design {
+part_of design part = record {
   nets = part_nets (numbers_of design part) part.followed 0 design.nets;
   processes = part_processes design.processes (length part.told) 0 part.members;
+  drivers = part_drivers design.processes design.drivers part.told 0 part.members;
 }
 
 -- the sources of the net with a number
@@ -104,6 +121,13 @@ AreFollowed followed nets = AllByRecursion (λ (n : ℕ). is_among followed n �
 abbrev pub FollowsAll : Design → Part → Type 0
 FollowsAll design part = AllByRecursion (λ (n : ℕ). AreFollowed part.followed (process_at design.processes n).reads
     × AreFollowed part.followed (process_at design.processes n).sensitivity) part.members
+
+-- The drivers that are told exist, and the part is within the limits of a design.
+pub record IsPart (design : Design) (part : Part) : Type 0 where
+  pub members : AllByRecursion (λ (n : ℕ). n < length design.processes) part.members
+  pub told : AllByRecursion (λ (n : ℕ). n < length design.drivers) part.told
+  pub processes_bound : length part.members < most
+  pub drivers_bound : length (numbers_of design part) ≤ most
 
 -- ---- its state
 

@@ -7,22 +7,29 @@
 ghost use Rattle.std.specs.Prelude.{ℕ, Bool, true, List, Some, ◌≡◌, ◌<◌, map, length};
 ghost use Rattle.std.specs.List.{All, AllByRecursion, list_any, range_with_len};
 ghost use Rattle.sim_logic.specs.declared.logic.Logic as logic;
-ghost use Rattle.sim_flat_design.specs.Designs.{Design};
+ghost use Rattle.sim_flat_design.specs.Designs.{Design, IsDesign};
 ghost use Rattle.sim_flat_design.specs.Processes.{IsProcess};
 ghost use Rattle.sim_standard.specs.declared.net_view.NetView as net_view;
 ghost use Rattle.sim_standard.specs.Cycle.{cycle_end, first_executed, is_delta_next, updated};
 ghost use Rattle.sim_standard.specs.Drivers.{next_time};
+ghost use Rattle.sim_standard.specs.Initialization.{first_state};
 ghost use Rattle.sim_standard.specs.Orders.{is_among};
 ghost use Rattle.sim_standard.specs.Processes.{place_in};
 ghost use Rattle.sim_standard.specs.Records.{changes_from};
 ghost use Rattle.sim_standard.specs.State.{Owned, State, all_drivers, owned_at};
 ghost use Rattle.sim_store_shards.specs.Parts.{AreDriven, AreNumbered, AreResolved, FollowsAll, HasNothingAt, OwnTheirs};
-ghost use Rattle.sim_store_shards.specs.Parts.{IsPartBetween, IsPartState, IsPartTold, Part, RestIn, cut, ended_as, news, part_of, with_told};
+ghost use Rattle.sim_store_shards.specs.Parts.{IsPart, IsPartBetween, IsPartState, IsPartTold, Part, RestIn, cut, ended_as, news, part_of, with_told};
 ghost use Rattle.sim_store_shards.specs.Times.{AreFrom, earliest, pending_times};
 ghost use Rattle.sim_store_shards.specs.Logs.{RiseFrom, changes_of};
 ghost use Rattle.sim_store_shards.specs.Selections.{picked};
 
 // ---- a part, from cycle to cycle (14.7.5.3)
+
+/// A part begins as the whole does (14.7.5.2).
+pub fn a_part_begins_with_the_whole()
+    ensures { (design : Design) (part : Part) → IsDesign design → IsPart design part → AllByRecursion (λ n. n < length design.nets) part.followed
+        → AreDriven design part → IsPartState part (first_state design) (first_state (part_of design part)) }
+{}
 
 /// A part can be cut out of the whole at any time; from the end of a cycle on its time and its events
 /// count no more; and told the transactions that others take at the time of the next cycle, it is
@@ -32,6 +39,11 @@ pub fn a_part_is_cut_out_and_told()
     ensures between { (part : Part) (s t : State) → IsPartState part s t → IsPartBetween part s t }
     ensures told { (part : Part) (time : ℕ) (s t : State) → IsPartBetween part s t
         → IsPartTold part time s (with_told part (news time (all_drivers s.owned) part.told) t) }
+{}
+
+/// A part of a design is a design: so what there is for designs carries it out.
+pub fn a_part_is_a_design()
+    ensures { (design : Design) (part : Part) → IsDesign design → IsPart design part → AreDriven design part → IsDesign (part_of design part) }
 {}
 
 /// A part is updated by itself, once it is told which transactions of others are taken at the time
