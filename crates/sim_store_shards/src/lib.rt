@@ -1,7 +1,7 @@
 //! Laws by which a run could be carried out in shards, each by a thread of its own. A shard carries
 //! out the cycles of a part of the design: some of the processes, and one more that stands in for
-//! all others, with those of their drivers whose transactions it is told. So a shard is an ordinary
-//! design. Each law is what an empty function ensures.
+//! all others. This process has the drivers of others whose transactions the shard receives. So a
+//! shard is an ordinary design. Each law is what an empty function ensures.
 #![tactic(auto)]
 
 ghost use Rattle.std.specs.Prelude.{ℕ, Bool, true, List, Some, ◌≡◌, ◌<◌, map, length};
@@ -46,9 +46,9 @@ pub fn a_part_is_a_design()
     ensures { (design : Design) (part : Part) → IsDesign design → IsPart design part → AreDriven design part → IsDesign (part_of design part) }
 {}
 
-/// A part is updated by itself, once it is told which transactions of others are taken at the time
-/// of the cycle: what its processes own, the values of the drivers that it is told, and the nets
-/// that it follows are those of the whole (14.7.5.3 a, c, d).
+/// A part that has received the transactions of others for the time of the cycle updates itself. The
+/// update leaves what its processes own, the values of the drivers of its stand-in process and the
+/// nets that it follows as they are in the whole (14.7.5.3 a, c, d).
 pub fn a_part_is_updated_by_itself()
     ensures { (design : Design) (part : Part) (s t : State) (time : ℕ) → AreNumbered 0 design.processes → OwnTheirs design.processes s.owned
         → AllByRecursion (λ n. n < length design.processes) part.members → IsPartTold part time s t → length s.nets ≡ length design.nets
