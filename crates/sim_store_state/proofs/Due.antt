@@ -181,3 +181,17 @@ pub times-more : (times times' : List (Option ℕ)) (ds : List DriverState) (t :
 times-more times times' ds t {stale} {from} {n} w next lt en et =
     walk_more w next (λ d apart e. ap (λ w. time_of w d) en ∙ (get_or-set_other times n d t None apart ∙ e))
     (ap (λ w. time_of w n) en ∙ (get_or-set_same times n t None lt ∙ et))
+
+-- the drivers whose times the queue has let go are stale
+pub times-let-go : (ds : List DriverState) (times times' : List (Option ℕ)) (due : List Bool) (time : ℕ) → times ≡ first_times ds
+    → due ≡ those_at time times → times' ≡ cleared time times → AreTimes times' due ds
+times-let-go ds times times' due time et ed ec =
+    let l : length times ≡ length ds = ap length et ∙ first-count ds in
+    record {
+      sized = omega (arith, ap length ec, length-map times (clear time), l);
+      marked = omega (arith, ap length ed, length-map times (is_at time), l);
+      current = λ d other.
+          let apart : is_at time (time_of times d) ≡ false = sym (in-those-at time times d) ∙ (ap (λ w. is_in w d) (sym ed) ∙ other) in
+          ap (λ w. time_of w d) ec ∙ (time-cleared time times d ∙ (clear-other time (time_of times d) apart ∙ (ap (λ w. time_of w d) et
+          ∙ time-of-first ds d)));
+    }

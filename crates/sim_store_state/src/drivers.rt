@@ -147,6 +147,16 @@ pub fn tell_changed(
     tell_row(queue, stale, drivers, number);
 }
 
+/// The value of a driver after it takes its first transaction, if its time has come.
+pub fn value_after(driver: &Driver, time: u64) -> Logic
+    ensures { result ≡ (taken time driver.now).value }
+{
+    match driver.pending().first() {
+        Some((due, value)) if *due == time => *value,
+        _ => driver.value(),
+    }
+}
+
 /// A driver takes its first transaction, if its time has come (14.7.2). Returns its value after
 /// that, and its first pending time.
 #[inline(always)]

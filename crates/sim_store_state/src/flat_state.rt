@@ -17,7 +17,9 @@ ghost use Rattle.sim_standard.specs.State.{State, driver_values, net_at, owned_a
 ghost use Rattle.sim_standard.specs.Statements.{executed};
 ghost use Rattle.sim_standard.specs.Drivers as spec;
 ghost use Rattle.sim_store_state.specs.Times as times;
-ghost use Rattle.sim_store_state.specs.Assignments.{AreAssigned};
+ghost use Rattle.sim_containers.specs.Times.{those_at};
+ghost use Rattle.sim_store_state.specs.Assignments.{AreAssigned, told_of};
+ghost use Rattle.sim_store_state.specs.Changes.{first_times};
 ghost use Rattle.sim_standard.specs.State as states;
 ghost use Rattle.sim_standard.specs.Initialization.{first_state};
 ghost use Rattle.sim_standard.specs.Cycle.{updated};
@@ -29,7 +31,7 @@ ghost use Rattle.sim_standard.specs.Records.{changes_from, values_of};
 ghost use Rattle.sim_wave.specs.Rising.{RisesFrom};
 
 use crate::assignment::assign_in_parts_and_tell;
-use crate::drivers::{are_same, bring_up_to_date, copied, mark_stale, tell_changed};
+use crate::drivers::{are_same, bring_up_to_date, copied, mark_stale, tell_changed, value_after};
 use crate::execution::{as_done, execute_in_parts, may_have_changed};
 use crate::in_turn::execute_in_one_part;
 use crate::log::Log;
@@ -37,7 +39,7 @@ use crate::nets::{ByNumber, Seen, SeenBy, are_views, end_events, resolve_touched
 use crate::start::{connections, first_contents, nothing_pending};
 use crate::tallies::Tallies;
 use crate::touched::Touched;
-use sim_containers::{DividedRows, NumberSet, RowArray, TimeQueue};
+use sim_containers::{DividedRows, NumberList, NumberSet, RowArray, TimeQueue};
 use sim_exec::NetView;
 use sim_exec_code::{Codes, Frame, SingleAssignment};
 use sim_flat_design::{Design, Held, Process, Source};
@@ -412,6 +414,66 @@ impl FlatState {
             &self.tallies,
         );
         Ok(())
+    }
+
+    /// The update of a cycle in which no driver takes a transaction (14.7.5.3 c, d): each net keeps
+    /// its value, so that none has an event.
+    pub fn end_events(&mut self)
+        ensures { (design : design_value) (s : State) (time : ℕ) → map (spec.taken time) (states.all_drivers s.owned) ≡ states.all_drivers s.owned
+            → self.old ≡ flat_state_of design s → self.new ≡ flat_state_of design (updated design s time) }
+    {
+        end_events(
+            self.values_before.as_mut_slice(),
+            self.values.as_slice(),
+            &self.touched,
+        );
+        self.touched.clear();
+    }
+
+    /// Finds the drivers that take a transaction at the time of the next cycle. It looks at no
+    /// others. If allocation fails, nothing changes.
+    pub fn find_active(&mut self, time: u64, active: &mut NumberList) -> Result<(), AllocError>
+        requires next { spec.next_time (states.all_drivers self.old.owned) ≡ Some time }
+        requires sized { length active.old ≡ length (states.all_drivers self.old.owned) }
+        ensures same { self.new ≡ self.old }
+        ensures active { OnOk result (active.new ≡ those_at time (first_times (states.all_drivers self.old.owned))) }
+        ensures sized { length active.new ≡ length active.old }
+    {
+        bring_up_to_date(&mut self.queue, &self.stale, &self.drivers)?;
+        // The queue lets go of their times: they are stale until the update.
+        self.queue.take(time, &mut self.stale);
+        active.set_from(&self.stale);
+        Ok(())
+    }
+
+    /// The value that the driver with a number has after it takes its transaction of a time, if it
+    /// has one.
+    pub fn value_at(&self, driver: usize, time: u64) -> Logic
+        requires { driver < length (states.all_drivers self.now.owned) }
+        ensures { result ≡ (spec.taken time (states.driver_at (states.all_drivers self.now.owned) driver)).value }
+    {
+        value_after(self.drivers.item(driver), time)
+    }
+
+    /// Gives the driver at a place of the process with a number a transaction of the present value of
+    /// `time`, as an assignment without delay at that time does. If allocation fails, nothing else changes.
+    pub fn tell(
+        &mut self,
+        number: usize,
+        driver: u32,
+        time: u64,
+        value: Logic,
+    ) -> Result<(), AllocError>
+        requires at { number < length self.old.owned }
+        requires time { time ≤ largest_time }
+        requires pending { All (λ d. RisesFrom time d.pending) (owned_at self.old.owned number).drivers }
+        requires none { (states.driver_at (owned_at self.old.owned number).drivers driver).pending ≡ [] }
+        ensures alone { self.new ≡ record self.old { owned = slice_set self.old.owned number (owned_at self.new.owned number) } }
+        ensures ok { OnOk result (owned_at self.new.owned number ≡ told_of driver time value (owned_at self.old.owned number)) }
+        ensures pending { All (λ d. RisesFrom time d.pending) (owned_at self.new.owned number).drivers }
+    {
+        let told = SingleAssignment::of_value(driver, value);
+        self.assign(number, &told, time)
     }
 
     /// Executes the process with this number in place, by its code. If allocation fails, it may

@@ -60,6 +60,13 @@ impl Touched {
         self.list.numbers()
     }
 
+    /// No net is here any more.
+    pub fn clear(&mut self)
+        ensures { self.new ≡ replicate (length self.old) false }
+    {
+        self.list.clear();
+    }
+
     /// Each active driver takes its transaction of a time (14.7.5.3 c). The nets of those whose value
     /// is a new one replace the nets that were here. It takes no memory for them.
     #[inline(always)]
