@@ -455,8 +455,9 @@ impl FlatState {
         value_after(self.drivers.item(driver), time)
     }
 
-    /// Gives the driver at a place of the process with a number a transaction of the present value of
-    /// `time`, as an assignment without delay at that time does. If allocation fails, nothing else changes.
+    /// The driver at a place of the process with a number gets a transaction of a time, in place of
+    /// all that it has pending, as an assignment without delay at that time gives it (10.5.2.2). If
+    /// allocation fails, no other process owns anything else.
     pub fn tell(
         &mut self,
         number: usize,
@@ -467,7 +468,6 @@ impl FlatState {
         requires at { number < length self.old.owned }
         requires time { time ≤ largest_time }
         requires pending { All (λ d. RisesFrom time d.pending) (owned_at self.old.owned number).drivers }
-        requires none { (states.driver_at (owned_at self.old.owned number).drivers driver).pending ≡ [] }
         ensures alone { self.new ≡ record self.old { owned = slice_set self.old.owned number (owned_at self.new.owned number) } }
         ensures ok { OnOk result (owned_at self.new.owned number ≡ told_of driver time value (owned_at self.old.owned number)) }
         ensures pending { All (λ d. RisesFrom time d.pending) (owned_at self.new.owned number).drivers }

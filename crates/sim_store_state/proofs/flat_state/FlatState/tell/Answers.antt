@@ -14,7 +14,7 @@ returns c =
     let e = c.assign.ensures in
     record {
       alone = e.alone;
-      ok = told_left (net_at h.nets) c.args.time c.args.driver c.args.value c.assign.result own now c.requires.none
+      ok = told_left (net_at h.nets) c.args.time c.args.driver c.args.value c.assign.result own now c.requires.pending
           (subst (λ (q : SingleAssignment). AreAssigned (net_at h.nets) c.args.time q c.assign.result own.drivers now.drivers) c.of_value-told.ensures
           e.assigned) e.variables;
       pending = e.assigned.pending;
