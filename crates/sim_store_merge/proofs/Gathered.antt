@@ -1,6 +1,6 @@
 -- The changes of all logs at the time of a record, in net order, are those of the record.
 use Rattle.std.proofs.Common.{ℕ, zero, suc, ◌+◌, ◌<◌, ◌≤◌, ◌≡◌, List, [], ◌∷◌, ◌++◌, length, get_or, drop, refl, sym, ap, ◌∙◌}
-use Rattle.std.proofs.Common.{subst, arith, append_assoc, append-nil}
+use Rattle.std.proofs.Common.{subst, arith, append_assoc}
 use Rattle.std.proofs.lemmas.List.{drop-drop, drop_more}
 use Rattle.std.proofs.lemmas.List.Sorted.{sum_by-IsPermutation}
 use Rattle.std.specs.List.{flat_map, range_with_len}
@@ -23,7 +23,7 @@ same_joined g h a (suc k) e =
     ∙ ap (λ (cs : List Change). h a ++ cs) (same_joined g h (a + 1) k (λ n le lt. e n (omega (arith, le)) (omega (arith, lt))))
 
 -- what is due of one log
-due_here : (owner : ℕ → ℕ) (r : Record) (rs : List Record) (logs : List Logged) (places : List ℕ) (at : ℕ × ℕ) (n : ℕ) → at ≡ (r.time, r.delta)
+pub due_here : (owner : ℕ → ℕ) (r : Record) (rs : List Record) (logs : List Logged) (places : List ℕ) (at : ℕ × ℕ) (n : ℕ) → at ≡ (r.time, r.delta)
     → IsLeft owner (r ∷ rs) logs places → n < length logs → due at (rest_at logs places n) ≡ changes_of owner n r.changes
 due_here owner r rs logs places at n e left lt =
     ap (λ (t : ℕ × ℕ). due t (rest_at logs places n)) e
@@ -54,6 +54,14 @@ left_on owner r rs logs places places' at e left moved = record {
       ∙ (ap (beyond (r.time, r.delta)) (left.each n lt) ∙ (turn owner n r rs left.rise).1));
 }
 
+abbrev made : ℕ × ℕ → List Change → Record
+made at cs = record { time = at.0; delta = at.1; changes = cs }
+
+-- the record that is made of its time and its changes is appended
+pub made_is : (now now' : List Record) (at : ℕ × ℕ) (cs : List Change) (r : Record) → at ≡ (r.time, r.delta) → cs ≡ r.changes
+    → now' ≡ now ++ record { time = at.0; delta = at.1; changes = cs } ∷ [] → now' ≡ now ++ r ∷ []
+made_is now now' at cs r e same is = is ∙ (ap (λ (t : ℕ × ℕ). now ++ made t cs ∷ []) e ∙ ap (λ (l : List Change). now ++ made (r.time, r.delta) l ∷ []) same)
+
 -- ---- record by record
 
 -- How far the merging of logs has come: the records that are there now, and those that are left.
@@ -70,38 +78,27 @@ abbrev times_rest : List (ℕ × ℕ) → List (ℕ × ℕ)
 times_rest [] = []
 times_rest (t ∷ ts) = ts
 
-abbrev made : ℕ × ℕ → List Change → Record
-made at cs = record { time = at.0; delta = at.1; changes = cs }
-
-pub one_more : {owner : ℕ → ℕ} {logs : List Logged} {places : List ℕ} {whole now rest : List Record} (places' : List ℕ) (at : ℕ × ℕ) (ts : List (ℕ × ℕ))
-    (cs : List Change) → IsOn owner logs places (at ∷ ts) whole now rest
-    → ((r : Record) (rs : List Record) → at ≡ (r.time, r.delta) → IsLeft owner (r ∷ rs) logs places → cs ≡ r.changes)
+one_more : {owner : ℕ → ℕ} {logs : List Logged} {places : List ℕ} {whole now rest : List Record} (places' : List ℕ) (at : ℕ × ℕ) (ts : List (ℕ × ℕ))
+    (now' : List Record) → IsOn owner logs places (at ∷ ts) whole now rest
+    → ((r : Record) (rs : List Record) → at ≡ (r.time, r.delta) → IsLeft owner (r ∷ rs) logs places → now' ≡ now ++ r ∷ [])
     → ((r : Record) (rs : List Record) → at ≡ (r.time, r.delta) → IsLeft owner (r ∷ rs) logs places → IsLeft owner rs logs places')
-    → IsOn owner logs places' ts whole (now ++ record { time = at.0; delta = at.1; changes = cs } ∷ []) (drop 1 rest)
-one_more {rest = []} places' at ts cs on same next = let none : at ∷ ts ≡ [] = on.times_are in absurd cc
-one_more {owner} {logs} {places} {whole} {now} {rest = r ∷ rs} places' at ts cs on same next =
+    → IsOn owner logs places' ts whole now' (drop 1 rest)
+one_more {rest = []} places' at ts now' on new next = let none : at ∷ ts ≡ [] = on.times_are in absurd cc
+one_more {owner} {logs} {places} {whole} {now} {rest = r ∷ rs} places' at ts now' on new next =
     let e : at ≡ (r.time, r.delta) = ap (time_first at) on.times_are in
-    let is : made at cs ≡ r = ap (λ (t : ℕ × ℕ). made t cs) e ∙ ap (made (r.time, r.delta)) (same r rs e on.left) in
     record {
-      whole_is = append_assoc now (made at cs ∷ []) rs ∙ (ap (λ (q : Record). now ++ q ∷ rs) is ∙ on.whole_is);
+      whole_is = ap (λ (l : List Record). l ++ rs) (new r rs e on.left) ∙ (append_assoc now (r ∷ []) rs ∙ on.whole_is);
       times_are = ap times_rest on.times_are;
       left = next r rs e on.left;
     }
 
--- nothing is left
-pub all_on : {owner : ℕ → ℕ} {logs : List Logged} {places : List ℕ} {whole now rest : List Record} → IsOn owner logs places [] whole now rest → now ≡ whole
-all_on {now = now} {rest = []} on = sym (append-nil now) ∙ on.whole_is
-all_on {rest = r ∷ rs} on = let none : [] ≡ (r.time, r.delta) ∷ times_of rs = on.times_are in absurd cc
-
 -- the same, by places
 pub one_at : {owner : ℕ → ℕ} {logs : List Logged} {places : List ℕ} {whole now : List Record} (places' : List ℕ) (times : List (ℕ × ℕ)) (records : List Record)
-    (i : ℕ) (d : ℕ × ℕ) (cs : List Change) (now' : List Record) → i < length times → IsOn owner logs places (drop i times) whole now (drop i records)
-    → ((r : Record) (rs : List Record) → get_or times i d ≡ (r.time, r.delta) → IsLeft owner (r ∷ rs) logs places → cs ≡ r.changes)
+    (i : ℕ) (d : ℕ × ℕ) (now' : List Record) → i < length times → IsOn owner logs places (drop i times) whole now (drop i records)
+    → ((r : Record) (rs : List Record) → get_or times i d ≡ (r.time, r.delta) → IsLeft owner (r ∷ rs) logs places → now' ≡ now ++ r ∷ [])
     → ((r : Record) (rs : List Record) → get_or times i d ≡ (r.time, r.delta) → IsLeft owner (r ∷ rs) logs places → IsLeft owner rs logs places')
-    → now' ≡ now ++ record { time = (get_or times i d).0; delta = (get_or times i d).1; changes = cs } ∷ []
     → IsOn owner logs places' (drop (i + 1) times) whole now' (drop (i + 1) records)
-one_at {owner} {logs} {places} {whole} {now} places' times records i d cs now' lt on same next e =
+one_at {owner} {logs} {places} {whole} {now} places' times records i d now' lt on new next =
     let here = subst (λ (ts : List (ℕ × ℕ)). IsOn owner logs places ts whole now (drop i records)) (drop_more times i d lt) on in
-    let more = one_more places' (get_or times i d) (drop (i + 1) times) cs here same next in
-    subst (λ (rs : List Record). IsOn owner logs places' (drop (i + 1) times) whole now' rs) (drop-drop 1 i records)
-    (subst (λ (q : List Record). IsOn owner logs places' (drop (i + 1) times) whole q (drop 1 (drop i records))) (sym e) more)
+    let more = one_more places' (get_or times i d) (drop (i + 1) times) now' here new next in
+    subst (λ (rs : List Record). IsOn owner logs places' (drop (i + 1) times) whole now' rs) (drop-drop 1 i records) more

@@ -1,6 +1,9 @@
 mod Gathered
+mod Only
+mod Own
 mod Places
 mod Pushes
+mod Runs
 mod Shares
 mod Sorted
 mod Totals

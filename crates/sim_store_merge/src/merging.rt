@@ -6,7 +6,7 @@ ghost use Rattle.sim_standard.specs.declared.record.Record as record_type;
 ghost use Rattle.sim_store_merge.specs.Owners.{AreLogs, times_of};
 ghost use Rattle.sim_store_merge.specs.Rests.{IsLeft, net_of};
 
-use crate::taking::take_all;
+use crate::taking::{append_only, next_due, take_all};
 use sim_logic::Logic;
 use sim_store_state::Log;
 use std::alloc::{AllocError, Global};
@@ -40,6 +40,53 @@ fn gather(
     Ok(())
 }
 
+/// Appends a record of which several logs have changes.
+fn append_gathered(
+    log: &mut Log,
+    changes: &mut Vec<(u32, Logic)>,
+    places: &mut [usize],
+    logs: &[Log],
+    at: (u64, u64),
+) -> Result<(), AllocError>
+    requires { length places.old ≡ length logs.now }
+    ensures records { OnOk result ((owner : ℕ → ℕ) (r : record_type.Record) (records : List record_type.Record) → at ≡ (r.time, r.delta)
+        → IsLeft owner (r ∷ records) logs.now places.old → log.new.records ≡ log.old.records ++ r ∷ []) }
+    ensures rest { OnOk result ((owner : ℕ → ℕ) (r : record_type.Record) (records : List record_type.Record) → at ≡ (r.time, r.delta)
+        → IsLeft owner (r ∷ records) logs.now places.old → IsLeft owner records logs.now places.new) }
+{
+    gather(changes, places, logs, at)?;
+    log.push(at.0, at.1, changes.as_slice())?;
+    Ok(())
+}
+
+/// Appends the record with this time. If one log has it, or none, no changes are gathered.
+fn append_record(
+    log: &mut Log,
+    changes: &mut Vec<(u32, Logic)>,
+    places: &mut [usize],
+    logs: &[Log],
+    at: (u64, u64),
+) -> Result<(), AllocError>
+    requires { length places.old ≡ length logs.now }
+    ensures records { OnOk result ((owner : ℕ → ℕ) (r : record_type.Record) (records : List record_type.Record) → at ≡ (r.time, r.delta)
+        → IsLeft owner (r ∷ records) logs.now places.old → log.new.records ≡ log.old.records ++ r ∷ []) }
+    ensures rest { OnOk result ((owner : ℕ → ℕ) (r : record_type.Record) (records : List record_type.Record) → at ≡ (r.time, r.delta)
+        → IsLeft owner (r ∷ records) logs.now places.old → IsLeft owner records logs.now places.new) }
+{
+    let first = next_due(logs, places, 0, at);
+    if first >= logs.len() {
+        log.push(at.0, at.1, &[])?;
+        return Ok(());
+    }
+    let second = next_due(logs, places, first + 1, at);
+    if second >= logs.len() {
+        append_only(log, places, logs, first, at)?;
+        return Ok(());
+    }
+    append_gathered(log, changes, places, logs, at)?;
+    Ok(())
+}
+
 /// Appends the records with these times, of which the logs have what is left from their places on.
 fn append_records(
     alloc: Global,
@@ -54,8 +101,7 @@ fn append_records(
 {
     let mut changes = Vec::new(alloc);
     for at in times {
-        gather(&mut changes, places, logs, *at)?;
-        log.push(at.0, at.1, changes.as_slice())?;
+        append_record(log, &mut changes, places, logs, *at)?;
     }
     Ok(())
 }
