@@ -1,0 +1,3 @@
+pub mod Below
+pub mod Memberships
+pub mod Told
