@@ -19,7 +19,7 @@ use Rattle.sim_store_parts.specs.Follow.{followed_of, is_looked_at, looks_at}
 use Rattle.sim_store_parts.specs.Nets.{no_net}
 use Rattle.sim_store_parts.specs.Numbers.{HasRange}
 use Rattle.sim_store_parts.specs.Told.{drivers_in, drivers_to, told_of}
-use Rattle.sim_store_parts.proofs.Counting.{counted_fewer, counted_rest, outside, rise_there}
+use Rattle.sim_store_parts.proofs.Counting.{counted_fewer, counted_rest, filter_rises, outside, rise_there}
 use Rattle.sim_store_parts.proofs.DriversRise.{drivers_rise}
 use Rattle.sim_store_parts.proofs.Lists.{among_append, among_first, each_in, filter_below, first_of_both, in_filter, or_left, or_right, second_of_both}
 use Rattle.sim_store_parts.proofs.ReadsBelow.{reads_below}
@@ -30,6 +30,10 @@ use Rattle.sim_store_parts.proofs.Whole.{have_ranges, members_within}
 pub followed_below : (ps : List Process) (members owned : List ℕ) (nets : ℕ) → AllByRecursion (λ (n : ℕ). n < nets) (followed_of ps members owned nets)
 unfolding followed_of
 followed_below ps members owned nets = filter_below (λ (n : ℕ). is_among owned n || is_looked_at ps members n) nets
+
+nets_rise : (ps : List Process) (members owned : List ℕ) (nets : ℕ) → RiseWithin 0 nets (followed_of ps members owned nets)
+unfolding followed_of
+nets_rise ps members owned nets = filter_rises (λ (n : ℕ). is_among owned n || is_looked_at ps members n) nets
 
 follows_owned : (ps : List Process) (members owned : List ℕ) (nets : ℕ) → AllByRecursion (λ (n : ℕ). n < nets) owned
     → AreFollowed (followed_of ps members owned nets) owned
@@ -70,6 +74,11 @@ told_below : (design : Design) (members followed : List ℕ) → AllByRecursion 
 unfolding told_of
 told_below design members followed =
     filter_below (λ (d : ℕ). is_among (drivers_to design.nets followed) d && not (is_among (drivers_of design.processes members) d)) (length design.drivers)
+
+told_rise : (design : Design) (members followed : List ℕ) → RiseWithin 0 (length design.drivers) (told_of design members followed)
+unfolding told_of
+told_rise design members followed =
+    filter_rises (λ (d : ℕ). is_among (drivers_to design.nets followed) d && not (is_among (drivers_of design.processes members) d)) (length design.drivers)
 
 -- a source of a net that is followed is one of its own, or told
 driver_known : (design : Design) (members followed : List ℕ) (d : ℕ) → d < length design.drivers → is_among (drivers_to design.nets followed) d ≡ true
@@ -167,4 +176,6 @@ contained design members owned d are can rise there =
       follows = follows_members design.processes members owned members (length design.nets) some d.processes are below (λ n e. e);
       below = nets;
       records = follows_owned design.processes members owned (length design.nets) there;
+      nets_rise = nets_rise design.processes members owned (length design.nets);
+      told_rise = told_rise design members followed;
     }

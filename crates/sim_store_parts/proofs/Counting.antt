@@ -1,10 +1,10 @@
 -- How many numbers are in a list that rises, and how many are not.
 use Rattle.std.proofs.Common.{ℕ, zero, suc, ◌+◌, ◌<◌, ◌≤◌, ◌≡◌, not, eqb, Bool, true, false, List, [], ◌∷◌, ◌++◌, length}
-use Rattle.std.proofs.Common.{refl, ap, subst, arith, if◌then◌else◌}
-use Rattle.std.specs.List.{AllByRecursion, range_with_len}
+use Rattle.std.proofs.Common.{refl, sym, ap, subst, arith, if◌then◌else◌}
+use Rattle.std.specs.List.{AllByRecursion, filter, range_with_len}
 use Rattle.std.proofs.lemmas.Bool.Decides.{nat_tests}
 use Rattle.sim_standard.specs.Orders.{is_among}
-use Rattle.sim_standard.proofs.Numbers.{counted, counted-same}
+use Rattle.sim_standard.proofs.Numbers.{counted, counted-same, ranged}
 use Rattle.sim_store_parts.specs.Cut.{RiseWithin}
 
 -- ---- numbers that rise
@@ -89,3 +89,22 @@ counted_rest (x ∷ xs) i (suc n) h = go (eqb x i) refl (counted_rest xs (suc i)
         let later : RiseWithin (suc i) (suc i + n) (x ∷ xs) =
         subst (λ (k : ℕ). RiseWithin (suc i) k (x ∷ xs)) end (omega (arith, after), h.1, h.2) in
         omega (arith, counted_one (outside (x ∷ xs)) i n true yes, more later)
+
+-- those that pass a test rise
+counted_rise : (f : ℕ → Bool) (i n : ℕ) → RiseWithin i (i + n) (counted f i n)
+unfolding counted
+counted_rise f i zero = tt
+counted_rise f i (suc n) = go (f i) (subst (λ (k : ℕ). RiseWithin (suc i) k (counted f (suc i) n)) end (counted_rise f (suc i) n))
+  where
+    end : suc i + n ≡ i + suc n
+    end = omega arith
+
+    go : (b : Bool) → RiseWithin (suc i) (i + suc n) (counted f (suc i) n)
+        → RiseWithin i (i + suc n) (if b then i ∷ counted f (suc i) n else counted f (suc i) n)
+    go true h = (omega arith, omega arith, h)
+    go false h = rise_lower (suc i) i (i + suc n) (counted f (suc i) n) (omega arith) h
+
+pub filter_rises : (f : ℕ → Bool) (count : ℕ) → RiseWithin 0 count (filter f (range_with_len 0 count))
+filter_rises f count =
+    let end : 0 + count ≡ count = omega arith in
+    subst (RiseWithin 0 count) (sym (ranged f 0 count)) (subst (λ (k : ℕ). RiseWithin 0 k (counted f 0 count)) end (counted_rise f 0 count))

@@ -32,10 +32,12 @@ pub record Cut : Type 0 where
 abbrev pub cut_of : Design → List ℕ → List ℕ → Cut
 cut_of design members owned = record { part = part_with design members owned; design = part_of design (part_with design members owned) }
 
--- A part can be carried out by itself, and follows these nets, all of which exist.
+-- A part can be carried out by itself, and follows these nets, all of which exist. The nets that it follows rise, and so do the drivers that it is told.
 pub record IsSelfContained (design : Design) (owned : List ℕ) (part : Part) : Type 0 where
   pub is_part : IsPart design part
   pub driven : AreDriven design part
   pub follows : FollowsAll design part
   pub below : AllByRecursion (λ (n : ℕ). n < length design.nets) part.followed
   pub records : AreFollowed part.followed owned
+  pub nets_rise : RiseWithin 0 (length design.nets) part.followed
+  pub told_rise : RiseWithin 0 (length design.drivers) part.told
