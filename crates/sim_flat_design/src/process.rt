@@ -176,6 +176,14 @@ impl Process {
         self.parts.reads.as_slice()
     }
 
+    /// The nets of its architecture's ports and signals, as the processes of an instance share them.
+    pub fn object_nets(&self) -> &ObjectNets
+        ensures value { result.now ≡ self.now.nets }
+        ensures placed { length result.now ≡ self.now.body.objects }
+    {
+        &self.parts.object_nets
+    }
+
     /// The net of each port and signal of its architecture, by position in the body.
     pub fn nets(&self) -> &[usize]
         ensures value { result.now ≡ self.now.nets }

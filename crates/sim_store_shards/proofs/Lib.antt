@@ -1,10 +1,10 @@
 pub mod Logs
 pub mod Selections
 mod Parts
-mod PartsExecuted
+pub mod PartsExecuted
 mod PartsPassed
 mod PartsJoined
-mod PartsFit
+pub mod PartsFit
 mod PartsBegun
 mod PartsTimes
 pub mod Times

@@ -1,0 +1,17 @@
+pub mod Lists
+pub mod Ranges
+pub mod Places
+pub mod Marks
+pub mod Sources
+pub mod NetsMore
+pub mod Bodies
+pub mod Members
+pub mod Given
+pub mod Whole
+pub mod Marked
+pub mod MembersMarked
+pub mod DriversMarked
+pub mod Counting
+pub mod DriversRise
+pub mod ReadsBelow
+pub mod Contained
