@@ -632,6 +632,18 @@ drivers-there nets number first all ds (p ∷ ps) e o (suc m) lt =
     drivers-there nets (number + 1) (first + p.body.drivers) all (drop p.body.drivers ds) ps
     (sym (drop-drop p.body.drivers first all) ∙ ap (drop p.body.drivers) e) o.3 m (omega (arith, lt))
 
+-- at first, what each process owns fits its body, and nothing is pending
+pub first-ready : (d : Design) → AreOwned (length d.nets) 0 0 d.processes d.drivers → (p : ℕ) → p < length d.processes
+    → IsReady (process_at d.processes p).body 1 (owned_at (first_state d).owned p)
+first-ready d are p lt =
+    let at : owned_at (first_state d).owned p ≡ first_owned d.drivers (process_at d.processes p) =
+    get_or-map (first_owned d.drivers) d.processes p no_process nothing_owned lt in
+    rw at (record {
+      drivers = length-map _ _ ∙ drivers-there (length d.nets) 0 0 d.drivers d.drivers d.processes refl are p lt;
+      variables = refl;
+      pending = All-map (λ (w : DriverState). RisesFrom 1 w.pending) (λ (x : DriverOf). record { value = x.first; pending = [] }) _ (λ j x l. tt);
+    })
+
 -- what is held at first is that of the simulation at its start
 pub begins : (d : Design) (k : ℕ) (held : FlatState) (records : List Record) (due waiting deposited : List Bool) → length d.nets ≤ most
     → AreOwned (length d.nets) 0 0 d.processes d.drivers
@@ -660,22 +672,12 @@ begins d k held records due waiting deposited few are all e₀ e er eu ep =
       due_are = eu.due_are;
       waiting_are = λ p lt. eu.waiting_are p lt ∙ sym (and_true (process_at d.processes p).postponed);
       ran = λ p w. absurd (cc (w, none-in-replicate (length d.processes) p));
-      ready = λ p lt. rw (none-in-replicate (length d.processes) p) (ready p lt);
+      ready = λ p lt. rw (none-in-replicate (length d.processes) p) (first-ready d are p lt);
     })
   where
     and_true : (b : Bool) → (b && true) ≡ b
     and_true true = refl
     and_true false = refl
-
-    ready : (p : ℕ) → p < length d.processes → IsReady (process_at d.processes p).body 1 (owned_at (first_state d).owned p)
-    ready p lt =
-        let at : owned_at (first_state d).owned p ≡ first_owned d.drivers (process_at d.processes p) =
-        get_or-map (first_owned d.drivers) d.processes p no_process nothing_owned lt in
-        rw at (record {
-          drivers = length-map _ _ ∙ drivers-there (length d.nets) 0 0 d.drivers d.drivers d.processes refl are p lt;
-          variables = refl;
-          pending = All-map (λ (w : DriverState). RisesFrom 1 w.pending) (λ (x : DriverOf). record { value = x.first; pending = [] }) _ (λ j x l. tt);
-        })
 
 -- ---- missing processes
 

@@ -19,20 +19,20 @@ abbrev pub AllFrom : ℕ → List ℕ → Type 0
 AllFrom t [] = Unit {0}
 AllFrom t (x ∷ xs) = (t ≤ x) × AllFrom t xs
 
-each_from : (t : ℕ) (xs : List ℕ) → All (λ (u : ℕ). t ≤ u) xs → AllFrom t xs
+pub each_from : (t : ℕ) (xs : List ℕ) → All (λ (u : ℕ). t ≤ u) xs → AllFrom t xs
 each_from t [] h = tt
 each_from t (x ∷ xs) h = (All-head (λ (u : ℕ). t ≤ u) x xs h, each_from t xs (All-tail (λ (u : ℕ). t ≤ u) x xs h))
 
-front : (t : ℕ) (xs ys : List ℕ) → AllFrom t (xs ++ ys) → AllFrom t xs
+pub front : (t : ℕ) (xs ys : List ℕ) → AllFrom t (xs ++ ys) → AllFrom t xs
 front t [] ys h = tt
 front t (x ∷ xs) ys h = (h.0, front t xs ys h.1)
 
-rest : (t : ℕ) (xs ys : List ℕ) → AllFrom t (xs ++ ys) → AllFrom t ys
+pub rest : (t : ℕ) (xs ys : List ℕ) → AllFrom t (xs ++ ys) → AllFrom t ys
 rest t [] ys h = h
 rest t (x ∷ xs) ys h = rest t xs ys h.1
 
 -- the least pending time is no later than any
-least_from : (t : ℕ) (ds : List DriverState) → next_time ds ≡ Some t → AllFrom t (pending_times ds)
+pub least_from : (t : ℕ) (ds : List DriverState) → next_time ds ≡ Some t → AllFrom t (pending_times ds)
 least_from t ds e = let least = subst (IsNext ds) e (next_is_least ds) in each_from t (pending_times ds) least.1
 
 -- if pending times rise and none is below this one, all are later after a transaction of this time is taken

@@ -53,7 +53,7 @@ fn is_process(process: &Process)
 }
 
 /// Shows what the types of processes guarantee.
-fn are_processes(processes: &[Process])
+pub fn are_processes(processes: &[Process])
     ensures { All IsProcess processes.now }
 {
     for process in processes {
@@ -133,7 +133,7 @@ pub struct Contents {
 }
 
 /// A log with the record of the first state of a design with this number of nets.
-fn first_log(alloc: Global, state: &FlatState, nets: usize) -> Result<Log, AllocError>
+pub fn first_log(alloc: Global, state: &FlatState, nets: usize) -> Result<Log, AllocError>
     requires few { nets < 2 ^ 32 }
     requires nets { length state.now.nets ≡ nets }
     ensures { IfOk result (λ l. l.records ≡ record { time = 0; delta = 0; changes = values_of state.now.nets } ∷ []) }
@@ -202,7 +202,7 @@ fn marks(alloc: Global, design: &Design) -> Result<FirstMarks, AllocError>
 }
 
 /// Compiles a design.
-fn compile(alloc: Global, design: &Design) -> Result<Compiled, AllocError>
+pub fn compile(alloc: Global, design: &Design) -> Result<Compiled, AllocError>
     ensures { IfOk result (λ l. spec.AreCompiled design.now l.sensitive l.codes l.frame) }
 {
     let sensitive = sensitive(alloc, design)?;

@@ -34,7 +34,7 @@ use crate::assignment::assign_in_parts_and_tell;
 use crate::drivers::{are_same, bring_up_to_date, copied, mark_stale, tell_changed, value_after};
 use crate::execution::{as_done, execute_in_parts, may_have_changed};
 use crate::in_turn::execute_in_one_part;
-use crate::log::Log;
+use crate::log::{Log, append_changes};
 use crate::nets::{ByNumber, Seen, SeenBy, are_views, end_events, resolve_touched, views_at};
 use crate::start::{connections, first_contents, nothing_pending};
 use crate::tallies::Tallies;
@@ -660,6 +660,23 @@ impl FlatState {
             &mut self.queue,
             &mut self.stale,
         )
+    }
+
+    /// Makes the changes of the last cycle, in net order, all that a list has. It looks only at nets
+    /// that are touched.
+    pub fn changes(&self, changes: &mut Vec<(u32, Logic)>) -> Result<(), AllocError>
+        requires few { length self.now.nets < 2 ^ 32 }
+        ensures { OnOk result (changes.new.items ≡ changes_from 0 self.now.nets) }
+    {
+        changes.clear();
+        changes.reserve(self.values.len())?;
+        append_changes(
+            changes,
+            self.values.as_slice(),
+            self.values_before.as_slice(),
+            &self.touched,
+        );
+        Ok(())
     }
 
     /// Appends the changes of the last cycle to a log that has room for them.

@@ -37,7 +37,7 @@ fn append_change(changes: &mut Vec<(u32, Logic)>, number: usize, value: Logic, b
 
 /// Appends the changes of nets, in net order. It looks only at touched nets; a single one costs no
 /// loop.
-fn append_changes(
+pub(crate) fn append_changes(
     changes: &mut Vec<(u32, Logic)>,
     values: &[Logic],
     values_before: &[Logic],

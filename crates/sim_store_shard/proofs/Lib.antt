@@ -1,0 +1,4 @@
+mod Ready
+mod Telling
+mod Executing
+mod Cycles

@@ -1,0 +1,35 @@
+use Rattle.std.proofs.Common.{◌≡◌, refl, ap, sym, ◌∙◌, subst, List, ℕ}
+use Rattle.std.proofs.lemmas.Result.{on_ok_weaker}
+use Rattle.sim_containers.specs.Numbers.{members}
+use Rattle.sim_standard.specs.Cycle.{updated}
+use Rattle.sim_standard.specs.Orders.{one_by_one}
+use Rattle.sim_standard.specs.State.{State}
+use Rattle.sim_store_state.specs.FlatState.{FlatState, flat_state_of}
+use Rattle.sim_store_shard.specs.Shards.{own_changes, logged, told_to}
+use Rattle.sim_standard.specs.Records.{changes_from}
+use Rattle.sim_store_shard.specs.declared.shard.Contents.{Contents}
+use Rattle.sim_store_shard.proofs.shard.go_on.Goals as goal
+
+pub returns-clause-done : goal.returns-clause-done
+returns-clause-done c =
+    let design = c.args.design.now in
+    let m = c.args.contents.now in
+    let mid = c.begin_cycle.new.contents in
+    let new = c.execute.new.contents in
+    let begun = c.in_ok-begin_cycle.ensures.begun in
+    let kept = c.execute.ensures.kept in
+    let time = c.args.time in
+    on_ok_weaker c.execute.result (λ (done : (s : State) → mid.state ≡ flat_state_of design s → mid.time ≡ s.time
+    → new.state ≡ flat_state_of design (one_by_one design.processes (members mid.resumed) s)). record {
+      design = refl;
+      recorded = ap (λ (n : Contents). n.changes.marks) kept ∙ begun.recorded;
+      time_is = ap (λ (n : Contents). n.time) kept ∙ begun.time_is;
+      state = λ s is.
+          let t : State = updated design (told_to design time c.args.news.now s) time in
+          let at : mid.state ≡ flat_state_of design t = begun.state s is in
+          done t at begun.time_is ∙ ap (λ (ns : List ℕ). flat_state_of design (one_by_one design.processes ns t)) (begun.resumed t at);
+      records = ap (λ (n : Contents). n.changes.records) kept
+          ∙ (begun.records
+          ∙ ap (λ (h : FlatState). logged time c.args.delta (own_changes m.changes.marks (changes_from 0 h.nets)) m.changes.records)
+          (sym c.execute.ensures.alone));
+    }) c.execute.ensures.state
