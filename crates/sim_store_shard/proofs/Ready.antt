@@ -95,6 +95,15 @@ pub ready-times : (ps : List Process) (time : ℕ) (os : List Owned) → length 
 ready-times ps time os sized ready =
     rises-times time (all_drivers os) (all-drivers time os (λ p lt. (ready p (omega (arith, lt, sized))).pending))
 
+-- and the first pending time is not before it
+pub ready-first : (ps : List Process) (time : ℕ) (os : List Owned) → length os ≡ length ps → AreReady ps time os
+    → NoneBefore time (next_time (all_drivers os))
+ready-first ps time os sized ready = go (next_time (all_drivers os)) (next_is_least (all_drivers os))
+  where
+    go : (o : Option ℕ) → IsNext (all_drivers os) o → NoneBefore time o
+    go None i = tt
+    go (Some m) i = All-contains (λ (t : ℕ). time ≤ t) (pending_times (all_drivers os)) m (ready-times ps time os sized ready) i.0
+
 -- ---- after an update
 
 pub ready-updated : (ps : List Process) (time : ℕ) (os : List Owned) → length os ≡ length ps → AreReady ps time os

@@ -127,6 +127,7 @@ pub record HasCarriedOut (time delta : ℕ) (news : List Told) (x y : Shard) : T
   pub time_is : y.time ≡ time
   pub state : (s : State) → x.state ≡ flat_state_of x.design s → y.state ≡ flat_state_of x.design (carried_out x.design time news s)
   pub records : y.records ≡ logged time delta (own_changes x.recorded (changes_from 0 y.state.nets)) x.records
+  pub none : NoneBefore time (next_time (all_drivers y.state.owned))
 
 -- A shard at the start of a run: the initialization has been carried out, and recorded, if it has such nets.
 pub record HasBegun (design : Design) (marks : List Bool) (x : Shard) : Type 0 where
