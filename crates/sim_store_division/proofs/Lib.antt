@@ -1,3 +1,5 @@
 pub mod Below
 pub mod Memberships
+pub mod Sizes
 pub mod Told
+pub mod Heard

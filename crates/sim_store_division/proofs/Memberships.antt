@@ -1,13 +1,14 @@
 -- The numbers that belong to an owner.
-use Rattle.std.proofs.Common.{ℕ, zero, suc, ◌+◌, ◌<◌, ◌≤◌, ◌≡◌, eqb, eqb-true, Bool, true, false, List, [], ◌∷◌, ◌++◌, length}
+use Rattle.std.proofs.Common.{ℕ, zero, suc, ◌+◌, ◌<◌, ◌≤◌, ◌≡◌, ◌||◌, eqb, eqb-true, Bool, true, false, List, [], ◌∷◌, ◌++◌, length, map}
 use Rattle.std.proofs.Common.{refl, sym, ap, ◌∙◌, arith, cond, if◌then◌else◌}
-use Rattle.std.specs.List.{All, AllByRecursion, filter, range_with_len}
+use Rattle.std.specs.List.{All, AllByRecursion, filter, list_any, range_with_len}
 use Rattle.std.specs.List.Sorted.{IsStrictlyIncreasing}
 use Rattle.std.proofs.lemmas.Bool.Decides.{nat_tests}
 use Rattle.std.proofs.lemmas.List.{append-nil, map-id}
 use Rattle.std.proofs.lemmas.List.Elements.{All-filter, recursion_from_All}
 use Rattle.std.proofs.lemmas.List.FromFn.{filter_of_map_range_with_len_more, get_or-range_with_len, length-range_with_len}
 use Rattle.std.proofs.lemmas.List.Kept.{IsStrictlyIncreasing-filter}
+use Rattle.sim_containers.specs.Numbers.{RiseWithin}
 use Rattle.sim_standard.specs.Orders.{is_among}
 use Rattle.sim_store_shards.specs.Parts.{number_at}
 use Rattle.sim_store_division.specs.Dealt.{members_of}
@@ -61,6 +62,33 @@ among p a (suc n) m le lt = go (p a) refl (eqb a m) refl (λ above. among p (a +
 pub have_their_owner : (owners : List ℕ) (who n : ℕ) → n < length owners → is_among (members_of owners who) n ≡ eqb (number_at owners n) who
 have_their_owner owners who n lt = among (λ (k : ℕ). eqb (number_at owners k) who) 0 (length owners) n (omega arith) (omega (arith, lt))
 
+same_self : (n : ℕ) → eqb n n ≡ true
+same_self n = grind (arith, nat_tests)
+
+pub are_their_own : (owners : List ℕ) (n : ℕ) → n < length owners → is_among (members_of owners (number_at owners n)) n ≡ true
+are_their_own owners n lt = have_their_owner owners (number_at owners n) n lt ∙ same_self (number_at owners n)
+
+-- one of the parts from a number on has it
+found_from : (owners : List ℕ) (n a count : ℕ) → n < length owners → a ≤ number_at owners n → number_at owners n < a + count
+    → list_any (λ (members : List ℕ). is_among members n) (map (members_of owners) (range_with_len a count)) ≡ true
+found_from owners n a zero lt le inside = absurd (omega (arith, le, inside))
+found_from owners n a (suc count) lt le inside =
+    go (is_among (members_of owners a) n) refl (λ above. found_from owners n (a + 1) count lt (omega (arith, above)) (omega (arith, inside)))
+  where
+    rest : Bool
+    rest = list_any (λ (members : List ℕ). is_among members n) (map (members_of owners) (range_with_len (a + 1) count))
+
+    go : (b : Bool) → is_among (members_of owners a) n ≡ b → (a < number_at owners n → rest ≡ true) → (b || rest) ≡ true
+    go true e later = refl
+    go false e later =
+        let other : eqb (number_at owners n) a ≡ false = sym (have_their_owner owners a n lt) ∙ e in
+        let above : a < number_at owners n = grind (arith, nat_tests) in
+        later above
+
+pub belongs_to_one : (owners : List ℕ) (parts n : ℕ) → n < length owners → number_at owners n < parts
+    → list_any (λ (members : List ℕ). is_among members n) (map (members_of owners) (range_with_len 0 parts)) ≡ true
+belongs_to_one owners parts n lt below = found_from owners n 0 parts lt (omega arith) (omega (arith, below))
+
 -- ---- members rise, and are numbers
 
 range_rises : (n : ℕ) → IsStrictlyIncreasing (range_with_len 0 n)
@@ -76,6 +104,20 @@ range_within : (n : ℕ) → All (λ (k : ℕ). k < n) (range_with_len 0 n)
 range_within n k d lt =
     let within : k < n = omega (arith, lt, length-range_with_len 0 n) in
     omega (arith, get_or-range_with_len 0 n k d within, within)
+
+rises_within : (p : ℕ → Bool) (low a n bound : ℕ) → low ≤ a → a + n ≤ bound → RiseWithin low bound (filter p (range_with_len a n))
+rises_within p low a zero bound le inside = tt
+rises_within p low a (suc n) bound le inside =
+    go (p a) (rises_within p (suc a) (a + 1) n bound (omega arith) (omega (arith, inside)))
+    (rises_within p low (a + 1) n bound (omega (arith, le)) (omega (arith, inside)))
+  where
+    go : (b : Bool) → RiseWithin (suc a) bound (filter p (range_with_len (a + 1) n)) → RiseWithin low bound (filter p (range_with_len (a + 1) n))
+        → RiseWithin low bound (cond b (a ∷ filter p (range_with_len (a + 1) n)) (filter p (range_with_len (a + 1) n)))
+    go true after all = (le, omega (arith, inside), after)
+    go false after all = all
+
+pub all_rise_within : (owners : List ℕ) (who : ℕ) → RiseWithin 0 (length owners) (members_of owners who)
+all_rise_within owners who = rises_within (λ (k : ℕ). eqb (number_at owners k) who) 0 0 (length owners) (length owners) (omega arith) (omega arith)
 
 pub are_numbers : (owners : List ℕ) (who : ℕ) → AllByRecursion (λ (k : ℕ). k < length owners) (members_of owners who)
 are_numbers owners who =

@@ -1,8 +1,8 @@
 -- Which part of a run has which process and net.
 -- Implementation only: what `simulate` promises does not rest on this file.
-use Rattle.std.specs.Prelude.{ℕ, ◌/◌, ◌%◌, ◌==◌, max, List, [], ◌∷◌, filter, length, map}
+use Rattle.std.specs.Prelude.{ℕ, ◌*◌, ◌/◌, ◌%◌, ◌==◌, ◌≡◌, ◌<◌, max, List, [], ◌∷◌, filter, length, map}
 use Rattle.std.specs.Int.{div_ceil}
-use Rattle.std.specs.List.{range_with_len}
+use Rattle.std.specs.List.{All, range_with_len}
 use Rattle.sim_flat_design.specs.declared.design.DriverOf.{DriverOf}
 use Rattle.sim_flat_design.specs.declared.design.Source.{Source}
 use Rattle.sim_flat_design.specs.declared.design.Source.TheVariants as source
@@ -14,9 +14,9 @@ pub record Division : Type 0 where
   pub process_parts : List ℕ
   pub net_parts : List ℕ
 
--- the number of consecutive processes in a piece: a sixteenth of an even share, rounded up
+-- the number of consecutive processes in a piece, so that each part gets sixteen pieces at most
 abbrev pub piece_size : ℕ → ℕ → ℕ
-piece_size parts processes = max 1 (div_ceil (div_ceil processes parts) 16)
+piece_size parts processes = max 1 (div_ceil processes (16 * parts))
 
 -- the part of the process with a number: pieces are dealt out to the parts in turn
 abbrev pub dealt : ℕ → ℕ → ℕ → ℕ
@@ -37,6 +37,11 @@ abbrev pub division_of : ℕ → Design → Division
 division_of parts design =
     let process_parts = all_dealt parts (length design.processes) in
     record { process_parts = process_parts; net_parts = map (λ (net : Net). net_part design.drivers process_parts net.sources) design.nets }
+
+-- So many numbers have an owner each, which is one of so many parts.
+pub record HaveParts (parts numbers : ℕ) (owners : List ℕ) : Type 0 where
+  pub count : length owners ≡ numbers
+  pub below : All (λ (k : ℕ). k < parts) owners
 
 -- the numbers that belong to an owner, given the owner of each number
 abbrev pub members_of : List ℕ → ℕ → List ℕ

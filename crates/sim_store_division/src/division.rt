@@ -4,6 +4,7 @@ ghost use Rattle.std.specs.Prelude.{◌≡◌, ◌<◌, ◌++◌, ◌∷◌, [],
 ghost use Rattle.std.specs.List.{All, range_with_len};
 ghost use Rattle.sim_flat_design.specs.declared.design.DriverOf.{DriverOf as driver_of};
 ghost use Rattle.sim_flat_design.specs.Designs.{IsNet, IsSource, Net as net};
+ghost use Rattle.sim_containers.specs.Numbers.{RiseWithin};
 ghost use Rattle.sim_store_division.specs.Dealt as spec;
 
 use sim_flat_design::{Design, DriverOf, Net, Source};
@@ -117,8 +118,8 @@ fn net_parts(
 pub fn divided(alloc: Global, design: &Design, parts: usize) -> Result<Division, AllocError>
     requires { 0 < parts }
     ensures value { IfOk result (λ d. d ≡ spec.division_of parts design.now) }
-    ensures processes { IfOk result (λ d. All (λ k. k < parts) d.process_parts) }
-    ensures nets { IfOk result (λ d. All (λ k. k < parts) d.net_parts) }
+    ensures processes { IfOk result (λ d. spec.HaveParts parts (length design.now.processes) d.process_parts) }
+    ensures nets { IfOk result (λ d. spec.HaveParts parts (length design.now.nets) d.net_parts) }
 {
     let processes = design.processes().len();
     let process_parts = dealt(alloc, parts, piece_size(parts, processes), processes)?;
@@ -147,7 +148,8 @@ fn add_if(members: &mut Vec<usize>, is_member: bool, number: usize) -> Result<()
 /// The numbers that belong to an owner, rising, given the owner of each number. Its time is
 /// proportional to all numbers.
 pub fn members_of(alloc: Global, owners: &[usize], who: usize) -> Result<Vec<usize>, AllocError>
-    ensures { IfOk result (λ v. v.items ≡ spec.members_of owners.now who) }
+    ensures value { IfOk result (λ v. v.items ≡ spec.members_of owners.now who) }
+    ensures rise { IfOk result (λ v. RiseWithin 0 (length owners.now) v.items) }
 {
     let mut members = Vec::new(alloc);
     for number in 0..owners.len() {

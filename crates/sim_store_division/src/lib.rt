@@ -7,4 +7,4 @@ mod laws;
 
 pub use division::{Division, divided, members_of};
 pub use hearing::{Hearer, hearers};
-pub use laws::{members_are_numbers, members_have_their_owner, members_rise};
+pub use laws::{hearers_are_told, members_have_their_owner, members_rise};

@@ -3,9 +3,11 @@ use Rattle.std.proofs.Common.{ℕ, suc, ◌+◌, ◌<◌, ◌≡◌, eqb, Bool, 
 use Rattle.std.proofs.Common.{refl, sym, ap, ◌∙◌, arith, eqb-true}
 use Rattle.std.specs.List.{enumerate_from, filter}
 use Rattle.sim_standard.specs.declared.net_view.NetView.{NetView}
-use Rattle.sim_standard.specs.Records.{changes_from}
+use Rattle.sim_standard.specs.Records.{changes_from, values_of}
+use Rattle.sim_standard.proofs.Names.{numbered_value}
 use Rattle.sim_standard.specs.State.{net_at}
 use Rattle.sim_store_shards.specs.Logs.{changes_of}
+use Rattle.sim_store_merge.specs.Owners.{IsAlike}
 use Rattle.sim_store_merge.proofs.Totals.{Change}
 
 -- the change of a net, if it is an owner's and has an event, and those that follow
@@ -54,7 +56,41 @@ own_from owner who n (t ∷ ts) (s ∷ ss) l h =
         not_mine t.event (n, t.value) (n, s.value) s.event (changes_of owner who (changes_from (n + 1) ts))
         ∙ ap (added false s.event (n, s.value)) rest
 
-pub own_alone : (owner : ℕ → ℕ) (who : ℕ) (ts ss : List NetView) → length ts ≡ length ss
-    → ((n : ℕ) → n < length ss → owner n ≡ who → net_at ts n ≡ net_at ss n)
+pub own_alone : (owner : ℕ → ℕ) (who : ℕ) (ts ss : List NetView) → IsAlike owner who ts ss
     → changes_of owner who (changes_from 0 ts) ≡ changes_of owner who (changes_from 0 ss)
-own_alone owner who ts ss l h = own_from owner who 0 ts ss l (λ k lt e. h k lt (ap owner (omega arith) ∙ e))
+own_alone owner who ts ss h = own_from owner who 0 ts ss h.sized (λ k lt e. h.own k lt (ap owner (omega arith) ∙ e))
+
+-- ---- the same of the values of all nets
+
+abbrev values_from : ℕ → List NetView → List Change
+values_from n nets = map numbered_value (enumerate_from n nets)
+
+-- a change, if it is an owner's, and those that follow
+abbrev mine_first : Bool → Change → List Change → List Change
+mine_first mine c cs = if mine then c ∷ cs else cs
+
+values_own : (owner : ℕ → ℕ) (who n : ℕ) (ts ss : List NetView) → length ts ≡ length ss
+    → ((k : ℕ) → k < length ss → owner (n + k) ≡ who → net_at ts k ≡ net_at ss k)
+    → changes_of owner who (values_from n ts) ≡ changes_of owner who (values_from n ss)
+values_own owner who n [] [] l h = refl
+values_own owner who n [] (s ∷ ss) l h = absurd (omega (arith, l))
+values_own owner who n (t ∷ ts) [] l h = absurd (omega (arith, l))
+values_own owner who n (t ∷ ts) (s ∷ ss) l h = go (values_own owner who (n + 1) ts ss (omega (arith, l)) more) (eqb (owner n) who) refl
+  where
+    more : (k : ℕ) → k < length ss → owner (n + 1 + k) ≡ who → net_at ts k ≡ net_at ss k
+    more k lt e = h (suc k) (omega (arith, lt)) (ap owner (omega arith) ∙ e)
+
+    here : owner n ≡ who → t ≡ s
+    here e = h 0 (omega arith) (ap owner (omega arith) ∙ e)
+
+    go : changes_of owner who (values_from (n + 1) ts) ≡ changes_of owner who (values_from (n + 1) ss) → (b : Bool) → eqb (owner n) who ≡ b
+        → mine_first b (n, t.value) (changes_of owner who (values_from (n + 1) ts))
+        ≡ mine_first b (n, s.value) (changes_of owner who (values_from (n + 1) ss))
+    go rest true e =
+        ap (λ (x : NetView). mine_first true (n, x.value) (changes_of owner who (values_from (n + 1) ts))) (here (eqb-true (owner n) who e))
+        ∙ ap (mine_first true (n, s.value)) rest
+    go rest false e = rest
+
+pub values_alone : (owner : ℕ → ℕ) (who : ℕ) (ts ss : List NetView) → IsAlike owner who ts ss
+    → changes_of owner who (values_of ts) ≡ changes_of owner who (values_of ss)
+values_alone owner who ts ss h = values_own owner who 0 ts ss h.sized (λ k lt e. h.own k lt (ap owner (omega arith) ∙ e))

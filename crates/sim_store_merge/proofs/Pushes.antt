@@ -2,7 +2,7 @@
 use Rattle.std.proofs.Common.{ℕ, ◌≡◌, ◌≢◌, List, [], ◌∷◌, ◌++◌, if◌then◌else◌, refl, ap, ◌∙◌, append-nil}
 use Rattle.sim_standard.specs.declared.record.Record.{Record}
 use Rattle.sim_store_shards.specs.Logs.{changes_of}
-use Rattle.sim_store_merge.specs.Owners.{Follow, IsBefore, TimesRise, is_any, logged, own}
+use Rattle.sim_store_merge.specs.Owners.{Follow, IsBefore, TimesRise, is_any, kept, logged, own}
 use Rattle.sim_store_merge.proofs.Totals.{Change}
 
 logged-push : (owner : ℕ → ℕ) (who : ℕ) (rs : List Record) (r : Record)
@@ -33,6 +33,15 @@ others_left owner who rs r none =
     go : (cs : List Change) → cs ≡ [] → (if is_any cs then record r { changes = cs } ∷ [] else []) ≡ []
     go [] e = refl
     go (c ∷ cs) e = absurd cc
+
+-- as one list
+pub kept_more : (owner : ℕ → ℕ) (who : ℕ) (rs : List Record) (r : Record)
+    → logged owner who (rs ++ r ∷ []) ≡ logged owner who rs ++ kept r.time r.delta (changes_of owner who r.changes)
+kept_more owner who rs r = logged-push owner who rs r ∙ ap (λ (l : List Record). logged owner who rs ++ l) (go (changes_of owner who r.changes))
+  where
+    go : (cs : List Change) → (if is_any cs then record r { changes = cs } ∷ [] else []) ≡ kept r.time r.delta cs
+    go [] = refl
+    go (c ∷ cs) = refl
 
 follow_on : (p : Record) (rs : List Record) (q r : Record) → Follow p (rs ++ q ∷ []) → IsBefore q r → Follow p ((rs ++ q ∷ []) ++ r ∷ [])
 follow_on p [] q r f b = (f.0, (b, tt))

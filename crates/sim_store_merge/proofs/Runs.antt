@@ -2,6 +2,7 @@
 use Rattle.std.proofs.Common.{ℕ, zero, suc, ◌+◌, ◌<◌, ◌≤◌, ◌≡◌, ◌≢◌, inl, inr, eqb, Bool, true, false, List, [], ◌∷◌, ◌++◌, if◌then◌else◌}
 use Rattle.std.proofs.Common.{map, length, Option, None, Some, option_map, option_to_list, refl, sym, ap, ◌∙◌, subst, arith, append-nil, eqb-true}
 use Rattle.std.proofs.lemmas.Bool.{eqb-false}
+use Rattle.std.proofs.lemmas.List.{map-append}
 use Rattle.std.proofs.lemmas.List.Elements.{recursion_from_All}
 use Rattle.std.specs.List.{All, AllByRecursion, enumerate_from}
 use Rattle.sim_logic.specs.declared.logic.Logic.{Logic}
@@ -13,16 +14,17 @@ use Rattle.sim_standard.specs.Cycle.{cycle_end, ended, next_updated, updated}
 use Rattle.sim_standard.specs.Drivers.{next_time}
 use Rattle.sim_standard.specs.Initialization.{first_state}
 use Rattle.sim_standard.specs.Midway.{updated_in}
-use Rattle.sim_standard.specs.Records.{IsNamed, records_to}
+use Rattle.sim_standard.specs.Records.{IsNamed, changes_from, records_to, values_of}
 use Rattle.sim_standard.specs.State.{State, all_drivers}
 use Rattle.sim_standard.proofs.Midway.{carried_on}
 use Rattle.sim_standard.proofs.Names.{first_record, numbered_value, record_of}
 use Rattle.sim_standard.proofs.Parallel.{HasAll, executed_delta, executed_time, in_turn_is_together, updated_all}
 use Rattle.sim_standard.proofs.Records.{all_named, one-recorded}
-use Rattle.sim_store_shards.specs.Logs.{RiseFrom}
+use Rattle.sim_store_shards.specs.Logs.{RiseFrom, changes_of}
 use Rattle.sim_store_shards.proofs.Logs.{rise}
-use Rattle.sim_store_merge.specs.Owners.{AreOwned, IsBefore, TimesRise}
-use Rattle.sim_store_merge.proofs.Pushes.{times_rise_on}
+use Rattle.sim_store_merge.specs.Owners.{AreOwned, IsAlike, IsBefore, TimesRise, kept, logged, times_of}
+use Rattle.sim_store_merge.proofs.Own.{own_alone, values_alone}
+use Rattle.sim_store_merge.proofs.Pushes.{kept_more, times_rise_on}
 
 -- ---- the changes of each record rise, and each is of a net with an owner
 
@@ -136,3 +138,26 @@ run_rises_on d k s u is es eu le rises = go (next_time (all_drivers (cycle_end d
 pub run_rises : (d : Design) → TimesRise (records_to d 0)
 unfolding records_to
 run_rises d = tt
+
+-- ---- the logs and the times go on
+
+pub log_begins : (d : Design) (owner : ℕ → ℕ) (who : ℕ) (ts : List NetView) → IsAlike owner who ts (first_state d).nets
+    → logged owner who (records_to d 0) ≡ kept 0 0 (changes_of owner who (values_of ts))
+unfolding records_to
+log_begins d owner who ts h = kept_more owner who [] (first_record d) ∙ ap (kept 0 0) (sym (values_alone owner who ts (first_state d).nets h))
+
+pub log_goes_on : (d : Design) (k : ℕ) (s : State) (owner : ℕ → ℕ) (who : ℕ) (ts : List NetView) → All IsProcess d.processes
+    → updated_in d (suc k) ≡ Some s → IsAlike owner who ts s.nets
+    → logged owner who (records_to d (suc k)) ≡ logged owner who (records_to d k) ++ kept s.time s.delta (changes_of owner who (changes_from 0 ts))
+log_goes_on d k s owner who ts is e h =
+    ap (logged owner who) (one-recorded d is k s e)
+    ∙ (kept_more owner who (records_to d k) (record_of s)
+    ∙ ap (λ (cs : List (ℕ × Logic)). logged owner who (records_to d k) ++ kept s.time s.delta cs) (sym (own_alone owner who ts s.nets h)))
+
+pub times_begin : (d : Design) → times_of (records_to d 0) ≡ (0, 0) ∷ []
+unfolding records_to
+times_begin d = refl
+
+pub times_go_on : (d : Design) (k : ℕ) (s : State) → All IsProcess d.processes → updated_in d (suc k) ≡ Some s
+    → times_of (records_to d (suc k)) ≡ times_of (records_to d k) ++ (s.time, s.delta) ∷ []
+times_go_on d k s is e = ap times_of (one-recorded d is k s e) ∙ map-append (λ (r : Record). (r.time, r.delta)) (records_to d k) (record_of s ∷ [])

@@ -4,6 +4,8 @@ use Rattle.std.specs.Prelude.{ℕ, ◌≡◌, ◌<◌, ◌⊎◌, Bool, true, fa
 use Rattle.std.specs.List.{AllByRecursion, filter}
 use Rattle.sim_logic.specs.declared.logic.Logic.{Logic}
 use Rattle.sim_standard.specs.declared.record.Record.{Record}
+use Rattle.sim_standard.specs.declared.net_view.NetView.{NetView}
+use Rattle.sim_standard.specs.State.{net_at}
 use Rattle.sim_store_shards.specs.Logs.{RiseFrom, changes_of}
 use Rattle.sim_store_state.specs.Log.{Logged}
 
@@ -45,6 +47,16 @@ own owner who r = record r { changes = changes_of owner who r.changes }
 -- what an owner keeps of records: those in which a net of its own changes, with these changes alone
 abbrev pub logged : (ℕ → ℕ) → ℕ → List Record → List Record
 logged owner who records = filter (λ (r : Record). is_any r.changes) (map (own owner who) records)
+
+-- a record with these changes, unless there are none
+abbrev pub kept : ℕ → ℕ → List (ℕ × Logic) → List Record
+kept time delta [] = []
+kept time delta (c ∷ changes) = record { time = time; delta = delta; changes = c ∷ changes } ∷ []
+
+-- An owner has its own nets as they are in the whole.
+pub record IsAlike (owner : ℕ → ℕ) (who : ℕ) (theirs nets : List NetView) : Type 0 where
+  pub sized : length theirs ≡ length nets
+  pub own : (n : ℕ) → n < length nets → owner n ≡ who → net_at theirs n ≡ net_at nets n
 
 -- the log with a number
 abbrev pub log_at : List Logged → ℕ → Logged

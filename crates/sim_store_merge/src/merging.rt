@@ -117,8 +117,8 @@ fn starts(alloc: Global, count: usize) -> Result<Vec<usize>, AllocError>
 
 /// The log of a run, made of the logs of the owners of its nets. `times` has the time, in
 /// femtoseconds, and the delta number of each record of the run, in order. The cost is that of the
-/// changes, and for each record one look at each log; nothing else is kept than the changes of one
-/// record.
+/// changes, at most times the logarithm of the number of logs, and for each record two looks at each
+/// log; nothing else is kept than the changes of one record.
 pub fn merged(alloc: Global, times: &[(u64, u64)], logs: &[Log]) -> Result<Log, AllocError>
     ensures { IfOk result (λ log. (owner : ℕ → ℕ) (records : List record_type.Record) → times.now ≡ times_of records
         → AreLogs owner records logs.now → log.records ≡ records) }

@@ -10,15 +10,6 @@ use sim_flat_design::{Body, Process};
 use sqlite_items::Items;
 use std::alloc::{AllocError, Global};
 
-/// The nets of a process' ports and signals.
-fn object_nets(alloc: Global, process: &Process) -> Result<ObjectNets, AllocError>
-    ensures nets { IfOk result (λ nets. nets ≡ process.now.nets) }
-    ensures placed { length process.now.nets ≡ process.now.body.objects }
-{
-    let nets = Items::from_slice(alloc, process.nets())?;
-    ObjectNets::new(alloc, nets)
-}
-
 /// A process from the parts that are shared, and from copies of the others.
 fn rebuilt(
     alloc: Global,
@@ -42,7 +33,7 @@ fn rebuilt(
 fn with_drivers_from(alloc: Global, process: &Process, first: usize) -> Result<Process, AllocError>
     ensures { IfOk result (λ own. own ≡ parts.with_drivers_from first process.now) }
 {
-    let nets = object_nets(alloc, process)?;
+    let nets = process.object_nets().try_copy()?;
     let body = process.body().try_copy()?;
     rebuilt(alloc, process, nets, body, first)
 }
