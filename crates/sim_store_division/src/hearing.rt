@@ -1,6 +1,6 @@
 //! Which parts of a run are told of each driver.
 
-ghost use Rattle.std.specs.Prelude.{ℕ, ◌≡◌, ◌<◌, ◌++◌, ◌∷◌, [], length, map, replicate, slice_index_or, slice_set, IfOk, OnOk};
+ghost use Rattle.std.specs.Prelude.{ℕ, List, ◌≡◌, ◌<◌, ◌≤◌, ◌^◌, ◌++◌, ◌∷◌, [], length, map, replicate, slice_index_or, slice_set, IfOk, OnOk};
 ghost use Rattle.std.specs.List.{All, range_with_len};
 ghost use Rattle.sim_store_division.specs.Dealt.{members_of};
 ghost use Rattle.sim_store_division.specs.Hearers as spec;
@@ -12,8 +12,8 @@ use std::alloc::{AllocError, Global};
 /// A part that is told of a driver, and the place of the driver among those that it is told of.
 #[derive(Clone, Copy)]
 pub struct Hearer {
-    pub part: usize,
-    pub place: usize,
+    pub part: u32,
+    pub place: u32,
 }
 
 /// So many empty rows.
@@ -38,19 +38,27 @@ fn add(rows: &mut [Items<Hearer>], driver: usize, hearer: Hearer) -> Result<(), 
 
 /// Adds a part to the rows of the drivers that it is told of.
 fn add_part(rows: &mut [Items<Hearer>], part: usize, told: &[usize]) -> Result<(), AllocError>
-    requires { All (λ d. d < length rows.old) told.now }
+    requires part { part < 2 ^ 32 }
+    requires few { length told.now ≤ 2 ^ 32 }
+    requires drivers { All (λ d. d < length rows.old) told.now }
     ensures { OnOk result ((d : ℕ) → d < length rows.old
         → slice_index_or rows.new d [] ≡ slice_index_or rows.old d [] ++ spec.at_places part (members_of told.now d)) }
 {
     for place in 0..told.len() {
-        add(rows, told[place], Hearer { part, place })?;
+        let hearer = Hearer {
+            part: part as u32,
+            place: place as u32,
+        };
+        add(rows, told[place], hearer)?;
     }
     Ok(())
 }
 
 /// Adds each part to the rows of the drivers that it is told of.
 fn add_parts(rows: &mut [Items<Hearer>], told: &RowArray<usize>) -> Result<(), AllocError>
-    requires { All (All (λ d. d < length rows.old)) told.now }
+    requires few { length told.now ≤ 2 ^ 32 }
+    requires each_few { All (λ (l : List ℕ). length l ≤ 2 ^ 32) told.now }
+    requires drivers { All (All (λ d. d < length rows.old)) told.now }
     ensures { OnOk result ((d : ℕ) → d < length rows.old
         → slice_index_or rows.new d [] ≡ slice_index_or rows.old d [] ++ spec.hearers_of told.now d) }
 {
@@ -73,13 +81,15 @@ fn in_rows(alloc: Global, lists: &[Items<Hearer>]) -> Result<RowArray<Hearer>, A
 
 /// For each of so many drivers the parts that are told of it, in the order of their numbers, given
 /// for each part the drivers that it is told of. The time is proportional to the number of drivers
-/// and the length of all lists.
+/// and the length of all lists. There are at most 2^32 parts, and as many places in a list.
 pub fn hearers(
     alloc: Global,
     told: &RowArray<usize>,
     drivers: usize,
 ) -> Result<RowArray<Hearer>, AllocError>
-    requires { All (All (λ d. d < drivers)) told.now }
+    requires few { length told.now ≤ 2 ^ 32 }
+    requires each_few { All (λ (l : List ℕ). length l ≤ 2 ^ 32) told.now }
+    requires drivers { All (All (λ d. d < drivers)) told.now }
     ensures { IfOk result (λ r. r ≡ map (spec.hearers_of told.now) (range_with_len 0 drivers)) }
 {
     let mut rows = empty_rows(alloc, drivers)?;

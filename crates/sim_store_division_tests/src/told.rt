@@ -1,6 +1,6 @@
 //! Drivers, with the parts that are told of them.
 
-ghost use Rattle.std.specs.Prelude.{◌≡◌, ◌<◌, true};
+ghost use Rattle.std.specs.Prelude.{ℕ, List, ◌≡◌, ◌<◌, ◌≤◌, length, true};
 ghost use Rattle.std.specs.List.{All};
 
 use sim_containers::RowArray;
@@ -12,7 +12,7 @@ use std::test::Fail;
 static TOLD: [&[usize]; 4] = [&[1, 0], &[], &[2, 0, 4], &[4, 4, 1]];
 
 /// For each of these drivers, each part that is told of it, and the place in its list.
-static HEARD: [&[(usize, usize)]; 5] = [
+static HEARD: [&[(u32, u32)]; 5] = [
     &[(0, 1), (2, 1)],
     &[(0, 0), (3, 2)],
     &[(2, 0)],
@@ -48,8 +48,27 @@ fn are_all_below(rows: &RowArray<usize>, bound: usize) -> bool
     true
 }
 
+/// Whether a list is not longer than this.
+fn is_short(list: &[usize], most: usize) -> bool
+    ensures { result ≡ true → length list.now ≤ most }
+{
+    list.len() <= most
+}
+
+/// Whether no row is longer than this.
+fn are_short(rows: &RowArray<usize>, most: usize) -> bool
+    ensures { result ≡ true → All (λ (l : List ℕ). length l ≤ most) rows.now }
+{
+    for place in 0..rows.len() {
+        if !is_short(rows.row(place), most) {
+            return false;
+        }
+    }
+    true
+}
+
 /// Whether these are the parts and places.
-fn are_same(found: &[Hearer], wanted: &[(usize, usize)]) -> bool {
+fn are_same(found: &[Hearer], wanted: &[(u32, u32)]) -> bool {
     if found.len() != wanted.len() {
         return false;
     }
@@ -77,6 +96,12 @@ fn are_heard(rows: &RowArray<Hearer>) -> bool {
 /// Whether the rows for the table are the wanted ones.
 fn is_table_heard(alloc: Global) -> Result<bool, AllocError> {
     let told = rows_of(alloc, TOLD.as_slice())?;
+    if told.len() != TOLD.len() {
+        return Ok(false);
+    }
+    if !are_short(&told, 3) {
+        return Ok(false);
+    }
     if !are_all_below(&told, HEARD.len()) {
         return Ok(false);
     }
