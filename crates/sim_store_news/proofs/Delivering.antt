@@ -1,6 +1,6 @@
 -- Lists of parts, to which what is told is added one after another.
 use Rattle.std.proofs.Common.{ℕ, ◌+◌, ◌<◌, ◌≡◌, ◌≢◌, Bool, true, false, if◌then◌else◌, List, [], ◌∷◌, ◌++◌, length, set, take}
-use Rattle.std.proofs.Common.{append-nil, append_assoc, eqb, eqb-true, refl, ap, sym, ◌∙◌, subst, arith}
+use Rattle.std.proofs.Common.{append-nil, append_assoc, eqb, eqb-true, refl, ap, sym, ◌∙◌, arith}
 use Rattle.std.proofs.lemmas.Bool.{eqb-false}
 use Rattle.std.proofs.lemmas.List.{get_or-set_other, get_or-set_same, length-set}
 use Rattle.sim_store_shard.specs.declared.told.Told.{Told}

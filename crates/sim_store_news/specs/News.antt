@@ -1,6 +1,6 @@
 -- What the shards of parts are told by each other.
 -- Implementation only: what `simulate` promises does not rest on this file.
-use Rattle.std.specs.Prelude.{ℕ, ◌<◌, ◌==◌, List, [], ◌∷◌, ◌++◌, Option, None, Some, if◌then◌else◌, flat_map, map, slice_index_or}
+use Rattle.std.specs.Prelude.{ℕ, ◌<◌, ◌==◌, List, [], ◌∷◌, Option, None, Some, if◌then◌else◌, flat_map, map, slice_index_or}
 use Rattle.std.specs.List.{All}
 use Rattle.sim_logic.specs.declared.logic.Logic.{Logic}
 use Rattle.sim_containers.specs.Numbers.{members}

@@ -7,7 +7,8 @@ use Rattle.sim_store_division_tests.proofs.told.are_short.Goals as goal
 pub loop-place-preserved : goal.loop-place-preserved
 loop-place-preserved c =
     let short : c.is_short.result ≡ true = search rules in
-    All-more (λ (xs : List ℕ). length xs ≤ c.args.most) c.args.rows.now c.loop-place.place [] c.loop-place-test.true c.loop-place.invariant
+    All-more (λ (xs : List ℕ). length xs ≤ c.args.most) c.args.rows.now c.loop-place.place []
+    (omega (arith, c.loop-place-test.true, c.len-place-end.ensures)) c.loop-place.invariant
     (subst (λ (xs : List ℕ). length xs ≤ c.args.most) c.row.ensures (c.is_short.ensures short))
 
 pub returns : goal.returns

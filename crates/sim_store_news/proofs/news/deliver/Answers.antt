@@ -1,5 +1,7 @@
 use Rattle.std.proofs.Common.{arith}
 use Rattle.std.proofs.lemmas.List.{take_more}
+use Rattle.sim_logic.specs.declared.logic.Logic.TheVariants.{U}
+use Rattle.sim_store_news.specs.declared.news.News.{News}
 use Rattle.sim_store_news.proofs.Delivering.{more-delivered, none-delivered}
 use Rattle.sim_store_news.proofs.news.deliver.Goals as goal
 
@@ -8,7 +10,8 @@ loop-each-init c = none-delivered c.args.told.now
 
 pub deliver_one-requires : goal.deliver_one-requires
 deliver_one-requires c =
-    omega (arith, c.requires c.loop-each.each-index _ c.loop-each-test.true, c.loop-each.invariant.sized)
+    let none : News = record { part = 0; told = record { place = 0; value = U } } in
+    omega (arith, c.requires c.loop-each.each-index none c.loop-each-test.true, c.loop-each.invariant.sized)
 
 pub loop-each-preserved : goal.loop-each-preserved
 loop-each-preserved c =
