@@ -1,0 +1,49 @@
+-- The seats of a crew: the shards of the parts of a plan, each with what it says of its next cycle.
+-- Implementation only: what `simulate` promises does not rest on this file.
+use Rattle.std.specs.Prelude.{ℕ, ◌≡◌, ◌<◌, ◌≤◌, ◌==◌, List, [], ◌∷◌, Option, None, Some, Bool, if◌then◌else◌, length, map, flat_map, slice_index_or}
+use Rattle.std.specs.List.{range_with_len}
+use Rattle.std.specs.Option.{option_eq}
+use Rattle.sim_logic.specs.Time.{largest_time}
+use Rattle.sim_standard.specs.Cycle.{ended}
+use Rattle.sim_standard.specs.Drivers.{DriverState, next_time}
+use Rattle.sim_standard.specs.State.{State, all_drivers}
+use Rattle.sim_store_shards.specs.Parts.{Part, drivers_of}
+use Rattle.sim_store_division.specs.declared.hearing.Hearer.{Hearer}
+use Rattle.sim_store_division.specs.Hearers.{hearers_of}
+use Rattle.sim_store_shard.specs.declared.told.Told.{Told}
+use Rattle.sim_store_shard.specs.Shards.{Shard}
+use Rattle.sim_store_plan.specs.Plans.{AreTold, IsPlan, IsShardOf, Plan, delta_at, part_at}
+use Rattle.sim_store_news.specs.declared.news.News.{News}
+use Rattle.sim_store_news.specs.News.{for_part, next_news}
+
+-- for each driver of a part, by its number there, which parts are told of it, and at which place
+abbrev pub rows_of : Plan → ℕ → List (List Hearer)
+rows_of plan k = map (hearers_of (map (λ (p : Part). p.told) plan.parts)) (drivers_of plan.design.processes (part_at plan k).members)
+
+-- a seat: its part, the number of cycles that were carried out, the time of its next cycle, and what other parts are told of that
+pub record Seat : Type 0 where
+  pub part : ℕ
+  pub cycles : ℕ
+  pub next : Option ℕ
+  pub news : List News
+
+-- what a shard says of its next cycle
+abbrev pub said_by : Plan → ℕ → Shard → List News
+said_by plan k x = next_news (rows_of plan k) (next_time (all_drivers x.state.owned)) (all_drivers x.state.owned)
+
+-- A seat holds the shard of a part, and what it says.
+pub record IsSeat (plan : Plan) (y : Seat) (x : Shard) (rows : List (List Hearer)) (active : ℕ) : Type 0 where
+  pub state : State
+  pub reached : ended plan.design y.cycles ≡ Some state
+  pub part : y.part < length plan.parts
+  pub shard : IsShardOf plan y.part y.cycles state x
+  pub next_is : y.next ≡ next_time (all_drivers x.state.owned)
+  pub news_are : y.news ≡ said_by plan y.part x
+  pub rows_are : rows ≡ rows_of plan y.part
+  pub sized : active ≡ length (all_drivers x.state.owned)
+
+-- what a part is told for a cycle at a time by shards that have it as their next
+abbrev pub told_by : Plan → ℕ → (ℕ → Shard) → ℕ → List Told
+told_by plan time shards k =
+    flat_map (λ (j : ℕ). if option_eq ◌==◌ (next_time (all_drivers (shards j).state.owned)) (Some time) then for_part k (said_by plan j (shards j)) else [])
+    (range_with_len 0 (length plan.parts))
