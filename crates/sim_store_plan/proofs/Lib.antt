@@ -1,0 +1,5 @@
+pub mod Reached
+pub mod OwnTimes
+mod OwnLogs
+mod Carried
+mod GoingOn

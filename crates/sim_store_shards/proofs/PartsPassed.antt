@@ -33,11 +33,11 @@ use Rattle.sim_store_shards.proofs.Times.{owned_still}
 
 -- ---- between two cycles
 
-each_follows : (P Q : ℕ → Type 0) (ns : List ℕ) → ((n : ℕ) → P n → Q n) → AllByRecursion P ns → AllByRecursion Q ns
+pub each_follows : (P Q : ℕ → Type 0) (ns : List ℕ) → ((n : ℕ) → P n → Q n) → AllByRecursion P ns → AllByRecursion Q ns
 each_follows P Q [] f h = tt
 each_follows P Q (n ∷ ns) f h = (f n h.0, each_follows P Q ns f h.1)
 
-each_is : (P : ℕ → Type 0) (ns : List ℕ) → ((n : ℕ) → P n) → AllByRecursion P ns
+pub each_is : (P : ℕ → Type 0) (ns : List ℕ) → ((n : ℕ) → P n) → AllByRecursion P ns
 each_is P [] f = tt
 each_is P (n ∷ ns) f = (f n, each_is P ns f)
 
@@ -52,7 +52,7 @@ between part s t a = record {
       (λ n e. ap (λ (w : NetView). w.value) e) a.nets;
 }
 
-set_last : (xs : List Owned) (y z : Owned) → set (xs ++ y ∷ []) (length xs) z ≡ xs ++ z ∷ []
+pub set_last : (xs : List Owned) (y z : Owned) → set (xs ++ y ∷ []) (length xs) z ≡ xs ++ z ∷ []
 set_last [] y z = refl
 set_last (x ∷ xs) y z = ap (λ (l : List Owned). x ∷ l) (set_last xs y z)
 

@@ -10,7 +10,7 @@ use Rattle.sim_standard.specs.State.{Owned, all_drivers}
 use Rattle.sim_store_shards.specs.Selections.{own_taken}
 use Rattle.sim_store_shards.specs.Times.{AreFrom, earlier, pending_times}
 
-abbrev times : List Transaction → List ℕ
+abbrev pub times : List Transaction → List ℕ
 times xs = map (λ (x : Transaction). x.0) xs
 
 -- ---- the least of a list (as in sim_store_state)
@@ -45,16 +45,16 @@ next_of_both xs ys = ap next_time (drivers_append xs ys) ∙ next_append (all_dr
 
 -- ---- a delta cycle
 
-front : (t : ℕ) (xs ys : List ℕ) → AreFrom t (xs ++ ys) → AreFrom t xs
+pub front : (t : ℕ) (xs ys : List ℕ) → AreFrom t (xs ++ ys) → AreFrom t xs
 front t [] ys h = tt
 front t (x ∷ xs) ys h = (h.0, front t xs ys h.1)
 
-rest : (t : ℕ) (xs ys : List ℕ) → AreFrom t (xs ++ ys) → AreFrom t ys
+pub rest : (t : ℕ) (xs ys : List ℕ) → AreFrom t (xs ++ ys) → AreFrom t ys
 rest t [] ys h = h
 rest t (x ∷ xs) ys h = rest t xs ys h.1
 
 -- there is none before this time
-abbrev IsFrom : ℕ → Option ℕ → Type 0
+abbrev pub IsFrom : ℕ → Option ℕ → Type 0
 IsFrom t None = Unit {0}
 IsFrom t (Some m) = t ≤ m
 
@@ -62,11 +62,11 @@ fold_from : (t m : ℕ) (xs : List ℕ) → t ≤ m → AreFrom t xs → t ≤ f
 fold_from t m [] le h = le
 fold_from t m (x ∷ xs) le h = fold_from t (min m x) xs (omega (arith, le, h.0)) h.1
 
-reduce_from : (t : ℕ) (xs : List ℕ) → AreFrom t xs → IsFrom t (reduce min xs)
+pub reduce_from : (t : ℕ) (xs : List ℕ) → AreFrom t xs → IsFrom t (reduce min xs)
 reduce_from t [] h = tt
 reduce_from t (x ∷ xs) h = fold_from t x xs h.0 h.1
 
-next_from : (t : ℕ) (ds : List DriverState) → AreFrom t (pending_times ds) → IsFrom t (next_time ds)
+pub next_from : (t : ℕ) (ds : List DriverState) → AreFrom t (pending_times ds) → IsFrom t (next_time ds)
 unfolding next_time
 next_from t ds h = reduce_from t (pending_times ds) h
 
