@@ -3,3 +3,4 @@ pub mod OwnTimes
 mod OwnLogs
 mod Carried
 mod GoingOn
+mod PassedOver
