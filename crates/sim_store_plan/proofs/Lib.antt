@@ -1,0 +1,6 @@
+pub mod Reached
+pub mod OwnTimes
+mod OwnLogs
+mod Carried
+mod GoingOn
+mod PassedOver
