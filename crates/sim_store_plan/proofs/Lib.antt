@@ -3,3 +3,7 @@ pub mod OwnTimes
 mod OwnLogs
 mod Carried
 mod GoingOn
+mod Begun
+mod Logs
+mod NextTimes
+mod Runs
