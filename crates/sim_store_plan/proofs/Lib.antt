@@ -4,3 +4,7 @@ mod OwnLogs
 mod Carried
 mod GoingOn
 mod PassedOver
+mod Begun
+mod Logs
+mod NextTimes
+mod Runs

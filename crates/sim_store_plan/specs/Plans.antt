@@ -1,14 +1,13 @@
 -- A plan by which a run is carried out in parts, and what the shards of its parts are after a number of cycles.
 -- Implementation only: what `simulate` promises does not rest on this file.
-use Rattle.std.specs.Prelude.{ℕ, suc, ◌≡◌, ◌<◌, ◌≤◌, ◌==◌, ◌+◌, List, [], ◌∷◌, Option, None, Some, false, true, if◌then◌else◌, length, map, slice_index_or}
+use Rattle.std.specs.Prelude.{ℕ, ◌≡◌, ◌<◌, ◌≤◌, ◌==◌, ◌+◌, List, [], false, true, if◌then◌else◌, length, map, slice_index_or}
 use Rattle.std.specs.List.{All, list_any}
 use Rattle.sim_flat_design.specs.Designs.{Design, IsDesign}
 use Rattle.sim_flat_design.specs.Processes.{IsProcess, Process}
-use Rattle.sim_standard.specs.Cycle.{ended}
 use Rattle.sim_standard.specs.Drivers.{DriverState, next_time}
 use Rattle.sim_standard.specs.Orders.{is_among}
 use Rattle.sim_standard.specs.Records.{records_to}
-use Rattle.sim_standard.specs.State.{State, all_drivers, owned_at}
+use Rattle.sim_standard.specs.State.{State, all_drivers}
 use Rattle.sim_store_state.specs.FlatState.{FlatState, flat_state_of}
 use Rattle.sim_store_shards.specs.Parts.{IsPartBetween, Part, news, number_at, part_of, stand_in}
 use Rattle.sim_store_shards.specs.Selections.{picked}

@@ -6,5 +6,5 @@ pub mod PartsPassed
 mod PartsJoined
 pub mod PartsFit
 pub mod PartsBegun
-mod PartsTimes
+pub mod PartsTimes
 pub mod Times
