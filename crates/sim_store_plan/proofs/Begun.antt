@@ -23,7 +23,7 @@ use Rattle.sim_store_shards.proofs.PartsBegun.{begun}
 use Rattle.sim_store_shards.proofs.PartsExecuted.{are_processes, ended_of_part}
 use Rattle.sim_store_shards.proofs.PartsPassed.{between}
 use Rattle.sim_store_shard.specs.Shards as shards
-use Rattle.sim_store_shard.specs.Shards.{HasBegun, NoneBefore, Shard, executed_in, own_changes}
+use Rattle.sim_store_shard.specs.Shards.{AreReady, HasBegun, NoneBefore, Shard, executed_in, own_changes}
 use Rattle.sim_store_merge.specs.Owners.{kept, logged}
 use Rattle.sim_store_merge.proofs.Runs.{log_begins}
 use Rattle.sim_store_plan.specs.Plans.{IsPlan, IsShardOf, Plan, own_drivers, owner, part_at}
@@ -115,6 +115,8 @@ module _ (plan : Plan) (k : ℕ) (is : IsPlan plan) (lt : k < length plan.parts)
         design_is = b.design_is;
         recorded = b.recorded;
         late = omega (arith, start);
+        ready = subst (λ (t : ℕ). AreReady x.design.processes t x.state.owned) (sym b.time)
+            (subst (λ (d : Design). AreReady d.processes 0 x.state.owned) (sym b.design_is) b.ready);
         none = subst (λ (time : ℕ). NoneBefore time next) (sym first_time) (none_before_start next);
         held = record {
           state = executed_in own 0 (first_state own);

@@ -18,7 +18,7 @@ use Rattle.sim_store_division.proofs.Memberships.{have_their_owner}
 use Rattle.sim_store_merge.specs.Owners.{IsAlike, kept, logged}
 use Rattle.sim_store_merge.proofs.Runs.{log_goes_on}
 use Rattle.sim_store_shard.specs.declared.told.Told.{Told}
-use Rattle.sim_store_shard.specs.Shards.{HasCarriedOut, IsNextFor, NoneBefore, Shard, carried_out, logged as logged_so, own_changes}
+use Rattle.sim_store_shard.specs.Shards.{AreReady, HasCarriedOut, IsNextFor, NoneBefore, Shard, carried_out, logged as logged_so, own_changes}
 use Rattle.sim_store_shards.specs.Logs.{changes_of}
 use Rattle.sim_store_shards.specs.Parts.{IsPartBetween, part_of}
 use Rattle.sim_store_shards.proofs.PartsExecuted.{holds_of}
@@ -144,6 +144,8 @@ module _ (plan : Plan) (k cycles time : ℕ) (s : State) (x y : Shard) (told : L
     design_is = h.design ∙ shard.design_is;
     recorded = h.recorded ∙ shard.recorded;
     late = omega (arith, h.time_is, time_is);
+    ready = subst (λ (t : ℕ). AreReady y.design.processes t y.state.owned) (sym h.time_is)
+        (subst (λ (d : Design). AreReady d.processes time y.state.owned) (sym h.design) h.ready);
     none = none_is;
     held = held;
     records = records_are;

@@ -182,6 +182,7 @@ module _ (plan : Plan) (k cycles time : ℕ) (s : State) (x : Shard) (is : IsPla
     design_is = shard.design_is;
     recorded = shard.recorded;
     late = omega (arith, shard.late, later, time_is);
+    ready = shard.ready;
     none = none_is;
     held = record { state = t; between = ended_over; sized = shard.held.sized; is = shard.held.is };
     records = records_are;

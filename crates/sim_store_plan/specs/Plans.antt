@@ -15,7 +15,7 @@ use Rattle.sim_store_parts.specs.Cut.{IsSelfContained}
 use Rattle.sim_store_division.specs.Dealt.{members_of}
 use Rattle.sim_store_merge.specs.Owners.{logged}
 use Rattle.sim_store_shard.specs.declared.told.Told.{Told}
-use Rattle.sim_store_shard.specs.Shards.{NoneBefore, Shard, told_all}
+use Rattle.sim_store_shard.specs.Shards.{AreReady, NoneBefore, Shard, told_all}
 
 -- a plan: a design, its parts, and the part to which each net belongs, which records its changes
 pub record Plan : Type 0 where
@@ -58,6 +58,7 @@ pub record IsShardOf (plan : Plan) (k cycles : ℕ) (s : State) (x : Shard) : Ty
   pub design_is : x.design ≡ part_of plan.design (part_at plan k)
   pub recorded : x.recorded ≡ map (λ (o : ℕ). o == k) plan.net_parts
   pub late : x.time ≤ s.time
+  pub ready : AreReady x.design.processes x.time x.state.owned
   pub none : NoneBefore s.time (next_time (own_drivers plan k s))
   pub held : IsHeldOf plan.design (part_at plan k) s x.state
   pub records : x.records ≡ logged (owner plan) k (records_to plan.design cycles)
