@@ -10,7 +10,8 @@ use std::alloc::Global;
 use std::test::Fail;
 
 /// A clock, and a signal that follows it.
-const CLOCK: &str = "entity t is end;architecture a of t is signal c:std_logic:='0';signal d:std_logic;\
+const CLOCK: &str =
+    "entity t is end;architecture a of t is signal c:std_logic:='0';signal d:std_logic;\
 begin c<=not c after 5 ns;d<=c;end;";
 
 /// A signal that follows another, and a process that drives the other and does nothing.
@@ -55,7 +56,11 @@ static RUNS: [(&str, &[bool], &[Cycle], &[Row]); 4] = [
             (5_000_000, 0, &[]),
             (5_000_000, 1, &[]),
         ],
-        &[(0, 0, &[(1, U)]), (0, 1, &[(1, Zero)]), (5_000_000, 1, &[(1, One)])],
+        &[
+            (0, 0, &[(1, U)]),
+            (0, 1, &[(1, Zero)]),
+            (5_000_000, 1, &[(1, One)]),
+        ],
     ),
     // what others take is told; no record has no change
     (

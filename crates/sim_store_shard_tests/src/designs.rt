@@ -1,16 +1,16 @@
 //! Shards of designs.
 
-ghost use Rattle.std.specs.Prelude.{◌≡◌, ◌<◌, ◌≤◌, length, IfSome};
-ghost use Rattle.sim_store_shard.specs.Shards.{IsNextFor};
+ghost use Rattle.std.specs.Prelude.{◌≡◌, true};
+ghost use Rattle.sim_store_shard.specs.Shards.{NoneBefore};
 
 use sim_flat::flatten;
 use sim_flat_design::Design;
 use sim_store_shard::{Shard, Told};
 use sim_text::parse;
-use std::alloc::Global;
+use std::alloc::{AllocError, Global};
 
 /// The largest time, in femtoseconds.
-const LAST: u64 = (1 << 63) - 1;
+const LAST: u64 = (1 << 62) - 1;
 
 /// The flat design of a text under the top `t`.
 fn flat(alloc: Global, text: &str) -> Option<Design> {
@@ -28,8 +28,10 @@ pub fn begun(alloc: Global, text: &str, marks: &[bool]) -> Option<Shard> {
     Shard::begin(alloc, design, marks).ok()
 }
 
-/// Whether a cycle at a time can be carried out, given the first pending time.
-fn is_later(time: u64, next: Option<u64>) -> bool {
+/// Whether a time is not after the first pending one.
+fn is_before(time: u64, next: Option<u64>) -> bool
+    ensures { result ≡ true → NoneBefore time next }
+{
     match next {
         Some(first) => time <= first,
         None => true,
@@ -37,17 +39,29 @@ fn is_later(time: u64, next: Option<u64>) -> bool {
 }
 
 /// A shard after a cycle, if it can be carried out.
-pub fn after(alloc: Global, shard: Shard, time: u64, delta: u64, news: &[Told]) -> Option<Shard> {
+fn carried_out(
+    alloc: Global,
+    shard: Shard,
+    time: u64,
+    delta: u64,
+    news: &[Told],
+) -> Result<Option<Shard>, AllocError> {
     let mut shard = shard;
-    let next = shard.next().ok()?;
+    let next = shard.next()?;
     if time > LAST {
-        return None;
+        return Ok(None);
     }
     if time < shard.time() {
-        return None;
+        return Ok(None);
     }
-    if !is_later(time, next) {
-        return None;
+    if !is_before(time, next) {
+        return Ok(None);
     }
-    shard.carry_out(alloc, time, delta, news).ok()
+    let shard = shard.carry_out(alloc, time, delta, news)?;
+    Ok(Some(shard))
+}
+
+/// The same; `None` also if memory runs out.
+pub fn after(alloc: Global, shard: Shard, time: u64, delta: u64, news: &[Told]) -> Option<Shard> {
+    carried_out(alloc, shard, time, delta, news).ok()?
 }

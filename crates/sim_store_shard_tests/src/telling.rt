@@ -14,7 +14,8 @@ use std::alloc::{AllocError, Global};
 use std::test::Fail;
 
 /// A clock, and a signal that follows it.
-const CLOCK: &str = "entity t is end;architecture a of t is signal c:std_logic:='0';signal d:std_logic;\
+const CLOCK: &str =
+    "entity t is end;architecture a of t is signal c:std_logic:='0';signal d:std_logic;\
 begin c<=not c after 5 ns;d<=c;end;";
 
 /// Those that are told of the clock: two parts.
