@@ -34,11 +34,11 @@ module _ (plan : Plan) (is : IsPlan plan) (k : ℕ) (lt : k < length plan.parts)
   pub contained : IsSelfContained plan.design (members_of plan.net_parts k) mine
   contained = is.parts k lt
 
-  pub now : IsReached plan.design s
-  now = reached plan.design is.processes is.settled is.is_design cycles s at
+  pub old_reached : IsReached plan.design s
+  old_reached = reached plan.design is.processes is.settled is.is_design cycles s at
 
-  pub then : IsReached plan.design whole
-  then = updated_reached plan.design s time now
+  pub whole_reached : IsReached plan.design whole
+  whole_reached = updated_reached plan.design s time old_reached
 
   module _ (t : State) (between : IsPartBetween mine s t) (long : length t.nets ≡ length plan.design.nets) (told : List Told)
       (are : AreTold plan k time s told) where
@@ -74,14 +74,14 @@ module _ (plan : Plan) (is : IsPlan plan) (k : ℕ) (lt : k < length plan.parts)
     pub own_same : IsPartState mine whole own
     own_same =
         let told_now : IsPartTold mine time s before = subst (IsPartTold mine time s) (sym told_is) (told_so mine time s t between) in
-        updated_by_part plan.design mine s before time (numbered plan.design is.is_design) now.own contained.is_part.members told_now now.nets_sized long
-        contained.below contained.driven
+        updated_by_part plan.design mine s before time (numbered plan.design is.is_design) old_reached.own contained.is_part.members told_now
+        old_reached.nets_sized long contained.below contained.driven
 
     pub done_same : IsPartState mine (cycle_end plan.design (suc cycles) whole) done
     done_same =
-        subst (λ (x : State). IsPartState mine x done) (sym (cycle_is plan.design is.processes is.settled (suc cycles) whole then))
+        subst (λ (x : State). IsPartState mine x done) (sym (cycle_is plan.design is.processes is.settled (suc cycles) whole whole_reached))
         (set_of_part plan.design mine is.processes contained.is_part.members contained.follows (is_resumed plan.design (suc cycles) whole)
-        (is_resumed here 1 own) whole own own_same then.owned_sized
+        (is_resumed here 1 own) whole own own_same whole_reached.owned_sized
         (λ i l. resumed_same plan.design mine is.processes contained.is_part.members contained.follows 1 whole own own_same i l
         ∙ sym (later_resumed plan.design cycles whole (number_at mine.members i))))
 

@@ -25,7 +25,7 @@ use Rattle.sim_store_shards.proofs.PartsExecuted.{holds_of}
 use Rattle.sim_store_shards.proofs.PartsPassed.{between as between_so}
 use Rattle.sim_store_state.specs.FlatState.{FlatState, flat_state_of}
 use Rattle.sim_store_plan.specs.Plans.{AreTold, IsHeldOf, IsPlan, IsShardOf, Plan, delta_at, own_drivers, owner, part_at}
-use Rattle.sim_store_plan.proofs.Carried.{done, done_nets, done_same, own, own_nets, own_same, then, whole}
+use Rattle.sim_store_plan.proofs.Carried.{done, done_nets, done_same, own, own_nets, own_same, whole, whole_reached}
 use Rattle.sim_store_plan.proofs.OwnLogs.{below, more_kept, own_are}
 use Rattle.sim_store_plan.proofs.OwnTimes.{none_before_next, own_next}
 use Rattle.sim_store_plan.proofs.Reached.{cycle_time}
@@ -97,7 +97,7 @@ module _ (plan : Plan) (k cycles time : ℕ) (s : State) (x y : Shard) (told : L
   many = own_nets plan is k lt cycles time s at t shard.held.between shard.held.sized told are
 
   time_is : new.time ≡ time
-  time_is = cycle_time plan.design is.processes is.settled (suc cycles) u (then plan is k lt cycles time s at)
+  time_is = cycle_time plan.design is.processes is.settled (suc cycles) u (whole_reached plan is k lt cycles time s at)
 
   held : IsHeldOf plan.design (part_at plan k) new y.state
   held = record {
@@ -109,10 +109,10 @@ module _ (plan : Plan) (k cycles time : ℕ) (s : State) (x y : Shard) (told : L
 
   alike : IsAlike (owner plan) k v.nets u.nets
   alike = record {
-    sized = many ∙ sym (then plan is k lt cycles time s at).nets_sized;
+    sized = many ∙ sym (whole_reached plan is k lt cycles time s at).nets_sized;
     own = λ n there e.
         holds_of (λ (m : ℕ). net_at v.nets m ≡ net_at u.nets m) (part_at plan k).followed n
-        (follows_own plan is k n lt (omega (arith, there, (then plan is k lt cycles time s at).nets_sized)) e)
+        (follows_own plan is k n lt (omega (arith, there, (whole_reached plan is k lt cycles time s at).nets_sized)) e)
         (own_same plan is k lt cycles time s at t shard.held.between shard.held.sized told are).nets;
   }
 

@@ -3,6 +3,7 @@ pub mod OwnTimes
 mod OwnLogs
 mod Carried
 mod GoingOn
+mod PassedOver
 mod Begun
 mod Logs
 mod NextTimes

@@ -44,7 +44,7 @@ updated_at ds (net ∷ nets) (old ∷ olds) (suc n) none lt e = updated_at ds ne
 abbrev StandAt : ℕ → List Owned → Owned → Type 0
 StandAt place os o = (j : ℕ) → j < length o.drivers → driver_at (all_drivers os) (place + j) ≡ driver_at o.drivers j
 
-pub found_at : (ps : List Process) (os : List Owned) (first n : ℕ) → AreNumbered first ps → OwnTheirs ps os → n < length ps
+found_at : (ps : List Process) (os : List Owned) (first n : ℕ) → AreNumbered first ps → OwnTheirs ps os → n < length ps
     → (place : ℕ) × ((process_at ps n).first_driver ≡ first + place) × StandAt place os (owned_at os n)
 found_at [] os first n a o lt = absurd (omega (arith, lt))
 found_at (p ∷ ps) [] first n a o lt = absurd o
@@ -67,7 +67,7 @@ found_at (p ∷ ps) (o ∷ os) first (suc n) a own lt =
           ∙ (get_or-append-add o.drivers (all_drivers os) (rest.0 + j) no_driver ∙ rest.2 j l),
     )
 
-pub owns_theirs : (ps : List Process) (os : List Owned) (n : ℕ) → OwnTheirs ps os → n < length ps → length (owned_at os n).drivers ≡ (process_at ps n).body.drivers
+owns_theirs : (ps : List Process) (os : List Owned) (n : ℕ) → OwnTheirs ps os → n < length ps → length (owned_at os n).drivers ≡ (process_at ps n).body.drivers
 owns_theirs [] os n o lt = absurd (omega (arith, lt))
 owns_theirs (p ∷ ps) [] n o lt = absurd o
 owns_theirs (p ∷ ps) (o ∷ os) zero own lt = own.0
@@ -121,7 +121,7 @@ all_taken time (o ∷ os) =
     ap (λ (l : List DriverState). map (taken time) o.drivers ++ l) (all_taken time os) ∙ sym (map-append (taken time) o.drivers (all_drivers os))
 
 -- who has taken what comes has the value that the driver has, and nothing pending
-pub coming_taken : (time : ℕ) (d : DriverState) → taken time (coming time d) ≡ record { value = (taken time d).value; pending = [] }
+coming_taken : (time : ℕ) (d : DriverState) → taken time (coming time d) ≡ record { value = (taken time d).value; pending = [] }
 coming_taken time d = go d.value d.pending
   where
     left : Logic → List Transaction → DriverState
@@ -135,7 +135,7 @@ coming_taken time d = go d.value d.pending
         by true e = rw e (rw e refl)
         by false e = rw e refl
 
-pub news_taken : (time : ℕ) (ds : List DriverState) (told : List ℕ) → own_taken time (news time ds told) ≡ stand_in (map (taken time) ds) told
+news_taken : (time : ℕ) (ds : List DriverState) (told : List ℕ) → own_taken time (news time ds told) ≡ stand_in (map (taken time) ds) told
 news_taken time ds told = ap (λ (l : List DriverState). record { drivers = l; variables = [] }) (each told)
   where
     each : (ns : List ℕ) → map (taken time) (map (λ (n : ℕ). coming time (driver_at ds n)) ns)

@@ -39,19 +39,19 @@ unfolding part_processes
 length-processes ps count first [] = refl
 length-processes ps count first (n ∷ members) = ap suc (length-processes ps count (first + (process_at ps n).body.drivers) members)
 
-pub owned_of_part : (members : List ℕ) (os : List Owned) (i : ℕ) → i < length members → owned_at (picked members os) i ≡ owned_at os (number_at members i)
+owned_of_part : (members : List ℕ) (os : List Owned) (i : ℕ) → i < length members → owned_at (picked members os) i ≡ owned_at os (number_at members i)
 owned_of_part [] os i lt = absurd (omega (arith, lt))
 owned_of_part (n ∷ members) os zero lt = refl
 owned_of_part (n ∷ members) os (suc i) lt = owned_of_part members os i (omega (arith, lt))
 
-pub process_of_part : (ps : List Process) (count first : ℕ) (members : List ℕ) (i : ℕ) → i < length members
+process_of_part : (ps : List Process) (count first : ℕ) (members : List ℕ) (i : ℕ) → i < length members
     → (other : ℕ) × (process_at (part_processes ps count first members) i ≡ with_drivers_from other (process_at ps (number_at members i)))
 unfolding part_processes
 process_of_part ps count first [] i lt = absurd (omega (arith, lt))
 process_of_part ps count first (n ∷ members) zero lt = (first, refl)
 process_of_part ps count first (n ∷ members) (suc i) lt = process_of_part ps count (first + (process_at ps n).body.drivers) members i (omega (arith, lt))
 
-pub last_of_part : (ps : List Process) (count first : ℕ) (members : List ℕ)
+last_of_part : (ps : List Process) (count first : ℕ) (members : List ℕ)
     → (other : ℕ) × (process_at (part_processes ps count first members) (length members) ≡ stand_in_process other count)
 unfolding part_processes
 last_of_part ps count first [] = (first, refl)

@@ -37,7 +37,7 @@ pub each_follows : (P Q : ℕ → Type 0) (ns : List ℕ) → ((n : ℕ) → P n
 each_follows P Q [] f h = tt
 each_follows P Q (n ∷ ns) f h = (f n h.0, each_follows P Q ns f h.1)
 
-pub each_is : (P : ℕ → Type 0) (ns : List ℕ) → ((n : ℕ) → P n) → AllByRecursion P ns
+each_is : (P : ℕ → Type 0) (ns : List ℕ) → ((n : ℕ) → P n) → AllByRecursion P ns
 each_is P [] f = tt
 each_is P (n ∷ ns) f = (f n, each_is P ns f)
 
@@ -52,7 +52,7 @@ between part s t a = record {
       (λ n e. ap (λ (w : NetView). w.value) e) a.nets;
 }
 
-pub set_last : (xs : List Owned) (y z : Owned) → set (xs ++ y ∷ []) (length xs) z ≡ xs ++ z ∷ []
+set_last : (xs : List Owned) (y z : Owned) → set (xs ++ y ∷ []) (length xs) z ≡ xs ++ z ∷ []
 set_last [] y z = refl
 set_last (x ∷ xs) y z = ap (λ (l : List Owned). x ∷ l) (set_last xs y z)
 

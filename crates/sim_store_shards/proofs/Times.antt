@@ -10,7 +10,7 @@ use Rattle.sim_standard.specs.State.{Owned, all_drivers}
 use Rattle.sim_store_shards.specs.Selections.{own_taken}
 use Rattle.sim_store_shards.specs.Times.{AreFrom, earlier, pending_times}
 
-abbrev pub times : List Transaction → List ℕ
+abbrev times : List Transaction → List ℕ
 times xs = map (λ (x : Transaction). x.0) xs
 
 -- ---- the least of a list (as in sim_store_state)
@@ -62,7 +62,7 @@ fold_from : (t m : ℕ) (xs : List ℕ) → t ≤ m → AreFrom t xs → t ≤ f
 fold_from t m [] le h = le
 fold_from t m (x ∷ xs) le h = fold_from t (min m x) xs (omega (arith, le, h.0)) h.1
 
-pub reduce_from : (t : ℕ) (xs : List ℕ) → AreFrom t xs → IsFrom t (reduce min xs)
+reduce_from : (t : ℕ) (xs : List ℕ) → AreFrom t xs → IsFrom t (reduce min xs)
 reduce_from t [] h = tt
 reduce_from t (x ∷ xs) h = fold_from t x xs h.0 h.1
 
