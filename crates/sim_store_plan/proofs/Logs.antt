@@ -1,23 +1,20 @@
 -- What a shard records is what the owner of its nets keeps.
-use Rattle.std.proofs.Common.{ℕ, ◌+◌, ◌<◌, ◌≤◌, ◌≡◌, ◌==◌, eqb, true, List, [], ◌∷◌, map, length, Some}
-use Rattle.std.proofs.Common.{ap, sym, ◌∙◌, arith}
-use Rattle.std.proofs.lemmas.Bool.Decides.{nat_tests}
+use Rattle.std.proofs.Common.{ℕ, ◌+◌, ◌<◌, ◌≤◌, ◌≡◌, List, [], ◌∷◌, map, length, Some}
+use Rattle.std.proofs.Common.{sym, ◌∙◌, arith}
 use Rattle.std.specs.List.{AllByRecursion, enumerate_from}
 use Rattle.sim_logic.specs.declared.logic.Logic.{Logic}
 use Rattle.sim_standard.specs.declared.net_view.NetView.{NetView}
 use Rattle.sim_standard.specs.Cycle.{ended}
-use Rattle.sim_standard.specs.Orders.{is_among}
 use Rattle.sim_standard.specs.Records.{records_to}
 use Rattle.sim_standard.specs.State.{State, net_at}
 use Rattle.sim_standard.proofs.Names.{numbered_value}
-use Rattle.sim_standard.proofs.Numbers.{counted-in, ranged}
 use Rattle.sim_store_state.specs.Log.{Logged}
-use Rattle.sim_store_shards.specs.Parts.{IsPartState, number_at}
+use Rattle.sim_store_shards.specs.Parts.{IsPartState}
 use Rattle.sim_store_shards.proofs.PartsExecuted.{holds_of}
-use Rattle.sim_store_division.specs.Dealt.{members_of}
 use Rattle.sim_store_merge.specs.Owners.{AreLogs, IsAlike, TimesRise, log_at, logged}
 use Rattle.sim_store_merge.proofs.Runs.{run_owned}
 use Rattle.sim_store_plan.specs.Plans.{IsPlan, Plan, owner, part_at}
+use Rattle.sim_store_plan.proofs.GoingOn.{follows_own}
 
 -- ---- the values of nets
 
@@ -34,14 +31,7 @@ alike plan k s t is lt a tn sn = record { sized = tn ∙ sym sn; own = own }
   where
     own : (n : ℕ) → n < length s.nets → owner plan n ≡ k → net_at t.nets n ≡ net_at s.nets n
     own n below e =
-        let contained = is.parts k lt in
-        let many = is.sized in
-        let mine : eqb (owner plan n) k ≡ true = grind (arith, nat_tests) in
-        let member : is_among (members_of plan.net_parts k) n ≡ true =
-        ap (λ (l : List ℕ). is_among l n) (ranged (λ (i : ℕ). number_at plan.net_parts i == k) 0 (length plan.net_parts))
-        ∙ (counted-in (λ (i : ℕ). number_at plan.net_parts i == k) 0 (length plan.net_parts) n (omega arith) (omega (arith, below, sn, many)) ∙ mine) in
-        let followed : is_among (part_at plan k).followed n ≡ true =
-        holds_of (λ (i : ℕ). is_among (part_at plan k).followed i ≡ true) (members_of plan.net_parts k) n member contained.records in
+        let followed = follows_own plan is k n lt (omega (arith, below, sn)) e in
         holds_of (λ (i : ℕ). net_at t.nets i ≡ net_at s.nets i) (part_at plan k).followed n followed a.nets
 
 -- ---- the logs of all parts

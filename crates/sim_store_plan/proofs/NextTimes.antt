@@ -5,21 +5,21 @@ use Rattle.std.specs.List.{list_any, range_with_len}
 use Rattle.sim_standard.specs.Cycle.{ended}
 use Rattle.sim_standard.specs.Drivers.{next_time}
 use Rattle.sim_standard.specs.Orders.{is_among}
-use Rattle.sim_standard.specs.State.{Owned, State, all_drivers}
+use Rattle.sim_standard.specs.State.{State, all_drivers}
 use Rattle.sim_standard.proofs.Parallel.{HasAll, ended_all}
+use Rattle.sim_store_state.specs.FlatState.{FlatState}
 use Rattle.sim_store_shard.specs.Shards.{NoneBefore, Shard}
 use Rattle.sim_store_shards.specs.Parts.{Part}
 use Rattle.sim_store_shards.specs.Selections.{picked}
 use Rattle.sim_store_shards.specs.Times.{earlier, earliest}
 use Rattle.sim_store_shards.proofs.PartsTimes.{next_of_parts}
-use Rattle.sim_store_plan.specs.Plans.{IsPlan, IsShardOf, Plan, own_drivers, part_at}
-use Rattle.sim_store_plan.proofs.OwnTimes.{own_next}
+use Rattle.sim_store_plan.specs.Plans.{IsPlan, IsShardOf, Plan, own_drivers}
+use Rattle.sim_store_plan.proofs.GoingOn.{next_of_held}
 
 pub shard_next : (plan : Plan) (k cycles : ℕ) (s : State) (x : Shard) → IsShardOf plan k cycles s x
     → next_time (all_drivers x.state.owned) ≡ next_time (own_drivers plan k s)
 shard_next plan k cycles s x h =
-    ap (λ (os : List Owned). next_time (all_drivers os)) (ap (λ y. y.owned) h.held.is ∙ h.held.between.owned)
-    ∙ own_next (part_at plan k).members s.owned (all_drivers s.owned) (part_at plan k).told
+    ap (λ (y : FlatState). next_time (all_drivers y.owned)) h.held.is ∙ next_of_held plan k s h.held.state h.held.between
 
 -- ---- the earliest of all
 

@@ -4,7 +4,7 @@ use Rattle.std.proofs.Common.{refl, ap, sym, ◌∙◌, subst, arith}
 use Rattle.std.specs.List.{All}
 use Rattle.sim_flat_design.specs.Designs.{Design}
 use Rattle.sim_flat_design.specs.Processes.{IsProcess}
-use Rattle.sim_standard.specs.Cycle.{cycle_end, ended, next_updated, updated}
+use Rattle.sim_standard.specs.Cycle.{cycle_end, ended, updated}
 use Rattle.sim_standard.specs.Drivers.{next_time}
 use Rattle.sim_standard.specs.Midway.{updated_in}
 use Rattle.sim_standard.specs.Records.{records_to}
@@ -14,6 +14,7 @@ use Rattle.sim_standard.proofs.Parallel.{HasAll, executed_time, in_turn_is_toget
 use Rattle.sim_store_merge.specs.Owners.{TimesRise, times_of}
 use Rattle.sim_store_merge.proofs.Runs.{run_rises_on, times_go_on}
 use Rattle.sim_store_plan.specs.Plans.{delta_at}
+use Rattle.sim_store_plan.proofs.GoingOn.{updated_next}
 
 -- the state, if there is one
 abbrev state_in : State → Option State → State
@@ -21,23 +22,26 @@ state_in other None = other
 state_in other (Some s) = s
 
 module _ (d : Design) (k time : ℕ) (s : State) (end : ended d k ≡ Some s) (next : next_time (all_drivers s.owned) ≡ Some time) where
-  pub updated_next : updated_in d (suc k) ≡ Some (updated d s time)
-  updated_next = ap (next_updated d) end ∙ ap (option_map (updated d s)) next
+  abbrev u : State
+  u = updated d s time
 
-  pub ended_next : ended d (suc k) ≡ Some (cycle_end d (suc k) (updated d s time))
-  ended_next = carried_on d (suc k) ∙ ap (option_map (cycle_end d (suc k))) updated_next
+  next_is : updated_in d (suc k) ≡ Some u
+  next_is = updated_next d k time s end next
+
+  pub ended_next : ended d (suc k) ≡ Some (cycle_end d (suc k) u)
+  ended_next = carried_on d (suc k) ∙ ap (option_map (cycle_end d (suc k))) next_is
 
   pub times_next : All IsProcess d.processes → times_of (records_to d (suc k)) ≡ times_of (records_to d k) ++ (time, delta_at time s) ∷ []
-  times_next is = times_go_on d k (updated d s time) is updated_next
+  times_next is = times_go_on d k u is next_is
 
   pub rises_next : All IsProcess d.processes → s.time ≤ time → TimesRise (records_to d k) → TimesRise (records_to d (suc k))
   rises_next is le rises = go (updated_in d k) refl
     where
       go : (o : Option State) → updated_in d k ≡ o → TimesRise (records_to d (suc k))
       go None none = let never : Some s ≡ None = sym end ∙ (carried_on d k ∙ ap (option_map (cycle_end d k)) none) in absurd cc
-      go (Some u) some =
-          let same : s ≡ cycle_end d k u = ap (state_in s) (sym end ∙ (carried_on d k ∙ ap (option_map (cycle_end d k)) some)) in
-          let counted : length u.owned ≡ length d.processes = subst (HasAll d) some (updated_all d is k) in
-          let kept : (cycle_end d k u).time ≡ u.time = ap (λ (y : State). y.time) (in_turn_is_together d is k u counted) ∙ executed_time d k u in
-          let at : s.time ≡ u.time = ap (λ (y : State). y.time) same ∙ kept in
-          run_rises_on d k u (updated d s time) is some updated_next (omega (arith, at, le)) rises
+      go (Some v) some =
+          let same : s ≡ cycle_end d k v = ap (state_in s) (sym end ∙ (carried_on d k ∙ ap (option_map (cycle_end d k)) some)) in
+          let counted : length v.owned ≡ length d.processes = subst (HasAll d) some (updated_all d is k) in
+          let kept : (cycle_end d k v).time ≡ v.time = ap (λ (y : State). y.time) (in_turn_is_together d is k v counted) ∙ executed_time d k v in
+          let at : s.time ≡ v.time = ap (λ (y : State). y.time) same ∙ kept in
+          run_rises_on d k v u is some next_is (omega (arith, at, le)) rises
