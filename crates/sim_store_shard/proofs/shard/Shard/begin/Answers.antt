@@ -18,8 +18,10 @@ execute-requires c =
     let m = c.in_ok-contents.contents in
     let e = c.in_ok-contents.ensures in
     record {
-      shard = first-shard design c.requires (omega (arith, c.nets-nets.ensures.bound, ap length c.nets-nets.ensures.value)) (subst (All IsProcess) c.processes.ensures.value c.are_processes.ensures)
-          (subst (AreOwned (length design.nets) 0 0 design.processes) c.drivers-drivers.ensures.value c.drivers-drivers.ensures.owned) m.time m.state e.changes.0 e.state m.changes.marks m.changes.records;
+      shard = first-shard design c.requires (omega (arith, c.nets-nets.ensures.bound, ap length c.nets-nets.ensures.value))
+          (subst (All IsProcess) c.processes.ensures.value c.are_processes.ensures)
+          (subst (AreOwned (length design.nets) 0 0 design.processes) c.drivers-drivers.ensures.value c.drivers-drivers.ensures.owned)
+          m.time m.state e.changes.0 e.state m.changes.marks m.changes.records;
       compiled = e.compiled;
       marked = ap length e.resumed ∙ length-replicate _ _;
     }
