@@ -1,0 +1,6 @@
+mod Telling
+mod Lists
+mod Saying
+mod Owning
+mod Finding
+mod Hearing
