@@ -1,1 +1,2 @@
 pub mod Seats
+pub mod Speakers

@@ -1,6 +1,6 @@
 -- The seats of a crew: the shards of the parts of a plan, each with what it says of its next cycle.
 -- Implementation only: what `simulate` promises does not rest on this file.
-use Rattle.std.specs.Prelude.{ℕ, ◌≡◌, ◌<◌, ◌≤◌, ◌==◌, List, [], ◌∷◌, Option, None, Some, Bool, if◌then◌else◌, length, map, flat_map, slice_index_or}
+use Rattle.std.specs.Prelude.{ℕ, ◌≡◌, ◌≢◌, ◌<◌, ◌≤◌, ◌+◌, ◌^◌, ◌==◌, List, [], ◌∷◌, Option, None, Some, Bool, if◌then◌else◌, length, map, flat_map, slice_index_or}
 use Rattle.std.specs.List.{range_with_len}
 use Rattle.std.specs.Option.{option_eq}
 use Rattle.sim_logic.specs.Time.{largest_time}
@@ -47,3 +47,43 @@ abbrev pub told_by : Plan → ℕ → (ℕ → Shard) → ℕ → List Told
 told_by plan time shards k =
     flat_map (λ (j : ℕ). if option_eq ◌==◌ (next_time (all_drivers (shards j).state.owned)) (Some time) then for_part k (said_by plan j (shards j)) else [])
     (range_with_len 0 (length plan.parts))
+
+-- A seat holds some shard of its part.
+pub record HoldsShard (plan : Plan) (y : Seat) : Type 0 where
+  pub shard : Shard
+  pub rows : List (List Hearer)
+  pub active : ℕ
+  pub is : IsSeat plan y shard rows active
+
+-- ---- orders
+
+-- an order: a seat, the time and the delta number of its next cycle, and what it is told for it
+pub record Order : Type 0 where
+  pub seat : Seat
+  pub time : ℕ
+  pub delta : ℕ
+  pub told : List Told
+
+-- It can be carried out: its cycle is the next of the run, and it is told what it has to be told.
+pub record IsOrder (plan : Plan) (o : Order) : Type 0 where
+  pub is_plan : IsPlan plan
+  pub state : State
+  pub reached : ended plan.design o.seat.cycles ≡ Some state
+  pub next : next_time (all_drivers state.owned) ≡ Some o.time
+  pub later : state.time ≤ o.time
+  pub early : o.time ≤ largest_time
+  pub delta_is : o.delta ≡ delta_at o.time state
+  pub told_are : AreTold plan o.seat.part o.time state o.told
+  pub few : o.seat.cycles + 1 < 2 ^ 64
+
+-- The shard of a seat has nothing to do in the next cycle of the run: it has no transaction then, and is told none.
+pub record IsIdle (plan : Plan) (y : Seat) : Type 0 where
+  pub time : ℕ
+  pub delta : ℕ
+  pub order : IsOrder plan (record { seat = y; time = time; delta = delta; told = [] })
+  pub other : y.next ≢ Some time
+
+-- The seat is that of a part, after one more cycle.
+pub record IsAfter (old new : Seat) : Type 0 where
+  pub part : new.part ≡ old.part
+  pub cycles : new.cycles ≡ old.cycles + 1

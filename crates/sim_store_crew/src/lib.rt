@@ -2,5 +2,10 @@
 #![tactic(auto)]
 
 mod laws;
+mod plan_type;
+mod seat;
+mod speaker;
 
 pub use laws::parts_are_told_what_others_take;
+pub use plan_type::PlanType;
+pub use seat::{Order, Seat};

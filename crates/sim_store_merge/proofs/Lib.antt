@@ -3,7 +3,7 @@ mod Only
 mod Own
 mod Places
 mod Pushes
-mod Runs
+pub mod Runs
 mod Shares
 mod Sorted
 mod Totals

@@ -1,14 +1,13 @@
 -- A plan by which a run is carried out in parts, and what the shards of its parts are after a number of cycles.
 -- Implementation only: what `simulate` promises does not rest on this file.
-use Rattle.std.specs.Prelude.{ℕ, suc, ◌≡◌, ◌<◌, ◌≤◌, ◌==◌, ◌+◌, List, [], ◌∷◌, Option, None, Some, false, true, if◌then◌else◌, length, map, slice_index_or}
+use Rattle.std.specs.Prelude.{ℕ, ◌≡◌, ◌<◌, ◌≤◌, ◌==◌, ◌+◌, List, [], false, true, if◌then◌else◌, length, map, slice_index_or}
 use Rattle.std.specs.List.{All, list_any}
 use Rattle.sim_flat_design.specs.Designs.{Design, IsDesign}
 use Rattle.sim_flat_design.specs.Processes.{IsProcess, Process}
-use Rattle.sim_standard.specs.Cycle.{ended}
 use Rattle.sim_standard.specs.Drivers.{DriverState, next_time}
 use Rattle.sim_standard.specs.Orders.{is_among}
 use Rattle.sim_standard.specs.Records.{records_to}
-use Rattle.sim_standard.specs.State.{State, all_drivers, owned_at}
+use Rattle.sim_standard.specs.State.{State, all_drivers}
 use Rattle.sim_store_state.specs.FlatState.{FlatState, flat_state_of}
 use Rattle.sim_store_shards.specs.Parts.{IsPartBetween, Part, news, number_at, part_of, stand_in}
 use Rattle.sim_store_shards.specs.Selections.{picked}
@@ -16,7 +15,7 @@ use Rattle.sim_store_parts.specs.Cut.{IsSelfContained}
 use Rattle.sim_store_division.specs.Dealt.{members_of}
 use Rattle.sim_store_merge.specs.Owners.{logged}
 use Rattle.sim_store_shard.specs.declared.told.Told.{Told}
-use Rattle.sim_store_shard.specs.Shards.{NoneBefore, Shard, told_all}
+use Rattle.sim_store_shard.specs.Shards.{AreReady, NoneBefore, Shard, told_all}
 
 -- a plan: a design, its parts, and the part to which each net belongs, which records its changes
 pub record Plan : Type 0 where
@@ -59,6 +58,7 @@ pub record IsShardOf (plan : Plan) (k cycles : ℕ) (s : State) (x : Shard) : Ty
   pub design_is : x.design ≡ part_of plan.design (part_at plan k)
   pub recorded : x.recorded ≡ map (λ (o : ℕ). o == k) plan.net_parts
   pub late : x.time ≤ s.time
+  pub ready : AreReady x.design.processes x.time x.state.owned
   pub none : NoneBefore s.time (next_time (own_drivers plan k s))
   pub held : IsHeldOf plan.design (part_at plan k) s x.state
   pub records : x.records ≡ logged (owner plan) k (records_to plan.design cycles)

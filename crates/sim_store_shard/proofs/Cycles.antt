@@ -1,13 +1,12 @@
 -- A cycle of a shard: its steps leave what the cycle leaves.
-use Rattle.std.proofs.Common.{ℕ, suc, zero, ◌+◌, ◌-◌, ◌<◌, ◌≤◌, ◌≡◌, ◌^◌, ◌==◌, Bool, true, false, List, [], ◌∷◌, ◌++◌, length, map, replicate, filter, get_or, set}
+use Rattle.std.proofs.Common.{ℕ, ◌-◌, ◌<◌, ◌≤◌, ◌≡◌, Bool, true, false, List, [], length, map, replicate, set}
 use Rattle.std.proofs.Common.{refl, ap, sym, ◌∙◌, subst, arith}
 use Rattle.std.proofs.lemmas.List.{get_or-replicate, get_or_default, length-map, length-replicate, length-set}
-use Rattle.std.specs.List.{All, AllByRecursion, range_with_len}
+use Rattle.std.specs.List.{All}
 use Rattle.sim_containers.specs.Numbers.{is_in, members}
 use Rattle.sim_containers.proofs.Ranges.{member_small}
 use Rattle.sim_flat_design.specs.Designs.{AreOwned, Design, most}
 use Rattle.sim_flat_design.specs.Processes.{IsProcess, Process}
-use Rattle.sim_exec.specs.Jobs.{IsReady}
 use Rattle.sim_standard.specs.declared.net_view.NetView.{NetView}
 use Rattle.sim_standard.specs.declared.record.Record.{Record}
 use Rattle.sim_store_state.specs.Sensitive.{has_event_in}

@@ -111,7 +111,8 @@ pub ready-updated : (ps : List Process) (time : ℕ) (os : List Owned) → lengt
 ready-updated ps time os sized ready p lt =
     let o = owned_at os p in
     let r = ready p lt in
-    let at : owned_at (map (own_taken time) os) p ≡ own_taken time o = get_or-map (own_taken time) os p nothing_owned nothing_owned (omega (arith, lt, sized)) in
+    let there : p < length os = omega (arith, lt, sized) in
+    let at : owned_at (map (own_taken time) os) p ≡ own_taken time o = get_or-map (own_taken time) os p nothing_owned nothing_owned there in
     let taken_is = taken_ready (process_at ps p).body time time o r (each_from time (pending_times o.drivers) (rises-times time o.drivers r.pending)) in
     subst (IsReady (process_at ps p).body time) (sym at) (record {
       drivers = taken_is.drivers;

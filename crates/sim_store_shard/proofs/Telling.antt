@@ -1,6 +1,6 @@
 -- Drivers that are told transactions, one after another.
-use Rattle.std.proofs.Common.{ℕ, suc, zero, ◌+◌, ◌<◌, ◌≤◌, ◌≡◌, List, [], ◌∷◌, length, get_or, set, drop, refl, ap, sym, ◌∙◌, subst, arith}
-use Rattle.std.proofs.lemmas.List.{get_or-set_same, length-set, set-get_or, set-set}
+use Rattle.std.proofs.Common.{ℕ, suc, zero, ◌+◌, ◌<◌, ◌≡◌, List, [], ◌∷◌, length, get_or, set, drop, refl, ap, sym, ◌∙◌, arith}
+use Rattle.std.proofs.lemmas.List.{length-set, set-get_or, set-set}
 use Rattle.std.specs.List.{All}
 use Rattle.sim_standard.specs.Drivers.{DriverState}
 use Rattle.sim_standard.specs.State.{Owned, owned_at}

@@ -128,6 +128,7 @@ pub record HasCarriedOut (time delta : ℕ) (news : List Told) (x y : Shard) : T
   pub state : (s : State) → x.state ≡ flat_state_of x.design s → y.state ≡ flat_state_of x.design (carried_out x.design time news s)
   pub records : y.records ≡ logged time delta (own_changes x.recorded (changes_from 0 y.state.nets)) x.records
   pub none : NoneBefore time (next_time (all_drivers y.state.owned))
+  pub ready : AreReady x.design.processes time y.state.owned
 
 -- A shard at the start of a run: the initialization has been carried out, and recorded, if it has such nets.
 pub record HasBegun (design : Design) (marks : List Bool) (x : Shard) : Type 0 where
@@ -136,3 +137,4 @@ pub record HasBegun (design : Design) (marks : List Bool) (x : Shard) : Type 0 w
   pub time : x.time ≡ 0
   pub state : x.state ≡ flat_state_of design (executed_in design 0 (first_state design))
   pub records : x.records ≡ logged 0 0 (own_changes marks (values_of (first_state design).nets)) []
+  pub ready : AreReady design.processes 0 x.state.owned

@@ -247,6 +247,20 @@ impl Shard {
         self.contents.state.find_active(time, active)
     }
 
+    /// The time of its last cycle, in femtoseconds.
+    pub fn time(&self) -> u64
+        ensures { result ≡ self.now.time }
+    {
+        self.contents.time
+    }
+
+    /// The number of its drivers, those of others among them.
+    pub fn drivers(&self) -> usize
+        ensures { result ≡ length (all_drivers self.now.state.owned) }
+    {
+        self.contents.state.drivers()
+    }
+
     /// The value that the driver with a number has after it takes its transaction of a time, if it
     /// has one.
     pub fn value_at(&self, driver: usize, time: u64) -> Logic

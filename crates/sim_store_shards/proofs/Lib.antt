@@ -1,10 +1,10 @@
 pub mod Logs
 pub mod Selections
-mod Parts
+pub mod Parts
 pub mod PartsExecuted
-mod PartsPassed
+pub mod PartsPassed
 mod PartsJoined
 pub mod PartsFit
-mod PartsBegun
-mod PartsTimes
+pub mod PartsBegun
+pub mod PartsTimes
 pub mod Times

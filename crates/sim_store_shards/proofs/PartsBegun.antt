@@ -44,7 +44,7 @@ drivers_from nets number first all ds (p ∷ ps) e o =
     ∙ (ap (λ (l : List DriverState). map idle (take k ds) ++ l) (drivers_from nets (number + 1) (first + k) all (drop k ds) ps rest o.3)
     ∙ (sym (map-append idle (take k ds) (drop k ds)) ∙ ap (map idle) (take-append-drop k ds)))
 
-are_numbered : (nets number first : ℕ) (ps : List Process) (ds : List DriverOf) → AreOwned nets number first ps ds → AreNumbered first ps
+pub are_numbered : (nets number first : ℕ) (ps : List Process) (ds : List DriverOf) → AreOwned nets number first ps ds → AreNumbered first ps
 are_numbered nets number first [] ds o = tt
 are_numbered nets number first (p ∷ ps) ds o = (o.0, are_numbered nets (number + 1) (first + p.body.drivers) ps (drop p.body.drivers ds) o.3)
 
@@ -53,7 +53,7 @@ length-take zero xs le = refl
 length-take (suc k) [] le = absurd (omega (arith, le))
 length-take (suc k) (x ∷ xs) le = ap suc (length-take k xs (omega (arith, le)))
 
-own_theirs : (nets number first : ℕ) (all ds : List DriverOf) (ps : List Process) → ds ≡ drop first all → AreOwned nets number first ps ds
+pub own_theirs : (nets number first : ℕ) (all ds : List DriverOf) (ps : List Process) → ds ≡ drop first all → AreOwned nets number first ps ds
     → OwnTheirs ps (map (first_owned all) ps)
 own_theirs nets number first all ds [] e o = tt
 own_theirs nets number first all ds (p ∷ ps) e o =
@@ -124,7 +124,7 @@ told_is ds drivers told e = ap (λ (l : List DriverState). record { drivers = l;
 
 -- ---- the nets of the part
 
-started_at : (ds : List DriverState) (nets : List Net) (n : ℕ) → n < length nets
+pub started_at : (ds : List DriverState) (nets : List Net) (n : ℕ) → n < length nets
     → net_at (map (net_started ds) nets) n ≡ net_started ds (slice_index_or nets n (record { name = []; sources = [] }))
 started_at ds [] n lt = absurd (omega (arith, lt))
 started_at ds (net ∷ nets) zero lt = refl

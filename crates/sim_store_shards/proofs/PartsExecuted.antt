@@ -132,7 +132,7 @@ does_nothing first count s = refl
 
 -- ---- values of drivers
 
-value_by : (ds : List DriverState) (n : ℕ) → (driver_at ds n).value ≡ slice_index_or (driver_values ds) n U
+pub value_by : (ds : List DriverState) (n : ℕ) → (driver_at ds n).value ≡ slice_index_or (driver_values ds) n U
 value_by ds n = sym (get_or-map (λ (d : DriverState). d.value) ds n no_driver)
 
 pub stand_in_same : (ds es : List DriverState) (told : List ℕ) → driver_values ds ≡ driver_values es → stand_in ds told ≡ stand_in es told
@@ -191,7 +191,7 @@ stand_in_is : (first count : ℕ) → IsProcess (stand_in_process first count)
 unfolding rising objects_of
 stand_in_is first count = record { placed = refl; sensitive = refl; reads = refl }
 
-are_processes : (ps : List Process) (count first : ℕ) (members : List ℕ) → All IsProcess ps → AllByRecursion (λ (n : ℕ). n < length ps) members
+pub are_processes : (ps : List Process) (count first : ℕ) (members : List ℕ) → All IsProcess ps → AllByRecursion (λ (n : ℕ). n < length ps) members
     → AllByRecursion IsProcess (part_processes ps count first members)
 unfolding part_processes
 are_processes ps count first [] is h = (stand_in_is first count, tt)
@@ -203,7 +203,7 @@ are_processes ps count first (n ∷ members) is h =
 
 module _ (design : Design) (p : Part) (is : All IsProcess design.processes) (below : AllByRecursion (λ (n : ℕ). n < length design.processes) p.members)
     (follows : FollowsAll design p) where
-  abbrev own_processes : List Process
+  abbrev pub own_processes : List Process
   own_processes = part_processes design.processes (length p.told) 0 p.members
 
   abbrev own_result : State → ℕ → Owned
@@ -276,7 +276,7 @@ module _ (design : Design) (p : Part) (is : All IsProcess design.processes) (bel
     abbrev there : Design
     there = part_of design p
 
-    resumed_same : (i : ℕ) → i < length p.members → list_any (λ (n : ℕ). (net_at t.nets n).event) (process_at own_processes i).sensitivity
+    pub resumed_same : (i : ℕ) → i < length p.members → list_any (λ (n : ℕ). (net_at t.nets n).event) (process_at own_processes i).sensitivity
         ≡ list_any (λ (n : ℕ). (net_at s.nets n).event) (process_at design.processes (number_at p.members i)).sensitivity
     resumed_same i lt =
         ap (λ (x : Process). list_any (λ (n : ℕ). (net_at t.nets n).event) x.sensitivity) (process_of_part design.processes (length p.told) 0 p.members i lt).1
@@ -313,10 +313,10 @@ module _ (design : Design) (p : Part) (is : All IsProcess design.processes) (bel
 
   -- ---- one after another
 
-  own_is : All IsProcess own_processes
+  pub own_is : All IsProcess own_processes
   own_is = All-from_recursion IsProcess own_processes (are_processes design.processes (length p.told) 0 p.members is below)
 
-  set_of_part : (f g : ℕ → Bool) (s t : State) → IsPartState p s t → length s.owned ≡ length design.processes
+  pub set_of_part : (f g : ℕ → Bool) (s t : State) → IsPartState p s t → length s.owned ≡ length design.processes
       → ((i : ℕ) → i < length p.members → g i ≡ f (number_at p.members i))
       → IsPartState p (one_by_one design.processes (processes_where design f) s) (one_by_one own_processes (processes_where (part_of design p) g) t)
   set_of_part f g s t a len same =

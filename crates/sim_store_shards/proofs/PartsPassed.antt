@@ -33,7 +33,7 @@ use Rattle.sim_store_shards.proofs.Times.{owned_still}
 
 -- ---- between two cycles
 
-each_follows : (P Q : ℕ → Type 0) (ns : List ℕ) → ((n : ℕ) → P n → Q n) → AllByRecursion P ns → AllByRecursion Q ns
+pub each_follows : (P Q : ℕ → Type 0) (ns : List ℕ) → ((n : ℕ) → P n → Q n) → AllByRecursion P ns → AllByRecursion Q ns
 each_follows P Q [] f h = tt
 each_follows P Q (n ∷ ns) f h = (f n h.0, each_follows P Q ns f h.1)
 

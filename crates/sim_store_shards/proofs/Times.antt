@@ -45,16 +45,16 @@ next_of_both xs ys = ap next_time (drivers_append xs ys) ∙ next_append (all_dr
 
 -- ---- a delta cycle
 
-front : (t : ℕ) (xs ys : List ℕ) → AreFrom t (xs ++ ys) → AreFrom t xs
+pub front : (t : ℕ) (xs ys : List ℕ) → AreFrom t (xs ++ ys) → AreFrom t xs
 front t [] ys h = tt
 front t (x ∷ xs) ys h = (h.0, front t xs ys h.1)
 
-rest : (t : ℕ) (xs ys : List ℕ) → AreFrom t (xs ++ ys) → AreFrom t ys
+pub rest : (t : ℕ) (xs ys : List ℕ) → AreFrom t (xs ++ ys) → AreFrom t ys
 rest t [] ys h = h
 rest t (x ∷ xs) ys h = rest t xs ys h.1
 
 -- there is none before this time
-abbrev IsFrom : ℕ → Option ℕ → Type 0
+abbrev pub IsFrom : ℕ → Option ℕ → Type 0
 IsFrom t None = Unit {0}
 IsFrom t (Some m) = t ≤ m
 
@@ -66,7 +66,7 @@ reduce_from : (t : ℕ) (xs : List ℕ) → AreFrom t xs → IsFrom t (reduce mi
 reduce_from t [] h = tt
 reduce_from t (x ∷ xs) h = fold_from t x xs h.0 h.1
 
-next_from : (t : ℕ) (ds : List DriverState) → AreFrom t (pending_times ds) → IsFrom t (next_time ds)
+pub next_from : (t : ℕ) (ds : List DriverState) → AreFrom t (pending_times ds) → IsFrom t (next_time ds)
 unfolding next_time
 next_from t ds h = reduce_from t (pending_times ds) h
 

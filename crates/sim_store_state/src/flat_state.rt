@@ -446,6 +446,13 @@ impl FlatState {
         Ok(())
     }
 
+    /// The number of all drivers.
+    pub fn drivers(&self) -> usize
+        ensures { result ≡ length (states.all_drivers self.now.owned) }
+    {
+        self.driving.len()
+    }
+
     /// The value that the driver with a number has after it takes its transaction of a time, if it
     /// has one.
     pub fn value_at(&self, driver: usize, time: u64) -> Logic

@@ -1,5 +1,5 @@
 use Rattle.std.proofs.Common.{◌∙◌}
-use Rattle.sim_store_shard.proofs.Executing.{along-first, along-more, along-one, along-sized, next-executable, rest-executable}
+use Rattle.sim_store_shard.proofs.Executing.{along-more, along-one, along-sized, next-executable, rest-executable}
 use Rattle.sim_store_shard.proofs.executed.execute_all.Goals as goal
 
 pub execute_assignments-requires-clause-each : goal.execute_assignments-requires-clause-each

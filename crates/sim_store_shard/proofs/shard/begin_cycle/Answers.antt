@@ -1,4 +1,4 @@
-use Rattle.std.proofs.Common.{length, refl, ap, sym, ◌∙◌, arith}
+use Rattle.std.proofs.Common.{refl, ap, sym, ◌∙◌, arith}
 use Rattle.sim_store_state.specs.FlatState.{FlatState}
 use Rattle.sim_store_shard.proofs.Cycles.{last-pending, last-there, new-nets, new-shard, new-state, resumed-are, told-times}
 use Rattle.sim_store_shard.proofs.shard.begin_cycle.Goals as goal

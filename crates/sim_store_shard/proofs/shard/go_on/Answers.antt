@@ -7,7 +7,7 @@ use Rattle.sim_standard.specs.Drivers.{next_time}
 use Rattle.sim_standard.specs.State.{State, all_drivers}
 use Rattle.sim_store_state.specs.FlatState.{FlatState, flat_state_of}
 use Rattle.sim_store_shard.specs.Contents.{IsOf}
-use Rattle.sim_store_shard.specs.Shards.{NoneBefore, own_changes, logged, told_to}
+use Rattle.sim_store_shard.specs.Shards.{AreReady, NoneBefore, own_changes, logged, told_to}
 use Rattle.sim_store_shard.proofs.Ready.{ready-first}
 use Rattle.sim_standard.specs.Records.{changes_from}
 use Rattle.sim_store_shard.specs.declared.shard.Contents.{Contents}
@@ -43,4 +43,5 @@ returns-clause-done c =
           (sym c.execute.ensures.alone));
       none = subst (λ (t : ℕ). NoneBefore t (next_time (all_drivers new.state.owned))) time_is
           (ready-first design.processes new.time new.state.owned both.1.shard.owned_sized both.1.shard.ready);
+      ready = subst (λ (t : ℕ). AreReady design.processes t new.state.owned) time_is both.1.shard.ready;
     }) (each _ _ c.execute.result c.execute.ensures.state c.execute.ensures.of)
