@@ -2,21 +2,24 @@
 use Rattle.std.proofs.Common.{ℕ, zero, suc, ◌<◌, ◌≡◌, eqb, eqb-true, Bool, true, false, if◌then◌else◌, List, [], ◌∷◌, ◌++◌, length, map, get_or}
 use Rattle.std.proofs.Common.{Option, None, Some, refl, sym, ap, ◌∙◌, subst, arith}
 use Rattle.std.proofs.Math.ListN.{get_or-map}
-use Rattle.std.proofs.lemmas.List.{length-map}
-use Rattle.std.proofs.lemmas.List.Elements.{recursion_from_All}
+use Rattle.std.proofs.lemmas.List.{length-append, length-map}
+use Rattle.std.proofs.lemmas.List.Elements.{All-weaker, recursion_from_All}
 use Rattle.std.proofs.lemmas.Option.{same_Some}
 use Rattle.std.specs.List.{All, AllByRecursion, range_with_len}
 use Rattle.std.specs.Option.{option_eq}
 use Rattle.sim_logic.specs.declared.logic.Logic.{Logic}
+use Rattle.sim_flat_design.specs.Designs.{Design}
 use Rattle.sim_standard.specs.Cycle.{ended}
 use Rattle.sim_standard.specs.Drivers.{DriverState, Transaction, next_time, taken}
 use Rattle.sim_standard.specs.State.{Owned, State, all_drivers, driver_at, owned_at}
 use Rattle.sim_wave.specs.Rising.{RisesFrom, next_of}
+use Rattle.sim_wave.proofs.Rising.{RisesFrom-earlier}
 use Rattle.sim_store_state.specs.Changes.{time_at}
 use Rattle.sim_store_state.specs.FlatState.{FlatState}
 use Rattle.sim_store_state.proofs.Times.{first_is}
 use Rattle.sim_store_shards.specs.Parts.{OwnTheirs, Part, coming, drivers_of, number_at, stand_in}
 use Rattle.sim_store_shards.specs.Selections.{picked}
+use Rattle.sim_store_shards.proofs.PartsExecuted.{length-picked, length-processes}
 use Rattle.sim_store_shard.specs.declared.told.Told.{Told}
 use Rattle.sim_store_shard.specs.Shards.{Shard}
 use Rattle.sim_store_plan.specs.Plans.{AreTold, IsPlan, IsShardOf, Plan, part_at}
@@ -63,11 +66,14 @@ module _ (time : ℕ) where
   none_comes : (d : DriverState) → Rises d → (next_time (d ∷ []) ≡ Some time → ⊥) → (coming time d).pending ≡ []
   none_comes d rises none = none_from d.value d.pending (λ e. none (sym (first_is d d.pending refl rises) ∙ e))
 
-all_rise : (os : List Owned) → ((p : ℕ) → p < length os → All Rises (owned_at os p).drivers) → AllByRecursion Rises (all_drivers os)
-all_rise [] h = tt
-all_rise (o ∷ os) h =
-    all_append Rises o.drivers (all_drivers os) (recursion_from_All Rises o.drivers (h 0 (omega arith)))
-    (all_rise os (λ p lt. h (suc p) (omega (arith, lt))))
+all_rise : (from : ℕ) (os : List Owned)
+    → ((p : ℕ) → p < length os → All (λ (d : DriverState). RisesFrom from d.pending) (owned_at os p).drivers) → AllByRecursion Rises (all_drivers os)
+all_rise from [] h = tt
+all_rise from (o ∷ os) h =
+    all_append Rises o.drivers (all_drivers os)
+    (recursion_from_All Rises o.drivers (All-weaker (λ (d : DriverState). RisesFrom from d.pending) Rises
+    (λ d r. RisesFrom-earlier 0 from d.pending (omega arith) r) o.drivers (h 0 (omega arith))))
+    (all_rise from os (λ p lt. h (suc p) (omega (arith, lt))))
 
 each_rises : (ds : List DriverState) (n : ℕ) → AllByRecursion Rises ds → Rises (driver_at ds n)
 each_rises [] n h = tt
@@ -162,8 +168,13 @@ module _ (plan : Plan) (cycles time : ℕ) (s : State) (shards : ℕ → Shard) 
       (subst (λ (l : List ℕ). p < length l) (sym mine_is) in_list)
       (ap (λ (l : List ℕ). number_at l p) mine_is ∙ sym same))
 
-  one_told : (p : ℕ) → p < length mine → time_at ds (number_at mine p) ≡ Some time → is_told (told_by plan time shards k) p ≡ true
-  one_told p in_list due =
+  -- The driver that is told at a place is that of a process of a part: this part, and its number there.
+  HasOwner : ℕ → Type 0
+  HasOwner p = (j : ℕ) × ((n : ℕ) × ((j < length plan.parts) × (n < length (numbers j)) × (number_at (numbers j) n ≡ number_at mine p)))
+
+  owner_of : (p : ℕ) → p < length mine → HasOwner p
+  unfolding HasOwner
+  owner_of p in_list =
       let design = plan.design in
       let exists = number_holds (λ (n : ℕ). n < length design.drivers) mine p in_list (is.parts k lt).is_part.told in
       let process = process_of (length design.nets) 0 0 design.processes design.drivers (number_at mine p) is.is_design.drivers exists in
@@ -171,16 +182,39 @@ module _ (plan : Plan) (cycles time : ℕ) (s : State) (shards : ℕ → Shard) 
       let part = part_with plan.parts process.0 (is.whole process.0 of_process.there) in
       let found = number_in design.processes (part_at plan part.0).members process.0 process.1.0 (number_at mine p) part.2 of_process.within
       (omega (arith, of_process.is)) in
-      one_of_range (λ (x : Told). eqb x.place p) (λ (j : ℕ). says_at j (next_time (held_by j))) 0 (length plan.parts) part.0 (omega arith)
-      (omega (arith, part.1)) (said_by_owner part.0 found.0 p part.1 found.1 found.2 in_list due)
+      (part.0, (found.0, (part.1, found.1, found.2)))
 
-  pub are_told : ((p : ℕ) → p < length s.owned → All Rises (owned_at s.owned p).drivers) → AreTold plan k time s (told_by plan time shards k)
-  are_told rises =
+  one_told : (p : ℕ) → p < length mine → time_at ds (number_at mine p) ≡ Some time → is_told (told_by plan time shards k) p ≡ true
+  unfolding HasOwner
+  one_told p in_list due =
+      let o = owner_of p in_list in
+      let there = o.1.1.0 in
+      one_of_range (λ (x : Told). eqb x.place p) (λ (j : ℕ). says_at j (next_time (held_by j))) 0 (length plan.parts) o.0 (omega arith)
+      (omega (arith, there)) (said_by_owner o.0 o.1.0 p there o.1.1.1 o.1.1.2 in_list due)
+
+  all_rise_in : (j : ℕ) → j < length plan.parts → AllByRecursion Rises (held_by j)
+  all_rise_in j there =
+      let shard = held j there in
+      let part = part_at plan j in
+      let stand = stand_in ds part.told ∷ [] in
+      let owned : length (shards j).state.owned ≡ length (picked part.members s.owned ++ stand) =
+      ap (λ (x : FlatState). length x.owned) shard.held.is ∙ ap length shard.held.between.owned in
+      let many = length-append (picked part.members s.owned) stand in
+      let processes : length (shards j).design.processes ≡ suc (length part.members) =
+      ap (λ (d : Design). length d.processes) shard.design_is ∙ length-processes plan.design.processes (length part.told) 0 part.members in
+      all_rise (shards j).time (shards j).state.owned
+      (λ p within. (shard.ready p (omega (arith, within, owned, many, length-picked part.members s.owned, processes))).pending)
+
+  rises_at : (p : ℕ) → p < length mine → Rises (driver_at ds (number_at mine p))
+  unfolding HasOwner
+  rises_at p in_list =
+      let o = owner_of p in_list in
+      subst Rises (own_same o.0 o.1.1.0 o.1.0 o.1.1.1 ∙ ap (driver_at ds) o.1.1.2) (each_rises (held_by o.0) o.1.0 (all_rise_in o.0 o.1.1.0))
+
+  pub are_told : AreTold plan k time s (told_by plan time shards k)
+  are_told =
       all_told time ds mine (told_by plan time shards k)
       (all_weaker Fits (IsComing time ds mine)
-      (λ x h. ap (λ (v : Logic). (time, v) ∷ []) h.value ∙ comes time (driver_at ds (number_at mine x.place)) (rise (number_at mine x.place)) h.due)
+      (λ x h. ap (λ (v : Logic). (time, v) ∷ []) h.value ∙ comes time (driver_at ds (number_at mine x.place)) (rises_at x.place h.place) h.due)
       (told_by plan time shards k) all_fit)
-      (λ p in_list none. none_comes time (driver_at ds (number_at mine p)) (rise (number_at mine p)) (λ due. absurd (cc (none, one_told p in_list due))))
-    where
-      rise : (n : ℕ) → Rises (driver_at ds n)
-      rise n = each_rises ds n (all_rise s.owned rises)
+      (λ p in_list none. none_comes time (driver_at ds (number_at mine p)) (rises_at p in_list) (λ due. absurd (cc (none, one_told p in_list due))))

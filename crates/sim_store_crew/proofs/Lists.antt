@@ -4,6 +4,7 @@ use Rattle.std.proofs.Common.{refl, ap, ◌∙◌, arith, flat_map}
 use Rattle.std.proofs.lemmas.Bool.Decides.{nat_tests}
 use Rattle.std.specs.List.{AllByRecursion, filter, list_any, range_with_len}
 use Rattle.std.proofs.lemmas.List.Folds.{list_any-append}
+use Rattle.sim_store_shards.proofs.Parts.{or_right}
 
 -- ---- of each
 
@@ -37,10 +38,6 @@ all_from P a zero h = tt
 all_from P a (suc n) h = (h a (omega arith) (omega arith), all_from P (a + 1) n (λ j le lt. h j (omega (arith, le)) (omega (arith, lt))))
 
 -- ---- whether one passes a test
-
-pub or_right : (a b : Bool) → b ≡ true → (a || b) ≡ true
-or_right true b e = refl
-or_right false b e = e
 
 pub same_self : (n : ℕ) → eqb n n ≡ true
 same_self n = grind (arith, nat_tests)
