@@ -1,1 +1,7 @@
+mod Telling
+mod Lists
+mod Saying
+mod Owning
+mod Finding
+mod Hearing
 mod Seating
