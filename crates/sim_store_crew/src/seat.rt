@@ -3,7 +3,9 @@
 ghost use Rattle.std.specs.Prelude.{◌≡◌, ◌<◌, length, IfOk};
 ghost use Rattle.sim_standard.specs.Cycle.{cycle_end};
 ghost use Rattle.sim_standard.specs.Initialization.{first_state};
-ghost use Rattle.sim_store_plan.specs.Plans.{IsShardOf};
+ghost use Rattle.sim_standard.specs.Records.{records_to};
+ghost use Rattle.sim_store_merge.specs.Owners.{logged};
+ghost use Rattle.sim_store_plan.specs.Plans.{IsShardOf, owner};
 ghost use Rattle.sim_store_crew.specs.Seats as spec;
 
 use crate::plan_type::PlanType;
@@ -12,9 +14,17 @@ use sim_containers::{NumberList, RowArray};
 use sim_store_division::Hearer;
 use sim_store_news::News;
 use sim_store_shard::{Shard, Told};
+use sim_store_state::Log;
 use sqlite_items::Items;
 use std::alloc::{AllocError, Global};
 use std::marker::{Model, PhantomData};
+
+/// The log of a shard, without what it says.
+fn log_of(speaker: Speaker) -> Log
+    ensures { result.records ≡ speaker.shard.records }
+{
+    speaker.shard.into_log()
+}
 
 /// The shard of a part, and what it says of its next cycle. Contracts see its part, the number of
 /// cycles that were carried out, and what it says; by its type it belongs to the plan named by P.
@@ -104,6 +114,19 @@ impl<P: PlanType> Seat<P> {
         ensures { result ≡ self.now.next }
     {
         self.speaker.next
+    }
+
+    /// The log of its shard.
+    pub fn into_log(self) -> Log
+        ensures { result.records ≡ logged (owner P.plan) self.part (records_to P.plan.design self.cycles) }
+    {
+        let Seat {
+            part: _,
+            cycles: _,
+            speaker,
+            of: _,
+        } = self;
+        log_of(Box::into_inner(speaker))
     }
 
     /// What other parts are told of its next cycle.
