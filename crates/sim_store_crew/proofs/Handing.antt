@@ -1,10 +1,10 @@
 -- Seats that are taken from the end of their list.
-use Rattle.std.proofs.Common.{ℕ, suc, zero, None, ◌+◌, ◌<◌, ◌≤◌, ◌≡◌, List, [], ◌∷◌, ◌++◌, length, get_or, take, refl, ap, sym, ◌∙◌, arith}
-use Rattle.std.proofs.lemmas.List.{get_or_push, get_or-take, length-append, length-take-le}
+use Rattle.std.proofs.Common.{None, ◌+◌, ◌<◌, ◌≤◌, ◌≡◌, List, [], ◌∷◌, ◌++◌, length, get_or, take, refl, ap, sym, ◌∙◌, arith}
+use Rattle.std.proofs.lemmas.List.{get_or_push, get_or-take, length-append}
 use Rattle.sim_store_crew.specs.Crews.{seat_at}
 use Rattle.sim_store_crew.specs.Seats.{Seat}
 
-abbrev no_seat : Seat
+abbrev pub no_seat : Seat
 no_seat = record { part = 0; cycles = 0; next = None; news = [] }
 
 -- the last of those that are left is not beyond them

@@ -6,3 +6,5 @@ mod Finding
 mod Hearing
 mod Seating
 mod Handing
+mod Together
+mod Reaching

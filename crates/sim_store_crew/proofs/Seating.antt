@@ -2,18 +2,17 @@
 use Rattle.std.proofs.Common.{ℕ, suc, ◌+◌, ◌<◌, ◌≡◌, ◌≢◌, List, [], Option, Some, length, refl, ap, sym, ◌∙◌, subst, add-one}
 use Rattle.std.proofs.lemmas.Option.{same_Some}
 use Rattle.sim_standard.specs.Cycle.{cycle_end, ended, updated}
-use Rattle.sim_standard.specs.Drivers.{DriverState, next_time}
+use Rattle.sim_standard.specs.Drivers.{next_time}
 use Rattle.sim_standard.specs.Initialization.{first_state}
 use Rattle.sim_standard.specs.State.{State, all_drivers}
 use Rattle.sim_store_division.specs.declared.hearing.Hearer.{Hearer}
 use Rattle.sim_store_shard.specs.declared.told.Told.{Told}
 use Rattle.sim_store_shard.specs.Shards.{HasCarriedOut, IsNextFor, Shard}
-use Rattle.sim_store_plan.specs.Plans.{IsPlan, IsShardOf, Plan, own_drivers}
+use Rattle.sim_store_plan.specs.Plans.{IsShardOf, Plan, own_drivers}
 use Rattle.sim_store_plan.proofs.GoingOn.{can_go_on, has_gone_on}
 use Rattle.sim_store_plan.proofs.NextTimes.{shard_next}
 use Rattle.sim_store_plan.proofs.PassedOver.{passed_over}
 use Rattle.sim_store_plan.proofs.Runs.{ended_next}
-use Rattle.sim_store_news.specs.declared.news.News.{News}
 use Rattle.sim_store_news.specs.News.{next_news}
 use Rattle.sim_store_crew.specs.declared.speaker.Speaker.{Speaker}
 use Rattle.sim_store_crew.specs.Seats.{IsIdle, IsOrder, IsSeat, Seat, rows_of}

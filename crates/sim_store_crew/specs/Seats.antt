@@ -1,11 +1,11 @@
 -- The seats of a crew: the shards of the parts of a plan, each with what it says of its next cycle.
 -- Implementation only: what `simulate` promises does not rest on this file.
-use Rattle.std.specs.Prelude.{ℕ, ◌≡◌, ◌≢◌, ◌<◌, ◌≤◌, ◌+◌, ◌^◌, ◌==◌, List, [], ◌∷◌, Option, None, Some, Bool, if◌then◌else◌, length, map, flat_map, slice_index_or}
+use Rattle.std.specs.Prelude.{ℕ, ◌≡◌, ◌≢◌, ◌<◌, ◌≤◌, ◌+◌, ◌^◌, ◌==◌, List, [], Option, Some, if◌then◌else◌, length, map, flat_map}
 use Rattle.std.specs.List.{range_with_len}
 use Rattle.std.specs.Option.{option_eq}
 use Rattle.sim_logic.specs.Time.{largest_time}
 use Rattle.sim_standard.specs.Cycle.{ended}
-use Rattle.sim_standard.specs.Drivers.{DriverState, next_time}
+use Rattle.sim_standard.specs.Drivers.{next_time}
 use Rattle.sim_standard.specs.State.{State, all_drivers}
 use Rattle.sim_store_shards.specs.Parts.{Part, drivers_of}
 use Rattle.sim_store_division.specs.declared.hearing.Hearer.{Hearer}

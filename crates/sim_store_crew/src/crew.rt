@@ -1,6 +1,6 @@
 //! A crew: the seats of all parts, which carry a run on together.
 
-ghost use Rattle.std.specs.Prelude.{ℕ, suc, ◌≡◌, ◌<◌, ◌≤◌, ◌+◌, ◌-◌, ◌++◌, ◌∷◌, [], Some, true, length, replicate, IfOk, IfSome, OnOk};
+ghost use Rattle.std.specs.Prelude.{ℕ, suc, ◌≡◌, ◌^◌, ◌==◌, if◌then◌else◌, ◌<◌, ◌≤◌, ◌+◌, ◌-◌, ◌++◌, ◌∷◌, [], Some, true, length, replicate, IfOk, IfSome, OnOk};
 ghost use Rattle.sim_logic.specs.Time.{largest_time};
 ghost use Rattle.sim_standard.specs.Cycle.{ended};
 ghost use Rattle.sim_standard.specs.Drivers.{next_time};
@@ -156,11 +156,156 @@ fn earliest<P: PlanType>(seats: &[Seat<P>]) -> Option<u64>
     first
 }
 
-/// The logs of the seats, the last part first.
-fn logs_of<P: PlanType>(alloc: Global, seats: Vec<Seat<P>>) -> Result<Vec<Log>, AllocError> {
+/// The logs of the seats, in their order.
+fn logs_of<P: PlanType>(alloc: Global, seats: Vec<Seat<P>>) -> Result<Vec<Log>, AllocError>
+    ensures { IfOk result (λ v. spec.records_of v.items ≡ spec.kept_by P.plan seats.items) }
+{
     let mut logs = Vec::with_capacity(alloc, seats.len())?;
     for seat in seats {
         logs.push(seat.into_log())?;
     }
     Ok(logs)
+}
+
+/// The delta number of a cycle at `time` after one at `last`, both in femtoseconds.
+fn next_delta(time: u64, last: u64, delta: u64) -> u64
+    requires { delta + 1 < 2 ^ 64 }
+    ensures { result ≡ (if time == last then delta + 1 else 0) }
+{
+    if time == last { delta + 1 } else { 0 }
+}
+
+/// The seats of all parts between two cycles, with the times of the run so far. Contracts see the
+/// number of cycles that were carried out; by its type it belongs to the plan named by P.
+pub struct Crew<P: PlanType> {
+    seats: Vec<Seat<P>>,
+    /// The time, in femtoseconds, and the delta number of the initialization and of each cycle.
+    times: Vec<(u64, u64)>,
+}
+
+/// Written by hand so that code which drops it needs no proof about its contents.
+impl<P: PlanType> Drop for Crew<P> {
+    fn drop(self) {
+        let Crew { seats, times } = self;
+        drop(seats);
+        drop(times);
+    }
+}
+
+impl<P: PlanType> Model for Crew<P> {
+    ghost use Rattle.std.specs.Prelude.{ℕ, ◌-◌, length};
+    ghost use Rattle.sim_store_crew.specs.Crews.{IsCrew};
+
+    ghost Value = { ℕ };
+
+    ghost view = { λ c. length c.times.items - 1 };
+
+    ghost invariant = { λ c. IsCrew P.plan (length c.times.items - 1) c.seats.items c.times.items };
+}
+
+/// A crew whose orders for a cycle are handed out. Contracts see the number of cycles that will have
+/// been carried out.
+pub struct AwaitedCrew<P: PlanType> {
+    parts: usize,
+    times: Vec<(u64, u64)>,
+    of: PhantomData<P>,
+}
+
+/// Written by hand so that code which drops it needs no proof about its contents.
+impl<P: PlanType> Drop for AwaitedCrew<P> {
+    fn drop(self) {
+        let AwaitedCrew {
+            parts: _,
+            times,
+            of: _,
+        } = self;
+        drop(times);
+    }
+}
+
+impl<P: PlanType> Model for AwaitedCrew<P> {
+    ghost use Rattle.std.specs.Prelude.{ℕ, ◌-◌, length};
+    ghost use Rattle.sim_store_crew.specs.Crews.{IsAwaited};
+
+    ghost Value = { ℕ };
+
+    ghost view = { λ c. length c.times.items - 1 };
+
+    ghost invariant = { λ c. IsAwaited P.plan (length c.times.items - 1) c.parts c.times.items };
+}
+
+impl<P: PlanType> Crew<P> {
+    /// The time of the next cycle, in femtoseconds (14.7.5.1); `None` if nothing is pending.
+    pub fn next(&self) -> Option<u64>
+        ensures { (s : State) → ended P.plan.design self.now ≡ Some s → result ≡ next_time (all_drivers s.owned) }
+    {
+        earliest(self.seats.as_slice())
+    }
+
+    /// The number of cycles that were carried out, without the initialization.
+    pub fn cycles(&self) -> usize
+        ensures { result ≡ self.now }
+    {
+        self.times.len() - 1
+    }
+
+    /// The orders of all parts for the cycle at this time, the last part first, and the crew that
+    /// waits for the answers.
+    pub fn hand_out(
+        self,
+        alloc: Global,
+        time: u64,
+    ) -> Result<(AwaitedCrew<P>, Vec<Order<P>>), AllocError>
+        requires early { time ≤ largest_time }
+        requires next { (s : State) → ended P.plan.design self ≡ Some s → next_time (all_drivers s.owned) ≡ Some time }
+        ensures cycles { IfOk result (λ r. r.0 ≡ suc self) }
+        ensures orders { IfOk result (λ r. length r.1.items ≡ length P.plan.parts) }
+    {
+        let Crew { seats, times } = self;
+        let mut times = times;
+        let (last, delta) = times[times.len() - 1];
+        let delta = next_delta(time, last, delta);
+        let parts = seats.len();
+        let told = told_lists(alloc, seats.as_slice(), time)?;
+        let orders = orders_of(alloc, seats, time, delta, told.as_slice())?;
+        times.push((time, delta))?;
+        let awaited = AwaitedCrew {
+            parts,
+            times,
+            of: PhantomData,
+        };
+        Ok((awaited, orders))
+    }
+
+    /// The log of the run.
+    pub fn into_log(self, alloc: Global) -> Result<Log, AllocError>
+        ensures { IfOk result (λ log. log.records ≡ records_to P.plan.design self) }
+    {
+        let Crew { seats, times } = self;
+        let logs = logs_of(alloc, seats)?;
+        merged(alloc, times.as_slice(), logs.as_slice())
+    }
+}
+
+impl<P: PlanType> AwaitedCrew<P> {
+    /// The crew again, with the seats that its orders led to, in the order of these; `None` if they
+    /// are not these.
+    pub fn take_back(self, answers: Vec<Seat<P>>) -> Option<Crew<P>>
+        ensures { IfSome result (λ c. c ≡ self) }
+    {
+        let AwaitedCrew {
+            parts,
+            times,
+            of: _,
+        } = self;
+        let mut seats = answers;
+        seats.as_mut_slice().reverse();
+        if seats.len() != parts {
+            return None;
+        }
+        if !are_seats(seats.as_slice(), times.len() - 1) {
+            return None;
+        }
+        Some(Crew { seats, times })
+    }
 }

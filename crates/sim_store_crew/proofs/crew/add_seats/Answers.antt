@@ -1,4 +1,4 @@
-use Rattle.std.proofs.Common.{ℕ, None, [], ◌<◌, ◌∙◌, length, ap, sym, subst}
+use Rattle.std.proofs.Common.{ℕ, None, [], ◌∙◌, length, sym, subst}
 use Rattle.std.proofs.lemmas.List.{get_or_default}
 use Rattle.sim_store_news.specs.News.{AreFor}
 use Rattle.sim_store_crew.specs.Crews.{seat_at}

@@ -1,4 +1,4 @@
-use Rattle.std.proofs.Common.{◌≡◌, ◌≤◌, ◌+◌, length, take, vec_len}
+use Rattle.std.proofs.Common.{◌≡◌, ◌≤◌, ◌+◌, length, take}
 use Rattle.sim_store_crew.proofs.crew.orders_of.Given as goal
 
 abbrev pub invariant-loop-seat : goal.invariant-loop-seat

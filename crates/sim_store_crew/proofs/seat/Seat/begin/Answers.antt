@@ -1,6 +1,4 @@
 use Rattle.std.proofs.Common.{length, sym, subst}
-use Rattle.sim_standard.specs.Cycle.{cycle_end}
-use Rattle.sim_standard.specs.Initialization.{first_state}
 use Rattle.sim_store_crew.specs.declared.speaker.Speaker.{Speaker}
 use Rattle.sim_store_crew.specs.Seats.{IsSeat}
 use Rattle.sim_store_crew.proofs.Seating.{begun_seated, seat_of}
