@@ -1,6 +1,6 @@
 -- A crew hands out its next cycle, and has the log of the run.
 use Rattle.std.proofs.Common.{ℕ, suc, ◌+◌, ◌<◌, ◌≤◌, ◌≡◌, ◌^◌, Bool, true, false, if◌then◌else◌, List, [], ◌∷◌, ◌++◌, Some}
-use Rattle.std.proofs.Common.{length, get_or, eqb, ap, sym, ◌∙◌, arith}
+use Rattle.std.proofs.Common.{refl, length, get_or, eqb, ap, sym, ◌∙◌, arith}
 use Rattle.std.proofs.lemmas.List.{get_or-map, get_or_push, length-append, length-map}
 use Rattle.sim_logic.specs.Time.{largest_time}
 use Rattle.sim_standard.specs.Cycle.{cycle_end, ended, updated}
@@ -13,9 +13,12 @@ use Rattle.sim_store_merge.specs.Owners.{AreLogs, logged}
 use Rattle.sim_store_shard.specs.declared.told.Told.{Told}
 use Rattle.sim_store_plan.specs.Plans.{Plan, delta_at, owner}
 use Rattle.sim_store_plan.proofs.Logs.{are_logs}
-use Rattle.sim_store_plan.proofs.Reached.{IsReached, cycle_is_together, cycle_time, reached, updated_reached}
+use Rattle.sim_standard.specs.Initialization.{first_state}
+use Rattle.sim_store_merge.proofs.Runs.{run_rises, times_begin}
+use Rattle.sim_store_plan.specs.Plans.{IsPlan}
+use Rattle.sim_store_plan.proofs.Reached.{IsReached, cycle_is_together, cycle_time, first_reached, reached, updated_reached}
 use Rattle.sim_store_plan.proofs.Runs.{ended_next, rises_next, times_next}
-use Rattle.sim_store_crew.specs.Crews.{HasReached, IsCrew, kept_by, records_of, seat_at, told_for}
+use Rattle.sim_store_crew.specs.Crews.{AreSeats, HasReached, IsCrew, kept_by, records_of, seat_at, told_for}
 use Rattle.sim_store_crew.specs.Seats.{IsOrder, Seat}
 use Rattle.sim_store_crew.proofs.Handing.{no_seat}
 use Rattle.sim_store_crew.proofs.Together.{crew_later, crew_told}
@@ -99,3 +102,28 @@ crew_logs {plan} {cycles} {seats} i logs e =
     ∙ (get_or-map kept seats k no_seat [] there
     ∙ (ap (λ (n : ℕ). logged (owner plan) n (records_to plan.design (seat_at seats k).cycles)) h.part
     ∙ ap (λ (n : ℕ). logged (owner plan) k (records_to plan.design n)) h.count))))
+
+-- ---- the start
+
+pub reached_first : (plan : Plan) → IsPlan plan → HasReached plan 0 ((0, 0) ∷ [])
+unfolding ended
+reached_first plan is =
+    let design = plan.design in
+    let first = cycle_end design 0 (first_state design) in
+    let same = cycle_is_together design is.processes is.settled 0 (first_state design) (first_reached design is.is_design) in
+    let time : first.time ≡ 0 = ap (λ (t : State). t.time) same in
+    let delta : first.delta ≡ 0 = ap (λ (t : State). t.delta) same in
+    record {
+      is_plan = is;
+      state = first;
+      reached = refl;
+      rise = run_rises design;
+      times_are = sym (times_begin design);
+      counted = refl;
+      last = ap (λ n. (n, 0)) (sym time) ∙ ap (λ n. (first.time, n)) (sym delta);
+      deltas = omega (arith, delta);
+    }
+
+pub crew_first : (plan : Plan) (seats : List Seat) → IsPlan plan → length seats ≡ length plan.parts → AreSeats plan 0 seats
+    → IsCrew plan 0 seats ((0, 0) ∷ [])
+crew_first plan seats is all each = record { run = reached_first plan is; all = all; seats_are = each }

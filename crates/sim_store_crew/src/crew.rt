@@ -7,6 +7,7 @@ ghost use Rattle.sim_standard.specs.Drivers.{next_time};
 ghost use Rattle.sim_standard.specs.Records.{records_to};
 ghost use Rattle.sim_standard.specs.State.{State, all_drivers};
 ghost use Rattle.sim_store_news.specs.News.{AreFor, told_at};
+ghost use Rattle.sim_store_plan.specs.Plans.{IsPlan};
 ghost use Rattle.sim_store_shards.specs.Times as times;
 ghost use Rattle.sim_store_crew.specs.Crews as spec;
 ghost use Rattle.sim_store_crew.specs.Seats as orders;
@@ -167,6 +168,15 @@ fn logs_of<P: PlanType>(alloc: Global, seats: Vec<Seat<P>>) -> Result<Vec<Log>, 
     Ok(logs)
 }
 
+/// The times of a run that has only begun.
+fn first_times(alloc: Global) -> Result<Vec<(u64, u64)>, AllocError>
+    ensures { IfOk result (λ v. v.items ≡ (0, 0) ∷ []) }
+{
+    let mut times = Vec::with_capacity(alloc, 1)?;
+    times.push((0, 0))?;
+    Ok(times)
+}
+
 /// The delta number of a cycle at `time` after one at `last`, both in femtoseconds.
 fn next_delta(time: u64, last: u64, delta: u64) -> u64
     requires { delta + 1 < 2 ^ 64 }
@@ -235,6 +245,19 @@ impl<P: PlanType> Model for AwaitedCrew<P> {
 }
 
 impl<P: PlanType> Crew<P> {
+    /// The crew of these seats at the start of a run, if they are those of the parts, by number.
+    pub fn begin(alloc: Global, seats: Vec<Seat<P>>) -> Result<Option<Crew<P>>, AllocError>
+        requires plan { IsPlan P.plan }
+        requires all { length seats.items ≡ length P.plan.parts }
+        ensures { IfOk result (λ found. IfSome found (λ c. c ≡ 0)) }
+    {
+        if !are_seats(seats.as_slice(), 0) {
+            return Ok(None);
+        }
+        let times = first_times(alloc)?;
+        Ok(Some(Crew { seats, times }))
+    }
+
     /// The time of the next cycle, in femtoseconds (14.7.5.1); `None` if nothing is pending.
     pub fn next(&self) -> Option<u64>
         ensures { (s : State) → ended P.plan.design self.now ≡ Some s → result ≡ next_time (all_drivers s.owned) }
