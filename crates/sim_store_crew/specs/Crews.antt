@@ -2,6 +2,7 @@
 -- Implementation only: what `simulate` promises does not rest on this file.
 use Rattle.std.specs.Prelude.{ℕ, suc, ◌≡◌, ◌<◌, ◌≤◌, ◌==◌, List, [], Option, Some, None, if◌then◌else◌, flat_map, length, map, slice_index_or}
 use Rattle.std.specs.Option.{option_eq}
+use Rattle.sim_flat_design.specs.Designs.{Design}
 use Rattle.sim_standard.specs.Cycle.{ended}
 use Rattle.sim_standard.specs.Records.{records_to}
 use Rattle.sim_standard.specs.State.{State}
@@ -35,6 +36,11 @@ told_for time k seats = flat_map (λ (y : Seat). if option_eq ◌==◌ y.next (S
 -- the earliest time of a next cycle
 abbrev pub earliest_of : List Seat → Option ℕ
 earliest_of seats = earliest (map (λ (y : Seat). y.next) seats)
+
+-- There are that many cycles.
+pub record HasState (design : Design) (cycles : ℕ) : Type 0 where
+  pub state : State
+  pub reached : ended design cycles ≡ Some state
 
 -- A run has come so far, and these are the times of its records.
 pub record HasReached (plan : Plan) (cycles : ℕ) (times : List (ℕ × ℕ)) : Type 0 where

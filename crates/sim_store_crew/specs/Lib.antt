@@ -1,3 +1,4 @@
 pub mod Seats
 pub mod Speakers
 pub mod Crews
+pub mod Runs

@@ -267,7 +267,8 @@ impl<P: PlanType> Crew<P> {
 
     /// The number of cycles that were carried out, without the initialization.
     pub fn cycles(&self) -> usize
-        ensures { result ≡ self.now }
+        ensures value { result ≡ self.now }
+        ensures reached { spec.HasState P.plan.design self.now }
     {
         self.times.len() - 1
     }

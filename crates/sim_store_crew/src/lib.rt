@@ -1,6 +1,7 @@
 //! A crew: the shards of the parts of a design, which together carry a run on.
 #![tactic(auto)]
 
+mod alone;
 mod crew;
 mod laws;
 mod plan_type;
