@@ -5,3 +5,4 @@ mod Owning
 mod Finding
 mod Hearing
 mod Seating
+mod Starting

@@ -1,11 +1,15 @@
 //! A crew: the shards of the parts of a design, which together carry a run on.
 #![tactic(auto)]
 
+mod cutting;
 mod laws;
 mod plan_type;
+mod rows;
 mod seat;
 mod speaker;
+mod start;
 
 pub use laws::parts_are_told_what_others_take;
 pub use plan_type::PlanType;
 pub use seat::{Order, Seat};
+pub use start::begin;
