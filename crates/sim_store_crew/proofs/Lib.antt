@@ -8,3 +8,4 @@ mod Seating
 mod Handing
 mod Together
 mod Reaching
+mod Starting

@@ -2,3 +2,4 @@ pub mod Seats
 pub mod Speakers
 pub mod Crews
 pub mod Runs
+pub mod Starts

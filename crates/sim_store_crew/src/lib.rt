@@ -3,11 +3,15 @@
 
 mod alone;
 mod crew;
+mod cutting;
 mod laws;
 mod plan_type;
+mod rows;
 mod seat;
 mod speaker;
+mod start;
 
 pub use laws::parts_are_told_what_others_take;
 pub use plan_type::PlanType;
 pub use seat::{Order, Seat};
+pub use start::begin;
