@@ -11,6 +11,8 @@ mod seat;
 mod speaker;
 mod start;
 
+pub use alone::run_alone;
+pub use crew::{AwaitedCrew, Crew};
 pub use laws::parts_are_told_what_others_take;
 pub use plan_type::PlanType;
 pub use seat::{Order, Seat};
