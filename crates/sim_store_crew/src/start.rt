@@ -1,7 +1,6 @@
 //! The start of a run: the seats of all its parts.
 
-ghost use Rattle.std.specs.Prelude.{◌≡◌, ◌<◌, ◌≤◌, ◌^◌, ◌==◌, length, map, IfOk, MatchOption};
-ghost use Rattle.std.specs.List.{All};
+ghost use Rattle.std.specs.Prelude.{◌≡◌, ◌<◌, ◌≤◌, ◌^◌, ◌==◌, true, false, length, map, IfOk, MatchOption};
 ghost use Rattle.sim_standard.specs.Cycle.{cycle_end};
 ghost use Rattle.sim_standard.specs.Initialization.{first_state};
 ghost use Rattle.sim_store_shard.specs.Shards.{HasBegun};
@@ -136,10 +135,11 @@ fn begin_by<P: PlanType>(
     parts: usize,
 ) -> Result<Option<Vec<Seat<P>>>, AllocError>
     requires few { parts ≤ 2 ^ 32 }
-    requires settled { spec.AreSettled design.now.processes }
+    requires settled { spec.are_settled design.now.processes ≡ true }
     requires division { spec.IsDivision parts design.now division.now }
     requires plan { P.plan ≡ spec.plan_by parts design.now division.now }
-    ensures { IfOk result (λ found. MatchOption found Unit (λ v. spec.HaveBegun P.plan v.items)) }
+    ensures { IfOk result (λ found. MatchOption found (spec.can_be_divided parts design.now division.now ≡ false)
+        (λ v. spec.HaveBegun P.plan v.items)) }
 {
     is_design(design);
     are_processes(design.processes());
@@ -162,7 +162,7 @@ pub fn begin<P: PlanType>(
     requires parts { 0 < parts }
     requires few { parts ≤ 2 ^ 32 }
     requires plan { P.plan ≡ spec.plan_of parts design.now }
-    ensures { IfOk result (λ found. MatchOption found Unit (λ v. spec.HaveBegun P.plan v.items)) }
+    ensures { IfOk result (λ found. MatchOption found (spec.can_begin parts design.now ≡ false) (λ v. spec.HaveBegun P.plan v.items)) }
 {
     if !are_settled(design.processes()) {
         return Ok(None);

@@ -1,5 +1,5 @@
-use Rattle.std.proofs.Common.{ℕ, ◌<◌, ◌≤◌, ◌≡◌, ◌==◌, ◌∙◌, List, Bool, ap, sym, subst, length, map}
-use Rattle.sim_flat_design.specs.Designs.{Design, most}
+use Rattle.std.proofs.Common.{ℕ, ◌<◌, ◌≤◌, ◌≡◌, ◌==◌, ◌∙◌, List, ap, sym, subst, length, map}
+use Rattle.sim_flat_design.specs.Designs.{most}
 use Rattle.sim_flat_design.specs.Processes.{Process}
 use Rattle.sim_store_shards.specs.Parts.{drivers_of, part_of}
 use Rattle.sim_store_parts.specs.Cut.{Cut}
