@@ -9,14 +9,14 @@ use Rattle.std.proofs.lemmas.Bool.{cases_lt}
 use Rattle.std.proofs.lemmas.List.{drop_all, drop_more, get_or-map, get_or_append_left, length-drop, length-map}
 use Rattle.std.proofs.lemmas.List.Elements.{All-from_recursion}
 use Rattle.std.proofs.lemmas.List.Folds.{list_all_at}
-use Rattle.std.proofs.lemmas.List.FromFn.{get_or-map-range_with_len, get_or-range_with_len, length-range_with_len, length-map-range_with_len, map-range_with_len_more}
-use Rattle.sim_containers.specs.Numbers as numbers
+use Rattle.std.proofs.lemmas.List.FromFn.{get_or-map-range_with_len, get_or-range_with_len, length-map-range_with_len, length-range_with_len}
+use Rattle.std.proofs.lemmas.List.FromFn.{map-range_with_len_more}
 use Rattle.sim_flat_design.specs.Designs.{Design, IsDesign}
 use Rattle.sim_flat_design.specs.Processes.{IsProcess, Process}
 use Rattle.sim_standard.specs.Orders.{is_among}
 use Rattle.sim_standard.specs.Processes.{process_at}
 use Rattle.sim_store_shards.specs.Parts.{Part, drivers_of, part_of, part_processes}
-use Rattle.sim_store_parts.specs.Cut.{Cut, IsSelfContained, RiseWithin, can_be_cut}
+use Rattle.sim_store_parts.specs.Cut.{Cut, IsSelfContained, can_be_cut}
 use Rattle.sim_store_parts.specs.Numbers.{IsWithin}
 use Rattle.sim_store_parts.proofs.Lists.{first_of_both, second_of_both}
 use Rattle.sim_store_parts.proofs.Whole.{members_within}
@@ -26,12 +26,8 @@ use Rattle.sim_store_division.specs.Hearers.{hearers_of}
 use Rattle.sim_store_division.proofs.Memberships.{belongs_to_one}
 use Rattle.sim_store_plan.specs.Plans.{IsPlan, Plan, part_at}
 use Rattle.sim_store_crew.specs.Seats.{Seat, rows_of}
-use Rattle.sim_store_crew.specs.Starts.{AreCutBy, AreSettled, HaveBegun, can_be_divided, are_settled, IsBegun, IsCutBy, IsDivision, all_rows, cut_by, part_by, plan_by, row_in, seat_at}
-
--- numbers that rise, as parts have them
-pub rise_as : (from bound : ℕ) (ns : List ℕ) → numbers.RiseWithin from bound ns → RiseWithin from bound ns
-rise_as from bound [] h = tt
-rise_as from bound (n ∷ ns) h = (h.0, h.1, rise_as (suc n) bound ns h.2)
+use Rattle.sim_store_crew.specs.Starts.{AreCutBy, AreSettled, HaveBegun, IsBegun, IsCutBy, IsDivision, all_rows, are_settled, can_be_divided, cut_by}
+use Rattle.sim_store_crew.specs.Starts.{part_by, plan_by, row_in, seat_at}
 
 -- ---- the plan
 
@@ -85,9 +81,6 @@ planned parts design division is are settled divided contained =
     }
 
 -- ---- its parts, cut out
-
-cut_at : Design → Division → ℕ → Cut
-cut_at design division k = cut_by design (part_by design division k)
 
 pub none_cut : (design : Design) (division : Division) → AreCutBy design division 0 []
 none_cut design division = record { are = refl; contained = λ k lt. absurd (omega (arith, lt)) }
