@@ -150,10 +150,10 @@ fn begin_by<P: PlanType>(
     Ok(Some(seats))
 }
 
-/// The seats of so many parts of a design at the start of a run, by number, each with its shard,
-/// which has begun. `None` means that a process is postponed, that there is no net, or that a part
-/// has as many processes as a design can have. Its time is proportional to the size of the design for each
-/// part.
+/// The seats of so many parts of a design at the start of a run, by number, each with its shard, in
+/// which the initialization has been carried out (14.7.5.2). `None` means that a process is postponed,
+/// that there is no net, or that a part would have as many processes as a design can have. Its time and
+/// memory are proportional to the number of parts times the size of the design.
 pub fn begin<P: PlanType>(
     alloc: Global,
     design: &Design,
