@@ -1,5 +1,6 @@
 -- The plan of a division, its parts, and the seats of these.
-use Rattle.std.proofs.Common.{ℕ, zero, suc, ◌+◌, ◌<◌, ◌≤◌, ◌≡◌, ◌||◌, ◌^◌, Bool, true, false, List, [], ◌∷◌, ◌++◌, length, map, get_or, drop}
+use Rattle.std.proofs.Common.{ℕ, zero, suc, ◌+◌, ◌<◌, ◌≤◌, ◌≡◌, ◌||◌, ◌^◌, Bool, true, false, not, List, [], ◌∷◌, ◌++◌}
+use Rattle.std.proofs.Common.{length, map, get_or, drop}
 use Rattle.std.proofs.Common.{refl, sym, ap, ◌∙◌, subst, arith, length-append, append_assoc, ⊎_elim}
 use Rattle.std.specs.List.{All, AllByRecursion, list_any, range_with_len}
 use Rattle.std.specs.Prelude.{None}
@@ -7,15 +8,17 @@ use Rattle.std.proofs.Math.Seq.{get_or-append_seam}
 use Rattle.std.proofs.lemmas.Bool.{cases_lt}
 use Rattle.std.proofs.lemmas.List.{drop_all, drop_more, get_or-map, get_or_append_left, length-drop, length-map}
 use Rattle.std.proofs.lemmas.List.Elements.{All-from_recursion}
-use Rattle.std.proofs.lemmas.List.FromFn.{get_or-map-range_with_len, length-map-range_with_len, map-range_with_len_more}
-use Rattle.sim_containers.specs.Numbers as numbers
+use Rattle.std.proofs.lemmas.List.Folds.{list_all_at}
+use Rattle.std.proofs.lemmas.List.FromFn.{get_or-map-range_with_len, get_or-range_with_len, length-map-range_with_len, length-range_with_len}
+use Rattle.std.proofs.lemmas.List.FromFn.{map-range_with_len_more}
 use Rattle.sim_flat_design.specs.Designs.{Design, IsDesign}
 use Rattle.sim_flat_design.specs.Processes.{IsProcess, Process}
 use Rattle.sim_standard.specs.Orders.{is_among}
 use Rattle.sim_standard.specs.Processes.{process_at}
 use Rattle.sim_store_shards.specs.Parts.{Part, drivers_of, part_of, part_processes}
-use Rattle.sim_store_parts.specs.Cut.{Cut, IsSelfContained, RiseWithin}
+use Rattle.sim_store_parts.specs.Cut.{Cut, IsSelfContained, can_be_cut}
 use Rattle.sim_store_parts.specs.Numbers.{IsWithin}
+use Rattle.sim_store_parts.proofs.Lists.{first_of_both, second_of_both}
 use Rattle.sim_store_parts.proofs.Whole.{members_within}
 use Rattle.sim_store_division.specs.declared.hearing.Hearer.{Hearer}
 use Rattle.sim_store_division.specs.Dealt.{Division, members_of}
@@ -23,12 +26,8 @@ use Rattle.sim_store_division.specs.Hearers.{hearers_of}
 use Rattle.sim_store_division.proofs.Memberships.{belongs_to_one}
 use Rattle.sim_store_plan.specs.Plans.{IsPlan, Plan, part_at}
 use Rattle.sim_store_crew.specs.Seats.{Seat, rows_of}
-use Rattle.sim_store_crew.specs.Starts.{AreCutBy, AreSettled, HaveBegun, IsBegun, IsCutBy, IsDivision, all_rows, cut_by, part_by, plan_by, row_in, seat_at}
-
--- numbers that rise, as parts have them
-pub rise_as : (from bound : ℕ) (ns : List ℕ) → numbers.RiseWithin from bound ns → RiseWithin from bound ns
-rise_as from bound [] h = tt
-rise_as from bound (n ∷ ns) h = (h.0, h.1, rise_as (suc n) bound ns h.2)
+use Rattle.sim_store_crew.specs.Starts.{AreCutBy, AreSettled, HaveBegun, IsBegun, IsCutBy, IsDivision, all_rows, are_settled, can_be_divided, cut_by}
+use Rattle.sim_store_crew.specs.Starts.{part_by, plan_by, row_in, seat_at}
 
 -- ---- the plan
 
@@ -43,7 +42,21 @@ members_any design division n [] = refl
 members_any design division n (k ∷ ks) =
     ap (λ (b : Bool). is_among (members_of division.process_parts k) n || b) (members_any design division n ks)
 
-pub planned : (parts : ℕ) (design : Design) (division : Division) → IsDesign design → All IsProcess design.processes → AreSettled design.processes
+pub settled_from : (ps : List Process) → are_settled ps ≡ true → AreSettled ps
+settled_from ps e = All-from_recursion (λ (p : Process). p.postponed ≡ false) ps (go ps e)
+  where
+    opposite : (b : Bool) → not b ≡ true → b ≡ false
+    opposite true e = absurd cc
+    opposite false e = refl
+
+    go : (ps : List Process) → are_settled ps ≡ true → AllByRecursion (λ (p : Process). p.postponed ≡ false) ps
+    go [] e = tt
+    go (p ∷ ps) e = (
+      opposite p.postponed (first_of_both (not p.postponed) (are_settled ps) e),
+      go ps (second_of_both (not p.postponed) (are_settled ps) e),
+    )
+
+pub planned : (parts : ℕ) (design : Design) (division : Division) → IsDesign design → All IsProcess design.processes → are_settled design.processes ≡ true
     → IsDivision parts design division
     → ((k : ℕ) → k < parts → IsSelfContained design (members_of division.net_parts k) (part_by design division k))
     → IsPlan (plan_by parts design division)
@@ -55,7 +68,7 @@ planned parts design division is are settled divided contained =
     record {
       is_design = is;
       processes = are;
-      settled = settled;
+      settled = settled_from design.processes settled;
       parts = λ k lt.
           subst (IsSelfContained design (members_of division.net_parts k)) (sym (part_found parts design division k (omega (arith, lt, many))))
           (contained k (omega (arith, lt, many)));
@@ -68,9 +81,6 @@ planned parts design division is are settled divided contained =
     }
 
 -- ---- its parts, cut out
-
-cut_at : Design → Division → ℕ → Cut
-cut_at design division k = cut_by design (part_by design division k)
 
 pub none_cut : (design : Design) (division : Division) → AreCutBy design division 0 []
 none_cut design division = record { are = refl; contained = λ k lt. absurd (omega (arith, lt)) }
@@ -91,6 +101,14 @@ cuts_by : (design : Design) (division : Division) (ks : List ℕ)
     → map (λ (k : ℕ). cut_by design (part_by design division k)) ks ≡ map (cut_by design) (map (part_by design division) ks)
 cuts_by design division [] = refl
 cuts_by design division (k ∷ ks) = ap (λ (l : List Cut). cut_by design (part_by design division k) ∷ l) (cuts_by design division ks)
+
+pub not_divided : (parts : ℕ) (design : Design) (division : Division) (k : ℕ) → k < parts
+    → can_be_cut design (members_of division.process_parts k) ≡ false → can_be_divided parts design division ≡ false
+not_divided parts design division k lt e =
+    let many = length-range_with_len 0 parts in
+    let here : get_or (range_with_len 0 parts) k 0 ≡ k = omega (arith, get_or-range_with_len 0 parts k 0 lt) in
+    list_all_at (λ (j : ℕ). can_be_cut design (members_of division.process_parts j)) (range_with_len 0 parts) k 0 (omega (arith, lt, many))
+    (ap (λ (j : ℕ). can_be_cut design (members_of division.process_parts j)) here ∙ e)
 
 pub cuts_planned : (parts : ℕ) (design : Design) (division : Division) (cs : List Cut) → AreCutBy design division parts cs
     → cs ≡ map (cut_by design) (plan_by parts design division).parts

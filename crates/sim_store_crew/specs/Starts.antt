@@ -1,15 +1,15 @@
 -- The start of a crew: the plan of a design, and the seats of all its parts.
 -- Implementation only: what `simulate` promises does not rest on this file.
-use Rattle.std.specs.Prelude.{ℕ, ◌≡◌, ◌<◌, ◌≤◌, ◌==◌, Bool, false, List, [], None, length, map, slice_index_or}
-use Rattle.std.specs.List.{All, range_with_len}
-use Rattle.sim_flat_design.specs.Designs.{Design, IsDesign}
-use Rattle.sim_flat_design.specs.Processes.{IsProcess, Process}
+use Rattle.std.specs.Prelude.{ℕ, ◌≡◌, ◌<◌, ◌&&◌, not, Bool, false, List, [], None, length, map, slice_index_or}
+use Rattle.std.specs.List.{All, list_all, range_with_len}
+use Rattle.sim_flat_design.specs.Designs.{Design}
+use Rattle.sim_flat_design.specs.Processes.{Process}
 use Rattle.sim_store_shards.specs.Parts.{Part, part_of}
-use Rattle.sim_store_parts.specs.Cut.{Cut, IsSelfContained, part_with}
+use Rattle.sim_store_parts.specs.Cut.{Cut, IsSelfContained, can_be_cut, part_with}
 use Rattle.sim_store_division.specs.declared.hearing.Hearer.{Hearer}
 use Rattle.sim_store_division.specs.Dealt.{Division, HaveParts, division_of, members_of}
 use Rattle.sim_store_division.specs.Hearers.{hearers_of}
-use Rattle.sim_store_plan.specs.Plans.{IsPlan, Plan, part_at}
+use Rattle.sim_store_plan.specs.Plans.{IsPlan, Plan}
 use Rattle.sim_store_crew.specs.Seats.{HoldsShard, Seat}
 
 -- ---- the plan
@@ -17,6 +17,10 @@ use Rattle.sim_store_crew.specs.Seats.{HoldsShard, Seat}
 -- None of these processes is postponed.
 abbrev pub AreSettled : List Process → Type 0
 AreSettled processes = All (λ (p : Process). p.postponed ≡ false) processes
+
+-- whether none is
+abbrev pub are_settled : List Process → Bool
+are_settled processes = list_all (λ (p : Process). not p.postponed) processes
 
 -- the part of a design with a number, by a division: it follows its own nets, besides those that its processes read or are sensitive to
 abbrev pub part_by : Design → Division → ℕ → Part
@@ -33,6 +37,14 @@ plan_by parts design division = record {
 -- the plan by which a design is carried out in so many parts
 abbrev pub plan_of : ℕ → Design → Plan
 plan_of parts design = plan_by parts design (division_of parts design)
+
+-- whether each of so many parts of a division can be cut out
+abbrev pub can_be_divided : ℕ → Design → Division → Bool
+can_be_divided parts design division = list_all (λ (k : ℕ). can_be_cut design (members_of division.process_parts k)) (range_with_len 0 parts)
+
+-- whether a design can be carried out in so many parts: it has no postponed process, and each part can be cut out
+abbrev pub can_begin : ℕ → Design → Bool
+can_begin parts design = are_settled design.processes && can_be_divided parts design (division_of parts design)
 
 -- The division gives each process and each net one of so many parts.
 pub record IsDivision (parts : ℕ) (design : Design) (division : Division) : Type 0 where

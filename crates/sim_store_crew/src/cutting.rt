@@ -1,8 +1,9 @@
 //! The parts of a run, cut out of its design.
 
-ghost use Rattle.std.specs.Prelude.{◌≡◌, true, length, IfOk, MatchOption};
-ghost use Rattle.std.specs.List.{All};
+ghost use Rattle.std.specs.Prelude.{◌≡◌, false, length, IfOk, MatchOption};
 ghost use Rattle.sim_flat_design.specs.Designs.{IsDesign};
+ghost use Rattle.sim_store_parts.specs.Cut.{can_be_cut};
+ghost use Rattle.sim_store_division.specs.Dealt.{members_of as members_in};
 ghost use Rattle.sim_store_crew.specs.Starts as spec;
 
 use sim_flat_design::{Design, Process};
@@ -21,7 +22,7 @@ pub fn is_design(design: &Design)
 
 /// Whether none of these processes is postponed.
 pub fn are_settled(processes: &[Process]) -> bool
-    ensures { result ≡ true → spec.AreSettled processes.now }
+    ensures { result ≡ spec.are_settled processes.now }
 {
     for process in processes {
         if process.postponed() {
@@ -40,7 +41,8 @@ fn cut_number(
 ) -> Result<Option<CutPart>, AllocError>
     requires processes { length division.now.process_parts ≡ length design.now.processes }
     requires nets { length division.now.net_parts ≡ length design.now.nets }
-    ensures { IfOk result (λ found. MatchOption found Unit (spec.IsCutBy design.now division.now number)) }
+    ensures { IfOk result (λ found. MatchOption found (can_be_cut design.now (members_in division.now.process_parts number) ≡ false)
+        (spec.IsCutBy design.now division.now number)) }
 {
     let members = members_of(alloc, division.process_parts(), number)?;
     let owned = members_of(alloc, division.net_parts(), number)?;
@@ -56,7 +58,8 @@ pub fn cut_all(
 ) -> Result<Option<Vec<CutPart>>, AllocError>
     requires processes { length division.now.process_parts ≡ length design.now.processes }
     requires nets { length division.now.net_parts ≡ length design.now.nets }
-    ensures { IfOk result (λ found. MatchOption found Unit (λ v. spec.AreCutBy design.now division.now parts v.items)) }
+    ensures { IfOk result (λ found. MatchOption found (spec.can_be_divided parts design.now division.now ≡ false)
+        (λ v. spec.AreCutBy design.now division.now parts v.items)) }
 {
     let mut cuts = Vec::new(alloc);
     for number in 0..parts {

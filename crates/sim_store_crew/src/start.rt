@@ -1,7 +1,6 @@
 //! The start of a run: the seats of all its parts.
 
-ghost use Rattle.std.specs.Prelude.{◌≡◌, ◌<◌, ◌≤◌, ◌^◌, ◌==◌, length, map, IfOk, MatchOption};
-ghost use Rattle.std.specs.List.{All};
+ghost use Rattle.std.specs.Prelude.{◌≡◌, ◌<◌, ◌≤◌, ◌^◌, ◌==◌, true, false, length, map, IfOk, MatchOption};
 ghost use Rattle.sim_standard.specs.Cycle.{cycle_end};
 ghost use Rattle.sim_standard.specs.Initialization.{first_state};
 ghost use Rattle.sim_store_shard.specs.Shards.{HasBegun};
@@ -136,10 +135,11 @@ fn begin_by<P: PlanType>(
     parts: usize,
 ) -> Result<Option<Vec<Seat<P>>>, AllocError>
     requires few { parts ≤ 2 ^ 32 }
-    requires settled { spec.AreSettled design.now.processes }
+    requires settled { spec.are_settled design.now.processes ≡ true }
     requires division { spec.IsDivision parts design.now division.now }
     requires plan { P.plan ≡ spec.plan_by parts design.now division.now }
-    ensures { IfOk result (λ found. MatchOption found Unit (λ v. spec.HaveBegun P.plan v.items)) }
+    ensures { IfOk result (λ found. MatchOption found (spec.can_be_divided parts design.now division.now ≡ false)
+        (λ v. spec.HaveBegun P.plan v.items)) }
 {
     is_design(design);
     are_processes(design.processes());
@@ -150,10 +150,10 @@ fn begin_by<P: PlanType>(
     Ok(Some(seats))
 }
 
-/// The seats of so many parts of a design at the start of a run, by number, each with its shard,
-/// which has begun. `None` means that a process is postponed, that there is no net, or that a part
-/// has as many processes as a design can have. Its time is proportional to the size of the design for each
-/// part.
+/// The seats of so many parts of a design at the start of a run, by number, each with its shard, in
+/// which the initialization has been carried out (14.7.5.2). `None` means that a process is postponed,
+/// that there is no net, or that a part would have as many processes as a design can have. Its time and
+/// memory are proportional to the number of parts times the size of the design.
 pub fn begin<P: PlanType>(
     alloc: Global,
     design: &Design,
@@ -162,7 +162,7 @@ pub fn begin<P: PlanType>(
     requires parts { 0 < parts }
     requires few { parts ≤ 2 ^ 32 }
     requires plan { P.plan ≡ spec.plan_of parts design.now }
-    ensures { IfOk result (λ found. MatchOption found Unit (λ v. spec.HaveBegun P.plan v.items)) }
+    ensures { IfOk result (λ found. MatchOption found (spec.can_begin parts design.now ≡ false) (λ v. spec.HaveBegun P.plan v.items)) }
 {
     if !are_settled(design.processes()) {
         return Ok(None);

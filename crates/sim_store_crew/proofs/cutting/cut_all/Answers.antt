@@ -1,7 +1,6 @@
-use Rattle.std.proofs.Common.{List, sym, subst, arith, ◌≡◌}
-use Rattle.sim_store_parts.specs.Cut.{Cut}
+use Rattle.std.proofs.Common.{sym, subst, arith, ◌≡◌}
 use Rattle.sim_store_crew.specs.Starts.{AreCutBy}
-use Rattle.sim_store_crew.proofs.Starting.{cut_more, none_cut}
+use Rattle.sim_store_crew.proofs.Starting.{cut_more, none_cut, not_divided}
 use Rattle.sim_store_crew.proofs.cutting.cut_all.Goals as goal
 
 pub loop-number-init : goal.loop-number-init
@@ -18,3 +17,8 @@ pub returns : goal.returns
 returns c =
     let end : c.loop-number.number ≡ c.args.parts = omega (arith, c.loop-number-test.false, c.loop-number.auto.number-end) in
     rw (sym end) c.loop-number.invariant
+
+pub returns-in_default : goal.returns-in_default
+returns-in_default c =
+    let cannot = rw c.in_default.is at c.in_ok-part.ensures in
+    not_divided c.args.parts c.args.design.now c.args.division.now c.loop-number.number c.loop-number-test.true cannot

@@ -1,4 +1,3 @@
-use Rattle.std.proofs.Common.{◌≤◌}
 use Rattle.sim_store_crew.specs.Starts.{AreCutBy}
 use Rattle.sim_store_crew.proofs.cutting.cut_all.Given as goal
 

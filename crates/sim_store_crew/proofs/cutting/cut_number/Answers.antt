@@ -1,5 +1,4 @@
-use Rattle.std.proofs.Common.{ℕ, List, ◌≡◌, ◌<◌, length, rules, sym}
-use Rattle.std.specs.List.{AllByRecursion}
+use Rattle.std.proofs.Common.{◌≡◌, rules, sym}
 use Rattle.sim_store_division.specs.Dealt.{members_of}
 use Rattle.sim_store_division.proofs.Memberships.{are_numbers}
 use Rattle.sim_store_crew.proofs.cutting.cut_number.Goals as goal

@@ -1,4 +1,4 @@
-use Rattle.std.proofs.Common.{◌≤◌, ◌≡◌, ◌^◌, List, sym, subst, arith, length, map}
+use Rattle.std.proofs.Common.{◌≤◌, ◌≡◌, ◌^◌, sym, subst, arith, length, map}
 use Rattle.std.specs.List.{All, range_with_len}
 use Rattle.std.proofs.lemmas.List.FromFn.{length-map-range_with_len}
 use Rattle.sim_flat_design.specs.Processes.{IsProcess}

@@ -1,5 +1,5 @@
-use Rattle.std.proofs.Common.{ℕ, ◌<◌, ◌≤◌, ◌≡◌, ◌==◌, ◌∙◌, List, Bool, ap, sym, subst, length, map}
-use Rattle.sim_flat_design.specs.Designs.{Design, most}
+use Rattle.std.proofs.Common.{ℕ, ◌<◌, ◌≤◌, ◌≡◌, ◌==◌, ◌∙◌, List, ap, sym, subst, length, map}
+use Rattle.sim_flat_design.specs.Designs.{most}
 use Rattle.sim_flat_design.specs.Processes.{Process}
 use Rattle.sim_store_shards.specs.Parts.{drivers_of, part_of}
 use Rattle.sim_store_parts.specs.Cut.{Cut}
@@ -30,8 +30,9 @@ pub seat_with-requires-clause-shard : goal.seat_with-requires-clause-shard
 seat_with-requires-clause-shard g c =
     let plan = g.P.PlanType.plan in
     let part = c.args.part in
+    let own = part_of plan.design (part_at plan part) in
     shard_begun plan part c.requires.plan c.requires.part c.in_ok-shard.shard
-    (subst (λ (owners : List ℕ). HasBegun (part_of plan.design (part_at plan part)) (map (λ (o : ℕ). o == part) owners) c.in_ok-shard.shard) (sym c.requires.nets)
+    (subst (λ (owners : List ℕ). HasBegun own (map (λ (o : ℕ). o == part) owners) c.in_ok-shard.shard) (sym c.requires.nets)
     (subst (λ (x : Cut). HasBegun x.design (map (λ (o : ℕ). o == part) c.args.net_parts.now) c.in_ok-shard.shard) c.requires.cut
     c.in_ok-shard.ensures))
 

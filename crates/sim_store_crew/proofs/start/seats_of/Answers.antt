@@ -1,6 +1,5 @@
-use Rattle.std.proofs.Common.{ℕ, ◌+◌, ◌<◌, ◌≡◌, ◌∙◌, [], ◌∷◌, List, ap, sym, subst, arith, length, length-append, drop, map}
+use Rattle.std.proofs.Common.{ℕ, ◌+◌, ◌<◌, ◌≡◌, ◌∙◌, [], ◌∷◌, ap, sym, subst, arith, length, length-append, drop, map}
 use Rattle.std.specs.Vec.Iter.{into_iter_items}
-use Rattle.sim_store_parts.specs.Cut.{Cut}
 use Rattle.sim_store_plan.specs.Plans.{part_at}
 use Rattle.sim_store_crew.specs.Starts.{IsBegun, cut_by}
 use Rattle.sim_store_crew.proofs.Starting.{all_begun, begun_more, next_cut, none_left}
