@@ -1,6 +1,7 @@
 //! A crew: the seats of all parts, which carry a run on together.
 
-ghost use Rattle.std.specs.Prelude.{ℕ, suc, ◌≡◌, ◌^◌, ◌==◌, if◌then◌else◌, ◌<◌, ◌≤◌, ◌+◌, ◌-◌, ◌++◌, ◌∷◌, [], Some, true, length, replicate, IfOk, IfSome, OnOk};
+ghost use Rattle.std.specs.Prelude.{ℕ, suc, ◌≡◌, ◌^◌, ◌==◌, if◌then◌else◌, ◌<◌, ◌≤◌, ◌+◌, ◌-◌};
+ghost use Rattle.std.specs.Prelude.{◌++◌, ◌∷◌, [], Some, true, length, replicate, IfOk, IfSome, OnOk};
 ghost use Rattle.sim_logic.specs.Time.{largest_time};
 ghost use Rattle.sim_standard.specs.Cycle.{ended};
 ghost use Rattle.sim_standard.specs.Drivers.{next_time};

@@ -15,7 +15,8 @@ use std::test::Fail;
 const LAST: u64 = (1 << 62) - 1;
 
 /// A clock, a signal that follows it, and one that follows that.
-const CHAIN: &str = "entity t is end;architecture a of t is signal c:std_logic:='0';signal d,e:std_logic;\
+const CHAIN: &str =
+    "entity t is end;architecture a of t is signal c:std_logic:='0';signal d,e:std_logic;\
 begin c<=not c after 5 ns;d<=c;e<=not d;end;";
 
 /// Two drivers of one signal, and a signal that follows it.

@@ -1,4 +1,4 @@
-use Rattle.std.proofs.Common.{◌≤◌, arith, inl, inr}
+use Rattle.std.proofs.Common.{arith, inl, inr}
 use Rattle.sim_store_crew.proofs.alone.at_end.Goals as goal
 
 pub after_cycle-requires-clause-early : goal.after_cycle-requires-clause-early

@@ -1,4 +1,4 @@
-use Rattle.std.proofs.Common.{rules, ℕ, ◌≡◌, ◌∷◌, [], List, ◌-◌, true, length, sym, subst}
+use Rattle.std.proofs.Common.{rules, ℕ, ◌≡◌, List, ◌-◌, true, length, sym, subst}
 use Rattle.sim_store_crew.specs.Crews.{AreSeats, IsCrew}
 use Rattle.sim_store_crew.specs.Seats.{Seat}
 use Rattle.sim_store_crew.proofs.Reaching.{crew_first}
