@@ -91,6 +91,19 @@ impl CutPart {
     {
         self.followed.as_slice()
     }
+
+    /// The part as a design, of its own.
+    pub fn into_design(self) -> Design
+        ensures { result ≡ self.design }
+    {
+        let CutPart {
+            design,
+            members: _members,
+            told: _told,
+            followed: _followed,
+        } = self;
+        design
+    }
 }
 
 /// Whether one process more is within the limits, and there is a net.

@@ -1,10 +1,10 @@
 pub mod Reached
 pub mod OwnTimes
-mod OwnLogs
-mod Carried
-mod GoingOn
-mod PassedOver
-mod Begun
-mod Logs
-mod NextTimes
-mod Runs
+pub mod OwnLogs
+pub mod Carried
+pub mod GoingOn
+pub mod PassedOver
+pub mod Begun
+pub mod Logs
+pub mod NextTimes
+pub mod Runs

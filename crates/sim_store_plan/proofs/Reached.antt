@@ -63,7 +63,7 @@ as_many ds es same =
 
 -- ---- the first state
 
-first_reached : (design : Design) → IsDesign design → IsReached design (first_state design)
+pub first_reached : (design : Design) → IsDesign design → IsReached design (first_state design)
 first_reached design d = record {
   own = own_theirs (length design.nets) 0 0 design.drivers design.drivers design.processes refl d.drivers;
   owned_sized = first_all design;

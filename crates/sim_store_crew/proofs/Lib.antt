@@ -1,0 +1,11 @@
+mod Telling
+mod Lists
+mod Saying
+mod Owning
+mod Finding
+mod Hearing
+mod Seating
+mod Handing
+mod Together
+mod Reaching
+mod Starting

@@ -1,0 +1,5 @@
+pub mod Seats
+pub mod Speakers
+pub mod Crews
+pub mod Runs
+pub mod Starts
