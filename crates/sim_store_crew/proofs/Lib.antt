@@ -9,3 +9,4 @@ mod Handing
 mod Together
 mod Reaching
 mod Starting
+pub mod Crossing

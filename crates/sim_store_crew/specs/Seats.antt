@@ -1,6 +1,7 @@
 -- The seats of a crew: the shards of the parts of a plan, each with what it says of its next cycle.
 -- Implementation only: what `simulate` promises does not rest on this file.
-use Rattle.std.specs.Prelude.{ℕ, ◌≡◌, ◌≢◌, ◌<◌, ◌≤◌, ◌+◌, ◌^◌, ◌==◌, List, [], Option, Some, if◌then◌else◌, length, map, flat_map}
+use Rattle.std.specs.Prelude.{ℕ, ◌≡◌, ◌≢◌, ◌<◌, ◌≤◌, ◌+◌, ◌^◌, ◌==◌, ◌||◌, List, [], ◌∷◌, Bool, true, false, Option, Some}
+use Rattle.std.specs.Prelude.{if◌then◌else◌, length, map, flat_map}
 use Rattle.std.specs.List.{range_with_len}
 use Rattle.std.specs.Option.{option_eq}
 use Rattle.sim_logic.specs.Time.{largest_time}
@@ -75,6 +76,15 @@ pub record IsOrder (plan : Plan) (o : Order) : Type 0 where
   pub delta_is : o.delta ≡ delta_at o.time state
   pub told_are : AreTold plan o.seat.part o.time state o.told
   pub few : o.seat.cycles + 1 < 2 ^ 64
+
+-- whether there are transactions that are told
+abbrev pub is_any : List Told → Bool
+is_any [] = false
+is_any (x ∷ told) = true
+
+-- whether the shard of an order has something to do in its cycle
+abbrev pub is_due : Order → Bool
+is_due o = is_any o.told || option_eq ◌==◌ o.seat.next (Some o.time)
 
 -- The shard of a seat has nothing to do in the next cycle of the run: it has no transaction then, and is told none.
 pub record IsIdle (plan : Plan) (y : Seat) : Type 0 where

@@ -45,17 +45,6 @@ fn after_cycle<P: PlanType>(
     Ok(awaited.take_back(seats))
 }
 
-/// The time of the next cycle, if it is not after the stop time.
-fn next_until<P: PlanType>(crew: &Crew<P>, stop: u64) -> Option<u64>
-    requires { stop ≤ largest_time }
-    ensures { spec.IsNextUntil P.plan.design stop crew.now result }
-{
-    match crew.next() {
-        Some(time) if time <= stop => Some(time),
-        _ => None,
-    }
-}
-
 /// The crew at the end of the run: after so many cycles, or where there is no next cycle up to the
 /// stop time. `None` never.
 fn at_end<P: PlanType>(
@@ -70,7 +59,7 @@ fn at_end<P: PlanType>(
 {
     let mut crew = crew;
     while crew.cycles() < limit {
-        let time = match next_until(&crew, stop) {
+        let time = match crew.next_until(stop) {
             Some(time) => time,
             None => return Ok(Some(crew)),
         };
@@ -82,21 +71,24 @@ fn at_end<P: PlanType>(
     Ok(Some(crew))
 }
 
-/// The crew of a design at the start of a run; `None` as `begin` has it.
-fn begun<P: PlanType>(
-    alloc: Global,
-    design: &Design,
-    parts: usize,
-) -> Result<Option<Crew<P>>, AllocError>
-    requires parts { 0 < parts }
-    requires few { parts ≤ 2 ^ 32 }
-    requires plan { P.plan ≡ plan_of parts design.now }
-    ensures { IfOk result (λ found. IfSome found (λ c. c ≡ 0)) }
-{
-    let Some(seats) = begin(alloc, design, parts)? else {
-        return Ok(None);
-    };
-    Crew::begin(alloc, seats)
+impl<P: PlanType> Crew<P> {
+    /// The crew of a design at the start of a run, in so many parts; `None` means that a process is
+    /// postponed, that there is no net, or that a part has as many processes as a design can have.
+    pub fn start(
+        alloc: Global,
+        design: &Design,
+        parts: usize,
+    ) -> Result<Option<Crew<P>>, AllocError>
+        requires parts { 0 < parts }
+        requires few { parts ≤ 2 ^ 32 }
+        requires plan { P.plan ≡ plan_of parts design.now }
+        ensures { IfOk result (λ found. IfSome found (λ c. c ≡ 0)) }
+    {
+        let Some(seats) = begin(alloc, design, parts)? else {
+            return Ok(None);
+        };
+        Crew::begin(alloc, seats)
+    }
 }
 
 /// The log of a run that this crew carries on to its end.
@@ -131,7 +123,7 @@ fn run_by<P: PlanType>(
     requires plan { P.plan ≡ plan_of parts design.now }
     ensures { IfOk result (λ found. IfSome found (λ log. spec.IsRun P.plan.design stop limit log.records)) }
 {
-    let Some(crew) = begun::<P>(alloc, design, parts)? else {
+    let Some(crew) = Crew::<P>::start(alloc, design, parts)? else {
         return Ok(None);
     };
     log_at_end(alloc, crew, stop, limit)

@@ -11,6 +11,7 @@ ghost use Rattle.sim_store_news.specs.News.{AreFor, told_at};
 ghost use Rattle.sim_store_plan.specs.Plans.{IsPlan};
 ghost use Rattle.sim_store_shards.specs.Times as times;
 ghost use Rattle.sim_store_crew.specs.Crews as spec;
+ghost use Rattle.sim_store_crew.specs.Runs as runs;
 ghost use Rattle.sim_store_crew.specs.Seats as orders;
 
 use crate::plan_type::PlanType;
@@ -264,6 +265,17 @@ impl<P: PlanType> Crew<P> {
         ensures { (s : State) → ended P.plan.design self.now ≡ Some s → result ≡ next_time (all_drivers s.owned) }
     {
         earliest(self.seats.as_slice())
+    }
+
+    /// The same, if it is not after this time; `None` also if it is.
+    pub fn next_until(&self, stop: u64) -> Option<u64>
+        requires { stop ≤ largest_time }
+        ensures { runs.IsNextUntil P.plan.design stop self.now result }
+    {
+        match self.next() {
+            Some(time) if time <= stop => Some(time),
+            _ => None,
+        }
     }
 
     /// The number of cycles that were carried out, without the initialization.

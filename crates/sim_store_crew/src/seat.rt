@@ -232,6 +232,14 @@ impl<P: PlanType> Order<P> {
         }
     }
 
+    /// Whether its shard has something to do in this cycle: it is told something, or has this time as
+    /// its next.
+    pub fn is_due(&self) -> bool
+        ensures { result ≡ spec.is_due self.now }
+    {
+        !self.told.is_empty() || self.seat.next() == Some(self.time)
+    }
+
     /// The seat after this cycle (14.7.5.3). A shard with nothing to do is passed over.
     pub fn carry_out(self, alloc: Global) -> Result<Seat<P>, AllocError>
         ensures { IfOk result (spec.IsAfter self.seat) }
