@@ -16,15 +16,6 @@ use std::sync::Wait;
 use std::thread;
 use std::thread::{Scope, Threads};
 
-/// A bell for each worker.
-fn bells(alloc: Global, workers: usize) -> Option<Vec<Bell>> {
-    let mut bells = Vec::with_capacity(alloc, workers).ok()?;
-    for _worker in 0..workers {
-        bells.push(Bell::new()).ok()?;
-    }
-    Some(bells)
-}
-
 /// Adds a worker to a team for each bell for which a thread can be started. `None` if memory runs
 /// out.
 fn hire<'s, P: PlanType + Send + Sync + 's, R: Threads + Wait + Sync, E>(
@@ -64,7 +55,7 @@ fn carried_by_team<P: PlanType + Send + Sync, R: Threads + Wait + Sync>(
 {
     let main = Bell::new();
     let main = &main;
-    let bells = bells(alloc, parts.saturating_sub(1))?;
+    let bells = Bell::several(alloc, parts.saturating_sub(1))?;
     let bells = bells.as_slice();
     thread::scope(
         thread::scope_env(),

@@ -121,15 +121,6 @@ fn lead<D: DesignType, R: Wait>(
     None
 }
 
-/// A bell for each worker.
-fn bells(alloc: Global, workers: usize) -> Option<Vec<Bell>> {
-    let mut bells = Vec::with_capacity(alloc, workers).ok()?;
-    for _worker in 0..workers {
-        bells.push(Bell::new()).ok()?;
-    }
-    Some(bells)
-}
-
 /// Adds a worker to a team for each bell for which a thread can be started. `None` if memory runs
 /// out.
 fn hire<'s, D: DesignType + Send + Sync + 's, R: Threads + Wait + Sync, E>(
@@ -167,7 +158,7 @@ fn run_by<D: DesignType + Send + Sync, R: Threads + Wait + Sync>(
 {
     let main = Bell::new();
     let main = &main;
-    let bells = bells(alloc, workers.saturating_sub(1))?;
+    let bells = Bell::several(alloc, workers.saturating_sub(1))?;
     let bells = bells.as_slice();
     thread::scope(
         thread::scope_env(),

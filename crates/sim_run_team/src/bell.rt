@@ -1,5 +1,6 @@
 //! Waiting for another thread.
 
+use std::alloc::Global;
 use std::sync::Wait;
 use std::sync::atomic::{AtomicU64, Ordering};
 
@@ -17,6 +18,15 @@ impl Bell {
         Bell {
             asleep: AtomicU64::new(0),
         }
+    }
+
+    /// As many bells; `None` if memory runs out.
+    pub fn several(alloc: Global, count: usize) -> Option<Vec<Bell>> {
+        let mut bells = Vec::with_capacity(alloc, count).ok()?;
+        for _bell in 0..count {
+            bells.push(Bell::new()).ok()?;
+        }
+        Some(bells)
     }
 
     /// Wakes the sleeping thread. If none sleeps, this costs one load.

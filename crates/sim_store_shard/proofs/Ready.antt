@@ -1,16 +1,14 @@
 -- Drivers none of which has a transaction before a time.
-use Rattle.std.proofs.Common.{ℕ, suc, ◌<◌, ◌≤◌, ◌≡◌, ◌≢◌, Bool, true, false, if◌then◌else◌, List, [], ◌∷◌, map, length, set, eqb, Option, None, Some}
+use Rattle.std.proofs.Common.{ℕ, suc, ◌<◌, ◌≤◌, ◌≡◌, ◌≢◌, Bool, true, false, List, [], ◌∷◌, map, length, set, eqb, Option, None, Some}
 use Rattle.std.proofs.Common.{refl, ap, sym, ◌∙◌, subst, arith, eqb-true}
 use Rattle.std.specs.List.{All}
 use Rattle.std.proofs.lemmas.Bool.{eqb-false}
-use Rattle.std.proofs.lemmas.Bool.Decides.{nat_tests}
-use Rattle.std.specs.Option.{option_eq}
 use Rattle.std.proofs.lemmas.List.{get_or-map, get_or-set_other, get_or-set_same, length-set}
 use Rattle.std.proofs.lemmas.List.Elements.{All-append, All-cons, All-contains, All-head, All-nil, All-tail, All-weaker}
 use Rattle.sim_flat_design.specs.Processes.{Process}
 use Rattle.sim_flat_design.specs.declared.held.Held.{Held}
 use Rattle.sim_exec.specs.Jobs.{IsReady, holds_bit}
-use Rattle.sim_standard.specs.Drivers.{DriverState, Transaction, next_time, taken}
+use Rattle.sim_standard.specs.Drivers.{DriverState, Transaction, next_time}
 use Rattle.sim_standard.specs.Processes.{process_at}
 use Rattle.sim_standard.specs.State.{Owned, all_drivers, owned_at}
 use Rattle.sim_wave.specs.Rising.{RisesFrom}
@@ -151,40 +149,3 @@ ready-told ps time last news os own sized within ready e pending p lt = go (eqb 
     go false q =
         let apart : p ≢ last = eqb-false p last q in
         subst (IsReady (process_at ps p).body time) (sym (get_or-set_other os last p own nothing_owned apart)) (ready p lt)
-
--- ---- transactions taken
-
-kept : (time : ℕ) (d : DriverState) (xs : List Transaction) → d.pending ≡ xs → AllFrom (suc time) (times_in xs) → taken time d ≡ d
-kept time d [] e f = rw e refl
-kept time d (x ∷ xs) e f =
-    let opened : taken time d ≡ (if eqb x.0 time then record { value = x.1; pending = xs } else d) = rw e refl in
-    go (eqb x.0 time) refl opened
-  where
-    go : (b : Bool) → eqb x.0 time ≡ b → taken time d ≡ (if eqb x.0 time then record { value = x.1; pending = xs } else d) → taken time d ≡ d
-    go true q o = let at : x.0 ≡ time = eqb-true x.0 time q in absurd (omega (arith, f.0, at))
-    go false q o = o ∙ rw q refl
-
-idle : (time : ℕ) (ds : List DriverState) → AllFrom (suc time) (pending_times ds) → map (taken time) ds ≡ ds
-idle time [] f = refl
-idle time (d ∷ ds) f =
-    let own : List ℕ = times_in d.pending in
-    ap (λ (w : DriverState). w ∷ map (taken time) ds) (kept time d d.pending refl (front (suc time) own (pending_times ds) f))
-    ∙ ap (λ (ws : List DriverState). d ∷ ws) (idle time ds (rest (suc time) own (pending_times ds) f))
-
--- where a test says that the first pending time is another, it is another
-pub is-other : (time : ℕ) (next : Option ℕ) → option_eq eqb next (Some time) ≡ false → next ≢ Some time
-is-other time next e = λ same. absurd (cc (e, ap (λ (o : Option ℕ). option_eq eqb o (Some time)) same, same_number time))
-  where
-    same_number : (n : ℕ) → eqb n n ≡ true
-    same_number n = grind (arith, nat_tests)
-
--- where the first pending time is another, none is taken
-pub none-taken : (time : ℕ) (ds : List DriverState) (next : Option ℕ) → IsNext ds next → next ≢ Some time → All (λ (t : ℕ). time ≤ t) (pending_times ds)
-    → map (taken time) ds ≡ ds
-none-taken time ds None i apart from = idle time ds (subst (AllFrom (suc time)) (sym i) tt)
-none-taken time ds (Some m) i apart from =
-    let bound : time ≤ m = All-contains (λ (t : ℕ). time ≤ t) (pending_times ds) m from i.0 in
-    let other : m ≢ time = λ e. apart (ap (λ (n : ℕ). Some n) e) in
-    let later : suc time ≤ m = omega (arith, bound, other) in
-    idle time ds (each_from (suc time) (pending_times ds)
-    (All-weaker (λ (t : ℕ). m ≤ t) (λ (t : ℕ). suc time ≤ t) (λ t le. omega (arith, le, later)) (pending_times ds) i.1))

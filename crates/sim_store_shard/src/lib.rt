@@ -7,7 +7,6 @@ mod executed;
 mod resumed;
 mod shard;
 mod told;
-mod update;
 
 pub use shard::Shard;
 pub use told::Told;

@@ -19,7 +19,6 @@ use crate::changes::Changes;
 use crate::executed::execute_all;
 use crate::resumed::Resumed;
 use crate::told::{Told, tell_all};
-use crate::update::update;
 use sim_containers::NumberList;
 use sim_flat_design::Design;
 use sim_logic::Logic;
@@ -121,7 +120,7 @@ fn begin_cycle(
 {
     let last = design.processes().len() - 1;
     tell_all(&mut contents.state, last, time, news)?;
-    update(&mut contents.state, time)?;
+    contents.state.update_at(time)?;
     contents.changes.record(&contents.state, time, delta)?;
     contents
         .resumed

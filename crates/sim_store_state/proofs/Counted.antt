@@ -6,7 +6,6 @@ use Rattle.std.proofs.lemmas.Bool.Decides.{nat_tests}
 use Rattle.std.proofs.lemmas.List.{get_or-set_same, get_or-set_other}
 use Rattle.sim_logic.specs.declared.logic.Logic.{Logic}
 use Rattle.sim_flat_design.specs.declared.design.Source.{Source}
-use Rattle.sim_flat_design.specs.declared.design.Source.TheVariants as source
 use Rattle.sim_store_state.specs.Changes.{AreTallied, is_driver, tally_of, value_from}
 use Rattle.sim_store_state.specs.Tallies.{TallyLists, is_many, is_placed, many, source_at}
 use Rattle.sim_store_state.proofs.Sensitivity.{or_false, or-assoc, and-or, at_same, at_other, eqb-suc}

@@ -1,5 +1,5 @@
 -- One more process is executed.
-use Rattle.std.proofs.Common.{ℕ, ◌+◌, ◌<◌, ◌≡◌, ◌≢◌, ◌++◌, List, [], ◌∷◌, length, get_or, set, take, ap, sym, ◌∙◌, subst, arith}
+use Rattle.std.proofs.Common.{ℕ, ◌<◌, ◌≡◌, ◌≢◌, ◌++◌, List, [], ◌∷◌, length, get_or, set, take, ap, sym, ◌∙◌, subst, arith}
 use Rattle.std.proofs.Math.Decide.{dec_lt}
 use Rattle.std.proofs.lemmas.List.{get_or-set_other, length-set, set-get_or}
 use Rattle.std.specs.Prelude.{Result, IfOk}

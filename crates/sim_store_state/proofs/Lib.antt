@@ -13,7 +13,6 @@ pub mod Telling
 pub mod Assigned
 pub mod InTurn
 pub mod Updating
-pub mod Ending
 pub mod Skips
 pub mod Ranges
 pub mod Taking

@@ -2,13 +2,15 @@
 
 ghost use Rattle.std.specs.Prelude.{ℕ, List, ◌≡◌, ◌≢◌, ◌<◌, ◌≤◌, ◌⊎◌, [], ◌∷◌, true, false, None, Some, length, map, slice_index_or, slice_set, IfOk, OnOk};
 ghost use Rattle.std.specs.Bool.{Decides};
+ghost use Rattle.std.specs.List.{All};
 ghost use Rattle.sim_standard.specs.Drivers.{DriverState, taken};
 ghost use Rattle.sim_containers.specs.RowArray.{joined};
 ghost use Rattle.sim_containers.specs.Numbers.{is_in, members};
 ghost use Rattle.sim_standard.specs.State.{driver_at, driver_values};
 ghost use Rattle.sim_containers.specs.Times.{cleared, those_at, time_of};
 ghost use Rattle.sim_containers.specs.Words.{IsOnly};
-ghost use Rattle.sim_store_state.specs.Changes.{AreReached, AreTaken, AreTallied, AreTimes, AreTold, first_times, time_at, value_at};
+ghost use Rattle.sim_store_state.specs.Changes.{AreBeyond, AreReached, AreTaken, AreTallied, AreTimes, AreTold, first_times, time_at, value_at};
+ghost use Rattle.sim_store_state.specs.Times.{pending_times};
 ghost use Rattle.sim_flat_design.specs.declared.design.Source.{Source};
 ghost use Rattle.sim_standard.specs.Drivers as spec;
 
@@ -550,6 +552,149 @@ pub fn take_all(
 {
     queue.take(time, stale);
     let told = take_due(
+        drivers, driving, time, stale, fan_out, queue, touched, tallies,
+    );
+    forget(stale, told);
+}
+
+/// Whether no driver has a time up to this one in the queue.
+fn is_beyond(queue: &TimeQueue, time: u64) -> bool
+    ensures { result ≡ true → AreBeyond time queue.now }
+{
+    match queue.least() {
+        Some(least) => least > time,
+        None => true,
+    }
+}
+
+/// Makes every driver stale that may take a transaction at a time, and has the queue let go of its
+/// time. Nothing is pending before. If allocation fails, stale drivers may have any time.
+pub fn let_go(
+    queue: &mut TimeQueue,
+    stale: &mut NumberSet,
+    drivers: &DividedRows<Driver>,
+    time: u64,
+) -> Result<(), AllocError>
+    requires times { AreTimes queue.old stale.old (joined drivers.now) }
+    requires from { All (λ t. time ≤ t) (pending_times (joined drivers.now)) }
+    ensures times { AreTimes queue.new stale.new (joined drivers.now) }
+    ensures beyond { OnOk result (AreBeyond time queue.new) }
+{
+    if is_beyond(queue, time) {
+        return Ok(());
+    }
+    bring_up_to_date(queue, stale, drivers)?;
+    if let Some(least) = queue.least() {
+        queue.take(least, stale);
+    }
+    Ok(())
+}
+
+/// A stale driver takes its first transaction, if its time has come. If that is a new value, its nets
+/// are touched. Returns whether the queue has its first pending time.
+#[inline(always)]
+fn take_one_stale(
+    drivers: &mut DividedRows<Driver>,
+    driving: &mut [Logic],
+    number: usize,
+    time: u64,
+    fan_out: &RowArray<usize>,
+    queue: &mut TimeQueue,
+    touched: &mut NumberSet,
+    tallies: &mut Tallies,
+) -> bool
+    requires at { number < length (joined drivers.old) }
+    requires queue { length queue.old ≡ length (joined drivers.old) }
+    requires fan_out { length fan_out.now ≡ length (joined drivers.old) }
+    requires driving { driving.old ≡ driver_values (joined drivers.old) }
+    ensures rows { map length drivers.new ≡ map length drivers.old }
+    ensures drivers { joined drivers.new ≡ slice_set (joined drivers.old) number (taken time (driver_at (joined drivers.old) number)) }
+    ensures driving { driving.new ≡ driver_values (joined drivers.new) }
+    ensures sized { length touched.new ≡ length touched.old }
+    ensures kept { (n : ℕ) → is_in touched.new n ≡ false → is_in touched.old n ≡ false }
+    ensures reached { AreReached touched.new (slice_index_or fan_out.now number []) (driver_at (joined drivers.old) number).value
+        (taken time (driver_at (joined drivers.old) number)).value }
+    ensures tallied { (sources : List (List Source)) → AreTallied sources driving.old tallies.old → AreTallied sources driving.new tallies.new }
+    ensures times { length queue.new ≡ length queue.old }
+    ensures told { result ≡ true → time_of queue.new number ≡ time_at (joined drivers.new) number }
+    ensures untold { (d : ℕ) → d ≢ number → time_of queue.new d ≡ time_of queue.old d }
+{
+    let (value, next) = take_driver(drivers, number, time);
+    note_value(driving, number, value, fan_out, touched, tallies);
+    is_put(queue, number, next)
+}
+
+/// Puts the time of a driver into the queue, and returns whether there was memory for it.
+#[inline(always)]
+fn is_put(queue: &mut TimeQueue, number: usize, time: Option<u64>) -> bool
+    requires { number < length queue.old }
+    ensures sized { length queue.new ≡ length queue.old }
+    ensures here { result ≡ true → time_of queue.new number ≡ time }
+    ensures others { (d : ℕ) → d ≢ number → time_of queue.new d ≡ time_of queue.old d }
+{
+    match queue.put(number, time) {
+        Ok(()) => true,
+        Err(_) => false,
+    }
+}
+
+/// Stale drivers take their transactions of a time, and the nets of each whose value is a new one are
+/// touched. The other drivers have none to take, and are not looked at. Returns whether the queue has
+/// the first pending time of each stale driver.
+fn take_each(
+    drivers: &mut DividedRows<Driver>,
+    driving: &mut [Logic],
+    time: u64,
+    stale: &NumberSet,
+    fan_out: &RowArray<usize>,
+    queue: &mut TimeQueue,
+    touched: &mut NumberSet,
+    tallies: &mut Tallies,
+) -> bool
+    requires stale { length stale.now ≡ length (joined drivers.old) }
+    requires fan_out { length fan_out.now ≡ length (joined drivers.old) }
+    requires queue { length queue.old ≡ length (joined drivers.old) }
+    requires driving { driving.old ≡ driver_values (joined drivers.old) }
+    requires others { (d : ℕ) → is_in stale.now d ≡ false → taken time (driver_at (joined drivers.old) d) ≡ driver_at (joined drivers.old) d }
+    ensures taken { AreTaken time fan_out.now drivers.old drivers.new driving.old driving.new touched.old touched.new tallies.old tallies.new }
+    ensures told { AreTold result stale.now queue.old queue.new (joined drivers.new) }
+{
+    let _count = stale.len();
+    let mut told = true;
+    let mut place = 0;
+    let mut from = 0;
+    while let Some(number) = stale.next_at(place, from) {
+        let is_known = take_one_stale(
+            drivers, driving, number, time, fan_out, queue, touched, tallies,
+        );
+        told = is_known & told;
+        place = place.wrapping_add(1);
+        from = number + 1;
+    }
+    told
+}
+
+/// Each driver that takes a transaction of a time, all of which are stale, takes it (14.7.5.3 c), and
+/// the nets of those whose value is a new one are touched. Other drivers are not looked at. The queue
+/// has the next times of drivers that are not stale.
+pub fn take_stale(
+    drivers: &mut DividedRows<Driver>,
+    driving: &mut [Logic],
+    time: u64,
+    fan_out: &RowArray<usize>,
+    queue: &mut TimeQueue,
+    stale: &mut NumberSet,
+    touched: &mut NumberSet,
+    tallies: &mut Tallies,
+)
+    requires beyond { AreBeyond time queue.old }
+    requires times { AreTimes queue.old stale.old (joined drivers.old) }
+    requires fan_out { length fan_out.now ≡ length (joined drivers.old) }
+    requires driving { driving.old ≡ driver_values (joined drivers.old) }
+    ensures taken { AreTaken time fan_out.now drivers.old drivers.new driving.old driving.new touched.old touched.new tallies.old tallies.new }
+    ensures times { AreTimes queue.new stale.new (joined drivers.new) }
+{
+    let told = take_each(
         drivers, driving, time, stale, fan_out, queue, touched, tallies,
     );
     forget(stale, told);

@@ -30,8 +30,10 @@ ghost use Rattle.sim_store_state.specs.InTurn.{AreExecuted, IsExecutable, IsOthe
 ghost use Rattle.sim_standard.specs.Records.{changes_from, values_of};
 ghost use Rattle.sim_wave.specs.Rising.{RisesFrom};
 
-use crate::assignment::assign_in_parts_and_tell;
-use crate::drivers::{are_same, bring_up_to_date, copied, mark_stale, tell_changed, value_after};
+use crate::assignment::{assign_and_mark, assign_in_parts_and_tell};
+use crate::drivers::{
+    are_same, bring_up_to_date, copied, let_go, mark_stale, tell_changed, value_after,
+};
 use crate::execution::{as_done, execute_in_parts, may_have_changed};
 use crate::in_turn::execute_in_one_part;
 use crate::log::{Log, append_changes};
@@ -416,18 +418,42 @@ impl FlatState {
         Ok(())
     }
 
-    /// The update of a cycle in which no driver takes a transaction (14.7.5.3 c, d): each net keeps
-    /// its value, so that none has an event.
-    pub fn end_events(&mut self)
-        ensures { (design : design_value) (s : State) (time : ℕ) → map (spec.taken time) (states.all_drivers s.owned) ≡ states.all_drivers s.owned
-            → self.old ≡ flat_state_of design s → self.new ≡ flat_state_of design (updated design s time) }
+    /// The update at a time before which nothing is pending (14.7.5.3 c, d), that of the next cycle or
+    /// an earlier one. It looks at the same drivers and nets as `update`; those that were found
+    /// (`find_active`) or told their values (`tell`) do not go through the queue. If allocation fails,
+    /// nothing changes.
+    pub fn update_at(&mut self, time: u64) -> Result<(), AllocError>
+        requires { All (λ t. time ≤ t) (times.pending_times (states.all_drivers self.old.owned)) }
+        ensures ok { OnOk result ((design : design_value) (s : State) → self.old ≡ flat_state_of design s
+            → self.new ≡ flat_state_of design (updated design s time)) }
+        ensures err { OnErr result (self.new ≡ self.old) }
     {
+        let_go(&mut self.queue, &mut self.stale, &self.drivers, time)?;
+        // The present values become the values before this cycle.
         end_events(
             self.values_before.as_mut_slice(),
             self.values.as_slice(),
             &self.touched,
         );
-        self.touched.clear();
+        // c) Each active driver takes its transaction.
+        self.touched.take_stale(
+            &mut self.drivers,
+            self.driving.as_mut_slice(),
+            time,
+            &self.fan_out,
+            &mut self.queue,
+            &mut self.stale,
+            &mut self.tallies,
+        );
+        // d) Nets of changed drivers take the values of their sources.
+        resolve_touched(
+            self.values.as_mut_slice(),
+            &self.touched,
+            &self.sources,
+            self.driving.as_slice(),
+            &self.tallies,
+        );
+        Ok(())
     }
 
     /// Finds the drivers that take a transaction at the time of the next cycle. It looks at no
@@ -480,7 +506,7 @@ impl FlatState {
         ensures pending { All (λ d. RisesFrom time d.pending) (owned_at self.new.owned number).drivers }
     {
         let told = SingleAssignment::of_value(driver, value);
-        self.assign(number, &told, time)
+        self.assign_and_mark(number, &told, time)
     }
 
     /// Executes the process with this number in place, by its code. If allocation fails, it may
@@ -566,6 +592,35 @@ impl FlatState {
             number,
             &mut self.drivers,
             &mut self.queue,
+            &mut self.stale,
+        )
+    }
+
+    /// The same, where its driver becomes stale, in place of going through the queue.
+    fn assign_and_mark(
+        &mut self,
+        number: usize,
+        quick: &SingleAssignment,
+        time: u64,
+    ) -> Result<(), AllocError>
+        requires at { number < length self.old.owned }
+        requires time { time ≤ largest_time }
+        requires pending { All (λ d. RisesFrom time d.pending) (owned_at self.old.owned number).drivers }
+        ensures alone { self.new ≡ record self.old { owned = slice_set self.old.owned number (owned_at self.new.owned number) } }
+        ensures assigned { AreAssigned (net_at self.old.nets) time quick.now result (owned_at self.old.owned number).drivers
+            (owned_at self.new.owned number).drivers }
+        ensures variables { (owned_at self.new.owned number).variables ≡ (owned_at self.old.owned number).variables }
+    {
+        let seen = ByNumber {
+            values: self.values.as_slice(),
+            values_before: self.values_before.as_slice(),
+        };
+        assign_and_mark(
+            &seen,
+            time,
+            quick,
+            number,
+            &mut self.drivers,
             &mut self.stale,
         )
     }

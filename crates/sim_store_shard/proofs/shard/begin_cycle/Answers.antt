@@ -9,21 +9,21 @@ tell_all-requires-clause-at c = last-there c.requires.of.shard c.requires.next c
 pub tell_all-requires-clause-pending : goal.tell_all-requires-clause-pending
 tell_all-requires-clause-pending c = last-pending c.requires.of.shard c.requires.next c.processes.result.now c.processes.ensures.value
 
-pub update-requires : goal.update-requires
-update-requires c =
+pub update_at-requires : goal.update_at-requires
+update_at-requires c =
     told-times c.requires.of.shard c.requires.next c.processes.result.now c.processes.ensures.value c.args.news.now c.tell_all.new.state
     c.tell_all.ensures.alone c.in_ok-tell_all.ensures.ok c.tell_all.ensures.pending
 
 pub record-requires : goal.record-requires
 record-requires c =
     let sized = new-nets c.requires.of.shard c.requires.next c.processes.result.now c.processes.ensures.value c.args.news.now c.tell_all.new.state
-    c.tell_all.ensures.alone c.in_ok-tell_all.ensures.ok c.tell_all.ensures.pending c.update.new.state c.in_ok-update.ensures in
+    c.tell_all.ensures.alone c.in_ok-tell_all.ensures.ok c.tell_all.ensures.pending c.update_at.new.self c.in_ok-update_at.ensures.ok in
     record { few = omega (arith, sized, c.requires.of.shard.few) }
 
 pub returns-clause-of : goal.returns-clause-of
 returns-clause-of c = record {
   shard = new-shard c.requires.of.shard c.requires.next c.processes.result.now c.processes.ensures.value c.args.news.now c.tell_all.new.state
-      c.tell_all.ensures.alone c.in_ok-tell_all.ensures.ok c.tell_all.ensures.pending c.update.new.state c.in_ok-update.ensures _ _;
+      c.tell_all.ensures.alone c.in_ok-tell_all.ensures.ok c.tell_all.ensures.pending c.update_at.new.self c.in_ok-update_at.ensures.ok _ _;
   compiled = c.requires.of.compiled;
   marked = c.find.ensures.sized ∙ c.requires.of.marked;
 }
@@ -33,15 +33,15 @@ returns-clause-begun c =
     let i = c.requires.of.shard in
     let ps = c.processes.result.now in
     let design = c.args.design.now in
-    let new = c.update.new.state in
+    let new = c.update_at.new.self in
     let sized = new-nets i c.requires.next ps c.processes.ensures.value c.args.news.now c.tell_all.new.state
-    c.tell_all.ensures.alone c.in_ok-tell_all.ensures.ok c.tell_all.ensures.pending new c.in_ok-update.ensures in
+    c.tell_all.ensures.alone c.in_ok-tell_all.ensures.ok c.tell_all.ensures.pending new c.in_ok-update_at.ensures.ok in
     record {
       design = refl;
       recorded = c.record.ensures.marks;
       time_is = refl;
       state = new-state i c.requires.next ps c.processes.ensures.value c.args.news.now c.tell_all.new.state c.tell_all.ensures.alone
-          c.in_ok-tell_all.ensures.ok c.tell_all.ensures.pending new c.in_ok-update.ensures;
+          c.in_ok-tell_all.ensures.ok c.tell_all.ensures.pending new c.in_ok-update_at.ensures.ok;
       records = c.in_ok-record.ensures.records;
       resumed = λ s is.
           resumed-are c.find.new.self design new.nets s (c.find.ensures.sized ∙ c.requires.of.marked)

@@ -1,4 +1,4 @@
-use Rattle.std.proofs.Common.{◌≡◌, List, length, ap, ◌∙◌, sym, subst, arith}
+use Rattle.std.proofs.Common.{◌≡◌, length, ap, sym, subst, arith}
 use Rattle.sim_containers.specs.RowArray.{joined}
 use Rattle.sim_store_state.specs.FlatState.{FlatState, owned_lists}
 use Rattle.sim_store_state.specs.Lending.{AreShares, drivers_of, variables_of}

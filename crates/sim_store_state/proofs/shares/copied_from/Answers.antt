@@ -1,4 +1,4 @@
-use Rattle.std.proofs.Common.{◌≡◌, ◌+◌, ◌++◌, [], ◌∷◌, List, drop, take, ap, ◌∙◌, sym, arith}
+use Rattle.std.proofs.Common.{◌≡◌, ◌++◌, [], ◌∷◌, List, drop, take, ap, ◌∙◌, sym, arith}
 use Rattle.sim_flat_design.specs.declared.held.Held.{Held}
 use Rattle.sim_store_state.proofs.Sharing.{copied-more}
 use Rattle.sim_store_state.proofs.shares.copied_from.Goals as goal

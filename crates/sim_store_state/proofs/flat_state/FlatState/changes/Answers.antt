@@ -1,4 +1,4 @@
-use Rattle.std.proofs.Common.{ap, length, arith, sym, ◌∙◌, ◌++◌}
+use Rattle.std.proofs.Common.{ap, length, arith, ◌∙◌, ◌++◌}
 use Rattle.sim_standard.specs.Records.{changes_from}
 use Rattle.sim_store_state.specs.FlatState.{FlatState, views_of}
 use Rattle.sim_store_state.proofs.Contents.{net-count}
