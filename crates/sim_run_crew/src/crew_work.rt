@@ -66,8 +66,8 @@ fn after_cycle<P: PlanType, R: Wait>(
     awaited.take_back(seats)
 }
 
-/// The crew at the end of the run: after so many cycles, or where there is no next cycle up to the
-/// stop time. `None` if the team fails or memory runs out.
+/// Returns the crew at the end of the run: after as many cycles as the limit, or where no next cycle is
+/// due by the stop time. `None` if the team fails or memory runs out.
 pub fn at_end<P: PlanType, R: Wait>(
     rt: &R,
     alloc: Global,

@@ -97,8 +97,8 @@ fn log_of<P: PlanType>(alloc: Global, crew: Crew<P>, stop: u64, limit: usize) ->
     }
 }
 
-/// The log of a run that a crew carries to its end. It starts a thread for each part but one, as many
-/// as can be. `None` if the team fails or memory runs out.
+/// Returns the log of a run that a crew carries to its end. It starts a thread for each part but one,
+/// as many as can be. `None` if the team fails or memory runs out.
 fn run_by<P: PlanType + Send + Sync, R: Threads + Wait + Sync>(
     rt: &R,
     alloc: Global,
@@ -119,8 +119,8 @@ fn run_by<P: PlanType + Send + Sync, R: Threads + Wait + Sync>(
     log_of(alloc, crew, stop, limit)
 }
 
-/// The log of a run of a design that is carried out in so many parts, each by a thread of its own
-/// as far as threads can be had: to its end, to the last cycle that is not after the stop time (in
+/// Returns the log of a run of a design in this many parts, with a thread for each part as far as
+/// threads can be had. The run goes to its end, to the last cycle that is not after the stop time (in
 /// femtoseconds), or for as many cycles as the limit. A caller cannot tell which thread carries out
 /// which part. `None` if memory runs out or a thread is gone, and also if a process is postponed,
 /// there is no net, or a part has as many processes as a design can have.

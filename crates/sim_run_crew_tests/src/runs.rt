@@ -73,7 +73,8 @@ fn has_records(log: &Log, rows: &[Row]) -> bool {
     true
 }
 
-/// The log of a run in this number of parts, up to 5 ns, where a waiting thread looks so many times.
+/// Returns the log of a run in this number of parts, up to 5 ns. A waiting thread looks for a message
+/// this many times before it sleeps.
 fn log_in<R: Threads + Wait + Sync>(
     rt: &R,
     alloc: Global,
