@@ -6,6 +6,7 @@ mod Finding
 mod Hearing
 mod Seating
 mod Handing
+mod Numbering
 mod Together
 mod Reaching
 mod Starting

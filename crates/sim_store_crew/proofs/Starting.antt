@@ -122,7 +122,7 @@ tolds_by design parts cs e = ap (map (λ (c : Cut). c.part.told)) e ∙ go parts
     go [] = refl
     go (p ∷ ps) = ap (λ (l : List (List ℕ)). p.told ∷ l) (go ps)
 
--- ---- who is told of drivers
+-- ---- which parts hear of each driver
 
 abbrev no_part : Part
 no_part = record { members = []; told = []; followed = [] }
@@ -254,7 +254,7 @@ all_begun plan seats is are all =
     let few = are.few in
     record { is_plan = is; sized = omega (arith, few, all); each = λ k lt. are.each k (omega (arith, lt, all)) }
 
--- the part that is next in a list of which so many are done
+-- the next part in a list of which this many are done
 pub record IsNextCut (plan : Plan) (k : ℕ) (c : Cut) (rest : List Cut) : Type 0 where
   pub lt : k < length plan.parts
   pub is : c ≡ cut_by plan.design (part_at plan k)

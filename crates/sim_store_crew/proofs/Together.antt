@@ -29,16 +29,9 @@ use Rattle.sim_store_crew.specs.Crews.{IsCrew, earliest_of, seat_at, told_for}
 use Rattle.sim_store_crew.specs.Seats.{Seat, rows_of, said_by, told_by}
 use Rattle.sim_store_crew.proofs.Hearing.{are_told}
 use Rattle.sim_store_crew.proofs.Lists.{all_flat, all_weaker}
+use Rattle.sim_store_crew.proofs.Numbering.{from-range}
 
 -- ---- seats by number
-
-from-range : {X : Type 0} (f : Seat → X) (g : ℕ → X) (a : ℕ) (ys : List Seat) → ((j : ℕ) → j < length ys → f (seat_at ys j) ≡ g (a + j))
-    → map f ys ≡ map g (range_with_len a (length ys))
-from-range f g a [] same = refl
-from-range {X} f g a (y ∷ ys) same =
-    let here : f y ≡ g a = same 0 (omega arith) ∙ ap g (omega arith) in
-    ap (λ (x : X). x ∷ map f ys) here
-    ∙ ap (λ (xs : List X). g a ∷ xs) (from-range f g (a + 1) ys (λ j lt. same (suc j) (omega (arith, lt)) ∙ ap g (omega arith)))
 
 flat-range : {X : Type 0} (f : Seat → List X) (g : ℕ → List X) (a : ℕ) (ys : List Seat) → ((j : ℕ) → j < length ys → f (seat_at ys j) ≡ g (a + j))
     → flat_map f ys ≡ flat_map g (range_with_len a (length ys))

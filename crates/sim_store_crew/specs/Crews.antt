@@ -1,6 +1,8 @@
 -- A crew: the seats of all parts of a plan, between two cycles of the run.
 -- Implementation only: what `simulate` promises does not rest on this file.
-use Rattle.std.specs.Prelude.{ℕ, suc, ◌≡◌, ◌<◌, ◌≤◌, ◌==◌, List, [], Option, Some, None, if◌then◌else◌, flat_map, length, map, slice_index_or}
+use Rattle.std.specs.Prelude.{ℕ, suc, ◌≡◌, ◌<◌, ◌≤◌, ◌==◌, ◌+◌, List, [], Option, Some, None, if◌then◌else◌}
+use Rattle.std.specs.Prelude.{flat_map, length, map, reverse, slice_index_or}
+use Rattle.std.specs.List.{range_with_len}
 use Rattle.std.specs.Option.{option_eq}
 use Rattle.sim_flat_design.specs.Designs.{Design}
 use Rattle.sim_standard.specs.Cycle.{ended}
@@ -13,7 +15,7 @@ use Rattle.sim_store_merge.specs.Owners.{TimesRise, logged, times_of}
 use Rattle.sim_store_plan.specs.Plans.{IsPlan, Plan, owner}
 use Rattle.sim_store_shard.specs.declared.told.Told.{Told}
 use Rattle.sim_store_news.specs.News.{for_part}
-use Rattle.sim_store_crew.specs.Seats.{HoldsShard, Seat}
+use Rattle.sim_store_crew.specs.Seats.{HoldsShard, Order, Seat}
 
 -- the seat with a number
 abbrev pub seat_at : List Seat → ℕ → Seat
@@ -63,6 +65,28 @@ pub record IsCrew (plan : Plan) (cycles : ℕ) (seats : List Seat) (times : List
 pub record IsAwaited (plan : Plan) (cycles parts : ℕ) (times : List (ℕ × ℕ)) : Type 0 where
   pub run : HasReached plan cycles times
   pub all : parts ≡ length plan.parts
+
+-- ---- answers
+
+-- the part and the number of cycles of each seat
+abbrev pub numbers_of : List Seat → List (ℕ × ℕ)
+numbers_of seats = map (λ (y : Seat). (y.part, y.cycles)) seats
+
+-- those of the first parts, as many as the count, by number, all after the same number of cycles
+abbrev pub numbered : ℕ → ℕ → List (ℕ × ℕ)
+numbered cycles count = map (λ (k : ℕ). (k, cycles)) (range_with_len 0 count)
+
+-- These seats, the last part first, are those of all parts after a number of cycles.
+abbrev pub AreAllSeats : Plan → ℕ → List Seat → Type 0
+AreAllSeats plan cycles seats = numbers_of (reverse seats) ≡ numbered cycles (length plan.parts)
+
+-- the seats of orders
+abbrev pub seats_of : List Order → List Seat
+seats_of orders = map (λ (o : Order). o.seat) orders
+
+-- the part of the seat of each order, and its number of cycles once the order is carried out
+abbrev pub numbers_after : List Order → List (ℕ × ℕ)
+numbers_after orders = map (λ (o : Order). (o.seat.part, o.seat.cycles + 1)) orders
 
 -- ---- logs
 

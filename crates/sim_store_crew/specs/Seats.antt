@@ -17,7 +17,7 @@ use Rattle.sim_store_plan.specs.Plans.{AreTold, IsPlan, IsShardOf, Plan, delta_a
 use Rattle.sim_store_news.specs.declared.news.News.{News}
 use Rattle.sim_store_news.specs.News.{for_part, next_news}
 
--- for each driver of a part, by its number there, which parts are told of it, and at which place
+-- for each driver of a part, by its number there, which parts hear of it, and at which place
 abbrev pub rows_of : Plan → ℕ → List (List Hearer)
 rows_of plan k = map (hearers_of (map (λ (p : Part). p.told) plan.parts)) (drivers_of plan.design.processes (part_at plan k).members)
 

@@ -26,7 +26,7 @@ are_settled processes = list_all (λ (p : Process). not p.postponed) processes
 abbrev pub part_by : Design → Division → ℕ → Part
 part_by design division k = part_with design (members_of division.process_parts k) (members_of division.net_parts k)
 
--- the plan of so many parts by a division
+-- the plan of this many parts by a division
 abbrev pub plan_by : ℕ → Design → Division → Plan
 plan_by parts design division = record {
   design = design;
@@ -34,19 +34,19 @@ plan_by parts design division = record {
   net_parts = division.net_parts;
 }
 
--- the plan by which a design is carried out in so many parts
+-- the plan by which a design is carried out in this many parts
 abbrev pub plan_of : ℕ → Design → Plan
 plan_of parts design = plan_by parts design (division_of parts design)
 
--- whether each of so many parts of a division can be cut out
+-- whether each of this many parts of a division can be cut out
 abbrev pub can_be_divided : ℕ → Design → Division → Bool
 can_be_divided parts design division = list_all (λ (k : ℕ). can_be_cut design (members_of division.process_parts k)) (range_with_len 0 parts)
 
--- whether a design can be carried out in so many parts: it has no postponed process, and each part can be cut out
+-- whether a design can be carried out in this many parts: it has no postponed process, and each part can be cut out
 abbrev pub can_begin : ℕ → Design → Bool
 can_begin parts design = are_settled design.processes && can_be_divided parts design (division_of parts design)
 
--- The division gives each process and each net one of so many parts.
+-- The division gives each process and each net one of this many parts.
 pub record IsDivision (parts : ℕ) (design : Design) (division : Division) : Type 0 where
   pub processes : HaveParts parts (length design.processes) division.process_parts
   pub nets : HaveParts parts (length design.nets) division.net_parts
@@ -62,14 +62,14 @@ pub record IsCutBy (design : Design) (division : Division) (k : ℕ) (c : Cut) :
   pub is : c ≡ cut_by design (part_by design division k)
   pub contained : IsSelfContained design (members_of division.net_parts k) (part_by design division k)
 
--- So many parts are cut out, by their numbers.
+-- This many parts are cut out, by their numbers.
 pub record AreCutBy (design : Design) (division : Division) (parts : ℕ) (cs : List Cut) : Type 0 where
   pub are : cs ≡ map (λ (k : ℕ). cut_by design (part_by design division k)) (range_with_len 0 parts)
   pub contained : (k : ℕ) → k < parts → IsSelfContained design (members_of division.net_parts k) (part_by design division k)
 
--- ---- who is told of drivers
+-- ---- which parts hear of each driver
 
--- for each driver of the whole, by number, which parts are told of it, and at which place
+-- for each driver of the whole, by number, which parts hear of it, and at which place
 abbrev pub all_rows : Plan → List (List Hearer)
 all_rows plan = map (hearers_of (map (λ (p : Part). p.told) plan.parts)) (range_with_len 0 (length plan.design.drivers))
 

@@ -1,12 +1,13 @@
 //! A run that a crew carries out on one thread.
 
-ghost use Rattle.std.specs.Prelude.{suc, ◌≡◌, ◌<◌, ◌≤◌, ◌^◌, Some, IfOk, IfSome};
+ghost use Rattle.std.specs.Prelude.{suc, ◌≡◌, ◌<◌, ◌≤◌, ◌^◌, false, Some, IfOk, MatchOption};
 ghost use Rattle.sim_logic.specs.Time.{largest_time};
 ghost use Rattle.sim_standard.specs.Cycle.{ended};
 ghost use Rattle.sim_standard.specs.Drivers.{next_time};
 ghost use Rattle.sim_standard.specs.State.{State, all_drivers};
+ghost use Rattle.sim_store_crew.specs.Crews.{numbers_after, numbers_of};
 ghost use Rattle.sim_store_crew.specs.Runs as spec;
-ghost use Rattle.sim_store_crew.specs.Starts.{plan_of};
+ghost use Rattle.sim_store_crew.specs.Starts.{can_begin, plan_of};
 
 use crate::crew::Crew;
 use crate::plan_type::PlanType;
@@ -21,7 +22,9 @@ use std::marker::Brand;
 fn carried_out<P: PlanType>(
     alloc: Global,
     orders: Vec<Order<P>>,
-) -> Result<Vec<Seat<P>>, AllocError> {
+) -> Result<Vec<Seat<P>>, AllocError>
+    ensures { IfOk result (λ v. numbers_of v.items ≡ numbers_after orders.items) }
+{
     let mut seats = Vec::with_capacity(alloc, orders.len())?;
     for order in orders {
         let seat = order.carry_out(alloc)?;
@@ -30,49 +33,45 @@ fn carried_out<P: PlanType>(
     Ok(seats)
 }
 
-/// The crew after the cycle at this time; `None` never.
-fn after_cycle<P: PlanType>(
-    alloc: Global,
-    crew: Crew<P>,
-    time: u64,
-) -> Result<Option<Crew<P>>, AllocError>
+/// The crew after the cycle at this time.
+fn after_cycle<P: PlanType>(alloc: Global, crew: Crew<P>, time: u64) -> Result<Crew<P>, AllocError>
     requires early { time ≤ largest_time }
     requires next { (s : State) → ended P.plan.design crew ≡ Some s → next_time (all_drivers s.owned) ≡ Some time }
-    ensures { IfOk result (λ found. IfSome found (λ c. c ≡ suc crew)) }
+    ensures { IfOk result (λ c. c ≡ suc crew) }
 {
     let (awaited, orders) = crew.hand_out(alloc, time)?;
     let seats = carried_out(alloc, orders)?;
-    Ok(awaited.take_back(seats))
+    match awaited.take_back(seats) {
+        Some(crew) => Ok(crew),
+        None => unreachable!(),
+    }
 }
 
-/// The crew at the end of the run: after so many cycles, or where there is no next cycle up to the
-/// stop time. `None` never.
+/// Returns the crew at the end of the run: after this many cycles, or where no next cycle is due by
+/// the stop time.
 fn at_end<P: PlanType>(
     alloc: Global,
     crew: Crew<P>,
     stop: u64,
     limit: usize,
-) -> Result<Option<Crew<P>>, AllocError>
+) -> Result<Crew<P>, AllocError>
     requires stop { stop ≤ largest_time }
     requires limit { crew ≤ limit }
-    ensures { IfOk result (λ found. IfSome found (spec.EndsAt P.plan.design stop limit)) }
+    ensures { IfOk result (spec.EndsAt P.plan.design stop limit) }
 {
     let mut crew = crew;
     while crew.cycles() < limit {
         let time = match crew.next_until(stop) {
             Some(time) => time,
-            None => return Ok(Some(crew)),
+            None => return Ok(crew),
         };
-        match after_cycle(alloc, crew, time)? {
-            Some(next) => crew = next,
-            None => return Ok(None),
-        }
+        crew = after_cycle(alloc, crew, time)?;
     }
-    Ok(Some(crew))
+    Ok(crew)
 }
 
 impl<P: PlanType> Crew<P> {
-    /// The crew of a design at the start of a run, in so many parts; `None` means that a process is
+    /// The crew of a design at the start of a run, in this many parts. `None` means that a process is
     /// postponed, that there is no net, or that a part has as many processes as a design can have.
     pub fn start(
         alloc: Global,
@@ -82,7 +81,7 @@ impl<P: PlanType> Crew<P> {
         requires parts { 0 < parts }
         requires few { parts ≤ 2 ^ 32 }
         requires plan { P.plan ≡ plan_of parts design.now }
-        ensures { IfOk result (λ found. IfSome found (λ c. c ≡ 0)) }
+        ensures { IfOk result (λ found. MatchOption found (can_begin parts design.now ≡ false) (λ c. c ≡ 0)) }
     {
         let Some(seats) = begin(alloc, design, parts)? else {
             return Ok(None);
@@ -97,19 +96,17 @@ fn log_at_end<P: PlanType>(
     crew: Crew<P>,
     stop: u64,
     limit: usize,
-) -> Result<Option<Log>, AllocError>
+) -> Result<Log, AllocError>
     requires stop { stop ≤ largest_time }
     requires limit { crew ≤ limit }
-    ensures { IfOk result (λ found. IfSome found (λ log. spec.IsRun P.plan.design stop limit log.records)) }
+    ensures { IfOk result (λ log. spec.IsRun P.plan.design stop limit log.records) }
 {
-    let Some(crew) = at_end(alloc, crew, stop, limit)? else {
-        return Ok(None);
-    };
+    let crew = at_end(alloc, crew, stop, limit)?;
     let log = crew.into_log(alloc)?;
-    Ok(Some(log))
+    Ok(log)
 }
 
-/// The log of a run of a design, in so many parts.
+/// The log of a run of a design, in this many parts. `None` as for `Crew::start`.
 fn run_by<P: PlanType>(
     alloc: Global,
     design: &Design,
@@ -121,16 +118,18 @@ fn run_by<P: PlanType>(
     requires few { parts ≤ 2 ^ 32 }
     requires stop { stop ≤ largest_time }
     requires plan { P.plan ≡ plan_of parts design.now }
-    ensures { IfOk result (λ found. IfSome found (λ log. spec.IsRun P.plan.design stop limit log.records)) }
+    ensures { IfOk result (λ found. MatchOption found (can_begin parts design.now ≡ false)
+        (λ log. spec.IsRun P.plan.design stop limit log.records)) }
 {
     let Some(crew) = Crew::<P>::start(alloc, design, parts)? else {
         return Ok(None);
     };
-    log_at_end(alloc, crew, stop, limit)
+    let log = log_at_end(alloc, crew, stop, limit)?;
+    Ok(Some(log))
 }
 
-/// The log of a run of a design that is carried out in so many parts, on this thread: to its end, to
-/// the last cycle that is not after the stop time (in femtoseconds), or for as many cycles as the
+/// The log of a run of a design that is carried out in this many parts, on this thread: to its end,
+/// to the last cycle that is not after the stop time (in femtoseconds), or for as many cycles as the
 /// limit. `None` means that a process is postponed, that there is no net, or that a part has as many
 /// processes as a design can have.
 pub fn run_alone(
@@ -143,7 +142,8 @@ pub fn run_alone(
     requires parts { 0 < parts }
     requires few { parts ≤ 2 ^ 32 }
     requires stop { stop ≤ largest_time }
-    ensures { IfOk result (λ found. IfSome found (λ log. spec.IsRun design.now stop limit log.records)) }
+    ensures { IfOk result (λ found. MatchOption found (can_begin parts design.now ≡ false)
+        (λ log. spec.IsRun design.now stop limit log.records)) }
 {
     run_by::<Brand>(alloc, design, parts, stop, limit)
 }

@@ -1,7 +1,7 @@
 //! A crew: the seats of all parts, which carry a run on together.
 
 ghost use Rattle.std.specs.Prelude.{ℕ, suc, ◌≡◌, ◌^◌, ◌==◌, if◌then◌else◌, ◌<◌, ◌≤◌, ◌+◌, ◌-◌};
-ghost use Rattle.std.specs.Prelude.{◌++◌, ◌∷◌, [], Some, true, length, replicate, IfOk, IfSome, OnOk};
+ghost use Rattle.std.specs.Prelude.{◌++◌, ◌∷◌, [], Some, true, false, length, replicate, reverse, IfOk, MatchOption, OnOk};
 ghost use Rattle.sim_logic.specs.Time.{largest_time};
 ghost use Rattle.sim_standard.specs.Cycle.{ended};
 ghost use Rattle.sim_standard.specs.Drivers.{next_time};
@@ -26,7 +26,8 @@ use std::marker::{Model, PhantomData};
 
 /// Whether these are the seats of the parts, by number, after a number of cycles.
 fn are_seats<P: PlanType>(seats: &[Seat<P>], cycles: usize) -> bool
-    ensures { result ≡ true → spec.AreSeats P.plan cycles seats.now }
+    ensures are { result ≡ true → spec.AreSeats P.plan cycles seats.now }
+    ensures others { result ≡ false → spec.numbers_of seats.now ≡ spec.numbered cycles (length seats.now) → ⊥ }
 {
     for number in 0..seats.len() {
         if seats[number].part() != number {
@@ -39,7 +40,7 @@ fn are_seats<P: PlanType>(seats: &[Seat<P>], cycles: usize) -> bool
     true
 }
 
-/// So many empty lists.
+/// This many empty lists.
 fn empty_lists(alloc: Global, count: usize) -> Result<Vec<Items<Told>>, AllocError>
     ensures { IfOk result (λ v. v.items ≡ replicate count []) }
 {
@@ -123,7 +124,8 @@ fn orders_of<P: PlanType>(
     requires sized { length told.now ≡ length seats.items }
     requires each { (k : ℕ) → k < length seats.items
         → orders.IsOrder P.plan (record { seat = spec.seat_at seats.items k; time = time; delta = delta; told = told_at told.now k }) }
-    ensures { IfOk result (λ v. length v.items ≡ length seats.items) }
+    ensures sized { IfOk result (λ v. length v.items ≡ length seats.items) }
+    ensures seats { IfOk result (λ v. reverse (spec.seats_of v.items) ≡ seats.items) }
 {
     let mut seats = seats;
     let mut orders = Vec::with_capacity(alloc, told.len())?;
@@ -247,11 +249,12 @@ impl<P: PlanType> Model for AwaitedCrew<P> {
 }
 
 impl<P: PlanType> Crew<P> {
-    /// The crew of these seats at the start of a run, if they are those of the parts, by number.
+    /// The crew of these seats at the start of a run. `None` if they are not those of the parts, by
+    /// number, before the first cycle.
     pub fn begin(alloc: Global, seats: Vec<Seat<P>>) -> Result<Option<Crew<P>>, AllocError>
         requires plan { IsPlan P.plan }
         requires all { length seats.items ≡ length P.plan.parts }
-        ensures { IfOk result (λ found. IfSome found (λ c. c ≡ 0)) }
+        ensures { IfOk result (λ found. MatchOption found (spec.numbers_of seats.items ≡ spec.numbered 0 (length seats.items) → ⊥) (λ c. c ≡ 0)) }
     {
         if !are_seats(seats.as_slice(), 0) {
             return Ok(None);
@@ -297,6 +300,7 @@ impl<P: PlanType> Crew<P> {
         requires next { (s : State) → ended P.plan.design self ≡ Some s → next_time (all_drivers s.owned) ≡ Some time }
         ensures cycles { IfOk result (λ r. r.0 ≡ suc self) }
         ensures orders { IfOk result (λ r. length r.1.items ≡ length P.plan.parts) }
+        ensures seats { IfOk result (λ r. spec.AreAllSeats P.plan self (spec.seats_of r.1.items)) }
     {
         let Crew { seats, times } = self;
         let mut times = times;
@@ -325,10 +329,10 @@ impl<P: PlanType> Crew<P> {
 }
 
 impl<P: PlanType> AwaitedCrew<P> {
-    /// The crew again, with the seats that its orders led to, in the order of these; `None` if they
-    /// are not these.
+    /// The crew again, with the seats that its orders led to, in the order of these. `None` if they
+    /// are other seats.
     pub fn take_back(self, answers: Vec<Seat<P>>) -> Option<Crew<P>>
-        ensures { IfSome result (λ c. c ≡ self) }
+        ensures { MatchOption result (spec.AreAllSeats P.plan self answers.items → ⊥) (λ c. c ≡ self) }
     {
         let AwaitedCrew {
             parts,

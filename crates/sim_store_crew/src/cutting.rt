@@ -49,7 +49,7 @@ fn cut_number(
     cut_out(alloc, design, members.as_slice(), owned.as_slice())
 }
 
-/// All parts of a division into so many, cut out, if each can be.
+/// All parts of a division into this many, cut out, if each can be.
 pub fn cut_all(
     alloc: Global,
     design: &Design,

@@ -1,4 +1,4 @@
-//! Who is told of the drivers of a part.
+//! Which parts hear of each driver of a part.
 
 ghost use Rattle.std.specs.Prelude.{◌≡◌, ◌<◌, ◌≤◌, ◌+◌, ◌^◌, ◌++◌, length, map, IfOk, OnOk};
 ghost use Rattle.std.specs.List.{AllByRecursion, range_with_len};
@@ -25,7 +25,7 @@ pub fn told_of(alloc: Global, cuts: &[CutPart]) -> Result<RowArray<usize>, Alloc
     Ok(told)
 }
 
-/// Appends the rows of so many drivers, from one on.
+/// Appends the rows of this many drivers, from the one with this number on.
 fn add_range(
     rows: &mut RowArray<Hearer>,
     all: &RowArray<Hearer>,

@@ -150,7 +150,7 @@ fn begin_by<P: PlanType>(
     Ok(Some(seats))
 }
 
-/// The seats of so many parts of a design at the start of a run, by number, each with its shard, in
+/// The seats of this many parts of a design at the start of a run, by number, each with its shard, in
 /// which the initialization has been carried out (14.7.5.2). `None` means that a process is postponed,
 /// that there is no net, or that a part would have as many processes as a design can have. Its time and
 /// memory are proportional to the number of parts times the size of the design.

@@ -9,6 +9,6 @@ invariant_of-result g c =
     let plan = g.P.PlanType.plan in
     let seats = c.args.seats.items in
     let right : c.are_seats.result ≡ true = search rules in
-    let are = subst (λ (ys : List Seat). AreSeats plan 0 ys) c.as_slice.ensures.value (c.are_seats.ensures right) in
+    let are = subst (λ (ys : List Seat). AreSeats plan 0 ys) c.as_slice.ensures.value (c.are_seats.ensures.are right) in
     subst (λ (ts : List (ℕ × ℕ)). IsCrew plan (length ts - 1) seats ts) (sym c.in_ok-times.ensures)
     (crew_first plan seats c.requires.plan c.requires.all are)

@@ -6,7 +6,9 @@ use Rattle.sim_standard.specs.State.{all_drivers}
 use Rattle.sim_store_shard.specs.declared.told.Told.{Told}
 use Rattle.sim_store_news.specs.News.{told_at}
 use Rattle.sim_store_plan.specs.Plans.{delta_at}
-use Rattle.sim_store_crew.specs.Crews.{HasReached, told_for}
+use Rattle.sim_store_crew.specs.Crews.{HasReached, numbered, numbers_of, told_for}
+use Rattle.sim_store_crew.specs.Seats.{Seat}
+use Rattle.sim_store_crew.proofs.Numbering.{crew_numbered}
 use Rattle.sim_store_crew.proofs.Reaching.{can_order, reached_next}
 use Rattle.sim_store_crew.proofs.Together.{crew_news}
 use Rattle.sim_store_crew.proofs.crew.Crew.hand_out.Goals as goal
@@ -57,3 +59,9 @@ invariant_of-awaited g c =
       run = subst (λ (n : ℕ). HasReached plan n longer) count run;
       all = c.len-parts.ensures ∙ (c.self.inside.seats.ok.0 ∙ i.all);
     }
+
+pub returns-clause-seats : goal.returns-clause-seats
+returns-clause-seats g c =
+    let plan = g.P.PlanType.plan in
+    ap (λ (ys : List Seat). numbers_of ys) c.in_ok-orders.ensures.seats
+    ∙ (crew_numbered c.self.invariant ∙ ap (λ n. numbered n (length plan.parts)) c.self.view_is)
