@@ -256,3 +256,18 @@ times-beyond ds es ts stale time are beyond ee =
           are.current d fresh ∙ ap (λ (w : DriverState). next_time (w ∷ []))
           (sym (beyond-keeps ds ts stale time d are beyond fresh) ∙ (sym (driver-taken time ds d) ∙ ap (λ w. driver_at w d) (sym ee)));
     }
+
+beyond-clear : (time : ℕ) (o : Option ℕ) → ((t : ℕ) → o ≡ Some t → time < t) → clear time o ≡ o
+beyond-clear time None f = refl
+beyond-clear time (Some t) f = clear-other time (Some t) (go (is_at time (Some t)) refl)
+  where
+    go : (b : Bool) → is_at time (Some t) ≡ b → is_at time (Some t) ≡ false
+    go false q = q
+    go true q = let lt = f t refl in let same : t ≡ time = grind (arith, nat_tests) in absurd (omega (arith, lt, same))
+
+-- none of them is cleared
+pub beyond-same : (ts : List (Option ℕ)) (time : ℕ) → AreBeyond time ts → cleared time ts ≡ ts
+beyond-same [] time f = refl
+beyond-same (o ∷ ts) time f =
+    ap (λ (w : Option ℕ). w ∷ cleared time ts) (beyond-clear time o (λ t e. f 0 t e))
+    ∙ ap (λ (ws : List (Option ℕ)). o ∷ ws) (beyond-same ts time (λ d t e. f (suc d) t e))

@@ -694,6 +694,8 @@ pub fn take_stale(
     ensures taken { AreTaken time fan_out.now drivers.old drivers.new driving.old driving.new touched.old touched.new tallies.old tallies.new }
     ensures times { AreTimes queue.new stale.new (joined drivers.new) }
 {
+    // From now on an assignment without delay puts a driver at the front of the queue.
+    queue.begin(time);
     let told = take_each(
         drivers, driving, time, stale, fan_out, queue, touched, tallies,
     );
