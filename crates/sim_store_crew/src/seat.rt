@@ -232,8 +232,8 @@ impl<P: PlanType> Order<P> {
         }
     }
 
-    /// Whether its shard has something to do in this cycle: it is told something, or has this time as
-    /// its next.
+    /// Returns true if the shard takes part in this cycle: other parts have sent it news, or its own
+    /// next cycle has this time.
     pub fn is_due(&self) -> bool
         ensures { result ≡ spec.is_due self.now }
     {
