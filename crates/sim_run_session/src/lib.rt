@@ -9,6 +9,6 @@ mod team;
 
 pub use error::RunError;
 pub use program::{session, session_with_hints};
-pub use runs::{begun_run, finished_run, run_without_lock};
+pub use runs::{begun_run, finished_run, run_without_lock, write_run};
 pub use sim_run_team::Hints;
 pub use simulation::{elaborate, simulate, simulate_with_hints};

@@ -2,7 +2,8 @@
 
 use crate::cycles::write_name;
 use anyhow::Result;
-use sim_run::{Design, Record, WaveStore};
+use sim_flat_design::Design;
+use sim_store::{Record, WaveStore};
 use std::alloc::{AllocError, Global};
 use std::io::{self, Write};
 

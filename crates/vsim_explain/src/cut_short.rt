@@ -5,8 +5,9 @@ use crate::cycles::write_cycles;
 use crate::request::Request;
 use anyhow::{Result, bail};
 use sim_logic::LATEST;
-use sim_run::{Options, Record, RunError, WaveStore};
-use sim_store::Step;
+use sim_run_options::Options;
+use sim_run_session::RunError;
+use sim_store::{Record, Step, WaveStore};
 use std::alloc::Global;
 use std::io::{self, Write};
 

@@ -1,7 +1,8 @@
 //! Cycles, in the form of a listing.
 
+use sim_flat_design::Design;
 use sim_logic::Logic;
-use sim_run::{Design, Record};
+use sim_store::Record;
 use std::io::{self, Write};
 
 /// Writes the name of a net.

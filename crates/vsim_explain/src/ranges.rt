@@ -1,7 +1,8 @@
 //! Options out of range.
 
 use sim_logic::LATEST;
-use sim_run::{Options, RunError};
+use sim_run_options::Options;
+use sim_run_session::RunError;
 use std::io::{self, Write};
 
 /// Writes a line for a stop time that is too late.

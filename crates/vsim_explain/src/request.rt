@@ -1,6 +1,6 @@
 //! The words of the command line.
 
-use sim_run::{CliFault, Options, read_options};
+use sim_run_options::{CliFault, Options, read_options};
 use std::alloc::Global;
 
 /// The word that asks for the listing.

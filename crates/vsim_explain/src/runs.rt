@@ -4,8 +4,10 @@ use crate::changes::write_totals;
 use crate::cut_short::write_cut_short;
 use crate::request::Request;
 use anyhow::{Result, bail};
-use sim_run::{Design, Finished, Options, WaveStore, write_listing};
-use sim_store::{Look, Step};
+use sim_flat_design::Design;
+use sim_run_options::Options;
+use sim_run_session::write_run;
+use sim_store::{Look, Step, WaveStore};
 use std::alloc::Global;
 use std::io::{self, Write};
 
@@ -36,13 +38,6 @@ impl Deepest {
             "The longest sequence of delta cycles is {delta}, at {time} fs."
         )
     }
-}
-
-/// Writes the listing of a run.
-fn write_lines<W: Write>(alloc: Global, out: &mut W, store: &WaveStore) -> Result<()> {
-    let finished = Finished::of(alloc, store)?;
-    write_listing(&finished, out)?;
-    Ok(())
 }
 
 /// Writes the numbers of cycles and events of a run.
@@ -119,7 +114,7 @@ fn tell_end<W: Write>(
         return Ok(3);
     }
     if request.listing {
-        write_lines(alloc, out, store)?;
+        write_run(store, out)?;
     }
     write_finished(alloc, out, deepest, store)?;
     Ok(0)
