@@ -1,120 +1,144 @@
-//! Runs in parts by threads.
+//! Runs in several parts, on one thread.
 
-ghost use Rattle.std.specs.Prelude.{◌<◌, length};
+ghost use Rattle.std.specs.Prelude.{◌<◌};
 
-use sim_flat::flatten;
+use crate::designs::{CHAIN, flat};
+use crate::records::{Row, has_records};
 use sim_flat_design::Design;
-use sim_logic::Logic::{self, One, U, Zero};
-use sim_run_crew::run_in_parts;
-use sim_run_team::Hints;
+use sim_logic::Logic::{One, U, X, Zero};
+use sim_store_crew::run_alone;
 use sim_store_state::Log;
-use sim_text::parse;
-use std::alloc::Global;
-use std::sync::Wait;
+use std::alloc::{AllocError, Global};
 use std::test::Fail;
-use std::thread::Threads;
 
-/// A clock, a signal that follows it, and one that follows that.
-const CHAIN: &str =
-    "entity t is end;architecture a of t is signal c:std_logic:='0';signal d,e:std_logic;\
-begin c<=not c after 5 ns;d<=c;e<=not d;end;";
+/// The largest time, in femtoseconds.
+const LAST: u64 = (1 << 62) - 1;
 
-/// A postponed process.
-const POSTPONED: &str = "entity t is end;architecture a of t is signal c:std_logic:='0';\
-begin postponed process(c) begin c<='1' after 1 ns;end process;end;";
+/// Two drivers of one signal, and a signal that follows it.
+const SHARED: &str = "entity t is end;architecture a of t is signal s,f:std_logic;\
+begin s<='0','1' after 2 ns;s<='0' after 1 ns;f<=s;end;";
 
-/// A record: its time, its delta number and its changes.
-type Row = (u64, u64, &'static [(u32, Logic)]);
+/// Two signals that follow each other.
+const LOOP: &str = "entity t is end;architecture a of t is signal p,q:std_logic:='0';\
+begin p<=not q;q<=p;end;";
 
-/// The first two half periods of the clock.
-static ROWS: [Row; 6] = [
-    (0, 0, &[(0, Zero), (1, U), (2, U)]),
-    (0, 1, &[(1, Zero)]),
-    (0, 2, &[(2, One)]),
-    (5_000_000, 0, &[(0, One)]),
-    (5_000_000, 1, &[(1, One)]),
-    (5_000_000, 2, &[(2, Zero)]),
+/// A design, the stop time, the limit, and what is recorded.
+static RUNS: [(&str, u64, usize, &[Row]); 5] = [
+    // no cycle
+    (CHAIN, LAST, 0, &[(0, 0, &[(0, Zero), (1, U), (2, U)])]),
+    // delta cycles and times, up to a stop time
+    (
+        CHAIN,
+        5_000_000,
+        100,
+        &[
+            (0, 0, &[(0, Zero), (1, U), (2, U)]),
+            (0, 1, &[(1, Zero)]),
+            (0, 2, &[(2, One)]),
+            (5_000_000, 0, &[(0, One)]),
+            (5_000_000, 1, &[(1, One)]),
+            (5_000_000, 2, &[(2, Zero)]),
+        ],
+    ),
+    // up to a limit
+    (
+        CHAIN,
+        LAST,
+        3,
+        &[
+            (0, 0, &[(0, Zero), (1, U), (2, U)]),
+            (0, 1, &[(1, Zero)]),
+            (0, 2, &[(2, One)]),
+            (5_000_000, 0, &[(0, One)]),
+        ],
+    ),
+    // a net that drivers of several parts drive, to the end of its events
+    (
+        SHARED,
+        LAST,
+        100,
+        &[
+            (0, 0, &[(0, U), (1, U)]),
+            (0, 1, &[]),
+            (1_000_000, 0, &[(0, Zero)]),
+            (1_000_000, 1, &[(1, Zero)]),
+            (2_000_000, 0, &[(0, X)]),
+            (2_000_000, 1, &[(1, X)]),
+        ],
+    ),
+    // cycles in which two parts tell each other
+    (
+        LOOP,
+        LAST,
+        4,
+        &[
+            (0, 0, &[(0, Zero), (1, Zero)]),
+            (0, 1, &[(0, One)]),
+            (0, 2, &[(1, One)]),
+            (0, 3, &[(0, Zero)]),
+            (0, 4, &[(1, Zero)]),
+        ],
+    ),
 ];
 
-/// The numbers of parts, and of looks of a waiting thread before it sleeps.
-static THREADS: [(usize, u32); 6] = [
-    (1, 100),
-    (2, 100),
-    (2, 0),
-    (3, 1_000_000),
-    (5, 0),
-    (16, 100),
-];
-
-/// The flat design of a text under the top `t`.
-fn flat(alloc: Global, text: &str) -> Option<Design> {
-    let file = parse(alloc, text.as_bytes()).ok()?;
-    flatten(alloc, &file, "t").ok()
-}
-
-/// Whether the record with a number is this one.
-fn is_record(log: &Log, number: usize, row: &Row) -> bool
-    requires { number < length log.now.records }
-{
-    let (time, delta) = log.time(number);
-    time == row.0 && delta == row.1 && log.changes(number) == row.2
-}
-
-/// Whether a log has these records.
-fn has_records(log: &Log, rows: &[Row]) -> bool {
-    if log.len() != rows.len() {
-        return false;
-    }
-    for number in 0..rows.len() {
-        if !is_record(log, number, &rows[number]) {
-            return false;
-        }
-    }
-    true
-}
-
-/// Returns the log of a run in this number of parts, up to 5 ns. A waiting thread looks for a message
-/// this many times before it sleeps.
-fn log_in<R: Threads + Wait + Sync>(
-    rt: &R,
+/// The log of a run in this number of parts, if there are not too many.
+fn log_in(
     alloc: Global,
-    text: &str,
+    design: &Design,
     parts: usize,
-    looks: u32,
-) -> Option<Log> {
+    stop: u64,
+    limit: usize,
+) -> Result<Option<Log>, AllocError> {
     if parts == 0 {
-        return None;
+        return Ok(None);
     }
     if parts > 100 {
-        return None;
+        return Ok(None);
     }
-    let design = flat(alloc, text)?;
-    let mut hints = Hints::all_handed_out();
-    hints.looks_before_sleep = looks;
-    run_in_parts(rt, alloc, &design, parts, 5_000_000, 100, hints)
+    if stop > LAST {
+        return Ok(None);
+    }
+    run_alone(alloc, design, parts, stop, limit)
 }
 
-/// Whether the log has the wanted records.
-fn is_right<R: Threads + Wait + Sync>(rt: &R, alloc: Global, parts: usize, looks: u32) -> bool {
-    match log_in(rt, alloc, CHAIN, parts, looks) {
-        Some(log) => has_records(&log, &ROWS),
-        None => false,
+/// Whether a run in this number of parts has the wanted records.
+fn is_right(alloc: Global, number: usize, parts: usize) -> bool
+    requires { number < 5 }
+{
+    let run = &RUNS[number];
+    let Some(design) = flat(alloc, run.0) else {
+        return false;
+    };
+    match log_in(alloc, &design, parts, run.1, run.2) {
+        Ok(Some(log)) => has_records(&log, run.3),
+        _ => false,
     }
+}
+
+/// The number of the first run that has other records in this number of parts.
+fn first_wrong(alloc: Global, parts: usize) -> Option<usize> {
+    for number in 0..RUNS.len() {
+        if !is_right(alloc, number, parts) {
+            return Some(number);
+        }
+    }
+    None
 }
 
 #[test]
-fn runs_by_threads_have_the_records(rt: HostRuntime) -> Result<(), Fail> {
-    for (parts, looks) in &THREADS {
-        assert!(rt;
-            is_right(&rt, rt.alloc(), *parts, *looks),
-            "{parts} parts, {looks} looks"
-        );
-    }
+fn runs_in_one_part_have_the_records(rt: HostRuntime) -> Result<(), Fail> {
+    assert_eq!(rt; first_wrong(rt.alloc(), 1), None);
     Ok(())
 }
 
 #[test]
-fn postponed_processes_are_not_carried_out_in_parts(rt: HostRuntime) -> Result<(), Fail> {
-    assert!(rt; log_in(&rt, rt.alloc(), POSTPONED, 2, 100).is_none());
+fn runs_in_two_parts_have_the_records(rt: HostRuntime) -> Result<(), Fail> {
+    assert_eq!(rt; first_wrong(rt.alloc(), 2), None);
+    Ok(())
+}
+
+#[test]
+fn runs_in_more_parts_than_processes_have_the_records(rt: HostRuntime) -> Result<(), Fail> {
+    assert_eq!(rt; first_wrong(rt.alloc(), 5), None);
     Ok(())
 }

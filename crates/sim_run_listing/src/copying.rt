@@ -1,7 +1,7 @@
 //! Short texts that are copied without a call.
 ghost use Rattle.std.specs.Prelude.{◌≡◌, ◌+◌, ◌<◌, ◌≤◌, ◌++◌, length, take, drop};
 
-/// The number of bytes that may be written from a place on, if the text has at most so many. Copies
+/// The number of bytes that may be written from a place on, if the text has at most this many. Copies
 /// into a slice of a fixed length need no test when they run.
 pub const WINDOW: usize = 16;
 

@@ -6,7 +6,7 @@ use crate::copying::{copy_to, put_chunk};
 use itoa::{Buffer, write_digits};
 use std::marker::Model;
 
-/// The number of bytes that are copied for a start, which has at most so many.
+/// The number of bytes that are copied for a start, which has at most this many.
 pub const WIDTH: usize = 48;
 
 /// Where the digits of the time end.

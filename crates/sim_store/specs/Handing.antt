@@ -95,12 +95,12 @@ AreInOrder cycles phase from [] = Unit
 AreInOrder cycles phase from (r ∷ rs) =
     (r.cycles ≡ cycles) × (r.phase ≡ phase) × (r.from ≡ from) × AreInOrder cycles phase (from + length r.owned) rs
 
--- They are all parts of a phase, in order, with so many processes each.
+-- They are all parts of a phase, in order, with this many processes each.
 pub record AreParts (cycles : ℕ) (phase : Phase) (parts : List ℕ) (ranges : List Range) : Type 0 where
   pub counts_are : lengths ranges ≡ parts
   pub in_order : AreInOrder cycles phase 0 ranges
 
--- What stays of a store while a phase is handed out in parts of so many processes each.
+-- What stays of a store while a phase is handed out in parts of this many processes each.
 pub record HandedOutStore : Type 0 where
   pub store : WaveStore
   pub parts : List ℕ

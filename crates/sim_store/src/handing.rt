@@ -73,7 +73,7 @@ pub fn lengths_of<D: DesignType>(
     orders.iter().map(|order| order.len()).collect(alloc)
 }
 
-/// Whether an answer is of the phase read here, and for so many processes from this one on.
+/// Whether an answer is of the phase read here, and for this many processes from this one on.
 fn is_next<D: DesignType>(
     answer: &Answer<D>,
     input: &PhaseInput<D>,
@@ -90,7 +90,7 @@ fn is_next<D: DesignType>(
 }
 
 /// What all processes own, according to the answers to all orders of the phase read here, which had
-/// so many processes each.
+/// this many processes each.
 pub fn shares_of<D: DesignType>(
     alloc: Global,
     input: &PhaseInput<D>,

@@ -139,7 +139,7 @@ impl<D: DesignType> Order<D> {
         self.share.len()
     }
 
-    /// Whether at least so many of these processes are due, so that it is worth handing out.
+    /// Whether at least this many of these processes are due, so that it is worth handing out.
     pub fn is_worthwhile(&self, least: usize) -> bool {
         let input = &*self.input;
         let _count = input.count();

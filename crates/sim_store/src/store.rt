@@ -239,7 +239,7 @@ impl WaveStore {
         }
     }
 
-    /// The same store, with what its processes own divided into about so many shares, each of which
+    /// The same store, with what its processes own divided into about this many shares, each of which
     /// is handed out by itself. If allocation fails, it is lost.
     pub fn divide(self, alloc: Global, shares: usize) -> Result<WaveStore, AllocError>
         ensures { IfOk result (λ s. s ≡ self) }

@@ -22,7 +22,7 @@ piece_size parts processes = max 1 (div_ceil processes (16 * parts))
 abbrev pub dealt : ℕ → ℕ → ℕ → ℕ
 dealt parts size n = (n / size) % parts
 
--- the part of each of so many processes
+-- the part of each of this many processes
 abbrev pub all_dealt : ℕ → ℕ → List ℕ
 all_dealt parts processes = map (dealt parts (piece_size parts processes)) (range_with_len 0 processes)
 
@@ -32,13 +32,13 @@ net_part drivers parts [] = 0
 net_part drivers parts (source.Driver d ∷ sources) = number_at parts (driver_of_at drivers d).process
 net_part drivers parts (source.Constant value ∷ sources) = net_part drivers parts sources
 
--- the division of a design among so many parts
+-- the division of a design among this many parts
 abbrev pub division_of : ℕ → Design → Division
 division_of parts design =
     let process_parts = all_dealt parts (length design.processes) in
     record { process_parts = process_parts; net_parts = map (λ (net : Net). net_part design.drivers process_parts net.sources) design.nets }
 
--- So many numbers have an owner each, which is one of so many parts.
+-- This many numbers have an owner each, which is one of this many parts.
 pub record HaveParts (parts numbers : ℕ) (owners : List ℕ) : Type 0 where
   pub count : length owners ≡ numbers
   pub below : All (λ (k : ℕ). k < parts) owners

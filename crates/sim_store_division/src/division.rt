@@ -62,7 +62,7 @@ fn piece_size(parts: usize, processes: usize) -> usize
     processes.div_ceil(parts).div_ceil(16).max(1)
 }
 
-/// The part of each of so many processes, which are dealt out in pieces of this size.
+/// The part of each of this many processes, which are dealt out in pieces of this size.
 fn dealt(
     alloc: Global,
     parts: usize,
@@ -112,7 +112,7 @@ fn net_parts(
     Ok(net_parts)
 }
 
-/// The division of a design among so many parts. Processes that become active together mostly have
+/// The division of a design among this many parts. Processes that become active together mostly have
 /// numbers close to each other, so each part gets short pieces from everywhere. A net goes with the
 /// process that drives it. Its time is proportional to the processes, nets and sources.
 pub fn divided(alloc: Global, design: &Design, parts: usize) -> Result<Division, AllocError>

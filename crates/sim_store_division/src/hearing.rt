@@ -16,7 +16,7 @@ pub struct Hearer {
     pub place: u32,
 }
 
-/// So many empty rows.
+/// This many empty rows.
 fn empty_rows(alloc: Global, count: usize) -> Result<Vec<Items<Hearer>>, AllocError>
     ensures { IfOk result (λ v. v.items ≡ replicate count []) }
 {
@@ -79,7 +79,7 @@ fn in_rows(alloc: Global, lists: &[Items<Hearer>]) -> Result<RowArray<Hearer>, A
     Ok(rows)
 }
 
-/// For each of so many drivers the parts that are told of it, in the order of their numbers, given
+/// For each of this many drivers the parts that are told of it, in the order of their numbers, given
 /// for each part the drivers that it is told of. The time is proportional to the number of drivers
 /// and the length of all lists. There are at most 2^32 parts, and as many places in a list.
 pub fn hearers(

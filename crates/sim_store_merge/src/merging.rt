@@ -106,7 +106,7 @@ fn append_records(
     Ok(())
 }
 
-/// So many places, each at the start of a log.
+/// This many places, each at the start of a log.
 fn starts(alloc: Global, count: usize) -> Result<Vec<usize>, AllocError>
     ensures sized { IfOk result (λ places. length places.items ≡ count) }
     ensures first { IfOk result (λ places. (n : ℕ) → slice_index_or places.items n 0 ≡ 0) }

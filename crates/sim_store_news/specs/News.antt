@@ -42,6 +42,6 @@ for_part k (n ∷ news) = if n.part == k then n.told ∷ for_part k news else fo
 abbrev pub told_at : List (List Told) → ℕ → List Told
 told_at told k = slice_index_or told k []
 
--- Each is for one of so many parts.
+-- Each is for one of this many parts.
 abbrev pub AreFor : ℕ → List News → Type 0
 AreFor parts news = All (λ (n : News). n.part < parts) news

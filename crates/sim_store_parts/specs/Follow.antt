@@ -13,6 +13,6 @@ looks_at process n = is_among process.reads n || is_among process.sensitivity n
 abbrev pub is_looked_at : List Process → List ℕ → ℕ → Bool
 is_looked_at processes members n = list_any (λ (p : ℕ). looks_at (process_at processes p) n) members
 
--- of so many nets, those among these, and those that the processes read or are sensitive to, rising
+-- of this many nets, those among these, and those that the processes read or are sensitive to, rising
 unfoldable pub followed_of : List Process → List ℕ → List ℕ → ℕ → List ℕ
 followed_of processes members owned nets = filter (λ (n : ℕ). is_among owned n || is_looked_at processes members n) (range_with_len 0 nets)

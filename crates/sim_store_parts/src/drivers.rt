@@ -36,7 +36,7 @@ fn give(
     Ok(())
 }
 
-/// Appends so many drivers from a number on as those of a process.
+/// Appends this many drivers from a number on as those of a process.
 fn give_range(
     own: &mut Items<DriverOf>,
     process: usize,

@@ -51,7 +51,7 @@ fn mark_members(marks: &mut [bool], processes: &[Process], members: &[usize])
     }
 }
 
-/// For each of so many nets, whether a part with these members follows it.
+/// For each of this many nets, whether a part with these members follows it.
 fn marks_for(
     alloc: Global,
     processes: &[Process],
@@ -69,7 +69,7 @@ fn marks_for(
     Ok(marks)
 }
 
-/// The nets, of so many, that a part with these members follows: those that it owns, of which it
+/// The nets, of this many, that a part with these members follows: those that it owns, of which it
 /// records the changes, and those that its members read or are sensitive to. They rise.
 pub fn followed(
     alloc: Global,

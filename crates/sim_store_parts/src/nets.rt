@@ -153,7 +153,7 @@ pub fn nets_of(
     Ok(own)
 }
 
-/// For each of so many nets, whether it is followed.
+/// For each of this many nets, whether it is followed.
 pub fn marks_of(alloc: Global, followed: &[usize], nets: usize) -> Result<Vec<bool>, AllocError>
     ensures sized { IfOk result (λ v. length v.items ≡ nets) }
     ensures marked { IfOk result (λ v. (n : ℕ) → n < nets → slice_index_or v.items n false ≡ is_among followed.now n) }

@@ -8,7 +8,7 @@ ghost use Rattle.sim_store_parts.specs.Numbers as spec;
 use sim_flat_design::Process;
 use std::alloc::{AllocError, Global};
 
-/// Appends so many numbers, from one on.
+/// Appends this many numbers, from one on.
 fn add_range(numbers: &mut Vec<usize>, first: usize, count: usize) -> Result<(), AllocError>
     requires { first + count < 2 ^ 64 }
     ensures { OnOk result (numbers.new.items ≡ numbers.old.items ++ range_with_len first count) }
@@ -76,7 +76,7 @@ fn note_all(places: &mut [usize], numbers: &[usize])
     }
 }
 
-/// For each of so many drivers of the whole, its number in the part, if it has one there.
+/// For each of this many drivers of the whole, its number in the part, if it has one there.
 pub fn places_of(alloc: Global, numbers: &[usize], drivers: usize) -> Result<Vec<usize>, AllocError>
     ensures sized { IfOk result (λ v. length v.items ≡ drivers) }
     ensures places { IfOk result (λ v. spec.AreFrom numbers.now 0 v.items) }

@@ -38,14 +38,14 @@ fn with_drivers_from(alloc: Global, process: &Process, first: usize) -> Result<P
     rebuilt(alloc, process, nets, body, first)
 }
 
-/// A body that does nothing, with so many drivers.
+/// A body that does nothing, with this many drivers.
 fn idle_body(alloc: Global, drivers: usize) -> Result<Body, AllocError>
     ensures { IfOk result (λ body. body ≡ record { objects = 0; drivers = drivers; variables = []; statements = [] }) }
 {
     Body::new(alloc, 0, drivers, Items::new(alloc), Items::new(alloc))
 }
 
-/// The process that stands in for all others, with so many drivers from a number on.
+/// The process that stands in for all others, with this many drivers from a number on.
 fn stand_in(alloc: Global, first: usize, drivers: usize) -> Result<Process, AllocError>
     ensures { IfOk result (λ process. process ≡ parts.stand_in_process first drivers) }
 {
@@ -97,7 +97,7 @@ fn add_members(
     Ok(first)
 }
 
-/// The processes of a part, which is told of so many drivers of others.
+/// The processes of a part, which is told of this many drivers of others.
 pub fn processes_of(
     alloc: Global,
     processes: &[Process],

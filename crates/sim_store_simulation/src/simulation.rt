@@ -261,7 +261,7 @@ fn boxed(alloc: Global, design: &Design) -> Result<Box<Contents>, AllocError>
     Ok(contents)
 }
 
-/// The same, with what the processes own divided into about so many shares.
+/// The same, with what the processes own divided into about this many shares.
 fn divided(alloc: Global, contents: Contents, shares: usize) -> Result<Contents, AllocError>
     ensures { IfOk result (λ m. m ≡ contents) }
 {
@@ -703,7 +703,7 @@ impl Simulation {
         Ok(Simulation { design, contents })
     }
 
-    /// The same simulation, with what its processes own divided into about so many shares, which
+    /// The same simulation, with what its processes own divided into about this many shares, which
     /// can be handed out. If allocation fails, it is lost.
     pub fn divide(self, alloc: Global, shares: usize) -> Result<Simulation, AllocError>
         ensures { IfOk result (λ s. s ≡ self) }

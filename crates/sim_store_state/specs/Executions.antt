@@ -9,7 +9,7 @@ use Rattle.sim_standard.specs.State.{Owned, owned_at}
 use Rattle.sim_exec.specs.Jobs.{IsReady}
 use Rattle.sim_exec_code.specs.Codes.{Coded, IsCodeOf, ArePlaced, code_at, gathered_nets, objects_of, slots_of}
 
--- A process can be executed now, by the code with its number, on a frame with so many slots: what it owns is at a place of a list, the time is in range,
+-- A process can be executed now, by the code with its number, on a frame with this many slots: what it owns is at a place of a list, the time is in range,
 -- the code is that of its body, the nets gathered for the code are those of its ports and signals, the frame has the slots that the code needs, and what it
 -- owns fits its body: its drivers, of which none has a transaction pending before now, and its variables.
 pub record IsReadyToExecute (process : Process) (number now : ℕ) (codes : Coded) (slots : ℕ) (owned : List Owned) (place : ℕ) : Type 0 where

@@ -38,7 +38,7 @@ owned_parts [] variables = []
 owned_parts (dss ∷ drivers) [] = []
 owned_parts (dss ∷ drivers) (vss ∷ variables) = owned_lists dss vss ∷ owned_parts drivers variables
 
--- There are shares of so many processes each, except that the last may have fewer.
+-- There are shares of this many processes each, except that the last may have fewer.
 pub record AreShares (each : ℕ) (shares : List ℕ) : Type 0 where
   pub some : 0 < length shares
   pub wide : 0 < each

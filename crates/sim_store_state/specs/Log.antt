@@ -32,7 +32,7 @@ pub record IsLog (records : List Record) (marks : List Mark) (changes : List (�
   pub marking : marks ≡ marks_from 0 records
   pub changing : changes ≡ all_changes records
 
--- a mark at the end of so many changes
+-- a mark at the end of this many changes
 abbrev pub end_mark : ℕ → Mark
 end_mark count = record { time = 0; delta = 0; start = count }
 

@@ -148,7 +148,7 @@ fn are_equal(variables: &[Held], others: &[Held]) -> bool
     variables == others
 }
 
-/// The same lists, divided into at most so many parts each, if they are in one.
+/// The same lists, divided into at most this many parts each, if they are in one.
 fn divided(
     alloc: Global,
     drivers: DividedRows<Driver>,
@@ -256,7 +256,7 @@ impl FlatState {
         }
     }
 
-    /// The same state, with what the processes own divided into at most so many parts, if it is in
+    /// The same state, with what the processes own divided into at most this many parts, if it is in
     /// one. Drivers and variables are moved, not copied.
     pub fn divide(self, alloc: Global, parts: usize) -> Result<FlatState, AllocError>
         ensures { IfOk result (λ s. s ≡ self) }

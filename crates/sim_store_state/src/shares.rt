@@ -55,7 +55,7 @@ fn are_alike(drivers: &[RowArray<Driver>], variables: &[RowArray<Held>]) -> bool
     true
 }
 
-/// Copies of so many lists, from a number on.
+/// Copies of this many lists, from a number on.
 fn copied_from(
     alloc: Global,
     lists: &DividedRows<Held>,
@@ -94,7 +94,7 @@ fn copied_like(
     Ok(parts)
 }
 
-/// Lists of variables, in parts of so many, divided into parts as the lists of drivers are. If they
+/// Lists of variables, in parts of this many, divided into parts as the lists of drivers are. If they
 /// already are, none is copied.
 fn parts_like(
     alloc: Global,
@@ -115,7 +115,7 @@ fn parts_like(
 }
 
 impl Shares {
-    /// No shares, with room for so many.
+    /// No shares, with room for this many.
     pub fn with_room(alloc: Global, count: usize) -> Result<Shares, AllocError>
         ensures { IfOk result (λ s. s ≡ []) }
     {

@@ -232,7 +232,7 @@ fn add_nets(fan_out: &mut [Items<usize>], sources: &RowArray<Source>) -> Result<
     Ok(())
 }
 
-/// For each of so many drivers, the nets of which it is a source. Drivers beyond these are skipped.
+/// For each of this many drivers, the nets of which it is a source. Drivers beyond these are skipped.
 /// The time is proportional to the number of drivers plus that of all sources.
 fn fan_out(
     alloc: Global,
@@ -265,7 +265,7 @@ pub fn connections(
     Ok((sources, fan_out, tallies))
 }
 
-/// An empty queue, no stale drivers and no touched nets, for so many drivers and nets.
+/// An empty queue, no stale drivers and no touched nets, for this many drivers and nets.
 pub fn nothing_pending(
     alloc: Global,
     drivers: usize,

@@ -53,7 +53,7 @@ fn enter<W: Write>(out: &mut W, last: &str, path: &str) -> io::Result<()> {
     Ok(())
 }
 
-/// Writes a variable of so many bits.
+/// Writes a variable of this many bits.
 fn declare<W: Write>(out: &mut W, number: usize, width: usize, label: &str) -> io::Result<()> {
     write!(out, "$var wire {width} ")?;
     write_identifier(out, number)?;
