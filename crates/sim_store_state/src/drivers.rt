@@ -264,13 +264,7 @@ fn is_queued(queue: &mut TimeQueue, number: usize, time: Option<u64>) -> bool
     ensures here { result ≡ true → time_of queue.new number ≡ time }
     ensures others { (d : ℕ) → d ≢ number → time_of queue.new d ≡ time_of queue.old d }
 {
-    if time.is_none() {
-        return true;
-    }
-    match queue.put(number, time) {
-        Ok(()) => true,
-        Err(_) => false,
-    }
+    time.is_none() || is_put(queue, number, time)
 }
 
 /// No driver is stale any more, if the queue has the time of each.
@@ -345,7 +339,7 @@ fn take_due(
         Some(numbers) => take_listed(
             drivers, driving, time, due, numbers, fan_out, queue, touched, tallies,
         ),
-        None => take_unlisted(
+        None => take_each(
             drivers, driving, time, due, fan_out, queue, touched, tallies,
         ),
     }
@@ -380,39 +374,6 @@ fn take_listed(
             drivers, driving, number, time, fan_out, queue, touched, tallies,
         );
         told = is_known & told;
-    }
-    told
-}
-
-/// The same, with the due drivers in a set whose order was lost.
-fn take_unlisted(
-    drivers: &mut DividedRows<Driver>,
-    driving: &mut [Logic],
-    time: u64,
-    due: &NumberSet,
-    fan_out: &RowArray<usize>,
-    queue: &mut TimeQueue,
-    touched: &mut NumberSet,
-    tallies: &mut Tallies,
-) -> bool
-    requires due { length due.now ≡ length (joined drivers.old) }
-    requires fan_out { length fan_out.now ≡ length (joined drivers.old) }
-    requires queue { length queue.old ≡ length (joined drivers.old) }
-    requires driving { driving.old ≡ driver_values (joined drivers.old) }
-    requires others { (d : ℕ) → is_in due.now d ≡ false → taken time (driver_at (joined drivers.old) d) ≡ driver_at (joined drivers.old) d }
-    requires none { (d : ℕ) → is_in due.now d ≡ true → time_of queue.old d ≡ None }
-    ensures taken { AreTaken time fan_out.now drivers.old drivers.new driving.old driving.new touched.old touched.new tallies.old tallies.new }
-    ensures told { AreTold result due.now queue.old queue.new (joined drivers.new) }
-{
-    let _count = due.len();
-    let mut told = true;
-    let mut from = 0;
-    while let Some(number) = due.next(from) {
-        let is_known = take_one(
-            drivers, driving, number, time, fan_out, queue, touched, tallies,
-        );
-        told = is_known & told;
-        from = number + 1;
     }
     told
 }
@@ -638,9 +599,9 @@ fn is_put(queue: &mut TimeQueue, number: usize, time: Option<u64>) -> bool
     }
 }
 
-/// Stale drivers take their transactions of a time, and the nets of each whose value is a new one are
-/// touched. The other drivers have none to take, and are not looked at. Returns whether the queue has
-/// the first pending time of each stale driver.
+/// The drivers of a set, which may be stale and in any order, take their transactions of a time, and
+/// the nets of each whose value is a new one are touched. The other drivers have none to take, and are
+/// not looked at. Returns whether the queue has the first pending time of each driver of the set.
 fn take_each(
     drivers: &mut DividedRows<Driver>,
     driving: &mut [Logic],
