@@ -1,11 +1,9 @@
-//! Times parts of the simulator: `vsim_bench SUBJECT COUNT`, for `elaboration` and `jobs`
-//! followed by the top. The times go to standard error, the results to standard output.
+//! Times parts of the simulator: `vsim_bench SUBJECT COUNT`, for `elaboration` followed by the top.
+//! The times go to standard error, the results to standard output.
 #![tactic(auto)]
 
 mod drivers;
 mod elaboration;
-mod jobs;
-mod listing;
 mod reading;
 
 use anyhow::{Context, Result, bail};
@@ -27,11 +25,6 @@ fn run<R: Print + Eprint + Input + Clock + AllocGlobal>(
             let top = top.context("no top")?;
             elaboration::run(rt, count, top.as_str())
         }
-        "jobs" => {
-            let top = top.context("no top")?;
-            jobs::run(rt, count, top.as_str())
-        }
-        "listing" => listing::run(rt, count),
         "tokens" => reading::run(rt, Step::Tokens, count),
         "parse" => reading::run(rt, Step::Parse, count),
         _ => bail!("no such subject"),
