@@ -108,38 +108,88 @@ fn both(
 /// The number of numbers, and the number of draws.
 static DRAWS: [(u8, u32); 4] = [(100, 165), (3, 3), (1, 2), (0, 1)];
 
-#[test]
-fn numbers_are_drawn_in_order_and_then_none(rt: HostRuntime) -> Result<(), Fail> {
-    for (count, times) in &DRAWS {
-        let count = usize::from(*count);
-        let (claims, mut seat) = Claims::new(rt.alloc(), count)?;
-        let drawn = draw_times(rt.alloc(), &claims, &mut seat, *times)?;
-        assert_eq!(rt; claims.close(seat), count);
-        for (turn, number) in drawn.iter().enumerate() {
-            let expected = if turn < count { Some(turn) } else { None };
-            assert_eq!(rt; *number, expected, "turn {turn} of {count}");
+/// Whether these are the numbers below a count in order, and then none.
+fn are_in_order(drawn: &[Option<usize>], count: usize) -> bool {
+    for turn in 0..drawn.len() {
+        let expected = if turn < count { Some(turn) } else { None };
+        if drawn[turn] != expected {
+            return false;
         }
     }
+    true
+}
+
+/// Whether this many draws give the numbers below a count in order, and then none.
+fn gives_each_in_order(alloc: Global, count: u8, times: u32) -> Result<bool, AllocError> {
+    let count = usize::from(count);
+    let (claims, mut seat) = Claims::new(alloc, count)?;
+    let drawn = draw_times(alloc, &claims, &mut seat, times)?;
+    Ok(claims.close(seat) == count && are_in_order(drawn.as_slice(), count))
+}
+
+/// The place of the first row whose draws give other numbers.
+fn first_other_draws(alloc: Global) -> Result<Option<usize>, AllocError> {
+    for place in 0..DRAWS.len() {
+        let (count, times) = DRAWS[place];
+        if !gives_each_in_order(alloc, count, times)? {
+            return Ok(Some(place));
+        }
+    }
+    Ok(None)
+}
+
+#[test]
+fn numbers_are_drawn_in_order_and_then_none(rt: HostRuntime) -> Result<(), Fail> {
+    assert_eq!(rt; first_other_draws(rt.alloc())?, None);
     Ok(())
+}
+
+/// The number of numbers that are drawn of three, and what the last seat and the first one draw after
+/// seven splits.
+fn draws_after_seven_splits(
+    alloc: Global,
+) -> Result<(usize, Option<usize>, Option<usize>), AllocError> {
+    let (claims, mut seat) = Claims::new(alloc, 3)?;
+    let (last, first) = draw_after_splits(alloc, &claims, &mut seat, 7)?;
+    Ok((claims.close(seat), last, first))
+}
+
+/// Whether the last seat draws nothing and the first one the number 0.
+fn is_alone_in_drawing(alloc: Global) -> Result<bool, AllocError> {
+    let (count, last, first) = draws_after_seven_splits(alloc)?;
+    Ok(count == 1 && last.is_none() && first == Some(0))
 }
 
 #[test]
 fn a_seat_with_no_allowance_makes_no_step(rt: HostRuntime) -> Result<(), Fail> {
-    let (claims, mut seat) = Claims::new(rt.alloc(), 3)?;
-    let drawn = draw_after_splits(rt.alloc(), &claims, &mut seat, 7)?;
-    assert_eq!(rt; claims.close(seat), 1);
-    assert_eq!(rt; drawn, (None, Some(0)));
+    assert!(rt; is_alone_in_drawing(rt.alloc())?);
     Ok(())
+}
+
+/// Draws four times in each of two threads, of three numbers. Returns how many were drawn, and the
+/// results, sorted.
+fn draws_in_two_threads<R: Threads + Sync>(
+    rt: &R,
+    alloc: Global,
+) -> Result<(usize, Vec<Option<usize>>), AllocError> {
+    let (claims, mut seat) = Claims::new(alloc, 3)?;
+    let other = claims.split(alloc, &mut seat)?;
+    let (seat, drawn) = draw_in_two_threads(rt, alloc, &claims, seat, other);
+    let count = claims.close(seat);
+    Ok((count, drawn?))
+}
+
+/// What eight draws of three numbers give, sorted.
+static EIGHT: [Option<usize>; 8] = [None, None, None, None, None, Some(0), Some(1), Some(2)];
+
+/// Whether each number is drawn once by two threads.
+fn is_each_drawn_once<R: Threads + Sync>(rt: &R, alloc: Global) -> Result<bool, AllocError> {
+    let (count, drawn) = draws_in_two_threads(rt, alloc)?;
+    Ok(count == 3 && drawn.as_slice() == EIGHT.as_slice())
 }
 
 #[test]
 fn two_threads_draw_each_number_once(rt: HostRuntime) -> Result<(), Fail> {
-    let (claims, mut seat) = Claims::new(rt.alloc(), 3)?;
-    let other = claims.split(rt.alloc(), &mut seat)?;
-    let (seat, drawn) = draw_in_two_threads(&rt, rt.alloc(), &claims, seat, other);
-    assert_eq!(rt; claims.close(seat), 3);
-    let drawn = drawn?;
-    let expected = [None, None, None, None, None, Some(0), Some(1), Some(2)];
-    assert_eq!(rt; drawn.as_slice(), expected.as_slice());
+    assert!(rt; is_each_drawn_once(&rt, rt.alloc())?);
     Ok(())
 }
