@@ -24,6 +24,11 @@ impl Failing {
             calls: 0,
         }
     }
+
+    /// Whether it has accepted exactly these bytes.
+    pub fn has(&self, bytes: &[u8]) -> bool {
+        self.taken.as_slice() == bytes
+    }
 }
 
 impl Write for Failing {
