@@ -90,34 +90,67 @@ fn is_given_back(list: &NumberList, set: &mut NumberSet) -> bool {
     true
 }
 
+/// Whether a list of the numbers below ten takes the rows of the table as it says, and no row there is
+/// not.
+fn is_set_by_rows(list: &mut NumberList, rows: &RisingRows) -> bool {
+    takes_rising_numbers(list, rows)
+        && !list.set_rising(rows, 7)
+        && rows.row(7).is_empty()
+        && rows.rows().len() == 7
+}
+
+/// Whether a list takes neither a row of rows with another bound, nor a number above its own.
+fn takes_nothing_else(list: &mut NumberList, others: &RisingRows) -> bool {
+    if list.set_rising(others, 1) {
+        return false;
+    }
+    list.set_only(10);
+    list.numbers().is_empty()
+}
+
+/// Whether this is true of a list that begins without members.
+fn takes_what_rises(alloc: Global) -> Result<bool, AllocError> {
+    let mut list = NumberList::new(alloc, 10)?;
+    if list.len() != 10 || !list.numbers().is_empty() {
+        return Ok(false);
+    }
+    let rows = rising(alloc, 10)?;
+    let others = rising(alloc, 11)?;
+    Ok(is_set_by_rows(&mut list, &rows) && takes_nothing_else(&mut list, &others))
+}
+
 #[test]
 fn numbers_that_rise_are_taken_at_once(rt: HostRuntime) -> Result<(), Fail> {
-    let mut list = NumberList::new(rt.alloc(), 10)?;
-    assert!(rt; list.len() == 10);
-    assert!(rt; list.numbers().is_empty());
-    let rows = rising(rt.alloc(), 10)?;
-    assert!(rt; takes_rising_numbers(&mut list, &rows));
-    assert!(rt; !list.set_rising(&rows, 7));
-    assert!(rt; rows.row(7).is_empty() && rows.rows().len() == 7);
-    let others = rising(rt.alloc(), 11)?;
-    assert!(rt; !list.set_rising(&others, 1));
-    list.set_only(10);
-    assert!(rt; list.numbers().is_empty());
+    assert!(rt; takes_what_rises(rt.alloc())?);
     Ok(())
+}
+
+/// Whether a list has the members of a set once they are given to it.
+fn has_members(list: &mut NumberList, set: &mut NumberSet) -> bool {
+    set_to(set, &[9, 0, 3]);
+    is_given(list, set) && list.numbers() == [0, 3, 9].as_slice()
+}
+
+/// Whether a list of 0, 3 and 9 finds each next member, gives its members to a set, and has none once
+/// it is cleared.
+fn gives_members(list: &mut NumberList, set: &mut NumberSet) -> bool {
+    set_to(set, &[3]);
+    if !finds_each_next(list, set) || !is_given_back(list, set) {
+        return false;
+    }
+    list.clear();
+    set.contains(9) && !set.contains(4) && list.next(0).is_none()
+}
+
+/// Whether this is true of a list and a set of the numbers below ten.
+fn are_exchanged(alloc: Global) -> Result<bool, AllocError> {
+    let mut list = NumberList::new(alloc, 10)?;
+    let mut set = NumberSet::new(alloc, 10)?;
+    Ok(has_members(&mut list, &mut set) && gives_members(&mut list, &mut set))
 }
 
 #[test]
 fn a_list_has_the_members_of_a_set(rt: HostRuntime) -> Result<(), Fail> {
-    let mut list = NumberList::new(rt.alloc(), 10)?;
-    let mut set = NumberSet::new(rt.alloc(), 10)?;
-    set_to(&mut set, &[9, 0, 3]);
-    assert!(rt; is_given(&mut list, &set));
-    assert!(rt; list.numbers() == [0, 3, 9].as_slice());
-    set_to(&mut set, &[3]);
-    assert!(rt; finds_each_next(&list, &set));
-    assert!(rt; is_given_back(&list, &mut set));
-    assert!(rt; set.contains(9) && !set.contains(4));
-    list.clear();
-    assert!(rt; list.next(0).is_none());
+    assert!(rt; are_exchanged(rt.alloc())?);
     Ok(())
 }

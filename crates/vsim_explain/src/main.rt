@@ -195,13 +195,22 @@ fn words<R: AllocGlobal + Env>(rt: &R) -> io::Result<Vec<String>> {
     Ok(words)
 }
 
+/// Writes the answer to the words, and returns the exit status.
+fn answer_to<R: AllocGlobal + Input + Eprint, W: Write>(
+    rt: &R,
+    words: Vec<String>,
+    out: &mut W,
+) -> Result<u8> {
+    match read_request(rt.alloc(), words) {
+        Ok(request) => answer_request(rt, &request, out),
+        Err(fault) => answer_fault(rt, &fault, out),
+    }
+}
+
 /// Answers the words, and returns the exit status.
 fn answer_words<R: AllocGlobal + Input + Print + Eprint>(rt: &R, words: Vec<String>) -> Result<u8> {
     let mut out = BufWriter::new(rt.alloc(), writer(rt))?;
-    let status = match read_request(rt.alloc(), words) {
-        Ok(request) => answer_request(rt, &request, &mut out),
-        Err(fault) => answer_fault(rt, &fault, &mut out),
-    };
+    let status = answer_to(rt, words, &mut out);
     out.flush().context("writing")?;
     status
 }
