@@ -1,4 +1,4 @@
-use Rattle.std.proofs.Common.{inl, sym, ◌∙◌, map}
+use Rattle.std.proofs.Common.{inl, rules, sym, ◌∙◌, map}
 use Rattle.std.specs.Prelude.{string_bytes}
 use Rattle.sim_run_session.specs.Run.{ListsPart}
 use Rattle.sim_run_session.specs.Simulation.{HasDesign}
@@ -11,6 +11,12 @@ returns-in-Ok-carry_out-clause-success g c = λ _. inl (record {
   asked = c.in-Ok.ensures.read;
   read = with_range (g.R.Read.remaining c.args.input.now) c.in-Ok-carry_out.ensures.range c.in-Ok-carry_out.ensures.listed;
 })
+
+pub returns-in-Ok-carry_out-clause-text : goal.returns-in-Ok-carry_out-clause-text
+returns-in-Ok-carry_out-clause-text g c = search rules
+
+pub returns-in-Ok-carry_out-clause-quiet : goal.returns-in-Ok-carry_out-clause-quiet
+returns-in-Ok-carry_out-clause-quiet g c = search rules
 
 pub returns-clause-text : goal.returns-clause-text
 returns-clause-text g c =

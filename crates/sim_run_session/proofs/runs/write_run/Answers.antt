@@ -1,4 +1,4 @@
-use Rattle.std.proofs.Common.{length, map, ap, ◌∙◌, ◌≡◌, arith}
+use Rattle.std.proofs.Common.{rules, length, map, ap, ◌∙◌, ◌≡◌, arith}
 use Rattle.std.proofs.lemmas.List.{length-map}
 use Rattle.sim_flat_design.specs.Designs.{Design, Net}
 use Rattle.sim_standard.proofs.Records.{records-begun}
@@ -25,3 +25,6 @@ returns-in_err-write_listing-clause-part g c =
     on_err _ (AppendsPart (g.W.Write.contents c.args.out.now) (g.W.Write.contents c.write_listing.new.out)
     (listing (history_of c.args.run.now).names (history_of c.args.run.now).records))
     (rw (names, c.history.ensures.records) at c.in_err-write_listing.ensures.part)
+
+pub write_listing-requires-clause-events : goal.write_listing-requires-clause-events
+write_listing-requires-clause-events g c = search rules
