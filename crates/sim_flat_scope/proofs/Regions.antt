@@ -1,5 +1,5 @@
 -- A region as a map from names, and the declarations in it.
-use Rattle.std.proofs.Common.{ℕ, ◌≡◌, List, [], ◌∷◌, ◌++◌, map, Bool, true, false, cond, Option, Some, None, is_some, is_none, refl, ap, sym, ◌∙◌, Bor}
+use Rattle.std.proofs.Common.{ℕ, ◌≡◌, List, [], ◌∷◌, ◌++◌, map, Bool, true, false, cond, Option, Some, None, is_some, is_none, length, refl, ap, sym, ◌∙◌, Bor}
 use Rattle.std.specs.Str.{bytes_eq}
 use Rattle.std.specs.Map.{lookup}
 use Rattle.indexmap.specs.IndexMap.{insert_entry}
@@ -17,6 +17,11 @@ pub found-lookup : (n : List ℕ) (es : List Entry) → lookup (λ (k : Bor (Lis
 unfolding found
 found-lookup n [] = refl
 found-lookup n (e ∷ es) = ap (cond (bytes_eq n e.0.now) (Some e.1)) (found-lookup n es)
+
+pub in_none : (n : List ℕ) (es : List Entry) → length es ≡ 0 → None ≡ found (declared_of es) n
+unfolding found
+in_none n [] h = refl
+in_none n (e ∷ es) h = cc
 
 pub there : (n : List ℕ) (m : Meaning) (ds : Region) → is_some (found ds n) ≡ true → ds ≡ with_first ds n m
 unfolding with_first

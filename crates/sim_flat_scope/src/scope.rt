@@ -101,10 +101,14 @@ impl<'a> DeclarativeRegion<'a> {
         }
     }
 
-    /// The meaning of a name, if it is declared in this part.
+    /// The meaning of a name, if it is declared in this part. Most parts are empty, and then the
+    /// name is not hashed.
     pub fn find(&self, name: &[u8]) -> Option<Meaning>
         ensures { result ≡ spec.found self.now name.now }
     {
+        if self.meanings.is_empty() {
+            return None;
+        }
         self.meanings.get(name).copied()
     }
 }

@@ -38,10 +38,12 @@ fn word_token(alloc: Global, bytes: &[u8]) -> Result<KindAndText, AllocError>
         (pieces.kind_in pieces.reserved_words (map to_ascii_lowercase bytes.now))
         (map to_ascii_lowercase bytes.now)) }
 {
-    let word = bytes.to_ascii_lowercase(alloc)?;
-    match reserved_word(&word) {
+    match reserved_word(bytes) {
         Some(kind) => Ok((kind, Items::new(alloc))),
-        None => Ok((Kind::Word, Items::from_vec(word))),
+        None => {
+            let word = bytes.to_ascii_lowercase(alloc)?;
+            Ok((Kind::Word, Items::from_vec(word)))
+        }
     }
 }
 
