@@ -18,26 +18,29 @@ struct Deepest {
     time: u64,
 }
 
-impl Deepest {
-    /// Notes how far a run has come.
-    fn note(&mut self, look: Look) {
-        if look.delta > self.delta {
-            self.delta = look.delta;
-            self.time = look.time;
+/// The longest sequence of delta cycles of a run; the first of several.
+fn longest_sequence(store: &WaveStore) -> Deepest {
+    let history = store.history();
+    let mut found = Deepest { delta: 0, time: 0 };
+    for number in 0..history.len() {
+        let (time, delta) = history.time(number);
+        if delta > found.delta {
+            found = Deepest { delta, time };
         }
     }
+    found
+}
 
-    /// Writes its length and time.
-    fn write<W: Write>(&self, out: &mut W) -> io::Result<()> {
-        let (delta, time) = (self.delta, self.time);
-        if delta == 0 {
-            return out.write_all(b"There are no delta cycles.\n");
-        }
-        writeln!(
-            out,
-            "The longest sequence of delta cycles is {delta}, at {time} fs."
-        )
+/// Writes the length and time of the longest sequence of delta cycles.
+fn write_deepest<W: Write>(out: &mut W, store: &WaveStore) -> io::Result<()> {
+    let Deepest { delta, time } = longest_sequence(store);
+    if delta == 0 {
+        return out.write_all(b"There are no delta cycles.\n");
     }
+    writeln!(
+        out,
+        "The longest sequence of delta cycles is {delta}, at {time} fs."
+    )
 }
 
 /// Writes the numbers of cycles and events of a run.
@@ -60,14 +63,9 @@ fn write_nets<W: Write>(alloc: Global, out: &mut W, store: &WaveStore) -> Result
 }
 
 /// Writes the summary of a finished run.
-fn write_finished<W: Write>(
-    alloc: Global,
-    out: &mut W,
-    deepest: &Deepest,
-    store: &WaveStore,
-) -> Result<()> {
+fn write_finished<W: Write>(alloc: Global, out: &mut W, store: &WaveStore) -> Result<()> {
     write_counts(out, store.look())?;
-    deepest.write(out)?;
+    write_deepest(out, store)?;
     write_nets(alloc, out, store)
 }
 
@@ -79,33 +77,18 @@ fn begun(alloc: Global, design: Design, options: &Options) -> Result<WaveStore> 
     }
 }
 
-/// Carries out one phase of a cycle: executes the processes that are due, and goes on.
-fn go_on(alloc: Global, store: WaveStore) -> Result<WaveStore> {
-    let mut store = store.execute_due(alloc)?;
-    match store.advance(alloc) {
-        Ok(_step) => Ok(store),
+/// The store at the end of its run.
+fn ended(alloc: Global, store: WaveStore) -> Result<WaveStore> {
+    match store.run_to_end(alloc) {
+        Ok(store) => Ok(store),
         Err(_) => bail!("out of memory"),
     }
-}
-
-/// Carries a run to its end, and notes its longest sequence of delta cycles.
-fn carried_on(alloc: Global, store: WaveStore, deepest: &mut Deepest) -> Result<WaveStore> {
-    let mut store = store;
-    for _turn in 0..u64::MAX {
-        if store.ended().is_some() {
-            break;
-        }
-        store = go_on(alloc, store)?;
-        deepest.note(store.look());
-    }
-    Ok(store)
 }
 
 /// Writes the explanation of a run that has ended, and returns the exit status.
 fn tell_end<W: Write>(
     alloc: Global,
     store: &WaveStore,
-    deepest: &Deepest,
     request: &Request,
     out: &mut W,
 ) -> Result<u8> {
@@ -116,7 +99,7 @@ fn tell_end<W: Write>(
     if request.listing {
         write_run(store, out)?;
     }
-    write_finished(alloc, out, deepest, store)?;
+    write_finished(alloc, out, store)?;
     Ok(0)
 }
 
@@ -127,8 +110,7 @@ pub fn tell_run<W: Write>(
     request: &Request,
     out: &mut W,
 ) -> Result<u8> {
-    let mut deepest = Deepest { delta: 0, time: 0 };
     let store = begun(alloc, design, &request.options)?;
-    let store = carried_on(alloc, store, &mut deepest)?;
-    tell_end(alloc, &store, &deepest, request, out)
+    let store = ended(alloc, store)?;
+    tell_end(alloc, &store, request, out)
 }

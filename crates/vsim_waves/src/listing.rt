@@ -47,16 +47,12 @@ fn value(word: &str) -> Option<Logic> {
 
 /// A line of a listing: a time, a delta number, a name and a value, or `done` and two numbers.
 pub fn read(text: &str) -> Option<Line<'_>> {
-    let mut words = text.split(' ');
-    let (first, second) = (words.next()?, words.next()?);
-    let third = words.next()?;
-    let Some(fourth) = words.next() else {
-        return last(first, second, third);
-    };
-    if words.next().is_some() {
-        return None;
+    let (first, others) = text.split_once(' ')?;
+    let (second, others) = others.split_once(' ')?;
+    match others.split_once(' ') {
+        None => last(first, second, others),
+        Some((name, word)) => change(first, second, name, word),
     }
-    change(first, second, third, fourth)
 }
 
 /// The last line, given its words.

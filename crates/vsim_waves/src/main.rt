@@ -147,6 +147,17 @@ fn take<W: Write>(alloc: Global, view: &mut View, out: &mut W, line: &str) -> Re
     Ok(())
 }
 
+/// The same, for a line that may not have been read.
+fn take_read<W: Write>(
+    alloc: Global,
+    view: &mut View,
+    out: &mut W,
+    line: io::Result<String>,
+) -> Result<()> {
+    let line = line?;
+    take(alloc, view, out, line.as_str())
+}
+
 /// Writes the waves of a listing, line by line.
 fn write_waves<R: BufRead + Drop, W: Write>(
     alloc: Global,
@@ -156,8 +167,7 @@ fn write_waves<R: BufRead + Drop, W: Write>(
 ) -> Result<()> {
     for (index, line) in input.lines(alloc).enumerate() {
         let number = index.saturating_add(1);
-        let line = line.context(format_args!("line {number}"))?;
-        take(alloc, view, out, line.as_str()).context(format_args!("line {number}"))?;
+        take_read(alloc, view, out, line).context(format_args!("line {number}"))?;
     }
     if !view.is_done() {
         bail!("the listing has no last line, as 'done 3 3'");
@@ -203,12 +213,16 @@ fn read_view(alloc: Global, text: &str) -> Result<View> {
     Ok(View::Source(Box::new(alloc, vectors)?))
 }
 
+/// Writes the waves of the listing on standard input.
+fn write_input<W: Write>(rt: &HostRuntime, view: &mut View, out: &mut W) -> Result<()> {
+    let input = BufReader::new(rt.alloc(), rt.reader())?;
+    write_waves(rt.alloc(), input, out, view)
+}
+
 /// Makes a VCD of the listing on standard input.
 fn convert<W: Write>(rt: &HostRuntime, view: &mut View, out: &mut W) -> Result<()> {
-    let alloc = rt.alloc();
-    let input = BufReader::new(alloc, rt.reader())?;
-    let mut out = BufWriter::new(alloc, out)?;
-    write_waves(alloc, input, &mut out, view)?;
+    let mut out = BufWriter::new(rt.alloc(), out)?;
+    write_input(rt, view, &mut out)?;
     out.flush().context("writing")
 }
 

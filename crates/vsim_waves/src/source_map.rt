@@ -13,7 +13,6 @@ pub enum MapBit {
 }
 
 /// A variable of the source, with its bits, the lowest index first.
-#[derive(Drop)]
 pub struct Variable {
     pub name: String,
     pub offset: i64,
@@ -21,13 +20,41 @@ pub struct Variable {
     pub bits: Vec<MapBit>,
 }
 
+/// Written by hand so that code which drops it needs no proof about its contents.
+impl Drop for Variable {
+    fn drop(self) {
+        let Variable {
+            name,
+            offset: _,
+            is_up: _,
+            bits,
+        } = self;
+        drop(name);
+        drop(bits);
+    }
+}
+
 /// A map: the module, the time at which the stimuli end, signals and variables.
-#[derive(Drop)]
 pub struct SourceMap {
     pub top: String,
     pub end: u64,
     pub signals: IndexSet<String>,
     pub variables: Vec<Variable>,
+}
+
+/// Written by hand so that code which drops it needs no proof about its contents.
+impl Drop for SourceMap {
+    fn drop(self) {
+        let SourceMap {
+            top,
+            end: _,
+            signals,
+            variables,
+        } = self;
+        drop(top);
+        drop(signals);
+        drop(variables);
+    }
 }
 
 /// What the first line is.
