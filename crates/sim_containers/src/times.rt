@@ -1,4 +1,4 @@
-//! For each driver the time of its next transaction, with fast access to the least time.
+//! A time for each of some drivers, with fast access to the least time.
 
 ghost use Rattle.std.specs.Prelude.{◌≡◌, ◌≢◌, ◌<◌, ◌⊎◌, ℕ, length, false, Option, None, Some, replicate, slice_index_or, slice_set};
 ghost use Rattle.std.specs.Prelude.{OnOk, OnErr, IfOk, IfNone, IfSome, MatchOption};
@@ -15,8 +15,8 @@ use std::collections::BinaryHeap;
 use std::marker::Model;
 
 /// For each driver a time in femtoseconds, or none. The drivers whose time is `front_time` are in
-/// the set `front`, so that the next delta cycle is fast. Those with one more time, such as that of
-/// the next edge of a clock, are in the set `later`. The heap has entries for all other times.
+/// the set `front`, so that the least time is fast where it comes again and again. Those with one
+/// more time are in the set `later`. The heap has entries for all other times.
 pub struct TimeQueue {
     times: Vec<Option<u64>>,
     front_time: u64,
@@ -136,16 +136,6 @@ impl TimeQueue {
         self.times[driver] = time;
         trim(&mut self.heap, self.times.as_slice(), now, later);
         Ok(())
-    }
-
-    /// A cycle begins at a time that no driver has. To give drivers this time takes no memory from now
-    /// on, if none has the time of the cycle before.
-    pub fn begin(&mut self, time: u64)
-        requires { cleared time self.old ≡ self.old }
-        ensures { self.new ≡ self.old }
-    {
-        let now = self.front_time;
-        self.front_time = next_time(&self.front, now, time);
     }
 
     /// The least time.

@@ -1,4 +1,4 @@
-//! What is known about a seat.
+//! The view of a seat.
 
 ghost use Rattle.std.specs.Prelude.{ℕ, List};
 ghost use Rattle.std.specs.Borrow.{ftrue};

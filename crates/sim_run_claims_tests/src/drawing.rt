@@ -1,4 +1,4 @@
-//! What the contracts do not say of threads that draw: which numbers come, and in which order.
+//! Threads that draw: which numbers come, and in which order, which no contract says.
 
 ghost use Rattle.std.specs.Prelude.{◌≡◌, ◌+◌, OnOk};
 ghost use Rattle.sim_run_claims.specs.Seats.{IsOf, balance};
@@ -84,7 +84,7 @@ fn draw_in_two_threads<R: Threads + Sync>(
     (seat, both(drawn, drawn_too))
 }
 
-/// What one thread drew, followed by what the other drew.
+/// The numbers that one thread drew, followed by those that the other drew.
 fn appended(
     drawn: Result<Vec<Option<usize>>, AllocError>,
     drawn_too: Result<Vec<Option<usize>>, AllocError>,
@@ -95,7 +95,7 @@ fn appended(
     Ok(drawn)
 }
 
-/// What both threads drew, sorted.
+/// The numbers that both threads drew, sorted.
 fn both(
     drawn: Result<Vec<Option<usize>>, AllocError>,
     drawn_too: Result<Vec<Option<usize>>, AllocError>,
@@ -179,7 +179,7 @@ fn draws_in_two_threads<R: Threads + Sync>(
     Ok((count, drawn?))
 }
 
-/// What eight draws of three numbers give, sorted.
+/// The results of eight draws of three numbers, sorted.
 static EIGHT: [Option<usize>; 8] = [None, None, None, None, None, Some(0), Some(1), Some(2)];
 
 /// Whether each number is drawn once by two threads.

@@ -43,7 +43,7 @@ fn copy_few(to: &mut [u8], from: &[u8])
     to[last] = from[last];
 }
 
-/// Copies a text to a place. What is behind it then is not said.
+/// Copies a text to a place. The bytes behind it may be any then.
 #[inline(always)]
 pub fn copy_to(to: &mut [u8], start: usize, from: &[u8])
     requires { start + length from.now + WINDOW ≤ length to.old }

@@ -118,7 +118,7 @@ impl Head {
         self.end - self.start
     }
 
-    /// Copies the text to a place. What is behind it then is not said.
+    /// Copies the text to a place. The bytes behind it may be any then.
     #[inline(always)]
     pub fn copy_to(&self, to: &mut [u8], at: usize)
         requires { at + WIDTH ≤ length to.old }

@@ -13,7 +13,12 @@ use std::alloc::{AllocError, Global};
 use std::marker::{Brand, PhantomData};
 use std::sync::Wait;
 use std::thread;
-use std::thread::{Scope, Threads};
+use std::thread::{Builder, Scope, Threads};
+
+/// The stack of a worker, in bytes. A worker recurses only into the statements and expressions of
+/// a body, which are nested less than a hundred deep. The C library keeps the stacks of ended
+/// threads, so that a run which begins again on one thread has the less room the larger they are.
+const STACK_SIZE: usize = 512 * 1024;
 
 /// The work of the phases of this design's run, in shares.
 struct PhaseWork<D: DesignType> {
@@ -134,8 +139,9 @@ fn hire<'s, D: DesignType + Send + Sync + 's, R: Threads + Wait + Sync, E>(
 ) -> Option<()> {
     for bell in bells {
         let (channel, worker) = pair::<PhaseWork<D>>(alloc, bell, looks).ok()?;
-        if scope
-            .spawn(move || worker.work(rt, alloc, bell, main))
+        let thread = Builder::new().stack_size(STACK_SIZE);
+        if thread
+            .spawn_scoped(scope, move || worker.work(rt, alloc, bell, main))
             .is_ok()
         {
             team.add(channel)?;

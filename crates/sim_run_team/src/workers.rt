@@ -205,8 +205,8 @@ impl<'a, W: Work> Team<'a, W> {
     }
 
     /// Has orders carried out by the workers and this thread, and returns their answers in order.
-    /// `None` if the team fails: this thread or a worker had no memory, or a worker is gone. What
-    /// the orders held is then lost.
+    /// `None` if the team fails: this thread or a worker had no memory, or a worker is gone. The
+    /// orders and all that they held are then lost.
     pub fn carry_out<R: Wait>(
         &mut self,
         rt: &R,

@@ -79,7 +79,7 @@ fn records(alloc: Global) -> Result<Vec<Record>, AllocError>
     Ok(records)
 }
 
-/// What is written of two records to a writer with this room, and how it ended.
+/// The lines of two records that a writer with this room took, and how it ended.
 fn listed(alloc: Global, room: usize) -> Result<(Vec<u8>, Result<(), WriteError>), AllocError> {
     let names = names(alloc)?;
     let records = records(alloc)?;
@@ -125,7 +125,7 @@ fn nets(alloc: Global) -> Result<Vec<Net>, AllocError>
     Ok(nets)
 }
 
-/// What is written of the records with the names of nets.
+/// The lines of the records with the names of nets.
 fn listed_by_nets(alloc: Global) -> Result<Vec<u8>, AllocError> {
     let nets = nets(alloc)?;
     let records = records(alloc)?;

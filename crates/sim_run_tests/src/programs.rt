@@ -43,7 +43,7 @@ struct Said {
     err: Vec<u8>,
 }
 
-/// What the program says to a line of words.
+/// The status of the program for a line of words, and its output.
 fn answer_to<T: Threads + Wait + Sync, R: Read>(
     rt: &T,
     alloc: Global,

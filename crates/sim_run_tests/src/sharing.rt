@@ -48,7 +48,7 @@ fn watches<R: Wait>(rt: &R, alloc: Global, store: &Mutex<WaveStore>) -> Option<b
     None
 }
 
-/// What a run sees, and a thread that looks at it.
+/// The records that a run has, and those that a thread sees which looks at it.
 fn run_and_watch<R: Threads + Wait + Sync>(
     rt: &R,
     alloc: Global,
@@ -57,7 +57,7 @@ fn run_and_watch<R: Threads + Wait + Sync>(
     join(rt, || runs(rt, alloc, store), || watches(rt, alloc, store))
 }
 
-/// What two runs of one store see, at the same time.
+/// The records that two runs of one store have, at the same time.
 fn run_twice<R: Threads + Wait + Sync>(
     rt: &R,
     alloc: Global,

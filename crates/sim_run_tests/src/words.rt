@@ -1,5 +1,5 @@
-//! What the contracts do not say: the right words are accepted, with these values, and what
-//! refusals and the help contain.
+//! Command lines: the right words are accepted, with these values; the texts of refusals and of the
+//! help, which no contract says.
 
 use sim_run_options::{CliFault, Options, read_options};
 use std::alloc::{AllocError, Global};

@@ -52,8 +52,8 @@ first_executed design cycles s = one_by_one design.processes (processes_where de
 
 -- ---- g), h): postponed processes are executed, unless a delta cycle follows
 
--- g) whether the next cycle is a delta cycle, at the same time, for which postponed processes wait. The initialization executes them in any case (14.7.5.2);
--- our own is that a zero delay of a postponed process is no error there.
+-- g) The time of the next cycle is calculated; if it is the present one, a delta cycle follows, for which postponed processes wait. The initialization
+-- executes them in any case (14.7.5.2); our own is that a zero delay of a postponed process is no error there.
 abbrev pub is_delta_next : ℕ → State → Bool
 is_delta_next cycles s = not (cycles == 0) && option_eq ◌==◌ (next_time (all_drivers s.owned)) (Some s.time)
 
@@ -68,13 +68,13 @@ cycle_end design cycles s =
     let ps = processes_where design (is_waiting design cycles s) in
     if is_delta_next cycles x then record x { waiting = ps } else record (one_by_one design.processes ps x) { waiting = [] }
 
--- h.5) whether a postponed process has caused a delta cycle, which is an error
+-- h.5) The time of the next cycle is calculated again; whether a postponed process has caused a delta cycle, which is an error
 abbrev pub has_postponed_delta : Design → ℕ → State → Bool
 has_postponed_delta design cycles s = not (is_delta_next cycles (first_executed design cycles s)) && is_delta_next cycles (cycle_end design cycles s)
 
 -- ---- from one cycle to the next
 
--- the state after a) to d) of the next cycle, if there is one: from the end of a cycle, at the time of the next
+-- the state after a) to d) of the next cycle, if there is one: from the end of a cycle, at the time that g) or h.5) calculates
 abbrev pub next_updated : Design → Option State → Option State
 next_updated design end = option_and_then (λ (s : State). option_map (updated design s) (next_time (all_drivers s.owned))) end
 

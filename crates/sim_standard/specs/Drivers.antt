@@ -17,7 +17,7 @@ pub record DriverState : Type 0 where
   pub value : Logic
   pub pending : List Transaction
 
--- a waveform after its first transaction has become its value, if it is of this time: the driver is active (14.7.2)
+-- a driver after its first transaction has become its value, if it is of this time: it is active then (14.7.2)
 abbrev pub taken : ℕ → DriverState → DriverState
 taken time d = go d.pending
   where

@@ -1,4 +1,4 @@
-//! What a simulation cycle changed.
+//! The changes of a simulation cycle.
 
 use sim_logic::Logic;
 use sqlite_items::Items;

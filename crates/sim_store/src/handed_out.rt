@@ -23,7 +23,7 @@ use std::alloc::{AllocError, Global};
 use std::marker::Model;
 use std::sync::Arc;
 
-/// What stays of a run while a phase is handed out. Contracts see the store that was handed out,
+/// The rest of a run while a phase is handed out. Contracts see the store that was handed out,
 /// and the number of processes of each order.
 pub struct HandedOutStore<D: DesignType> {
     input: Arc<PhaseInput<D>, Global>,
@@ -92,8 +92,8 @@ fn orders_and_lengths<D: DesignType>(
     Ok((orders, lengths))
 }
 
-/// What is read, shared by all threads, with the orders for all processes and the number of
-/// processes of each.
+/// The input that all threads share, with the orders for all processes and the number of processes
+/// of each.
 fn shared_input<D: DesignType>(
     alloc: Global,
     input: PhaseInput<D>,
@@ -136,8 +136,8 @@ pub fn hand_out_phase<D: DesignType>(
     Ok((handed_out, orders))
 }
 
-/// What was read, and what all processes own according to the answers to all orders, which had so
-/// many processes each.
+/// The input that was shared, and the drivers and variables of all processes according to the
+/// answers to all orders, which had so many processes each.
 fn collect_answers<D: DesignType>(
     alloc: Global,
     input: Arc<PhaseInput<D>, Global>,

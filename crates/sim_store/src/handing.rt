@@ -89,8 +89,8 @@ fn is_next<D: DesignType>(
         && answer.len() == count
 }
 
-/// What all processes own, according to the answers to all orders of the phase read here, which had
-/// this many processes each.
+/// The drivers and variables of all processes, according to the answers to all orders of the phase
+/// read here, which had this many processes each.
 pub fn shares_of<D: DesignType>(
     alloc: Global,
     input: &PhaseInput<D>,

@@ -15,8 +15,8 @@ use std::alloc::{AllocError, Global};
 use std::marker::{Model, PhantomData};
 use std::sync::Arc;
 
-/// What a range of processes owns at the beginning of a phase, the number of the first one, and
-/// what they read. Contracts see the number.
+/// The drivers and variables of a range of processes at the beginning of a phase, the number of the
+/// first one, and the input that they read. Contracts see the number.
 pub struct Order<D: DesignType> {
     from: usize,
     share: Share,
@@ -48,8 +48,8 @@ impl<D: DesignType> Model for Order<D> {
     ghost invariant = { λ o. IsRange (at_input D.design (arc_value o.input)) (reached (at_input D.design (arc_value o.input))).owned o.from o.share };
 }
 
-/// What a range of processes owns once those of them that are due in a phase have been executed. By
-/// its type it belongs to the design named by D.
+/// The drivers and variables of a range of processes once those that are due in a phase have been
+/// executed. By its type it belongs to the design named by D.
 #[derive(Drop)]
 pub struct Answer<D: DesignType> {
     cycles: usize,
@@ -164,7 +164,8 @@ impl<D: DesignType> Order<D> {
 }
 
 impl<D: DesignType> Answer<D> {
-    /// What these processes own once the due ones have been executed.
+    /// The answer with the drivers and variables of these processes, once the due ones have been
+    /// executed.
     fn new(cycles: usize, phase: Phase, from: usize, share: Share) -> Answer<D>
         requires { spec.IsRange (spec.at_phase D.design cycles phase) (spec.completed (spec.at_phase D.design cycles phase)).owned from share }
         ensures { result ≡ record { cycles = cycles; phase = phase; from = from; owned = share } }
@@ -206,7 +207,7 @@ impl<D: DesignType> Answer<D> {
         self.share.len()
     }
 
-    /// What the processes own.
+    /// The drivers and variables of the processes.
     pub fn into_share(self) -> Share
         ensures share { result ≡ self.owned }
         ensures range { spec.IsRange (spec.at_phase D.design self.cycles self.phase)

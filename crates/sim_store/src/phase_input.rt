@@ -1,4 +1,4 @@
-//! What all threads read while the processes of a phase are executed.
+//! The input that all threads read while the processes of a phase are executed.
 
 ghost use Rattle.std.specs.Prelude.{ℕ, ◌≡◌, ◌<◌, ◌≤◌, length, slice_set, MatchOption, IfOk, OnOk};
 ghost use Rattle.sim_exec.specs.Jobs.{IsReady};
@@ -17,7 +17,7 @@ use sim_store_state::Share;
 use std::alloc::{AllocError, Global};
 use std::marker::{Model, PhantomData};
 
-/// What is read during a phase, after a number of cycles. The time is in femtoseconds.
+/// The values that are read during a phase, after a number of cycles. The time is in femtoseconds.
 #[derive(Drop)]
 pub struct PhaseFields {
     pub(crate) cycles: usize,

@@ -1,4 +1,4 @@
-//! What stays of a simulation while a phase is handed out, and how it is put together again.
+//! The rest of a simulation while a phase is handed out, and how it is put together again.
 
 ghost use Rattle.std.specs.Prelude.{ℕ, ◌≡◌, false, length, IfOk};
 ghost use Rattle.sim_store.specs.Handing as spec;
@@ -18,7 +18,8 @@ use sim_store_state::{Log, Shares, SplitState, UpdateLists, put_together, take_a
 use std::alloc::{AllocError, Global};
 use std::marker::PhantomData;
 
-/// What a simulation holds, except what is read during a phase and what its processes own.
+/// The contents of a simulation, except the input of a phase and the drivers and variables of its
+/// processes.
 #[derive(Drop)]
 pub struct RetainedContents {
     pub delta: u64,

@@ -27,7 +27,7 @@ use sim_store_state::{Log, Record};
 use std::alloc::{AllocError, Global};
 use std::marker::Model;
 
-/// What a store did to go on.
+/// The step by which a store went on.
 #[derive(Clone, Copy, Debug, PartialEq, Eq)]
 pub enum Step {
     /// It began one more cycle, with one more record.

@@ -118,13 +118,13 @@ impl Due {
             → those_in waiting.new.waiting p ≡ (those_in waiting.old.waiting p
             || (has_event_in nets (process_at processes p).sensitivity && those_in waiting.old.postponed p)) }
     {
+        // f.2) Processes resume; the postponed ones wait for h.4.
         let changes = log.changes(log.len() - 1);
         if !waiting.has_postponed() {
             if find_resumed_by_one(&mut self.list, changes, sensitive) {
                 return;
             }
         }
-        // f.2) Processes resume; the postponed ones wait for h.4.
         find_resumed(&mut self.set, changes, sensitive.rows());
         waiting.set_aside(&mut self.set);
         self.list.set_from(&self.set);

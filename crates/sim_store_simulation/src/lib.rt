@@ -11,5 +11,5 @@ mod waiting;
 
 pub use due::Due;
 pub use phase::{Phase, Upcoming};
-pub use simulation::{Compiled, Contents, Simulation, are_processes, compile, first_log};
+pub use simulation::{Compiled, Contents, Simulation};
 pub use waiting::Waiting;

@@ -9,7 +9,7 @@ pub enum Phase {
     Postponed,
 }
 
-/// What comes after all processes of a phase have been executed.
+/// The step that comes after all processes of a phase have been executed.
 #[derive(Clone, Copy)]
 pub enum Upcoming {
     /// The phase of postponed processes.

@@ -53,7 +53,7 @@ fn is_process(process: &Process)
 }
 
 /// Shows what the types of processes guarantee.
-pub fn are_processes(processes: &[Process])
+fn are_processes(processes: &[Process])
     ensures { All IsProcess processes.now }
 {
     for process in processes {
@@ -76,8 +76,8 @@ fn put_results(state: &mut FlatState, number: usize, results: Option<Results>)
     }
 }
 
-/// What comes after a phase, given whether a delta cycle would follow, whether a process waits, and
-/// the first pending time.
+/// The step that comes after a phase, given whether a delta cycle would follow, whether a process
+/// waits, and the first pending time.
 fn upcoming(phase: Phase, is_delta: bool, is_waited: bool, next: Option<u64>) -> Upcoming
     ensures { result ≡ spec.upcoming_of phase is_delta is_waited next }
 {
@@ -103,8 +103,8 @@ fn leave(waiting: &mut Waiting, phase: Phase)
     }
 }
 
-/// What is compiled once for a design: for each net the processes sensitive to it, for each process
-/// its code, and a frame to execute code on.
+/// A design, compiled once: for each net the processes sensitive to it, for each process its code,
+/// and a frame to execute code on.
 #[derive(Drop)]
 pub struct Compiled {
     pub sensitive: RisingRows,
@@ -112,9 +112,9 @@ pub struct Compiled {
     pub frame: Frame,
 }
 
-/// What a simulation holds besides its design, without its invariant, which need not hold while
+/// All of a simulation besides its design, without its invariant, which need not hold while
 /// processes are being executed: the time (in femtoseconds) and delta number of the last cycle,
-/// what was compiled, the state, the log, and marks of processes and nets.
+/// the compiled design, the state, the log, and marks of processes and nets.
 #[derive(Drop)]
 pub struct Contents {
     pub time: u64,
@@ -133,7 +133,7 @@ pub struct Contents {
 }
 
 /// A log with the record of the first state of a design with this number of nets.
-pub fn first_log(alloc: Global, state: &FlatState, nets: usize) -> Result<Log, AllocError>
+fn first_log(alloc: Global, state: &FlatState, nets: usize) -> Result<Log, AllocError>
     requires few { nets < 2 ^ 32 }
     requires nets { length state.now.nets ≡ nets }
     ensures { IfOk result (λ l. l.records ≡ record { time = 0; delta = 0; changes = values_of state.now.nets } ∷ []) }
@@ -202,7 +202,7 @@ fn marks(alloc: Global, design: &Design) -> Result<FirstMarks, AllocError>
 }
 
 /// Compiles a design.
-pub fn compile(alloc: Global, design: &Design) -> Result<Compiled, AllocError>
+fn compile(alloc: Global, design: &Design) -> Result<Compiled, AllocError>
     ensures { IfOk result (λ l. spec.AreCompiled design.now l.sensitive l.codes l.frame) }
 {
     let sensitive = sensitive(alloc, design)?;
@@ -238,8 +238,8 @@ fn joined(marks: FirstMarks, compiled: Compiled, start: Start) -> Contents
     }
 }
 
-/// What the simulation of a design holds at first: what is compiled, the first state with its
-/// record, which processes are due, and no events of any net.
+/// The contents of the simulation of a design at first: the compiled design, the first state with
+/// its record, the processes that are due, and no event of any net.
 #[tactic(auto, unfolding(sim_standard::specs::Records::records_to))]
 fn prepared(alloc: Global, design: &Design) -> Result<Contents, AllocError>
     ensures start { IfOk result (λ m. (m.time ≡ 0) × (m.delta ≡ 0) × (m.phase ≡ phase.NonPostponed) × (m.all_executed ≡ false)) }
@@ -515,7 +515,7 @@ impl Simulation {
         self.cycles() != 0 && next == Some(self.contents.time)
     }
 
-    /// What comes after all due processes have been executed (14.7.5.3 g, h): the phase of
+    /// The step that comes after all due processes have been executed (14.7.5.3 g, h): the phase of
     /// postponed processes, or what follows the cycle.
     pub fn upcoming(&mut self) -> Result<Upcoming, AllocError>
         requires { spec.IsComplete self.old }
@@ -538,6 +538,7 @@ impl Simulation {
         ensures { self.new ≡ spec.in_postponed_phase self.old }
     {
         let contents = &mut *self.contents;
+        // h.4) The postponed processes that have resumed are executed.
         contents.due.take(&contents.waiting);
         begin_phase(contents, Phase::Postponed);
     }

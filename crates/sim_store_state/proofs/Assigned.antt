@@ -5,27 +5,25 @@ use Rattle.std.specs.List.{All}
 use Rattle.std.specs.Prelude.{Result, Ok, Err, OnOk}
 use Rattle.std.proofs.Math.Seq.{set_out}
 use Rattle.std.proofs.lemmas.Bool.Decides.{nat_tests}
-use Rattle.std.proofs.Math.Decide.{dec_lt}
-use Rattle.std.proofs.lemmas.List.{get_or-set_other, get_or_past, set-get_or}
+use Rattle.std.proofs.lemmas.List.{get_or-set_other, set-get_or}
 use Rattle.std.proofs.lemmas.Result.{on_ok_weaker}
 use Rattle.sim_flat_design.specs.Bodies.{Body}
 use Rattle.sim_exec.specs.Jobs.{IsReady}
 use Rattle.sim_logic.specs.declared.logic.Logic.{Logic}
-use Rattle.sim_standard.specs.Drivers.{DriverState, Transaction, next_time}
+use Rattle.sim_standard.specs.Drivers.{DriverState, next_time}
 use Rattle.sim_standard.specs.State.{Owned, driver_at}
 use Rattle.sim_standard.specs.declared.net_view.NetView.{NetView}
 use Rattle.sim_standard.proofs.Names.{no_driver}
 use Rattle.sim_wave.specs.Rising.{RisesFrom}
-use Rattle.sim_wave.proofs.Replacing.{replaced}
 use Rattle.sim_exec_code.specs.declared.quick.SingleAssignment.{SingleAssignment}
 use Rattle.sim_exec_code.specs.Codes.{is_missing}
-use Rattle.sim_exec_code.specs.Quick.{driven, of_value, quick_executed}
+use Rattle.sim_exec_code.specs.Quick.{driven, quick_executed}
 use Rattle.sim_exec_code.proofs.Executions.{ready_after}
 use Rattle.sim_containers.specs.RowArray.{joined}
 use Rattle.sim_containers.specs.Numbers.{is_in}
 use Rattle.sim_containers.specs.Times.{time_of}
 use Rattle.sim_containers.proofs.Divided.{at-set}
-use Rattle.sim_store_state.specs.Assignments.{AreAssigned, AreAssignedNext, told_of}
+use Rattle.sim_store_state.specs.Assignments.{AreAssigned, AreAssignedNext}
 use Rattle.sim_store_state.specs.Changes.{AreTimes, time_at}
 use Rattle.sim_store_state.proofs.Telling.{IsAlone, put-back}
 
@@ -127,23 +125,3 @@ pub assigned_ready : {E : Type 0} (body : Body) (net : ℕ → NetView) (now : �
     → AreAssigned net now q done own.drivers own'.drivers → own'.variables ≡ own.variables → IsReady body now own → IsReady body now own'
 assigned_ready body net now q done own own' a same ready =
     ready_after body now own.drivers own'.drivers own.variables own'.variables ready a.values (ap (map _) same) a.pending
-
--- ---- a driver is told a transaction
-
-driver_rises : (now driver : ℕ) (ds : List DriverState) → All (λ (d : DriverState). RisesFrom now d.pending) ds → RisesFrom now (driver_at ds driver).pending
-driver_rises now driver ds rises = elim (dec_lt driver (length ds)) [
-  | yes there ↦ rises driver no_driver there
-  | no beyond ↦ (let none : driver_at ds driver ≡ no_driver = get_or_past ds driver no_driver (omega (arith, beyond)) in
-      subst (λ (d : DriverState). RisesFrom now d.pending) (sym none) tt)
-]
-
-pub told_left : {E : Type 0} (net : ℕ → NetView) (now driver : ℕ) (value : Logic) (done : Result Unit E) (own own' : Owned)
-    → All (λ (d : DriverState). RisesFrom now d.pending) own.drivers → AreAssigned net now (of_value driver value) done own.drivers own'.drivers
-    → own'.variables ≡ own.variables → OnOk done (own' ≡ told_of driver now value own)
-told_left net now driver value done own own' rises a same =
-    let one : driven net now (of_value driver value) own.drivers ≡ (told_of driver now value own).drivers =
-    ap (λ (xs : List Transaction). set own.drivers driver (record (driver_at own.drivers driver) { pending = xs }))
-    (replaced (driver_at own.drivers driver).pending now value (driver_rises now driver own.drivers rises)) in
-    on_ok_weaker done (λ (is : own'.drivers ≡ driven net now (of_value driver value) own.drivers).
-    ap (λ (ds : List DriverState). record own' { drivers = ds }) (is ∙ one)
-    ∙ ap (λ vs. record { drivers = (told_of driver now value own).drivers; variables = vs }) same) a.ok

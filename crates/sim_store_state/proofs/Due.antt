@@ -1,8 +1,6 @@
 -- Which drivers are due: those whose first pending time is the least of all.
 use Rattle.std.proofs.Common.{ℕ, zero, suc, ◌+◌, ◌<◌, ◌≤◌, ◌≡◌, ◌≢◌, ◌++◌, eqb, Bool, true, false, cond, min, List, [], ◌∷◌, length, set, map}
-use Rattle.std.proofs.Common.{refl, ap, sym, subst, ◌∙◌, arith}
-use Rattle.std.specs.List.{All}
-use Rattle.std.proofs.lemmas.List.Elements.{All-contains}
+use Rattle.std.proofs.Common.{refl, ap, sym, ◌∙◌, arith}
 use Rattle.std.proofs.Common.{Option, Some, None, fold}
 use Rattle.std.proofs.lemmas.Bool.Decides.{nat_tests}
 use Rattle.std.proofs.lemmas.List.{length-map, same_lists, get_or_default, get_or-set_same, get_or-set_other}
@@ -13,10 +11,9 @@ use Rattle.sim_standard.specs.State.{driver_at}
 use Rattle.sim_containers.specs.Numbers.{is_in}
 use Rattle.sim_containers.specs.Times as queue
 use Rattle.sim_containers.specs.Times.{time_of, is_at, earliest, those_at, clear, cleared, earlier}
-use Rattle.sim_store_state.specs.Changes.{AreBeyond, AreTimes, first_times, time_at}
-use Rattle.sim_store_state.specs.Times.{pending_times}
+use Rattle.sim_store_state.specs.Changes.{AreTimes, first_times, time_at}
 use Rattle.sim_store_state.specs.Times.{IsNext as IsNextTime}
-use Rattle.sim_store_state.proofs.Times.{none_next, next_append, next_is_least, least_bound, times}
+use Rattle.sim_store_state.proofs.Times.{none_next, next_append, least_bound, times}
 use Rattle.sim_containers.specs.Words.{IsNext}
 use Rattle.sim_store_state.proofs.Walks.{Walked, not_both, walk_more}
 
@@ -199,75 +196,3 @@ times-let-go ds times times' due time et ed ec =
           ap (λ w. time_of w d) ec ∙ (time-cleared time times d ∙ (clear-other time (time_of times d) apart ∙ (ap (λ w. time_of w d) et
           ∙ time-of-first ds d)));
     }
-
--- ---- times beyond one
-
--- a driver that is not stale takes nothing, if the queue has only later times
-pub beyond-keeps : (ds : List DriverState) (ts : List (Option ℕ)) (stale : List Bool) (time d : ℕ) → AreTimes ts stale ds → AreBeyond time ts
-    → is_in stale d ≡ false → taken time (driver_at ds d) ≡ driver_at ds d
-beyond-keeps ds ts stale time d are beyond fresh = keeps time (driver_at ds d).value (driver_at ds d).pending later
-  where
-    later : (x : Transaction) (rest : List Transaction) → (driver_at ds d).pending ≡ x ∷ rest → x.0 ≢ time
-    later x rest p = λ same.
-        let m = fold min x.0 (times rest ++ []) in
-        let is : time_at ds d ≡ Some m = first-of (driver_at ds d) x rest p in
-        let low : m ≤ x.0 = least_bound x.0 (times rest ++ []) in
-        let lt : time < m = beyond d m (are.current d fresh ∙ is) in
-        omega (arith, same, low, lt)
-
-pub beyond-none : (ts : List (Option ℕ)) (time : ℕ) → earliest ts ≡ None → AreBeyond time ts
-beyond-none ts time none d t e = absurd (some-not-none ts d t e none)
-
-pub beyond-least : (ts : List (Option ℕ)) (time least : ℕ) → earliest ts ≡ Some least → time < least → AreBeyond time ts
-beyond-least ts time least h lt d t e = let le = least-of-times ts d least t h e in omega (arith, lt, le)
-
--- a time that was not cleared was there, and is another one
-cleared-was : (least : ℕ) (o : Option ℕ) (t : ℕ) → clear least o ≡ Some t → (o ≡ Some t) × (t ≢ least)
-cleared-was least o t e = go (is_at least o) refl
-  where
-    go : (b : Bool) → is_at least o ≡ b → (o ≡ Some t) × (t ≢ least)
-    go true q = absurd (cc (clear-same least o q, e))
-    go false q =
-        let was : o ≡ Some t = sym (clear-other least o q) ∙ e in
-        (was, λ same. not_both (is_at least o) q (at-least least t o was same))
-
--- once those with the least time are let go
-pub beyond-cleared : (ts ts' : List (Option ℕ)) (time least : ℕ) → earliest ts ≡ Some least → time ≤ least → ts' ≡ cleared least ts → AreBeyond time ts'
-beyond-cleared ts ts' time least h from ec d t e =
-    let was = cleared-was least (time_of ts d) t (sym (ap (λ w. time_of w d) ec ∙ time-cleared least ts d) ∙ e) in
-    let low = least-of-times ts d least t h was.0 in
-    omega (arith, low, from, was.1)
-
--- the least pending time is not before what none is before
-pub least-from : (ds : List DriverState) (time least : ℕ) → next_time ds ≡ Some least → All (λ (t : ℕ). time ≤ t) (pending_times ds) → time ≤ least
-least-from ds time least e from =
-    let i : IsNextTime ds (Some least) = subst (IsNextTime ds) e (next_is_least ds) in
-    All-contains (λ (t : ℕ). time ≤ t) (pending_times ds) least from i.0
-
--- the times of drivers that are not stale are as they were, once stale ones have taken their transactions
-pub times-beyond : (ds es : List DriverState) (ts : List (Option ℕ)) (stale : List Bool) (time : ℕ) → AreTimes ts stale ds → AreBeyond time ts
-    → es ≡ map (taken time) ds → AreTimes ts stale es
-times-beyond ds es ts stale time are beyond ee =
-    let k : length es ≡ length ds = ap length ee ∙ length-map ds (taken time) in
-    record {
-      sized = are.sized ∙ sym k;
-      marked = are.marked ∙ sym k;
-      current = λ d fresh.
-          are.current d fresh ∙ ap (λ (w : DriverState). next_time (w ∷ []))
-          (sym (beyond-keeps ds ts stale time d are beyond fresh) ∙ (sym (driver-taken time ds d) ∙ ap (λ w. driver_at w d) (sym ee)));
-    }
-
-beyond-clear : (time : ℕ) (o : Option ℕ) → ((t : ℕ) → o ≡ Some t → time < t) → clear time o ≡ o
-beyond-clear time None f = refl
-beyond-clear time (Some t) f = clear-other time (Some t) (go (is_at time (Some t)) refl)
-  where
-    go : (b : Bool) → is_at time (Some t) ≡ b → is_at time (Some t) ≡ false
-    go false q = q
-    go true q = let lt = f t refl in let same : t ≡ time = grind (arith, nat_tests) in absurd (omega (arith, lt, same))
-
--- none of them is cleared
-pub beyond-same : (ts : List (Option ℕ)) (time : ℕ) → AreBeyond time ts → cleared time ts ≡ ts
-beyond-same [] time f = refl
-beyond-same (o ∷ ts) time f =
-    ap (λ (w : Option ℕ). w ∷ cleared time ts) (beyond-clear time o (λ t e. f 0 t e))
-    ∙ ap (λ (ws : List (Option ℕ)). o ∷ ws) (beyond-same ts time (λ d t e. f (suc d) t e))

@@ -3,7 +3,7 @@ use Rattle.std.specs.Prelude.{ℕ, ◌≡◌, List, [], ◌∷◌, Option, Resul
 use Rattle.std.specs.List.{All}
 use Rattle.sim_logic.specs.declared.logic.Logic.{Logic}
 use Rattle.sim_standard.specs.Drivers.{DriverState, next_time}
-use Rattle.sim_standard.specs.State.{Owned, driver_at, driver_values}
+use Rattle.sim_standard.specs.State.{driver_at, driver_values}
 use Rattle.sim_standard.specs.declared.net_view.NetView.{NetView}
 use Rattle.sim_wave.specs.Rising.{RisesFrom}
 use Rattle.sim_exec_code.specs.declared.quick.SingleAssignment.{SingleAssignment}
@@ -21,9 +21,3 @@ pub record AreAssignedNext {E : Type 0} (net : ℕ → NetView) (now : ℕ) (q :
     (old new : List DriverState) : Type 0 where
   pub assigned : AreAssigned net now q done old new
   pub next_is : next ≡ next_time (driver_at new q.driver ∷ [])
-
--- what a process owns once its driver at a place has this transaction alone
-abbrev pub told_of : ℕ → ℕ → Logic → Owned → Owned
-told_of driver time value own = record own {
-  drivers = slice_set own.drivers driver (record (driver_at own.drivers driver) { pending = (time, value) ∷ [] });
-}

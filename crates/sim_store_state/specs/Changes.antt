@@ -1,6 +1,6 @@
 -- What is kept beside a state, so that a cycle looks only at what changed (IEEE 1076-2008, 14.7.3, 14.7.5).
 -- Implementation only: what `simulate` promises does not rest on this file.
-use Rattle.std.specs.Prelude.{ℕ, ◌≡◌, ◌<◌, ◌==◌, ◌||◌, List, [], ◌∷◌, Bool, true, false, Option, Some, map, length, slice_index_or}
+use Rattle.std.specs.Prelude.{ℕ, ◌≡◌, ◌<◌, ◌==◌, ◌||◌, List, [], ◌∷◌, Bool, true, false, Option, map, length, slice_index_or}
 use Rattle.sim_logic.specs.declared.logic.Logic.{Logic}
 use Rattle.sim_logic.specs.declared.logic.Logic.TheVariants.{U}
 use Rattle.sim_logic.specs.Resolution.{resolved}
@@ -32,10 +32,6 @@ pub record AreTimes (times : List (Option ℕ)) (stale : List Bool) (drivers : L
   pub sized : length times ≡ length drivers
   pub marked : length stale ≡ length drivers
   pub current : (d : ℕ) → is_in stale d ≡ false → time_of times d ≡ time_at drivers d
-
--- No driver has a time up to this one.
-abbrev pub AreBeyond : ℕ → List (Option ℕ) → Type 0
-AreBeyond time times = (d t : ℕ) → time_of times d ≡ Some t → time < t
 
 -- If so told, the times of the due drivers are their first pending times; those of the others are as they were.
 pub record AreTold (told : Bool) (due : List Bool) (before times : List (Option ℕ)) (drivers : List DriverState) : Type 0 where

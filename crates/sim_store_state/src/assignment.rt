@@ -160,33 +160,3 @@ pub fn assign_in_parts_and_tell<N: Nets>(
     tell(queue, stale, start + place, next);
     done
 }
-
-/// Carries out the assignment of the process with a number, and makes its driver stale, in place of
-/// putting its time into the queue.
-#[inline(always)]
-pub fn assign_and_mark<N: Nets>(
-    nets: &N,
-    now: u64,
-    quick: &SingleAssignment,
-    number: usize,
-    drivers: &mut DividedRows<Driver>,
-    stale: &mut NumberSet,
-) -> Result<(), AllocError>
-    requires now { now ≤ largest_time }
-    requires at { number < length drivers.old }
-    requires pending { All (λ d. RisesFrom now d.pending) (slice_index_or drivers.old number []) }
-    requires stale { length stale.old ≡ length (joined drivers.old) }
-    ensures drivers { drivers.new ≡ slice_set drivers.old number (slice_index_or drivers.new number []) }
-    ensures assigned { spec.AreAssigned (N.look nets.now) now quick.now result (slice_index_or drivers.old number [])
-        (slice_index_or drivers.new number []) }
-    ensures times { (queue : List (Option ℕ)) → AreTimes queue stale.old (joined drivers.old) → AreTimes queue stale.new (joined drivers.new) }
-{
-    let (start, end) = drivers.row_bounds(number);
-    let place = quick.driver();
-    if place >= end - start {
-        return Ok(());
-    }
-    let (done, _next) = assign_in_parts(nets, now, quick, number, drivers);
-    stale.insert(start + place);
-    done
-}

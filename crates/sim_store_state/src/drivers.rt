@@ -2,15 +2,13 @@
 
 ghost use Rattle.std.specs.Prelude.{ℕ, List, ◌≡◌, ◌≢◌, ◌<◌, ◌≤◌, ◌⊎◌, [], ◌∷◌, true, false, None, Some, length, map, slice_index_or, slice_set, IfOk, OnOk};
 ghost use Rattle.std.specs.Bool.{Decides};
-ghost use Rattle.std.specs.List.{All};
 ghost use Rattle.sim_standard.specs.Drivers.{DriverState, taken};
 ghost use Rattle.sim_containers.specs.RowArray.{joined};
 ghost use Rattle.sim_containers.specs.Numbers.{is_in, members};
 ghost use Rattle.sim_standard.specs.State.{driver_at, driver_values};
 ghost use Rattle.sim_containers.specs.Times.{cleared, those_at, time_of};
 ghost use Rattle.sim_containers.specs.Words.{IsOnly};
-ghost use Rattle.sim_store_state.specs.Changes.{AreBeyond, AreReached, AreTaken, AreTallied, AreTimes, AreTold, first_times, time_at, value_at};
-ghost use Rattle.sim_store_state.specs.Times.{pending_times};
+ghost use Rattle.sim_store_state.specs.Changes.{AreReached, AreTaken, AreTallied, AreTimes, AreTold, first_times, time_at, value_at};
 ghost use Rattle.sim_flat_design.specs.declared.design.Source.{Source};
 ghost use Rattle.sim_standard.specs.Drivers as spec;
 
@@ -147,16 +145,6 @@ pub fn tell_changed(
         return;
     }
     tell_row(queue, stale, drivers, number);
-}
-
-/// The value of a driver after it takes its first transaction, if its time has come.
-pub fn value_after(driver: &Driver, time: u64) -> Logic
-    ensures { result ≡ (taken time driver.now).value }
-{
-    match driver.pending().first() {
-        Some((due, value)) if *due == time => *value,
-        _ => driver.value(),
-    }
 }
 
 /// A driver takes its first transaction, if its time has come (14.7.2). Returns its value after
@@ -518,39 +506,6 @@ pub fn take_all(
     forget(stale, told);
 }
 
-/// Whether no driver has a time up to this one in the queue.
-fn is_beyond(queue: &TimeQueue, time: u64) -> bool
-    ensures { result ≡ true → AreBeyond time queue.now }
-{
-    match queue.least() {
-        Some(least) => least > time,
-        None => true,
-    }
-}
-
-/// Makes every driver stale that may take a transaction at a time, and has the queue let go of its
-/// time. Nothing is pending before. If allocation fails, stale drivers may have any time.
-pub fn let_go(
-    queue: &mut TimeQueue,
-    stale: &mut NumberSet,
-    drivers: &DividedRows<Driver>,
-    time: u64,
-) -> Result<(), AllocError>
-    requires times { AreTimes queue.old stale.old (joined drivers.now) }
-    requires from { All (λ t. time ≤ t) (pending_times (joined drivers.now)) }
-    ensures times { AreTimes queue.new stale.new (joined drivers.now) }
-    ensures beyond { OnOk result (AreBeyond time queue.new) }
-{
-    if is_beyond(queue, time) {
-        return Ok(());
-    }
-    bring_up_to_date(queue, stale, drivers)?;
-    if let Some(least) = queue.least() {
-        queue.take(least, stale);
-    }
-    Ok(())
-}
-
 /// A stale driver takes its first transaction, if its time has come. If that is a new value, its nets
 /// are touched. Returns whether the queue has its first pending time.
 #[inline(always)]
@@ -633,34 +588,6 @@ fn take_each(
         from = number + 1;
     }
     told
-}
-
-/// Each driver that takes a transaction of a time, all of which are stale, takes it (14.7.5.3 c), and
-/// the nets of those whose value is a new one are touched. Other drivers are not looked at. The queue
-/// has the next times of drivers that are not stale.
-pub fn take_stale(
-    drivers: &mut DividedRows<Driver>,
-    driving: &mut [Logic],
-    time: u64,
-    fan_out: &RowArray<usize>,
-    queue: &mut TimeQueue,
-    stale: &mut NumberSet,
-    touched: &mut NumberSet,
-    tallies: &mut Tallies,
-)
-    requires beyond { AreBeyond time queue.old }
-    requires times { AreTimes queue.old stale.old (joined drivers.old) }
-    requires fan_out { length fan_out.now ≡ length (joined drivers.old) }
-    requires driving { driving.old ≡ driver_values (joined drivers.old) }
-    ensures taken { AreTaken time fan_out.now drivers.old drivers.new driving.old driving.new touched.old touched.new tallies.old tallies.new }
-    ensures times { AreTimes queue.new stale.new (joined drivers.new) }
-{
-    // From now on an assignment without delay puts a driver at the front of the queue.
-    queue.begin(time);
-    let told = take_each(
-        drivers, driving, time, stale, fan_out, queue, touched, tallies,
-    );
-    forget(stale, told);
 }
 
 /// Makes the drivers of the process with a number stale, as others may take their place.

@@ -107,8 +107,8 @@ fn execute_in_rows<N: Nets, P: Nets>(
     )
 }
 
-/// Executes the body of the process with a number. What it owns is at the same place of both lists.
-/// Returns whether anything may have changed.
+/// Executes the body of the process with a number. Its drivers and variables are at the same place
+/// of both lists. Returns whether anything may have changed.
 pub fn execute_at<N: Nets, P: Nets>(
     alloc: Global,
     nets: &N,
@@ -141,8 +141,8 @@ pub fn execute_at<N: Nets, P: Nets>(
     )
 }
 
-/// Executes the body of the process with a number. What each process owns is at its number. Returns
-/// whether anything may have changed.
+/// Executes the body of the process with a number. The drivers and variables of each process are at
+/// its number. Returns whether anything may have changed.
 pub fn execute_in_parts<N: Nets, P: Nets>(
     alloc: Global,
     nets: &N,

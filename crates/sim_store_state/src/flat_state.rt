@@ -17,9 +17,7 @@ ghost use Rattle.sim_standard.specs.State.{State, driver_values, net_at, owned_a
 ghost use Rattle.sim_standard.specs.Statements.{executed};
 ghost use Rattle.sim_standard.specs.Drivers as spec;
 ghost use Rattle.sim_store_state.specs.Times as times;
-ghost use Rattle.sim_containers.specs.Times.{those_at};
-ghost use Rattle.sim_store_state.specs.Assignments.{AreAssigned, told_of};
-ghost use Rattle.sim_store_state.specs.Changes.{first_times};
+ghost use Rattle.sim_store_state.specs.Assignments.{AreAssigned};
 ghost use Rattle.sim_standard.specs.State as states;
 ghost use Rattle.sim_standard.specs.Initialization.{first_state};
 ghost use Rattle.sim_standard.specs.Cycle.{updated};
@@ -30,18 +28,16 @@ ghost use Rattle.sim_store_state.specs.InTurn.{AreExecuted, IsExecutable, IsOthe
 ghost use Rattle.sim_standard.specs.Records.{changes_from, values_of};
 ghost use Rattle.sim_wave.specs.Rising.{RisesFrom};
 
-use crate::assignment::{assign_and_mark, assign_in_parts_and_tell};
-use crate::drivers::{
-    are_same, bring_up_to_date, copied, let_go, mark_stale, tell_changed, value_after,
-};
+use crate::assignment::assign_in_parts_and_tell;
+use crate::drivers::{are_same, bring_up_to_date, copied, mark_stale, tell_changed};
 use crate::execution::{as_done, execute_in_parts, may_have_changed};
 use crate::in_turn::execute_in_one_part;
-use crate::log::{Log, append_changes};
+use crate::log::Log;
 use crate::nets::{ByNumber, Seen, SeenBy, are_views, end_events, resolve_touched, views_at};
 use crate::start::{connections, first_contents, nothing_pending};
 use crate::tallies::Tallies;
 use crate::touched::Touched;
-use sim_containers::{DividedRows, NumberList, NumberSet, RowArray, TimeQueue};
+use sim_containers::{DividedRows, NumberSet, RowArray, TimeQueue};
 use sim_exec::NetView;
 use sim_exec_code::{Codes, Frame, SingleAssignment};
 use sim_flat_design::{Design, Held, Process, Source};
@@ -418,97 +414,6 @@ impl FlatState {
         Ok(())
     }
 
-    /// The update at a time before which nothing is pending (14.7.5.3 c, d), that of the next cycle or
-    /// an earlier one. It looks at the same drivers and nets as `update`; those that were found
-    /// (`find_active`) or told their values (`tell`) do not go through the queue. If allocation fails,
-    /// nothing changes.
-    pub fn update_at(&mut self, time: u64) -> Result<(), AllocError>
-        requires { All (λ t. time ≤ t) (times.pending_times (states.all_drivers self.old.owned)) }
-        ensures ok { OnOk result ((design : design_value) (s : State) → self.old ≡ flat_state_of design s
-            → self.new ≡ flat_state_of design (updated design s time)) }
-        ensures err { OnErr result (self.new ≡ self.old) }
-    {
-        let_go(&mut self.queue, &mut self.stale, &self.drivers, time)?;
-        // The present values become the values before this cycle.
-        end_events(
-            self.values_before.as_mut_slice(),
-            self.values.as_slice(),
-            &self.touched,
-        );
-        // c) Each active driver takes its transaction.
-        self.touched.take_stale(
-            &mut self.drivers,
-            self.driving.as_mut_slice(),
-            time,
-            &self.fan_out,
-            &mut self.queue,
-            &mut self.stale,
-            &mut self.tallies,
-        );
-        // d) Nets of changed drivers take the values of their sources.
-        resolve_touched(
-            self.values.as_mut_slice(),
-            &self.touched,
-            &self.sources,
-            self.driving.as_slice(),
-            &self.tallies,
-        );
-        Ok(())
-    }
-
-    /// Finds the drivers that take a transaction at the time of the next cycle. It looks at no
-    /// others. If allocation fails, nothing changes.
-    pub fn find_active(&mut self, time: u64, active: &mut NumberList) -> Result<(), AllocError>
-        requires next { spec.next_time (states.all_drivers self.old.owned) ≡ Some time }
-        requires sized { length active.old ≡ length (states.all_drivers self.old.owned) }
-        ensures same { self.new ≡ self.old }
-        ensures active { OnOk result (active.new ≡ those_at time (first_times (states.all_drivers self.old.owned))) }
-        ensures sized { length active.new ≡ length active.old }
-    {
-        bring_up_to_date(&mut self.queue, &self.stale, &self.drivers)?;
-        // The queue lets go of their times: they are stale until the update.
-        self.queue.take(time, &mut self.stale);
-        active.set_from(&self.stale);
-        Ok(())
-    }
-
-    /// The number of all drivers.
-    pub fn drivers(&self) -> usize
-        ensures { result ≡ length (states.all_drivers self.now.owned) }
-    {
-        self.driving.len()
-    }
-
-    /// The value that the driver with a number has after it takes its transaction of a time, if it
-    /// has one.
-    pub fn value_at(&self, driver: usize, time: u64) -> Logic
-        requires { driver < length (states.all_drivers self.now.owned) }
-        ensures { result ≡ (spec.taken time (states.driver_at (states.all_drivers self.now.owned) driver)).value }
-    {
-        value_after(self.drivers.item(driver), time)
-    }
-
-    /// The driver at a place of the process with a number gets a transaction of a time, in place of
-    /// all that it has pending, as an assignment without delay at that time gives it (10.5.2.2). If
-    /// allocation fails, no other process owns anything else.
-    pub fn tell(
-        &mut self,
-        number: usize,
-        driver: u32,
-        time: u64,
-        value: Logic,
-    ) -> Result<(), AllocError>
-        requires at { number < length self.old.owned }
-        requires time { time ≤ largest_time }
-        requires pending { All (λ d. RisesFrom time d.pending) (owned_at self.old.owned number).drivers }
-        ensures alone { self.new ≡ record self.old { owned = slice_set self.old.owned number (owned_at self.new.owned number) } }
-        ensures ok { OnOk result (owned_at self.new.owned number ≡ told_of driver time value (owned_at self.old.owned number)) }
-        ensures pending { All (λ d. RisesFrom time d.pending) (owned_at self.new.owned number).drivers }
-    {
-        let told = SingleAssignment::of_value(driver, value);
-        self.assign_and_mark(number, &told, time)
-    }
-
     /// Executes the process with this number in place, by its code. If allocation fails, it may
     /// have been executed in part, and must not be executed again.
     pub fn execute(
@@ -592,35 +497,6 @@ impl FlatState {
             number,
             &mut self.drivers,
             &mut self.queue,
-            &mut self.stale,
-        )
-    }
-
-    /// The same, where its driver becomes stale, in place of going through the queue.
-    fn assign_and_mark(
-        &mut self,
-        number: usize,
-        quick: &SingleAssignment,
-        time: u64,
-    ) -> Result<(), AllocError>
-        requires at { number < length self.old.owned }
-        requires time { time ≤ largest_time }
-        requires pending { All (λ d. RisesFrom time d.pending) (owned_at self.old.owned number).drivers }
-        ensures alone { self.new ≡ record self.old { owned = slice_set self.old.owned number (owned_at self.new.owned number) } }
-        ensures assigned { AreAssigned (net_at self.old.nets) time quick.now result (owned_at self.old.owned number).drivers
-            (owned_at self.new.owned number).drivers }
-        ensures variables { (owned_at self.new.owned number).variables ≡ (owned_at self.old.owned number).variables }
-    {
-        let seen = ByNumber {
-            values: self.values.as_slice(),
-            values_before: self.values_before.as_slice(),
-        };
-        assign_and_mark(
-            &seen,
-            time,
-            quick,
-            number,
-            &mut self.drivers,
             &mut self.stale,
         )
     }
@@ -722,23 +598,6 @@ impl FlatState {
             &mut self.queue,
             &mut self.stale,
         )
-    }
-
-    /// Makes the changes of the last cycle, in net order, all that a list has. It looks only at nets
-    /// that are touched.
-    pub fn changes(&self, changes: &mut Vec<(u32, Logic)>) -> Result<(), AllocError>
-        requires few { length self.now.nets < 2 ^ 32 }
-        ensures { OnOk result (changes.new.items ≡ changes_from 0 self.now.nets) }
-    {
-        changes.clear();
-        changes.reserve(self.values.len())?;
-        append_changes(
-            changes,
-            self.values.as_slice(),
-            self.values_before.as_slice(),
-            &self.touched,
-        );
-        Ok(())
     }
 
     /// Appends the changes of the last cycle to a log that has room for them.

@@ -57,7 +57,7 @@ fn execute_one<N: Nets>(
 }
 
 /// Executes these processes in order, as long as their bodies are single assignments. Returns how
-/// many it has executed. What each process owns is at its number.
+/// many it has executed. The drivers of each process are at its number.
 fn execute_each(
     nets: &ByNumber,
     processes: &[Process],

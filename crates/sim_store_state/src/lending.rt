@@ -19,7 +19,8 @@ use sim_logic::Logic;
 use sim_wave::Driver;
 use std::alloc::{AllocError, Global};
 
-/// What remains of a state while what its processes own and the values of its nets are elsewhere.
+/// The rest of a state while the drivers and variables of its processes and the values of its nets
+/// are elsewhere.
 #[derive(Drop)]
 pub struct UpdateLists {
     pub driving: Vec<Logic>,

@@ -21,7 +21,6 @@ mod tallies;
 mod tally;
 mod touched;
 
-pub use execution::execute_at;
 pub use flat_state::{FlatState, Lists, Part};
 pub use lending::{SplitState, UpdateLists, put_together, take_apart};
 pub use log::{Log, Mark};

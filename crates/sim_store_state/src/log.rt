@@ -1,6 +1,6 @@
 //! The records of a run, in flat lists.
 
-ghost use Rattle.std.specs.Prelude.{◌≡◌, ◌≢◌, ◌≤◌, ◌<◌, ◌+◌, ◌^◌, ◌++◌, ◌∷◌, [], length, slice_index_or, slice_range, vec_len, vec_capacity, OnErr, OnOk};
+ghost use Rattle.std.specs.Prelude.{◌≡◌, ◌≢◌, ◌≤◌, ◌<◌, ◌+◌, ◌^◌, ◌++◌, ◌∷◌, [], length, slice_index_or, slice_range, vec_len, vec_capacity, OnOk};
 ghost use Rattle.std.specs.List.{enumerate_from};
 ghost use Rattle.sim_store_state.specs.Changes.{AreTouched};
 ghost use Rattle.sim_store_state.specs.FlatState.{views_of};
@@ -69,16 +69,6 @@ fn append_values(changes: &mut Vec<(u32, Logic)>, values: &[Logic])
 {
     for number in 0..values.len() {
         changes.push_reserved((number as u32, values[number]));
-    }
-}
-
-/// Appends these changes.
-fn append_each(changes: &mut Vec<(u32, Logic)>, others: &[(u32, Logic)])
-    requires { vec_len changes.old + length others.now ≤ vec_capacity changes.old }
-    ensures { changes.new.items ≡ changes.old.items ++ others.now }
-{
-    for change in others {
-        changes.push_reserved(*change);
     }
 }
 
@@ -186,32 +176,6 @@ impl Log {
         self.marks.reserve(1)?;
         self.changes.reserve(changes)?;
         Ok(())
-    }
-
-    /// Appends a record with these changes. If allocation fails, the records stay.
-    pub fn push(
-        &mut self,
-        time: u64,
-        delta: u64,
-        changes: &[(u32, Logic)],
-    ) -> Result<(), AllocError>
-        ensures ok { OnOk result (self.new.records ≡ self.old.records ++ record { time = time; delta = delta; changes = changes.now } ∷ []) }
-        ensures err { OnErr result (self.new.records ≡ self.old.records) }
-    {
-        self.reserve(changes.len())?;
-        self.push_reserved(time, delta, changes);
-        Ok(())
-    }
-
-    /// The same, if there is room for it.
-    fn push_reserved(&mut self, time: u64, delta: u64, changes: &[(u32, Logic)])
-        requires mark { 0 < self.old.marks_room }
-        requires changes { length changes.now ≤ self.old.changes_room }
-        ensures { self.new.records ≡ self.old.records ++ record { time = time; delta = delta; changes = changes.now } ∷ [] }
-    {
-        let start = self.changes.len();
-        append_each(&mut self.changes, changes);
-        self.marks.push_reserved(Mark { time, delta, start });
     }
 
     /// Appends a record of the nets that changed, all of which are touched. There is room for it,

@@ -147,7 +147,7 @@ fn changed_to(value: Logic, before: Logic) -> NetView
     }
 }
 
-/// What is seen of the net with a number.
+/// The view of the net with a number.
 fn view_at(values: &[Logic], values_before: &[Logic], number: usize) -> NetView
     ensures { result ≡ net_at (views_of values.now values_before.now) number }
 {
@@ -161,7 +161,7 @@ fn view_at(values: &[Logic], values_before: &[Logic], number: usize) -> NetView
     changed_to(values[number], values_before[number])
 }
 
-/// What is seen of the nets with these numbers.
+/// The views of the nets with these numbers.
 pub fn views_at(
     alloc: Global,
     values: &[Logic],
@@ -176,7 +176,7 @@ pub fn views_at(
         .collect(alloc)
 }
 
-/// What is seen of the nets with these numbers, by place.
+/// The views of the nets with these numbers, by place.
 #[derive(Clone, Copy)]
 pub struct Seen<'a> {
     pub object_nets: &'a [usize],
@@ -184,7 +184,7 @@ pub struct Seen<'a> {
     pub values_before: &'a [Logic],
 }
 
-/// What a process sees of its ports and signals.
+/// The views that a process has of its ports and signals.
 #[derive(Clone, Copy)]
 pub struct SeenBy<'a> {
     pub process: &'a Process,
@@ -192,7 +192,7 @@ pub struct SeenBy<'a> {
     pub values_before: &'a [Logic],
 }
 
-/// What is seen of nets, by number.
+/// The views of nets, by number.
 #[derive(Clone, Copy)]
 pub struct ByNumber<'a> {
     pub values: &'a [Logic],

@@ -1,4 +1,4 @@
-//! What the processes of a range own, apart from the rest of a state.
+//! The drivers and variables of a range of processes, apart from the rest of a state.
 
 ghost use Rattle.std.specs.Prelude.{◌≡◌, length, slice_set, OnOk};
 ghost use Rattle.sim_exec.specs.Jobs.{IsReady};

@@ -1,4 +1,4 @@
-//! What all processes own, in shares.
+//! The drivers and variables of all processes, in shares.
 
 ghost use Rattle.std.specs.Prelude.{◌≡◌, ◌+◌, ◌^◌, ◌<◌, ◌≤◌, ◌++◌, ◌∷◌, [], true, length, take, drop, MatchOption, OnOk, IfOk};
 ghost use Rattle.sim_containers.specs.DividedRows.{AreParts};

@@ -155,7 +155,8 @@ fn in_one_part(
     Ok((drivers, variables))
 }
 
-/// What processes own initially, and the values of drivers and nets that follow from it.
+/// The drivers and variables that processes own initially, and the values of drivers and nets that
+/// follow from them.
 #[derive(Drop)]
 pub struct FirstContents {
     pub drivers: DividedRows<Driver>,

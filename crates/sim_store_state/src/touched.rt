@@ -7,9 +7,9 @@ ghost use Rattle.sim_containers.specs.RowArray.{joined};
 ghost use Rattle.sim_standard.specs.Drivers.{taken};
 ghost use Rattle.sim_standard.specs.Drivers as spec;
 ghost use Rattle.sim_standard.specs.State.{driver_at, driver_values};
-ghost use Rattle.sim_store_state.specs.Changes.{AreBeyond, AreTaken, AreTimes, first_times};
+ghost use Rattle.sim_store_state.specs.Changes.{AreTaken, AreTimes, first_times};
 
-use crate::drivers::{take_all, take_alone, take_stale};
+use crate::drivers::{take_all, take_alone};
 use crate::tallies::Tallies;
 use sim_containers::{DividedRows, NumberList, NumberSet, RowArray, TimeQueue};
 use sim_logic::Logic;
@@ -92,32 +92,6 @@ impl Touched {
         self.set.clear();
         let set = &mut self.set;
         take_all(drivers, driving, time, fan_out, queue, stale, set, tallies);
-        self.list.set_from(&self.set);
-    }
-
-    /// Each driver that takes a transaction of a time takes it (14.7.5.3 c): all of them are stale. The
-    /// nets of those whose value is a new one replace the nets that were here. It takes no memory for
-    /// them.
-    pub fn take_stale(
-        &mut self,
-        drivers: &mut DividedRows<Driver>,
-        driving: &mut [Logic],
-        time: u64,
-        fan_out: &RowArray<usize>,
-        queue: &mut TimeQueue,
-        stale: &mut NumberSet,
-        tallies: &mut Tallies,
-    )
-        requires beyond { AreBeyond time queue.old }
-        requires times { AreTimes queue.old stale.old (joined drivers.old) }
-        requires fan_out { length fan_out.now ≡ length (joined drivers.old) }
-        requires driving { driving.old ≡ driver_values (joined drivers.old) }
-        ensures taken { AreTaken time fan_out.now drivers.old drivers.new driving.old driving.new self.old self.new tallies.old tallies.new }
-        ensures times { AreTimes queue.new stale.new (joined drivers.new) }
-    {
-        self.set.clear();
-        let set = &mut self.set;
-        take_stale(drivers, driving, time, fan_out, queue, stale, set, tallies);
         self.list.set_from(&self.set);
     }
 }

@@ -13,8 +13,8 @@ use Rattle.sim_run_session.specs.contracts.team.PhaseWork as PhaseWork
 use Rattle.sim_run_session.specs.contracts.team.hire as hire
 use Rattle.sim_run_session.proofs.team.hire.Goals as goal
 
-pub spawn-requires-send-F : goal.spawn-requires-send-F
-spawn-requires-send-F g c κs within =
+pub spawn_scoped-requires-send-F : goal.spawn_scoped-requires-send-F
+spawn_scoped-requires-send-F g c κs within =
     let r : IsSync g.row.R = search rules in
     let s : IsSend (hire.D-row g.row.D g.row.R g.row.E) = search rules in
     let y : IsSync (hire.D-row g.row.D g.row.R g.row.E) = search rules in

@@ -1,5 +1,0 @@
-pub mod Seats
-pub mod Speakers
-pub mod Crews
-pub mod Runs
-pub mod Starts

@@ -1,2 +1,0 @@
-pub mod Dealt
-pub mod Hearers

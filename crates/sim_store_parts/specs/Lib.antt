@@ -1,5 +1,0 @@
-pub mod Numbers
-pub mod Nets
-pub mod Follow
-pub mod Told
-pub mod Cut

@@ -1,4 +1,0 @@
-mod Ready
-mod Telling
-mod Executing
-mod Cycles

@@ -1,2 +1,0 @@
-pub mod Shards
-pub mod Contents

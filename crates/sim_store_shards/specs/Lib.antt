@@ -1,4 +1,0 @@
-pub mod Selections
-pub mod Times
-pub mod Logs
-pub mod Parts
