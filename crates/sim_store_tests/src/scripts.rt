@@ -45,10 +45,10 @@ pub enum Call {
 pub type Script<'a> = (&'a str, u64, u32, usize, &'a [Call], &'a str);
 
 /// Results that are kept to be given back.
-pub type Kept = Vec<Option<Done>>;
+pub type KeptResults = Vec<Option<Done>>;
 
 /// Executes a job, and keeps the result.
-fn keep(line: &mut Line, alloc: Global, kept: &mut Kept, job: Job) {
+fn keep(line: &mut Line, alloc: Global, kept: &mut KeptResults, job: Job) {
     match kept.push(Done::run(alloc, job).ok()) {
         Ok(()) => line.put("done"),
         Err(_refused) => line.put("no memory"),
@@ -56,7 +56,7 @@ fn keep(line: &mut Line, alloc: Global, kept: &mut Kept, job: Job) {
 }
 
 /// Takes the job of a process, executes it, and keeps the result.
-fn run(line: &mut Line, alloc: Global, store: &WaveStore, kept: &mut Kept, process: usize) {
+fn run(line: &mut Line, alloc: Global, store: &WaveStore, kept: &mut KeptResults, process: usize) {
     match store.job(alloc, process) {
         Err(refusal) => line.put_refusal(refusal),
         Ok(job) => keep(line, alloc, kept, job),
@@ -78,7 +78,7 @@ fn job_like(
 }
 
 /// Executes a job, if there is one, and keeps the result.
-fn keep_any(line: &mut Line, alloc: Global, kept: &mut Kept, job: Option<Job>) {
+fn keep_any(line: &mut Line, alloc: Global, kept: &mut KeptResults, job: Option<Job>) {
     match job {
         None => line.put("none"),
         Some(job) => keep(line, alloc, kept, job),
@@ -199,7 +199,7 @@ fn put_history(line: &mut Line, alloc: Global, store: &WaveStore) {
 }
 
 /// Makes one call, and appends its answer.
-fn put_answer(line: &mut Line, alloc: Global, store: &mut WaveStore, kept: &mut Kept, call: Call) {
+fn put_answer(line: &mut Line, alloc: Global, store: &mut WaveStore, kept: &mut KeptResults, call: Call) {
     match call {
         Call::Advance => advance(line, alloc, store),
         Call::Run(process) => run(line, alloc, store, kept, process),
@@ -229,7 +229,7 @@ pub fn put_answers(
     line: &mut Line,
     alloc: Global,
     store: &mut WaveStore,
-    kept: &mut Kept,
+    kept: &mut KeptResults,
     calls: &[Call],
 ) {
     for call in calls {
@@ -239,7 +239,7 @@ pub fn put_answers(
 }
 
 /// Follows a script with a store of its own. It can use results that were kept before.
-pub fn follow(line: &mut Line, alloc: Global, kept: &mut Kept, script: &Script<'_>) {
+pub fn follow(line: &mut Line, alloc: Global, kept: &mut KeptResults, script: &Script<'_>) {
     let Some(design) = flat(alloc, script.0) else {
         return line.put("no design");
     };
