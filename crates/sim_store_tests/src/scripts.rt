@@ -199,7 +199,13 @@ fn put_history(line: &mut Line, alloc: Global, store: &WaveStore) {
 }
 
 /// Makes one call, and appends its answer.
-fn put_answer(line: &mut Line, alloc: Global, store: &mut WaveStore, kept: &mut KeptResults, call: Call) {
+fn put_answer(
+    line: &mut Line,
+    alloc: Global,
+    store: &mut WaveStore,
+    kept: &mut KeptResults,
+    call: Call,
+) {
     match call {
         Call::Advance => advance(line, alloc, store),
         Call::Run(process) => run(line, alloc, store, kept, process),
