@@ -1,11 +1,11 @@
 //! Hints on a fault, from the words and signs at its place.
 
 use crate::left_out::{
-    self, ARITHMETIC, BASED, CALL, EXTENDED, JOINING, NAMES, ORDER, STRING, TICK,
+    self, ARITHMETIC, ASSERTION, BASED, CALL, EXTENDED, JOINING, NAMES, ORDER, STRING, TICK,
 };
 use crate::slips::{
     self, ACTUAL, ARROW, ASSIGNMENT, BEGIN, CLOSING_NAME, COMMA, COMPARISON, ELSE_IF, KINDS,
-    LAST_PORT, LINE_BEFORE, NOT_ASCII, NUMBER, OPEN, OPERATORS, SIGNAL, SIGNAL_ASSIGNMENT,
+    LAST_PORT, LINE_BEFORE, MIXED, NOT_ASCII, NUMBER, OPEN, OPERATORS, SIGNAL, SIGNAL_ASSIGNMENT,
     UNDERSCORE, UNEQUAL, UNIT_OF_TIME,
 };
 use crate::tokens::{
@@ -45,6 +45,7 @@ fn of_signs(before: &[u8], after: &[u8]) -> Option<&'static str> {
         (Some(b'('), [b'0'..=b'9', ..]) => Some(CALL),
         (_, b"<=") => Some(SIGNAL_ASSIGNMENT),
         (_, b"=>") => Some(ARROW),
+        (_, b"??") => Some(MIXED),
         (_, b"=") => Some(COMPARISON),
         (_, b":=") => Some(ASSIGNMENT),
         (_, b",") => Some(COMMA),
@@ -143,10 +144,20 @@ pub fn of_syntax(source: &[u8], at: usize) -> Option<&'static str> {
     of_place(without_comments(before), after, is_at_line_start(before))
 }
 
+/// The hint on a string after this text.
+fn of_string(before: &[u8]) -> &'static str {
+    if is_one_of(&["report"], last_word(without_comments(before))) {
+        ASSERTION
+    } else {
+        STRING
+    }
+}
+
 /// The hint on a `BadByte` at this place.
 pub fn of_byte(source: &[u8], at: usize) -> Option<&'static str> {
-    match source.get(at).copied()? {
-        b'"' => Some(STRING),
+    let (before, after) = source.split_at(at.min(source.len()));
+    match after.first().copied()? {
+        b'"' => Some(of_string(before)),
         b'\\' => Some(EXTENDED),
         b'<' | b'>' | b'?' => Some(ORDER),
         b'+' | b'-' | b'*' | b'/' => Some(ARITHMETIC),
