@@ -9,8 +9,8 @@ use crate::slips::{
     UNDERSCORE, UNEQUAL, UNIT_OF_TIME,
 };
 use crate::tokens::{
-    find, first_token, first_word, has_pair_since, has_word, is_at_line_start, is_one_of,
-    last_statement, last_word, without_comments, word_before_last,
+    behind_comments, find, first_token, first_word, has_pair_since, has_word, is_at_line_start,
+    is_one_of, last_statement, last_word, without_comments, word_before_last,
 };
 
 /// Whether the last line of a text may be complete.
@@ -110,12 +110,13 @@ fn of_else_if(before: &[u8]) -> Option<&'static str> {
     }
 }
 
-/// Whether a text begins like Verilog or a netlist.
+/// Whether a text begins like Verilog or a netlist, apart from comments `/* .. */`.
 pub fn is_foreign(source: &[u8]) -> bool {
-    let text = source.trim_ascii_start();
+    let text = behind_comments(source);
     is_one_of(&["module"], first_word(text))
         || text.starts_with(b"//")
         || text.starts_with(b"`")
+        || text.starts_with(b"#")
         || text.starts_with(b"{")
         || text.starts_with(b"(")
         || text.starts_with(b".")
