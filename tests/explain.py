@@ -169,6 +169,7 @@ MISTAKES = [
 
 LOOP = "entity t is end; architecture a of t is signal s : std_logic := '0'; begin s <= not s; end;"
 CLOCK = "entity t is end; architecture a of t is signal clk : std_logic := '0'; begin clk <= not clk after 5 ns; end;"
+UNITS = "entity gates is end; entity counter is end; entity clock is end;"
 # seven nets that change in turn, and all at once
 WIDE = """\
 entity t is end;
@@ -291,6 +292,14 @@ RUNS = [
         "NoTop\nNo entity in the text has the name given by --top. Check the spelling; case makes no\n"
         "difference.\nSee Calling the program in docs/LANGUAGE.md.\n"
         "The entities in the text, nearest name first: t.\n",
+    ),
+    (
+        "--top clok",
+        UNITS,
+        1,
+        "NoTop\nNo entity in the text has the name given by --top. Check the spelling; case makes no\n"
+        "difference.\nSee Calling the program in docs/LANGUAGE.md.\n"
+        "The entities in the text, nearest name first: clock, gates, counter.\n",
     ),
     ("design.vhd", CLOCK, 2, ""),
 ]
