@@ -36,8 +36,9 @@ const WRONG_KIND: &str = "\
     See Names and scopes in docs/LANGUAGE.md.";
 
 const TYPE_CLASH: &str = "\
-    std_logic and boolean are mixed here, or ?? is applied to a boolean. s = '1' and ?? s\n\
-    turn a signal into a boolean, and '1' when .. else '0' turns a boolean into std_logic.\n\
+    std_logic and boolean are mixed here, or ?? is applied to a boolean. s = '1' and (?? s)\n\
+    turn a signal into a boolean. '1' when .. else '0' turns a boolean into std_logic; in a\n\
+    process an if statement does.\n\
     See Expressions in docs/LANGUAGE.md.";
 
 const AMBIGUOUS: &str = "\

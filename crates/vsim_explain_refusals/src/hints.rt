@@ -1,16 +1,16 @@
 //! Hints on a fault, from the words and signs at its place.
 
 use crate::left_out::{
-    self, ARITHMETIC, BASED, CALL, EXTENDED, JOINING, NAMES, ORDER, STRING, TICK,
+    self, ARITHMETIC, ASSERTION, BASED, CALL, EXTENDED, JOINING, NAMES, ORDER, STRING, TICK,
 };
 use crate::slips::{
     self, ACTUAL, ARROW, ASSIGNMENT, BEGIN, CLOSING_NAME, COMMA, COMPARISON, ELSE_IF, KINDS,
-    LAST_PORT, LINE_BEFORE, NOT_ASCII, NUMBER, OPEN, OPERATORS, SIGNAL, SIGNAL_ASSIGNMENT,
+    LAST_PORT, LINE_BEFORE, MIXED, NOT_ASCII, NUMBER, OPEN, OPERATORS, SIGNAL, SIGNAL_ASSIGNMENT,
     UNDERSCORE, UNEQUAL, UNIT_OF_TIME,
 };
 use crate::tokens::{
-    find, first_token, first_word, has_pair_since, has_word, is_at_line_start, is_one_of,
-    last_statement, last_word, without_comments, word_before_last,
+    behind_comments, find, first_token, first_word, has_pair_since, has_word, is_at_line_start,
+    is_one_of, last_statement, last_word, without_comments, word_before_last,
 };
 
 /// Whether the last line of a text may be complete.
@@ -45,6 +45,7 @@ fn of_signs(before: &[u8], after: &[u8]) -> Option<&'static str> {
         (Some(b'('), [b'0'..=b'9', ..]) => Some(CALL),
         (_, b"<=") => Some(SIGNAL_ASSIGNMENT),
         (_, b"=>") => Some(ARROW),
+        (_, b"??") => Some(MIXED),
         (_, b"=") => Some(COMPARISON),
         (_, b":=") => Some(ASSIGNMENT),
         (_, b",") => Some(COMMA),
@@ -109,12 +110,13 @@ fn of_else_if(before: &[u8]) -> Option<&'static str> {
     }
 }
 
-/// Whether a text begins like Verilog or a netlist.
+/// Whether a text begins like Verilog or a netlist, apart from comments `/* .. */`.
 pub fn is_foreign(source: &[u8]) -> bool {
-    let text = source.trim_ascii_start();
+    let text = behind_comments(source);
     is_one_of(&["module"], first_word(text))
         || text.starts_with(b"//")
         || text.starts_with(b"`")
+        || text.starts_with(b"#")
         || text.starts_with(b"{")
         || text.starts_with(b"(")
         || text.starts_with(b".")
@@ -143,10 +145,20 @@ pub fn of_syntax(source: &[u8], at: usize) -> Option<&'static str> {
     of_place(without_comments(before), after, is_at_line_start(before))
 }
 
+/// The hint on a string after this text.
+fn of_string(before: &[u8]) -> &'static str {
+    if is_one_of(&["report"], last_word(without_comments(before))) {
+        ASSERTION
+    } else {
+        STRING
+    }
+}
+
 /// The hint on a `BadByte` at this place.
 pub fn of_byte(source: &[u8], at: usize) -> Option<&'static str> {
-    match source.get(at).copied()? {
-        b'"' => Some(STRING),
+    let (before, after) = source.split_at(at.min(source.len()));
+    match after.first().copied()? {
+        b'"' => Some(of_string(before)),
         b'\\' => Some(EXTENDED),
         b'<' | b'>' | b'?' => Some(ORDER),
         b'+' | b'-' | b'*' | b'/' => Some(ARITHMETIC),

@@ -70,8 +70,8 @@ pub const FOREIGN: &str = "\
     an entity or an architecture. See A first design in docs/LANGUAGE.md.";
 
 pub const SELECTED: &str = "\
-    Selected assignments are left out. Write a conditional assignment: '1' when .. else '0'.\n\
-    See Concurrent statements in docs/LEFT_OUT.md.";
+    Selected assignments are left out. Write a conditional assignment: '1' when .. else '0';\n\
+    in a process an if statement. See Concurrent statements in docs/LEFT_OUT.md.";
 
 pub const AGGREGATE: &str = "\
     Aggregates are left out, as vectors are. See Values in docs/LEFT_OUT.md.";

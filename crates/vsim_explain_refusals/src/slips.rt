@@ -13,8 +13,9 @@ pub const ASSIGNMENT: &str = "\
     See Assignments and delays in docs/LANGUAGE.md.";
 
 pub const SIGNAL_ASSIGNMENT: &str = "\
-    <= assigns a signal, in a statement of its own. In a port map write =>; ordering\n\
-    operators are left out. See Assignments and delays in docs/LANGUAGE.md.";
+    <= assigns a signal, in a statement of its own. An initial value is given with :=. In a\n\
+    port map write =>; ordering operators are left out.\n\
+    See Assignments and delays in docs/LANGUAGE.md.";
 
 pub const UNEQUAL: &str = "\
     /= tests whether two values differ; not inverts a value.\n\
@@ -30,7 +31,8 @@ pub const UNIT_OF_TIME: &str = "\
 
 pub const MIXED: &str = "\
     Different logical operators can be combined only with parentheses, as in (p and q) or r;\n\
-    nand and nor cannot be repeated without them. See Expressions in docs/LANGUAGE.md.";
+    nand and nor cannot be repeated without them, and ?? s as an operand needs them.\n\
+    See Expressions in docs/LANGUAGE.md.";
 
 pub const ENDS: &str = "\
     This end does not match what is open here. An if ends with end if, a process with end\n\

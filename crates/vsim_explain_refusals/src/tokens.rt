@@ -134,6 +134,28 @@ pub fn without_comments(text: &[u8]) -> &[u8] {
     text
 }
 
+/// What follows a comment `/* .. */` at the start of a text.
+fn behind_comment(text: &[u8]) -> Option<&[u8]> {
+    if !text.starts_with(b"/*") {
+        return None;
+    }
+    let (_, inside) = text.split_at(2.min(text.len()));
+    let end = inside.windows(2).position(|pair| pair == b"*/".as_slice())?;
+    inside.get(end.saturating_add(2)..)
+}
+
+/// A text without blanks and comments `/* .. */` at its start.
+pub fn behind_comments(text: &[u8]) -> &[u8] {
+    let mut text = text.trim_ascii_start();
+    for _turn in 0..MOST_COMMENTS {
+        let Some(after) = behind_comment(text) else {
+            break;
+        };
+        text = after.trim_ascii_start();
+    }
+    text
+}
+
 /// The number of bytes of the sign at the start of a text.
 fn sign_length(text: &[u8]) -> usize {
     for sign in &SIGNS {

@@ -1,0 +1,181 @@
+#!/usr/bin/env python3
+"""Tries what each program answers before it reads a design, and what a shell finds of it.
+
+    everyday.py VSIM VSIM_EXPLAIN VSIM_WAVES VSIM_NETLIST [--install]
+
+For each program: `--version` and `-V` print a line that begins with its name, `--help` and `-h` print the help, both on standard output
+with status 0; words that are refused go to standard error with status 2; and a line of usage has the program's own name. Its man page
+and its completions, made by the functions of the script install in a temporary prefix, are where they should be, name each option,
+and are scripts of their shells (of those that are there). VSIM_WAVES is silent if what reads a long VCD goes away. The script vsim, in
+a temporary tree that notes VSIM as built, answers a folder on standard input as the program does.
+
+With --install the script install itself is called with a temporary prefix, so the programs are built first. The last line is `N passed,
+M failed`.
+"""
+import argparse
+import contextlib
+import glob
+import importlib.machinery
+import importlib.util
+import io
+import os
+import re
+import shutil
+import subprocess
+import sys
+import tempfile
+
+TOP = os.path.dirname(os.path.dirname(os.path.realpath(__file__)))
+NAMES = ["vsim", "vsim_explain", "vsim_waves", "vsim_netlist"]
+# where the files of a program are in a prefix; for each shell also the command that reads the file, and the mark of a value that is a file
+PAGE = "share/man/man1/{}.1"
+COMPLETIONS = {
+    "share/bash-completion/completions/{}": (["bash", "-n"], None),
+    "share/zsh/site-functions/_{}": (["zsh", "-n"], ":FILE:_files'"),
+    "share/fish/vendor_completions.d/{}.fish": (["fish", "--no-execute"], " -r -F "),
+}
+LINES = 50_000
+
+
+def answer(command, **how):
+    """Returns the status, the output and the errors of a command."""
+    how = {"stdin": subprocess.DEVNULL, **how}
+    ran = subprocess.run(command, stdout=subprocess.PIPE, stderr=subprocess.PIPE, timeout=60, **how)
+    return ran.returncode, ran.stdout.decode(errors="replace"), ran.stderr.decode(errors="replace")
+
+
+def fault_of_words(name, program, word, status, pattern):
+    """Returns what is wrong with the answer to a word, if anything: what is said must match, and be all on one stream."""
+    got, out, errors = answer([program, word])
+    said, other = (out, errors) if status == 0 else (errors, out)
+    usages = set(re.findall(r"usage: (\w+)", said, re.I))
+    if got != status or other or not re.search(pattern, said) or not usages <= {name}:
+        return f"{name} {word}: status {got}:\n{out}{errors}"
+    return None
+
+
+def faults_of_program(name, program):
+    """Yields what is wrong, if anything, with each answer of a program to a word that asks for no run."""
+    for word in ("--version", "-V"):
+        yield fault_of_words(name, program, word, 0, rf"\A{name} \S+, sources .+, toolchain .+\n\Z")
+    for word in ("--help", "-h"):
+        yield fault_of_words(name, program, word, 0, rf"Usage: {name} ")
+    yield fault_of_words(name, program, "--no-such-option", 2, rf"[Uu]sage: {name} ")
+
+
+def installer():
+    """Returns the script install as a module."""
+    loader = importlib.machinery.SourceFileLoader("install", f"{TOP}/install")
+    module = importlib.util.module_from_spec(importlib.util.spec_from_loader("install", loader))
+    loader.exec_module(module)
+    return module
+
+
+def contents(path):
+    with open(path, encoding="utf-8") as file:
+        return file.read()
+
+
+def fault_of_completion(path, reader, mark, options, files):
+    """Returns what is wrong with a file of completions, if anything; this many options have a file as their value."""
+    text = contents(path)
+    missing = [it for it in options if it not in text and f"-l {it[2:]} " not in text]
+    if missing or mark and text.count(mark) != files:
+        return f"{path} lacks {', '.join(missing) or 'the files'}"
+    status, _, errors = answer([*reader, path]) if shutil.which(reader[0]) else (0, "", "")
+    return f"{path}: {errors}" if status or errors else None
+
+
+def faults_of_files(name, prefix):
+    """Yields what is wrong, if anything, with each file of a program in a prefix."""
+    _, out, _ = answer([f"{prefix}/bin/{name}", "--help"])
+    options = re.findall(r"^ +(?:-\w, )?(--[\w-]+)", out, re.M)
+    page = contents(f"{prefix}/{PAGE.format(name)}").replace("\\-", "-")
+    missing = [it for it in (f".TH {name.upper()} 1", ".SH SYNOPSIS", ".SH OPTIONS", *options) if it not in page]
+    yield f"the page of {name} lacks {', '.join(missing)}" if missing or not options else None
+    for path, (reader, mark) in COMPLETIONS.items():
+        yield fault_of_completion(f"{prefix}/{path.format(name)}", reader, mark, options, out.count("<FILE>"))
+    yield fault_in_bash(name, prefix, options)
+
+
+def fault_in_bash(name, prefix, options):
+    """Returns what is wrong with the words that bash offers after `NAME --`, if anything."""
+    file = f"{prefix}/share/bash-completion/completions/{name}"
+    status, out, errors = answer(["bash", "-c", f". '{file}'; COMP_WORDS=({name} --); COMP_CWORD=1; _{name}; echo ${{COMPREPLY[*]}}"])
+    offered = set(out.split())
+    return None if status == 0 and not errors and set(options) <= offered else f"bash offers {out}{errors} after {name} --"
+
+
+def fault_of_waves(waves, room):
+    """Returns what is wrong, if anything, when the reader of a long VCD goes away."""
+    with open(f"{room}/listing", "w", encoding="ascii") as file:
+        file.writelines(f"{n} 0 s {n % 2}\n" for n in range(LINES))
+        file.write(f"done {LINES - 1} {LINES - 1}\n")
+    _, out, errors = answer(["bash", "-c", f"'{waves}' < '{room}/listing' | head -n 1"])
+    return None if out.count("\n") == 1 and not errors else f"vsim_waves | head: {out}{errors}"
+
+
+def tree(vsim, room):
+    """Makes a tree with the script vsim, which notes this program as built, without a toolchain; returns the script."""
+    for it in ("tools", "crates", "out"):
+        os.makedirs(f"{room}/tree/{it}")
+    for it in ("vsim", "tools/run"):
+        shutil.copy(f"{TOP}/{it}", f"{room}/tree/{it}")
+    for it, text in (("crates.txt", ""), ("out/vsim.kept", f"{vsim}\n\n\n\n")):
+        with open(f"{room}/tree/{it}", "w", encoding="utf-8") as file:
+            file.write(text)
+    latest = os.stat(f"{room}/tree/out/vsim.kept").st_ctime + 1
+    os.utime(f"{room}/tree/out/vsim.kept", (latest, latest))
+    return f"{room}/tree/vsim"
+
+
+def fault_of_folder(command, variables):
+    """Returns what is wrong with the answer to a folder on standard input, if anything."""
+    folder = os.open("/", os.O_RDONLY)
+    try:
+        got = answer([command, "--top", "t"], stdin=folder, env=variables)
+    finally:
+        os.close(folder)
+    return None if got == (4, "", "vsim: Read\n") else f"{command} --top t < /: {got}"
+
+
+def faults(programs, room, is_installed):
+    """Yields what is wrong, if anything, of each trial."""
+    for name, program in programs.items():
+        yield from faults_of_program(name, program)
+    prefix = f"{room}/prefix"
+    if is_installed:
+        status, _, errors = answer([f"{TOP}/install", prefix], timeout=None)
+        yield f"./install: {errors}" if status else None
+    else:
+        with contextlib.redirect_stdout(io.StringIO()):
+            for program in programs.values():
+                installer().install(program, prefix)
+    for name in NAMES:
+        yield from faults_of_files(name, prefix)
+    found = [os.path.basename(it) for it in glob.glob(f"{prefix}/**/*.new-*", recursive=True)]
+    yield f"{', '.join(found)} are left over" if found else None
+    yield fault_of_waves(programs["vsim_waves"], room)
+    yield fault_of_folder(programs["vsim"], os.environ)
+    yield fault_of_folder(tree(programs["vsim"], room), {"PATH": "/usr/bin:/bin"})
+
+
+def main():
+    given = argparse.ArgumentParser()
+    for name in NAMES:
+        given.add_argument(name)
+    given.add_argument("--install", action="store_true")
+    given = given.parse_args()
+    programs = {name: os.path.abspath(getattr(given, name)) for name in NAMES}
+    with tempfile.TemporaryDirectory() as room:
+        found = list(faults(programs, room, given.install))
+    for it in filter(None, found):
+        print(f"everyday: {it}")
+    wrong = len(found) - found.count(None)
+    print(f"{len(found) - wrong} passed, {wrong} failed")
+    return 1 if wrong else 0
+
+
+if __name__ == "__main__":
+    sys.dont_write_bytecode = True
+    sys.exit(main())
