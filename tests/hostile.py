@@ -1,7 +1,7 @@
 #!/usr/bin/env python3
 """Gives the program what a stranger may give it: texts that are cut off, damaged or huge, and streams that fail.
 
-    hostile.py PROGRAM [CASES] [--texts]
+    hostile.py PROGRAM [CASES] [--texts | --memory]
 
 - Each proper prefix of three designs is refused as a text, except the one that ends after its entity.
 - A zero byte in place of each byte of these designs is refused at its place, or at the token that it breaks.
@@ -13,8 +13,9 @@
 - Standard output is full, closed, or a pipe without a reader; standard input is closed, a folder or a terminal; standard error is
   closed. The status and the line are those of the manual.
 
-With --texts the streams are left out. Differences are printed. A table has the time and memory of the huge texts. The last line
-is `N passed, M failed`.
+With --texts the streams are left out. With --memory there are only runs in address spaces of 10, 12, 14 MiB and so on up to 60, by 1,
+4 and 16 workers: 600 long processes, and 600 flip-flops. They say in which sizes several workers lack memory and one does not.
+Differences are printed. A table has the time and memory of the huge texts. The last line is `N passed, M failed`.
 """
 import itertools
 import os
@@ -26,6 +27,8 @@ import tempfile
 
 MOST = 1 << 20
 LONGEST = 60
+# the numbers of workers beside one
+SEVERAL = ("4", "16")
 # the most processor seconds and MiB for a text of 1 MiB
 SECONDS, MEBIBYTES = 20, 200
 WORDS = ["--top", "t"]
@@ -220,6 +223,31 @@ def worked(processes, statements):
     return f"entity t is end;architecture a of t is signal clk,{','.join(of_all)}:std_logic:='0';begin clk<=not clk after 1 ns;{every}end;".encode()
 
 
+def turned(count):
+    """A design in which each rising edge of a clock turns this many flip-flops."""
+    of_all = [f"s{number}" for number in range(count)]
+    every = "".join(f"process(clk) begin if rising_edge(clk) then {name}<=not {name};end if;end process;" for name in of_all)
+    return f"entity t is end;architecture a of t is signal clk,{','.join(of_all)}:std_logic:='0';begin clk<=not clk after 1 ns;{every}end;".encode()
+
+
+def narrow(program, tally, *first):
+    """Runs in an address space of each second MiB: several workers must not lack memory where one has enough."""
+    words = [*first, *WORDS, "--stop", "20000000", "--workers"]
+    for name, text in (("600 processes", worked(600, 20)), ("600 flip-flops", turned(600))):
+        ample, refused = run(program, text, [*words, "1"]), {it: [] for it in SEVERAL}
+        tally.note(ample.status == 0, f"{name} by 1", ample)
+        for mebibytes in range(10, 62, 2):
+            answers = {it: limited(program, text, [*words, it], mebibytes << 10) for it in ("1", *SEVERAL)}
+            enough = answers["1"].same(0, ample.out, b"")
+            for workers, answer in answers.items():
+                holds = answer.same(0, ample.out, b"") or not enough and answer.status != 0 and not answer.out
+                tally.note(holds, f"{name} in {mebibytes} MiB by {workers}", answer)
+                if not holds and workers in refused:
+                    refused[workers].append(mebibytes)
+        for workers, sizes in refused.items():
+            print(f"{name} by {workers}: refused where 1 is not, in {sizes or 'no'} MiB")
+
+
 def shared(program, tally, *first):
     """Runs in small address spaces, which have no room for the stack and the heap of each thread."""
     text, words = worked(600, 20), [*first, *WORDS, "--stop", "20000000", "--workers"]
@@ -271,20 +299,21 @@ def terminal(program, tally):
 
 def main():
     program, *words = sys.argv[1:] or [""]
-    cases = [os.path.abspath(it) for it in words if it != "--texts"]
+    cases = [os.path.abspath(it) for it in words if it not in ("--texts", "--memory")]
     if not program or len(cases) > 1 or len(words) > 2:
         sys.exit(__doc__)
     program, tally = os.path.abspath(program), Tally()
     answer = run(program, DESIGN)
     tally.note(answer.same(0, LISTING, b""), "the design", answer)
-    for part in (prefixes, zeros, huge, memory):
-        part(program, tally)
-    if cases:
-        shared(cases[0], tally, "--handed-out")
+    several = (cases[0], tally, "--handed-out") if cases else (program, tally)
+    if "--memory" in words:
+        narrow(*several)
     else:
-        shared(program, tally)
-    for part in () if "--texts" in words else (streams, terminal):
-        part(program, tally)
+        for part in (prefixes, zeros, huge, memory):
+            part(program, tally)
+        shared(*several)
+        for part in () if "--texts" in words else (streams, terminal):
+            part(program, tally)
     print(f"{tally.passed} passed, {tally.failed} failed")
     return 1 if tally.failed else 0
 

@@ -13,7 +13,8 @@ of its own, and repeats once each that finds no memory. If one request is refuse
 and for a whole call or a row, in a line that begins with `!`, which error came first: lack of memory for the text, for the
 design or for the run; for a whole call in this order. Only if it cannot read the text, it says so.
 
-With --gate each request of the designs below is refused alone, for the program and for all calls.
+With --gate each request of the designs below is refused alone, for the program and for all calls, and with ample memory each
+must give the listing that stands beside it.
 
 refuse.c is compiled to a library with the clang of rt, or else with `cc`.
 """
@@ -37,47 +38,64 @@ ERRORS = [b"Text(Memory)", b"Flat(Memory)", b"Memory"]
 # the calls that meet all of them
 WHOLE = [b"simulate", b"run", b"run_in"]
 
+
+def text_of(declared, inside, behind=""):
+    """A text with these declarations and statements of the architecture, and what follows it."""
+    return f"entity t is end;architecture a of t is {declared} begin {inside} end;{behind}"
+
+
 LEAF = "entity l is port(i:in std_logic;o:out std_logic);end;architecture a of l is begin o<=i;end;"
 TOGGLE = "process (clk) variable v:std_logic:='0'; begin if rising_edge(clk) then v := not v; q <= v; end if; end process;"
 TAKEN = "process(clk) begin if rising_edge(clk) then {0} <= {1}; end if; end process;"
-# the declarations, the statements of the architecture, what follows it, and words beside `--top t`
+PULSE = "a <= '0', '1' after 10 ns, '0' after {0} ns; "
+CLOCK = text_of("signal clk:std_logic:='0';", "clk <= not clk after 5 ns;")
+PASSED = "0 0 a U / 0 0 q U / 0 1 a 0 / 5000000 0 q 0 / 10000000 0 a 1 / 13000000 0 a 0 / 15000000 0 q 1 / 18000000 0 q 0 / done 6 6"
+REJECTED = "0 0 a U / 0 0 q U / 0 1 a 0 / 5000000 0 q 0 / 10000000 0 a 1 / {0} 0 a 0 / done 5 4"
+# a text, the words, and the listing, worked out by hand, or why the run is cut short
 DESIGNS = [
-    ("signal s:std_logic:='0';", "s <= '1' after 5 ns;", "", ""),
-    ("", "", "", ""),
-    ("signal s:std_logic;", "s <= '0'; s <= '1';", "", ""),
-    ("signal s:std_logic;", "s <= '-';", "", ""),
-    ("signal s:std_logic;", "s <= '-'; s <= 'Z';", "", ""),
-    ("signal a,q:std_logic;", "a <= '0', '1' after 10 ns, '0' after 13 ns; q <= a after 5 ns;", "", ""),
-    ("signal a,q:std_logic;", "a <= '0', '1' after 10 ns, '0' after 13 ns; q <= transport a after 5 ns;", "", ""),
-    ("signal a,q:std_logic;", "a <= '0', '1' after 10 ns, '0' after 13 ns; q <= reject 2 ns inertial a after 5 ns;", "", ""),
-    ("signal a,q:std_logic;", "a <= '0', '1' after 10 ns, '0' after 12 ns; q <= reject 2 ns inertial a after 5 ns;", "", ""),
-    ("signal a,q:std_logic:='0';", "a <= '1' after 1 ns; q <= '1' after 8 ns when a = '0' else '1' after 9 ns;", "", ""),
-    ("signal s:std_logic:='0';", "s <= not s;", "", "--limit 100"),
-    ("signal s:std_logic;", "s <= not s;", "", "--limit 100"),
-    ("signal clk:std_logic:='0';", "clk <= not clk after 5 ns;", "", "--stop 12000000"),
-    ("signal clk:std_logic:='0';", "clk <= not clk after 5 ns;", "", "--stop 12000000 --limit 2"),
-    ("signal clk:std_logic:='0';", "clk <= not clk after 5 ns;", "", "--stop 12000000 --limit 1"),
-    ("signal clk:std_logic:='0'; signal q:std_logic;", "clk <= not clk after 5 ns; " + TOGGLE, "", "--stop 16000000"),
-    ("signal s:std_logic:='0';", "s <= '1'; u:entity work.e port map(p=>s);",
-     "entity e is port(p:out std_logic);end;architecture a of e is begin end;", ""),
-    ("signal s:std_logic:='0';", "u:entity work.l port map('1',s);", LEAF, ""),
-    ("", "u:entity work.l port map(i=>'1',o=>open);", LEAF, ""),
-    ("signal s:std_logic;", "u:entity work.e port map(s,s);",
-     "entity e is port(p,q:out std_logic);end;architecture a of e is begin process(all) begin p<='0';q<='1';end process;end;", ""),
-    ("signal s:std_ulogic;", "u:entity work.e port map(s);",
-     "entity e is port(p:out std_logic);end;architecture a of e is begin p<='1';p<='H';end;", ""),
-    ("signal clk,a:std_logic:='0'; signal b:std_logic:='1';",
-     "clk <= '1' after 5 ns; " + TAKEN.format("a", "b") + TAKEN.format("b", "a"), "", ""),
-    ("signal a,s:std_logic:='0';", "a <= '1' after 1 ns; process(a) begin s <= '1' after 3 ns; s <= transport '0' after 5 ns; "
-     "end process; s <= 'Z' after 2 ns;", "", ""),
-    ("signal s:std_logic;", "s <= '1' after 1 hr;", "", ""),
-    ("signal s:std_logic;", "s <= '1' after 4611686018427387903 fs;", "", ""),
+    (text_of("signal s:std_logic:='0';", "s <= '1' after 5 ns;"), "--top t", "0 0 s 0 / 5000000 0 s 1 / done 1 1"),
+    (text_of("", ""), "--top t", "done 0 0"),
+    (text_of("signal s:std_logic;", "s <= '0'; s <= '1';"), "--top t", "0 0 s U / 0 1 s X / done 1 1"),
+    (text_of("signal s:std_logic;", "s <= '-';"), "--top t", "0 0 s U / 0 1 s - / done 1 1"),
+    (text_of("signal s:std_logic;", "s <= '-'; s <= 'Z';"), "--top t", "0 0 s U / 0 1 s X / done 1 1"),
+    (text_of("signal a,q:std_logic;", PULSE.format(13) + "q <= a after 5 ns;"), "--top t", REJECTED.format(13000000)),
+    (text_of("signal a,q:std_logic;", PULSE.format(13) + "q <= transport a after 5 ns;"), "--top t", PASSED),
+    (text_of("signal a,q:std_logic;", PULSE.format(13) + "q <= reject 2 ns inertial a after 5 ns;"), "--top t", PASSED),
+    (text_of("signal a,q:std_logic;", PULSE.format(12) + "q <= reject 2 ns inertial a after 5 ns;"), "--top t",
+     REJECTED.format(12000000)),
+    (text_of("signal a,q:std_logic:='0';", "a <= '1' after 1 ns; q <= '1' after 8 ns when a = '0' else '1' after 9 ns;"), "--top t",
+     "0 0 a 0 / 0 0 q 0 / 1000000 0 a 1 / 8000000 0 q 1 / done 3 2"),
+    (text_of("signal s:std_logic:='0';", "s <= not s;"), "--top t --limit 100", "CycleLimit 100"),
+    (text_of("signal s:std_logic;", "s <= not s;"), "--top t --limit 100", "0 0 s U / done 1 0"),
+    (CLOCK, "--top t --stop 12000000", "0 0 clk 0 / 5000000 0 clk 1 / 10000000 0 clk 0 / done 2 2"),
+    (CLOCK, "--top t --stop 12000000 --limit 2", "0 0 clk 0 / 5000000 0 clk 1 / 10000000 0 clk 0 / done 2 2"),
+    (CLOCK, "--top t --stop 12000000 --limit 1", "CycleLimit 1"),
+    (text_of("signal clk:std_logic:='0'; signal q:std_logic;", "clk <= not clk after 5 ns; " + TOGGLE), "--top t --stop 16000000",
+     "0 0 clk 0 / 0 0 q U / 5000000 0 clk 1 / 5000000 1 q 1 / 10000000 0 clk 0 / 15000000 0 clk 1 / 15000000 1 q 0 / done 5 5"),
+    (text_of("signal s:std_logic:='0';", "s <= '1'; u:entity work.e port map(p=>s);",
+             "entity e is port(p:out std_logic);end;architecture a of e is begin end;"), "--top t", "0 0 s U / done 1 0"),
+    (text_of("signal s:std_logic:='0';", "u:entity work.l port map('1',s);", LEAF), "--top t",
+     "0 0 s U / 0 0 u.i 1 / 0 1 s 1 / done 1 1"),
+    (text_of("", "u:entity work.l port map(i=>'1',o=>open);", LEAF), "--top t", "0 0 u.i 1 / 0 0 u.o U / 0 1 u.o 1 / done 1 1"),
+    (text_of("signal s:std_logic;", "u:entity work.e port map(s,s);",
+             "entity e is port(p,q:out std_logic);end;architecture a of e is begin process(all) begin p<='0';q<='1';end process;end;"),
+     "--top t", "0 0 s U / 0 1 s X / done 1 1"),
+    (text_of("signal s:std_ulogic;", "u:entity work.e port map(s);",
+             "entity e is port(p:out std_logic);end;architecture a of e is begin p<='1';p<='H';end;"), "--top t",
+     "0 0 s U / 0 1 s 1 / done 1 1"),
+    (text_of("signal clk,a:std_logic:='0'; signal b:std_logic:='1';",
+             "clk <= '1' after 5 ns; " + TAKEN.format("a", "b") + TAKEN.format("b", "a")), "--top t",
+     "0 0 clk 0 / 0 0 a 0 / 0 0 b 1 / 5000000 0 clk 1 / 5000000 1 a 1 / 5000000 1 b 0 / done 2 3"),
+    (text_of("signal a,s:std_logic:='0';", "a <= '1' after 1 ns; process(a) begin s <= '1' after 3 ns; s <= transport '0' after 5 ns; "
+             "end process; s <= 'Z' after 2 ns;"), "--top t",
+     "0 0 a 0 / 0 0 s 0 / 1000000 0 a 1 / 3000000 0 s 1 / 6000000 0 s 0 / done 5 3"),
+    (text_of("signal s:std_logic;", "s <= '1' after 1 hr;"), "--top t", "0 0 s U / 3600000000000000000 0 s 1 / done 1 1"),
+    (text_of("signal s:std_logic;", "s <= '1' after 4611686018427387903 fs;"), "--top t",
+     "0 0 s U / 4611686018427387903 0 s 1 / done 1 1"),
+    ("ENTITY T IS END; Architecture A Of t Is Begin End A;", "--top T", "done 0 0"),
 ]
-
-
-def text_of(declared, inside, behind):
-    """The text of a design."""
-    return f"entity t is end;architecture a of t is {declared} begin {inside} end;{behind}".encode("ascii")
+# the options of a run by `vsim` alone, as words of sim_run_cases
+DEFAULTS = ["--stop=4611686018427387903", "--limit=10000"]
 
 
 def words_of(design):
@@ -180,20 +198,31 @@ def library(folder):
     return made
 
 
+def plans(vsim, cases):
+    """Yields the program, the words, the text, whether it makes calls, and the answer with ample memory, for each run."""
+    # (the rows say how many they are)
+    yield cases, ["--rows"], b"", True, None
+    for text, words, listing in DESIGNS:
+        text, words, written = text.encode("ascii"), words.split(), f"{listing}\n".replace(" / ", "\n").encode("ascii")
+        cut = listing.startswith("CycleLimit")
+        answered = (3, b"", b"vsim: " + written) if cut else (0, written, b"")
+        yield vsim, words, text, False, answered
+        # (it writes this for the calls one after another, `simulate`, `run` and `run_in`)
+        options = [f"{name}={value}" for name, value in zip(words[::2], words[1::2])]
+        yield cases, [*DEFAULTS, *options, "--calls"], text, True, (0, written * 4, b"")
+        if text.count(b"signal ") > 1:
+            # (several processes, with three workers to which each phase is handed out)
+            yield cases, ["--handed-out", *words, "--workers", "3"], text, False, answered
+
+
 def gate(vsim, cases, shim):
     """Refuses each request of the designs above alone: prints how many designs and calls are right, and how many are not."""
     passed = failed = tried = 0
-    plans = [(cases, ["--rows"], b"", True)]
-    for declared, inside, behind, more in DESIGNS:
-        text = text_of(declared, inside, behind)
-        plans.append((vsim, ["--top", "t", *more.split()], text, False))
-        if "--limit" not in more:
-            plans.append((cases, ["--calls"], text, True))
-        if declared.count("signal") > 1:
-            # (several processes, with three workers to which each phase is handed out)
-            plans.append((cases, ["--handed-out", "--top", "t", *more.split(), "--workers", "3"], text, False))
-    for program, words, text, calls in plans:
-        runs, _, wrong = faults(os.path.abspath(program), words, text, shim, 1 << 30, calls, False)
+    for program, words, text, calls, wanted in plans(os.path.abspath(vsim), os.path.abspath(cases)):
+        ample = answer(program, words, text, {})
+        runs, _, wrong = faults(program, words, text, shim, 1 << 30, calls, False)
+        if ample != wanted and (wanted or ample[0] or not ample[1].endswith(b" rows as expected\n")):
+            wrong.insert(0, f"with ample memory: {ample}")
         tried, passed, failed = tried + runs, passed + (not wrong), failed + bool(wrong)
         for fault in wrong[:3]:
             print(f"refusals: {' '.join(words)} < {text.decode('ascii')!r}: {fault}")

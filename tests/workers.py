@@ -11,7 +11,8 @@ CASES is sim_run_cases, which with the word --handed-out is vsim, except that ea
   five times, since under other load a thread may find no processor.
 - With sixteen workers no more threads are started than there are processors.
 
-Each run has a minute, so one that does not end is reported. The last line is `N passed, M failed`.
+Each run has a minute. A run that has not ended by then is reported as such, one with another answer as that. The last line is
+`N passed, M failed`.
 """
 import glob
 import importlib.machinery
@@ -54,12 +55,17 @@ def answer(words, text):
     return ran.stdout, ran.stderr, ran.returncode
 
 
+def told(name, found):
+    """The name of a run, and how it failed if it has not the right answer."""
+    return f"{name}: no end within {LONGEST} s" if found is None else f"{name}: another answer"
+
+
 def small(cases):
     """Yields the name of each run of an example, and whether its answer is that of the example."""
     for name, words, text, wanted in examples():
         for workers in WORKERS:
             found = answer([cases, "--handed-out", *words, "--workers", str(workers)], text)
-            yield f"{name} by {workers}", found == wanted
+            yield told(f"{name} by {workers}", found), found == wanted
 
 
 def large():
@@ -109,16 +115,17 @@ def handed_out(vsim):
     text, stop, listing = large()
     processors = len(os.sched_getaffinity(0))
     words = [vsim, "--top", "t", "--limit", "1000000", "--stop", stop, "--workers"]
-    yield f"{PROCESSES} processes by 1", answer([*words, "1"], text) == (listing, b"", 0)
+    found = answer([*words, "1"], text)
+    yield told(f"{PROCESSES} processes by 1", found), found == (listing, b"", 0)
     found, taken = watched([*words, "16"], text)
-    yield f"{PROCESSES} processes by 16", found == (0, listing)
+    yield told(f"{PROCESSES} processes by 16", found), found == (0, listing)
     yield f"{len(taken)} threads on {processors} processors", len(taken) <= processors
     several = min(3, processors)
     for turn in range(TRIES):
         found, taken = watched([*words, "3"], text)
         busy = sum(count > BUSY for count in taken.values())
         if found != (0, listing) or busy == several or turn == TRIES - 1:
-            yield f"{PROCESSES} processes by 3", found == (0, listing)
+            yield told(f"{PROCESSES} processes by 3", found), found == (0, listing)
             yield f"{several} threads take part, and not {busy}", busy == several
             return
 

@@ -2,8 +2,9 @@
 //! and each case whose answer is not the expected one: `sim_run_cases FILE ..`. After a word
 //! `--by=N` it does so for each case whose run finishes, with N workers unless the case says how
 //! many, and with each phase handed out to them. For a word `--calls` it prints the listing of the
-//! text on standard input, by the public calls one after another; for a word `--rows` it makes rows
-//! of calls that are made alone.
+//! text on standard input, by the public calls one after another, for the top, the stop time and the
+//! limit of the words `--top=NAME`, `--stop=N` and `--limit=N` before it; for a word `--rows` it
+//! makes rows of calls that are made alone.
 //!
 //! If the first word is `--handed-out`, it is the program itself: the other words are the
 //! program's, and so are the streams and the status, and each phase is handed out. All this is one
@@ -33,6 +34,7 @@ mod calls;
 mod case;
 mod file;
 mod outcome;
+mod plan;
 mod repeated;
 mod way;
 
@@ -40,6 +42,7 @@ use crate::calls::{list_by_calls, work_rows};
 use crate::case::Case;
 use crate::file::cases;
 use crate::outcome::{Comparison, answered, compare};
+use crate::plan::Plan;
 use crate::way::Way;
 use anyhow::{Context, Result};
 use sim_run::{Hints, session_with_hints};
@@ -155,12 +158,12 @@ fn run_file<R: Threads + Wait + Sync + AllocGlobal + Files + Print>(
 fn obey<R: Threads + Wait + Sync + AllocGlobal + Files + Input + Print>(
     rt: &R,
     word: &str,
-    way: &Way,
+    plan: &Plan,
 ) -> Result<()> {
     match word {
-        "--calls" => list_by_calls(rt),
+        "--calls" => list_by_calls(rt, &plan.options),
         "--rows" => work_rows(rt),
-        name => run_file(rt, name, way),
+        name => run_file(rt, name, &plan.way),
     }
 }
 
@@ -169,11 +172,10 @@ fn obey_all<R: Threads + Wait + Sync + AllocGlobal + Files + Input + Print>(
     rt: &R,
     words: &[String],
 ) -> Result<()> {
-    let mut way = Way::measured();
+    let mut plan = Plan::new(rt.alloc()).context("reading the words")?;
     for word in words {
-        match word.strip_prefix("--by=") {
-            Some(workers) => way = Way::handed_out(rt.alloc(), workers)?,
-            None => obey(rt, word.as_str(), &way)?,
+        if !plan.put(rt.alloc(), word.as_str())? {
+            obey(rt, word.as_str(), &plan)?;
         }
     }
     Ok(())

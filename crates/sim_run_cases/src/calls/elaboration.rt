@@ -15,9 +15,9 @@ pub fn tree_of(alloc: Global, source: &[u8]) -> Result<DesignFile, TextError> {
 }
 
 /// The flat design of a tree.
-pub fn design_of(alloc: Global, tree: &DesignFile) -> Result<Design, FlatError> {
-    match flatten(alloc, tree, "t") {
-        Err(FlatError::Memory) => flatten(alloc, tree, "t"),
+pub fn design_of(alloc: Global, tree: &DesignFile, top: &str) -> Result<Design, FlatError> {
+    match flatten(alloc, tree, top) {
+        Err(FlatError::Memory) => flatten(alloc, tree, top),
         found => found,
     }
 }

@@ -1,36 +1,29 @@
-//! Calls that carry on a run.
+//! Calls that carry on a run. A call that finds no memory is made once more, with what it gave
+//! back.
 
 use anyhow::{Result, bail};
 use sim_exec::{Done, Job};
 use sim_exec_code::Code;
 use sim_flat_design::Process;
-use sim_run::{Design, Finished, Record, RunError, WaveStore};
+use sim_run::{Design, Finished, Options, Record, RunError, WaveStore};
 use sim_store::{Step, StoreError};
 use std::alloc::{AllocError, Global};
 
-/// The stop time, in femtoseconds.
-pub const STOP: u64 = 100_000_000;
-
-/// The limit of cycles.
-pub const LIMIT: u32 = 1_000;
-
-/// The most phases: in each cycle, postponed processes have a phase after that of the others.
-const MOST_PARTS: u32 = 2 * LIMIT + 2;
-
 /// The store of a design at the start of its run.
-pub fn store_of(alloc: Global, design: Design) -> Result<WaveStore> {
-    let made = match WaveStore::new(alloc, design, STOP, LIMIT) {
-        Err((StoreError::Memory, design)) => WaveStore::new(alloc, design, STOP, LIMIT),
+pub fn store_of(
+    alloc: Global,
+    design: Design,
+    options: &Options,
+) -> Result<WaveStore, (StoreError, Design)> {
+    let (stop, limit) = (options.stop, options.limit);
+    match WaveStore::new(alloc, design, stop, limit) {
+        Err((StoreError::Memory, design)) => WaveStore::new(alloc, design, stop, limit),
         made => made,
-    };
-    match made {
-        Ok(store) => Ok(store),
-        Err((fault, _)) => bail!("{fault}"),
     }
 }
 
 /// The job of a process.
-fn job_of(alloc: Global, store: &WaveStore, process: usize) -> Result<Job, StoreError> {
+pub fn job_of(alloc: Global, store: &WaveStore, process: usize) -> Result<Job, StoreError> {
     match store.job(alloc, process) {
         Err(StoreError::Memory) => store.job(alloc, process),
         job => job,
@@ -38,7 +31,7 @@ fn job_of(alloc: Global, store: &WaveStore, process: usize) -> Result<Job, Store
 }
 
 /// The result of a job.
-fn result_of(alloc: Global, job: Job) -> Result<Done, (AllocError, Job)> {
+pub fn result_of(alloc: Global, job: Job) -> Result<Done, (AllocError, Job)> {
     match Done::run(alloc, job) {
         Err((_, job)) => Done::run(alloc, job),
         done => done,
@@ -74,24 +67,28 @@ fn execute_due(alloc: Global, store: &mut WaveStore) -> Result<()> {
 }
 
 /// Goes on to the next phase of a run.
-fn advance(alloc: Global, store: &mut WaveStore) -> Result<Step, StoreError> {
+pub fn advance(alloc: Global, store: &mut WaveStore) -> Result<Step, StoreError> {
     match store.advance(alloc) {
         Err(StoreError::Memory) => store.advance(alloc),
         step => step,
     }
 }
 
-/// All records of a run.
-fn records_of(alloc: Global, store: &WaveStore) -> Result<Vec<Record>, StoreError> {
-    match store.records_since(alloc, 0) {
-        Err(StoreError::Memory) => store.records_since(alloc, 0),
+/// The records of a run from a number on.
+pub fn records_since(
+    alloc: Global,
+    store: &WaveStore,
+    number: usize,
+) -> Result<Vec<Record>, StoreError> {
+    match store.records_since(alloc, number) {
+        Err(StoreError::Memory) => store.records_since(alloc, number),
         records => records,
     }
 }
 
 /// Reads all records of a run, and checks their number against a look at it.
 fn check_records(alloc: Global, store: &WaveStore) -> Result<()> {
-    let records = records_of(alloc, store)?;
+    let records = records_since(alloc, store, 0)?;
     if records.len() != store.look().records {
         bail!("records are missing");
     }
@@ -99,7 +96,7 @@ fn check_records(alloc: Global, store: &WaveStore) -> Result<()> {
 }
 
 /// The code of a process.
-fn code_of(alloc: Global, process: &Process) -> Result<Code, AllocError> {
+pub fn code_of(alloc: Global, process: &Process) -> Result<Code, AllocError> {
     match Code::of(alloc, process) {
         Err(_refused) => Code::of(alloc, process),
         code => code,
@@ -114,17 +111,19 @@ pub fn make_codes(alloc: Global, design: &Design) -> Result<()> {
     Ok(())
 }
 
-/// Carries a run to its end.
-pub fn run(alloc: Global, store: &mut WaveStore) -> Result<()> {
-    for _part in 0..MOST_PARTS {
+/// Carries a run to its end, and returns how it ends.
+pub fn run(alloc: Global, store: &mut WaveStore) -> Result<Step> {
+    // (in each cycle, postponed processes have a phase after that of the others)
+    let most = 2 * u64::from(store.limit()) + 2;
+    for _part in 0..most {
         execute_due(alloc, store)?;
-        match advance(alloc, store)? {
-            Step::Next | Step::Postponed => (),
-            Step::Finished => return check_records(alloc, store),
-            Step::LimitReached | Step::PostponedDelta => break,
+        let step = advance(alloc, store)?;
+        if !matches!(step, Step::Next | Step::Postponed) {
+            check_records(alloc, store)?;
+            return Ok(step);
         }
     }
-    bail!("the run is cut short")
+    bail!("the run has no end")
 }
 
 /// The history of a run.

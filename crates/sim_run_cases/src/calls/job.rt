@@ -1,5 +1,6 @@
 //! A single execution of a process: the flip-flop at a rising edge.
 
+use crate::calls::execution::result_of;
 use sim_exec::{Done, Job, NetView};
 use sim_flat_design::{Held, Process};
 use sim_logic::Logic::{One, U, Zero};
@@ -51,8 +52,8 @@ fn rising(alloc: Global, process: Process) -> Result<Option<Job>, AllocError> {
 }
 
 /// The result of a job.
-fn result_of(alloc: Global, job: Job) -> Result<Done, AllocError> {
-    match Done::run(alloc, job) {
+fn done_of(alloc: Global, job: Job) -> Result<Done, AllocError> {
+    match result_of(alloc, job) {
         Ok(done) => Ok(done),
         Err((fault, _job)) => Err(fault),
     }
@@ -72,7 +73,7 @@ fn is_one(done: &Done) -> bool {
 fn toggles(alloc: Global, process: Process) -> Result<bool, AllocError> {
     match rising(alloc, process)? {
         None => Ok(false),
-        Some(job) => Ok(is_one(&result_of(alloc, job)?)),
+        Some(job) => Ok(is_one(&done_of(alloc, job)?)),
     }
 }
 

@@ -1,5 +1,6 @@
-//! Rows of calls of a store.
+//! Rows of calls of a store. A call that finds no memory is made once more, with the same store.
 
+use crate::calls::execution::{self, advance, job_of, records_since, result_of};
 use crate::calls::rows::TOGGLE;
 use sim_exec::Done;
 use sim_run::{Options, RunError, WaveStore, elaborate};
@@ -36,16 +37,16 @@ fn of_run(fault: StoreError) -> RunError {
 /// The store of a text at the start of its run.
 fn store_of(alloc: Global, text: &str, options: &Options) -> Result<WaveStore, RunError> {
     let design = elaborate(alloc, text.as_bytes(), options)?;
-    match WaveStore::new(alloc, design, options.stop, options.limit) {
+    match execution::store_of(alloc, design, options) {
         Ok(store) => Ok(store),
         Err((fault, _design)) => Err(of_run(fault)),
     }
 }
 
 /// The result of a process.
-fn result_of(alloc: Global, store: &WaveStore, process: usize) -> Result<Done, StoreError> {
-    let job = store.job(alloc, process)?;
-    match Done::run(alloc, job) {
+fn done_of(alloc: Global, store: &WaveStore, process: usize) -> Result<Done, StoreError> {
+    let job = job_of(alloc, store, process)?;
+    match result_of(alloc, job) {
         Ok(done) => Ok(done),
         Err((_refused, _job)) => Err(StoreError::Memory),
     }
@@ -59,7 +60,7 @@ fn results_of(
 ) -> Result<Vec<Done>, StoreError> {
     let mut results = Vec::new(alloc);
     for process in processes {
-        let done = result_of(alloc, store, *process)?;
+        let done = done_of(alloc, store, *process)?;
         if results.push(done).is_err() {
             return Err(StoreError::Memory);
         }
@@ -77,7 +78,7 @@ fn deposit(store: &mut WaveStore, done: Done) -> Option<StoreError> {
 
 /// The refusal to go on, if there is one other than lack of memory.
 fn refusal(alloc: Global, store: &mut WaveStore) -> Result<Option<StoreError>, StoreError> {
-    match store.advance(alloc) {
+    match advance(alloc, store) {
         Ok(_step) => Ok(None),
         Err(StoreError::Memory) => Err(StoreError::Memory),
         Err(fault) => Ok(Some(fault)),
@@ -123,7 +124,7 @@ pub fn refuses_results(alloc: Global, options: &Options) -> Result<bool, RunErro
 
 /// Whether a store refuses the result of another one.
 fn is_foreign(alloc: Global, store: &mut WaveStore, other: &WaveStore) -> Result<bool, StoreError> {
-    let done = result_of(alloc, other, 0)?;
+    let done = done_of(alloc, other, 0)?;
     Ok(deposit(store, done) == Some(StoreError::Foreign))
 }
 
@@ -139,7 +140,7 @@ fn execute(alloc: Global, store: &mut WaveStore, place: usize) -> Result<(), Sto
     let Some(process) = store.due().get(place).copied() else {
         return Ok(());
     };
-    let done = result_of(alloc, store, process)?;
+    let done = done_of(alloc, store, process)?;
     match deposit(store, done) {
         None => Ok(()),
         Some(fault) => Err(fault),
@@ -151,7 +152,7 @@ fn go_on(alloc: Global, store: &mut WaveStore) -> Result<Step, StoreError> {
     for place in 0..store.due().len() {
         execute(alloc, store, place)?;
     }
-    store.advance(alloc)
+    advance(alloc, store)
 }
 
 /// The most cycles of a row.
@@ -178,9 +179,9 @@ const END: Look = Look {
 /// Whether a run that has ended reports how far it came, and has no more records.
 fn tells(alloc: Global, store: &mut WaveStore) -> Result<bool, StoreError> {
     end(alloc, store)?;
-    let none = store.records_since(alloc, 4)?;
+    let none = records_since(alloc, store, 4)?;
     let is_behind = matches!(
-        store.records_since(alloc, 9),
+        records_since(alloc, store, 9),
         Err(StoreError::Behind { records: 4 })
     );
     Ok(store.look() == END && none.is_empty() && is_behind)
@@ -194,7 +195,7 @@ pub fn tells_its_end(alloc: Global, options: &Options) -> Result<bool, RunError>
 
 /// Whether a store has no job for a process that is not due.
 fn has_no_job(alloc: Global, store: &WaveStore) -> Result<bool, StoreError> {
-    match store.job(alloc, 0) {
+    match job_of(alloc, store, 0) {
         Err(StoreError::Memory) => Err(StoreError::Memory),
         Err(StoreError::NotDue) => Ok(store.due().is_empty()),
         _ => Ok(false),
@@ -216,7 +217,7 @@ pub fn refuses_jobs(alloc: Global, options: &Options) -> Result<bool, RunError> 
 
 /// Whether a run without processes ends at once, and does not go on.
 fn ends(alloc: Global, store: &mut WaveStore) -> Result<bool, StoreError> {
-    let step = store.advance(alloc)?;
+    let step = advance(alloc, store)?;
     let after = refusal(alloc, store)?;
     Ok(step == Step::Finished && after == Some(StoreError::Ended))
 }

@@ -97,6 +97,16 @@ fn is_memory(fault: RunError) -> bool {
     )
 }
 
+/// Prints why a run is cut short. Other errors are passed on.
+fn tell_end<R: Print>(rt: &R, answer: Result<(), RunError>) -> Result<()> {
+    match answer {
+        Err(RunError::CycleLimit { limit }) => println!(rt; "CycleLimit {limit}")?,
+        Err(RunError::PostponedDelta) => println!(rt; "PostponedDelta")?,
+        answer => answer?,
+    }
+    Ok(())
+}
+
 /// Lists the run of a text by a call. If the call finds no memory, this is printed, and it is
 /// repeated once.
 fn list<R: Threads + Wait + Sync + AllocGlobal + Print>(
@@ -109,9 +119,9 @@ fn list<R: Threads + Wait + Sync + AllocGlobal + Print>(
     match list_by(rt, source, options, call) {
         Err(fault) if is_memory(fault) => {
             println!(rt; "! {name}: {fault:?}")?;
-            Ok(list_by(rt, source, options, call)?)
+            tell_end(rt, list_by(rt, source, options, call))
         }
-        answer => Ok(answer?),
+        answer => tell_end(rt, answer),
     }
 }
 
