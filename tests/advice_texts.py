@@ -346,6 +346,10 @@ ADVICE_ON_RUNS = [
     ("or a larger --limit, which is 10000 by default and at most 1000000", 3, CLOCK, "--top t --stop 1500000 --limit 2", CLOCK, "--top t --stop 1500000",
      "0 0 clk 0\n500000 0 clk 1\n1000000 0 clk 0\n1500000 0 clk 1\n"),
     ("give the assignment a delay", 3, POSTPONED, "--top t", POSTPONED.replace("<= a", "<= a after 1 ns"), "--top t", A_Q + "1000000 0 a 1\n2000000 0 q 1\n"),
+    ("--limit is 0, but must be from 1 to", 2, FOLLOWING, "--top t --limit 0", FOLLOWING, "--top t --limit 3", FOLLOWS),
+    ("--stop is 4611686018427387904, but must be at most 4611686018427387903", 2, FOLLOWING, "--top t --stop 4611686018427387904",
+     FOLLOWING, "--top t --stop 4611686018427387903", FOLLOWS),
+    ("--workers is 17, but must be from 1 to 16", 2, FOLLOWING, "--top t --workers 17", FOLLOWING, "--top t --workers 16", FOLLOWS),
     ("Check the spelling", 1, FOLLOWING, "--top tt", FOLLOWING, "--top t", FOLLOWS),
     ("nearest name first: inverter, t.", 1, INVERTER + PULSE, "--top invertor", INVERTER + PULSE, "--top inverter", "0 0 i U\n0 0 o U\n"),
 ]

@@ -9,8 +9,8 @@ and its completions, made by the functions of the script install in a temporary 
 and are scripts of their shells (of those that are there). VSIM_WAVES is silent if what reads a long VCD goes away. The script vsim, in
 a temporary tree that notes VSIM as built, answers a folder on standard input as the program does.
 
-With --install the script install itself is called with a temporary prefix, so the programs are built first. The last line is `N passed,
-M failed`.
+With --install the script install itself is called with a temporary prefix, so the programs are built first; these must know what they
+were built from, and the script vsim itself is given the folder. The last line is `N passed, M failed`.
 """
 import argparse
 import contextlib
@@ -39,8 +39,8 @@ LINES = 50_000
 
 def answer(command, **how):
     """Returns the status, the output and the errors of a command."""
-    how = {"stdin": subprocess.DEVNULL, **how}
-    ran = subprocess.run(command, stdout=subprocess.PIPE, stderr=subprocess.PIPE, timeout=60, **how)
+    how = {"stdin": subprocess.DEVNULL, "timeout": 60, **how}
+    ran = subprocess.run(command, stdout=subprocess.PIPE, stderr=subprocess.PIPE, **how)
     return ran.returncode, ran.stdout.decode(errors="replace"), ran.stderr.decode(errors="replace")
 
 
@@ -116,12 +116,14 @@ def fault_of_waves(waves, room):
 
 
 def tree(vsim, room):
-    """Makes a tree with the script vsim, which notes this program as built, without a toolchain; returns the script."""
+    """Makes a tree with the script vsim, which notes this program as built; returns the script."""
+    rt = shutil.which("rt") or ""
+    made = os.path.realpath(rt) if rt else ""
     for it in ("tools", "crates", "out"):
         os.makedirs(f"{room}/tree/{it}")
     for it in ("vsim", "tools/run"):
         shutil.copy(f"{TOP}/{it}", f"{room}/tree/{it}")
-    for it, text in (("crates.txt", ""), ("out/vsim.kept", f"{vsim}\n\n\n\n")):
+    for it, text in (("crates.txt", ""), ("out/vsim.kept", f"{vsim}\n{rt}\n{made}\n{made}\n")):
         with open(f"{room}/tree/{it}", "w", encoding="utf-8") as file:
             file.write(text)
     latest = os.stat(f"{room}/tree/out/vsim.kept").st_ctime + 1
@@ -129,24 +131,30 @@ def tree(vsim, room):
     return f"{room}/tree/vsim"
 
 
-def fault_of_folder(command, variables):
+def fault_of_folder(command):
     """Returns what is wrong with the answer to a folder on standard input, if anything."""
     folder = os.open("/", os.O_RDONLY)
     try:
-        got = answer([command, "--top", "t"], stdin=folder, env=variables)
+        got = answer([command, "--top", "t"], stdin=folder)
     finally:
         os.close(folder)
     return None if got == (4, "", "vsim: Read\n") else f"{command} --top t < /: {got}"
 
 
-def faults(programs, room, is_installed):
-    """Yields what is wrong, if anything, of each trial."""
-    for name, program in programs.items():
-        yield from faults_of_program(name, program)
-    prefix = f"{room}/prefix"
+def faults_of_install(prefix):
+    """Calls the script install; yields what is wrong, if anything, with that, with what programs know of themselves, and with the script vsim."""
+    status, _, errors = answer([f"{TOP}/install", prefix], timeout=None)
+    yield f"./install: {errors}" if status else None
+    for name in NAMES:
+        _, out, _ = answer([f"{prefix}/bin/{name}", "--version"])
+        yield f"{name} --version: {out}" if "unknown" in out else None
+    yield fault_of_folder(f"{TOP}/vsim")
+
+
+def faults_of_shells(programs, prefix, is_installed):
+    """Fills a prefix; yields what is wrong, if anything, with what a shell finds there."""
     if is_installed:
-        status, _, errors = answer([f"{TOP}/install", prefix], timeout=None)
-        yield f"./install: {errors}" if status else None
+        yield from faults_of_install(prefix)
     else:
         with contextlib.redirect_stdout(io.StringIO()):
             for program in programs.values():
@@ -155,9 +163,16 @@ def faults(programs, room, is_installed):
         yield from faults_of_files(name, prefix)
     found = [os.path.basename(it) for it in glob.glob(f"{prefix}/**/*.new-*", recursive=True)]
     yield f"{', '.join(found)} are left over" if found else None
+
+
+def faults(programs, room, is_installed):
+    """Yields what is wrong, if anything, of each trial."""
+    for name, program in programs.items():
+        yield from faults_of_program(name, program)
+    yield from faults_of_shells(programs, f"{room}/prefix", is_installed)
     yield fault_of_waves(programs["vsim_waves"], room)
-    yield fault_of_folder(programs["vsim"], os.environ)
-    yield fault_of_folder(tree(programs["vsim"], room), {"PATH": "/usr/bin:/bin"})
+    yield fault_of_folder(programs["vsim"])
+    yield fault_of_folder(tree(programs["vsim"], room))
 
 
 def main():
