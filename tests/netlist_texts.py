@@ -383,7 +383,7 @@ def places(value):
             yield from places(value[key])
 
 
-def is_mutated(chance, parent, key):
+def mutate(chance, parent, key):
     """Gives a member or an item another value, or removes it."""
     value = parent[key]
     others = [None, True, -1, 1.5, 0, 1, 2, 3, 7, 2**32, 2**63, 2**64, "", "0", "1", "x", "z", "q", "$_BUF_", "$_NOT_", "$lut", "$_DFF_P_",
@@ -403,7 +403,7 @@ def are_fields_mutated(programs, count):
     for it in range(count):
         name, words = DAMAGED[it % len(DAMAGED)]
         document = copy.deepcopy(whole[it % len(DAMAGED)])
-        is_mutated(chance, *chance.choice(list(places(document))))
+        mutate(chance, *chance.choice(list(places(document))))
         is_read_or_refused(programs, name, json.dumps(document).encode(), words)
 
 
