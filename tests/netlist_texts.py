@@ -10,7 +10,7 @@ of each time. With delays that are shorter than the time between changes, the sa
 
 Then small netlists whose listings were worked out by hand; netlists and stimuli with a fault, and larger ones beyond each limit of vsim,
 each refused by a sentence and with nothing on standard output; and netlists with one byte changed, or one member or item of their JSON,
-MUTATED of each (by default as many as take little time). Each of these ends in a text that VSIM reads, or in a refusal, within 2 s.
+MUTATED of each (1,000 if it is not given). Each of these ends in a text that VSIM reads, or in a refusal, within 2 s.
 
 `netlist.py` makes the netlists and the VCDs anew. What differs is told, and the last line is `N passed, M failed`.
 """
@@ -29,7 +29,7 @@ NAMES = ["gates", "tables", "registers", "counter", "sharing", "operands"]
 # the most bytes of a text for each change of an input, where inputs change with the clock
 BYTES = 16
 # how many netlists with another byte, and with another member or item, are tried
-MUTATED = 300
+MUTATED = 1000
 SECONDS = 2
 # the designs that are mutated, with words for VSIM_NETLIST
 DAMAGED = [("counter", []), ("sharing", ["--delays", "others=10ps/20ps"]), ("tables", ["--delays", "lut=1ns,others=10ps"])]
