@@ -7,14 +7,16 @@ For each design of netlists/ and netlists/designs/ Yosys writes the netlist as J
 source, of which the stimuli come, and with the Verilog netlist. The text that VSIM_NETLIST makes is run by VSIM with one worker and with
 four, and by GHDL where that is installed. Then
 
-- before each rising edge of the clock, or at the end of each time where there is none, each variable of the source has the value that Icarus
+- before each edge of the clock, or at the end of each time where there is none, each variable of the source has the value that Icarus
   gives it of the netlist, or is known where Icarus does not know it (it sees no edge at time 0);
 - at the end of each time each net of the text has the value that GHDL gives it.
 
-A VHDL source goes by `ghdl --synth`. With --keep the files of netlists/ that netlist_texts.py reads are written anew. What differs is
+A VHDL source goes by `ghdl --synth`, and is left out where that is missing. With --keep the files of netlists/ that netlist_texts.py reads are written anew. What differs is
 told, with the seconds of each; the last line is `N passed, M failed`.
 """
+import bisect
 import collections
+import json
 import os
 import re
 import resource
@@ -23,7 +25,7 @@ import subprocess
 import sys
 import tempfile
 
-from netlist_texts import FOLDER, LEVELS, Waves, demand, read, run, tally, wide
+from netlist_texts import FOLDER, LEVELS, Waves, demand, known_to, read, run, tally, wide
 
 SYNTH = "synth -flatten -top {0}; abc -g AND,OR,XOR,NAND,NOR,XNOR,MUX; opt_clean"
 # three-state buffers are made before the others, which know nothing of them
@@ -38,8 +40,11 @@ DESIGNS = {
     "operands": (FOLDER, SYNTH, "clk", []),
     "uart": (f"{FOLDER}/designs", SYNTH, "clk", []),
     "mul32": (f"{FOLDER}/designs", SYNTH, "clk", []),
+    "fir": (f"{FOLDER}/designs", SYNTH, "clk", []),
     "odd": (f"{FOLDER}/designs", SHARED, "clk", ["--delays", "dff=4ps,latch=2ps,others=1ps", "--hold", "2ps"]),
 }
+# how long the gates of a design with delays take, in femtoseconds
+SETTLING = 20_000
 # cells that are written as they are, of which Yosys has models
 PRIMITIVES = ("gates", "tables", "registers")
 MODELS = ["/usr/share/yosys/simcells.v", "/usr/share/yosys/simlib.v"]
@@ -68,29 +73,60 @@ def icarus(folder, name, sources, made):
     return text, seconds
 
 
+def fetch(origin, folder, name):
+    """Copies a source and its test bench, the source as Verilog."""
+    shutil.copy(f"{origin}/{name}_tb.v", folder)
+    if os.path.exists(f"{origin}/{name}.v"):
+        shutil.copy(f"{origin}/{name}.v", folder)
+        return
+    ran = subprocess.run(["ghdl", "--synth", "--std=08", "--out=verilog", f"{origin}/{name}.vhd", "-e", name], cwd=folder,
+                         stdout=subprocess.PIPE, stderr=subprocess.PIPE)
+    demand(ran.returncode == 0, f"ghdl --synth: {ran.stderr.decode(errors='replace')[-300:]}")
+    with open(f"{folder}/{name}.v", "wb") as file:
+        file.write(ran.stdout)
+
+
 def synthesize(folder, name, passes):
     option = "-icells " if name in PRIMITIVES else ""
     script = f"read_verilog {option}{name}.v; {passes.format(name)}; write_json {name}.json; write_verilog -noattr {name}_gates.v"
     call(["yosys", "-q", "-p", script], folder)
 
 
-def edges(ours, theirs, clock):
-    """Returns the times just before the rising edges of the clock, or where there is none the times of changes."""
+def edges(ours, theirs, clock, settling):
+    """Returns the times just before the edges of the clock, unless something changed so long before, or where there is none those of changes."""
     times = sorted({time for time, _, _ in theirs.changes})
     if clock is None:
         return times
     code = ours.variables[clock][0]
-    return sorted({time - 1 for time, it, value in ours.changes if it == code and value == "1" and time > 0})
+    found = sorted({time - 1 for time, it, _ in ours.changes if it == code and time > 0})
+    return [it for it in found if bisect.bisect(times, it - settling) == bisect.bisect(times, it)]
 
 
-def compare(ours, theirs, times):
-    """Returns how many values were compared, those that are known here alone, and those that differ."""
-    shared, count, alone, differ = sorted(ours.variables.keys() & theirs.variables.keys()), 0, 0, []
+def driven(folder, name):
+    """Returns the variables that the map knows, each with its bits, and a dash for a bit that nothing drives: it is z in Verilog, U in VHDL."""
+    module = json.loads(read(f"{folder}/{name}.json"))["modules"][name]
+    cells, ports = module["cells"].values(), module["ports"].values()
+    drivers = {bit for it in cells for pin in ("Y", "Q") for bit in it["connections"].get(pin, [])}
+    drivers |= {bit for it in ports if it["direction"] != "output" for bit in it["bits"]} | set("01xz")
+    return {path: [it if bit in drivers else "-" for it, bit in zip(bits, module["netnames"][path]["bits"])]
+            for path, bits in known_to(f"{folder}/map").items()}
+
+
+def seen(value, bits):
+    """Returns those bits of a value that something drives."""
+    return "".join(it for it, bit in zip(value, reversed(bits)) if bit != "-")
+
+
+def compare(ours, theirs, known, times):
+    """Returns how many bits of known variables were compared, the values that are known here alone, and those that differ."""
+    shared, count, alone, differ = sorted(theirs.variables.keys() & known), 0, 0, []
+    lacks = [path for path in shared if path not in ours.variables]
+    demand(shared and not lacks, f"{', '.join(lacks[:3])}: not in our waves")
     for time, mine, other in zip(times, ours.at(times), theirs.at(times)):
         for path in shared:
             width = ours.variables[path][1]
-            a, b = (wide(it.get(at.variables[path][0], "x"), width) for it, at in ((mine, ours), (other, theirs)))
-            count += width
+            a, b = (seen(wide(it.get(at.variables[path][0], "x"), width), known[path]) for it, at in ((mine, ours), (other, theirs)))
+            count += len(a)
             if a == b:
                 continue
             if all(one == other or other == "x" for one, other in zip(a, b)):
@@ -122,7 +158,8 @@ def by_ghdl(folder, name, listing, end):
     seconds = call(["ghdl", "--elab-run", "--std=08", name, "--vcd=ghdl.vcd", f"--stop-time={end}fs"], folder)
     theirs, ours = Waves(read(f"{folder}/ghdl.vcd"), name), of_listing(listing)
     times = sorted({time for time, _, _ in ours.changes if time <= int(end)})
-    count, alone, differ = compare(ours, theirs, times)
+    demand(ours.variables.keys() <= theirs.variables.keys(), "GHDL has other nets")
+    count, alone, differ = compare(ours, theirs, {name: [name] for name in ours.variables}, times)
     demand(not differ and not alone, f"GHDL: {len(differ) + alone} differ, first {differ[:1]}")
     return count, seconds
 
@@ -132,8 +169,7 @@ def try_design(programs, name, keep):
     vsim, netlist, waves = programs
     origin, passes, clock, words = DESIGNS[name]
     with tempfile.TemporaryDirectory() as folder:
-        for ending in (".v", "_tb.v"):
-            shutil.copy(f"{origin}/{name}{ending}", folder)
+        fetch(origin, folder, name)
         _, of_source = icarus(folder, name, [f"{name}.v", f"{name}_tb.v", *MODELS], f"{name}.source")
         synthesize(folder, name, passes)
         theirs, of_icarus = icarus(folder, name, [f"{name}_gates.v", f"{name}_tb.v", *MODELS], f"{name}.gates")
@@ -150,7 +186,9 @@ def try_design(programs, name, keep):
         status, vcd, said = run([waves, "--map", f"{folder}/map"], listing[1])
         demand(status == 0, said)
         ours, theirs = Waves(vcd, name), Waves(theirs, "tb.dut")
-        count, alone, differ = compare(ours, theirs, edges(ours, theirs, clock))
+        # with delays, what has just changed has not come to rest
+        times = edges(ours, theirs, clock, SETTLING if words else 0)
+        count, alone, differ = compare(ours, theirs, driven(folder, name), times)
         demand(not differ, f"Icarus: {len(differ)} of {count} differ, first {differ[:3]}")
         end = re.search(rb"^end (\d+)$", read(f"{folder}/map"), re.M)[1].decode()
         values, of_ghdl = by_ghdl(folder, name, listing[1], end) if shutil.which("ghdl") else (0, 0)
@@ -166,12 +204,23 @@ def told(it):
             f"{it.alone} words unknown to it alone; GHDL {it.ghdl:.2f} s, {it.values} values the same")
 
 
+def designs():
+    """Returns the names of the designs that can be tried, and says which programs are missing."""
+    missing = [it for it in ("yosys", "iverilog", "vvp") if not shutil.which(it)]
+    if missing:
+        sys.exit(f"netlist.py: {', '.join(missing)} is not installed, which it needs: apt-get install yosys iverilog")
+    if shutil.which("ghdl"):
+        return list(DESIGNS)
+    print("ghdl is not installed: nothing is compared with it, and designs in VHDL are left out")
+    return [name for name in DESIGNS if os.path.exists(f"{DESIGNS[name][0]}/{name}.v")]
+
+
 def main():
     words = [it for it in sys.argv[1:] if it != "--keep"]
     if len(words) != 3:
         sys.exit(__doc__)
     programs = [os.path.abspath(it) for it in words]
-    sys.exit(tally([(name, lambda name=name: told(try_design(programs, name, "--keep" in sys.argv))) for name in DESIGNS]) != 0)
+    sys.exit(tally([(name, lambda name=name: told(try_design(programs, name, "--keep" in sys.argv))) for name in designs()]) != 0)
 
 
 if __name__ == "__main__":

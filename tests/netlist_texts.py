@@ -1,21 +1,24 @@
 #!/usr/bin/env python3
 """Runs netlists that Yosys wrote, and compares their waves with those that Icarus gave.
 
-    netlist_texts.py VSIM VSIM_NETLIST VSIM_WAVES
+    netlist_texts.py VSIM VSIM_NETLIST VSIM_WAVES [MUTATED]
 
 In netlists/ each NAME.v is a source, NAME.json its netlist as Yosys wrote it, and NAME.vcd what Icarus gave of NAME_tb.v, whose
 instance is `dut`. VSIM_NETLIST makes a text of the netlist with the stimuli of that VCD, VSIM runs it with one worker and with four, and
 VSIM_WAVES makes a VCD of the listing by the map. Then each variable of the source that both have is to have the same value at the end
 of each time. With delays that are shorter than the time between changes, the same is so before each change of an input.
 
-Then netlists and stimuli with a fault, each refused by a sentence and with nothing on standard output; and netlists in which one byte
-is another one, of which each ends in a text that VSIM reads, or in a refusal, within 2 s.
+Then small netlists whose listings were worked out by hand; netlists and stimuli with a fault, and larger ones beyond each limit of vsim,
+each refused by a sentence and with nothing on standard output; and netlists with one byte changed, or one member or item of their JSON,
+MUTATED of each (1,000 if it is not given). Each of these ends in a text that VSIM reads, or in a refusal, within 2 s.
 
 `netlist.py` makes the netlists and the VCDs anew. What differs is told, and the last line is `N passed, M failed`.
 """
+import copy
 import json
 import os
 import random
+import resource
 import subprocess
 import sys
 import tempfile
@@ -25,10 +28,13 @@ FOLDER = f"{TOP}/tests/netlists"
 NAMES = ["gates", "tables", "registers", "counter", "sharing", "operands"]
 # the most bytes of a text for each change of an input, where inputs change with the clock
 BYTES = 16
-# how many netlists with another byte are tried
-MUTATED = 100
+# how many netlists with another byte, and with another member or item, are tried
+MUTATED = 1000
 SECONDS = 2
-
+# the designs that are mutated, with words for VSIM_NETLIST
+DAMAGED = [("counter", []), ("sharing", ["--delays", "others=10ps/20ps"]), ("tables", ["--delays", "lut=1ns,others=10ps"])]
+# the most that vsim takes of nets, of processes and of drivers
+MOST = 65536
 
 # what a VCD may have of VHDL's values
 LEVELS = {**dict.fromkeys("0lL", "0"), **dict.fromkeys("1hH", "1"), **dict.fromkeys("zZ", "z"), **dict.fromkeys("xXuUwW-", "x")}
@@ -57,10 +63,10 @@ def read(path):
 
 
 class Waves:
-    """A VCD: for each path of a variable its code and width, and for each time the values that codes take then."""
+    """A VCD: for each path of a variable its code and width, and its range where it has one, and for each time the values that codes take."""
 
     def __init__(self, text, top):
-        self.variables, self.changes, scopes, time = {}, [], [], 0
+        self.variables, self.ranges, self.changes, scopes, time = {}, {}, [], [], 0
         words = iter(text.decode().split())
         for word in words:
             if word == "$scope":
@@ -69,10 +75,12 @@ class Waves:
             elif word == "$upscope":
                 scopes.pop()
             elif word == "$var":
-                _, width, code, name = (next(words) for _ in range(4))
-                path = ".".join([*scopes, name.partition("[")[0]])
+                _, width, code, *name = iter(lambda: next(words), "$end")
+                name, bracket, indices = "".join(name).partition("[")
+                path = ".".join([*scopes, name])
                 if path.startswith(f"{top}."):
                     self.variables[path[len(top) + 1:]] = code, int(width)
+                    self.ranges[path[len(top) + 1:]] = bracket + indices
             elif word == "$timescale":
                 scale = "".join(iter(lambda: next(words), "$end"))
                 unit = scale.lstrip("0123456789")
@@ -101,44 +109,69 @@ def wide(value, width):
     return value if len(value) >= width else ("0" if value[0] in "01" else value[0]) * (width - len(value)) + value
 
 
-def compare(ours, theirs, times):
-    """Returns how many values were compared, and demands that they are the same."""
-    shared = sorted(ours.variables.keys() & theirs.variables.keys())
-    demand(shared, "no variable is in both")
-    count = 0
+def known_to(path):
+    """Returns the variables that a map has, each with its bits, the lowest index first."""
+    words = [line.split(" ") for line in read(path).decode().splitlines()]
+    return {it[1]: it[4:] for it in words if it[0] == "var"}
+
+
+def compare(ours, theirs, known, times):
+    """Demands that all variables of the source that the map knows, and all its ports, have the same ranges and values in both."""
+    shared = sorted(theirs.variables.keys() & known)
+    lacks = [path for path in theirs.variables if path not in known or path not in ours.variables]
+    demand(shared and not lacks, f"{', '.join(lacks[:3])}: not in our waves")
+    for path in shared:
+        (_, width), (_, of_width) = ours.variables[path], theirs.variables[path]
+        demand(width == of_width, f"{path} has {width} bits here and {of_width} there")
+        demand(ours.ranges[path] == theirs.ranges[path], f"{path} is {ours.ranges[path]} here and {theirs.ranges[path]} there")
     for time, mine, other in zip(times, ours.at(times), theirs.at(times)):
         for path in shared:
-            (code, width), (of_code, of_width) = ours.variables[path], theirs.variables[path]
-            demand(width == of_width, f"{path} has {width} bits here and {of_width} there")
+            (code, width), (of_code, _) = ours.variables[path], theirs.variables[path]
             a, b = wide(mine.get(code, "x"), width), wide(other.get(of_code, "x"), width)
             demand(a == b, f"at {time} fs: {path} is {a} here and {b} there")
-            count += 1
-    return count
+
+
+def text_of(program, name, *words):
+    """Returns the text of a netlist."""
+    status, text, said = run([program, *words], read(f"{FOLDER}/{name}.json"))
+    demand(status == 0, f"vsim_netlist: {said}")
+    return text
 
 
 def convert(programs, name, folder, *words):
-    """Returns the text of a netlist and its waves, with one worker and with four."""
+    """Returns the waves of a netlist, which are the same with one worker and with four."""
     vsim, netlist, waves = programs
     made = f"{folder}/{name}.map"
-    command = [netlist, "--stimuli", f"{FOLDER}/{name}.vcd", "--scope", "tb.dut", "--map", made, *words]
-    status, text, said = run(command, read(f"{FOLDER}/{name}.json"))
-    demand(status == 0, f"vsim_netlist: {said}")
+    text = text_of(netlist, name, "--stimuli", f"{FOLDER}/{name}.vcd", "--scope", "tb.dut", "--map", made, *words)
     listings = [run([vsim, "--top", name, "--limit", "1000000", "--workers", n], text) for n in ("1", "4")]
     demand(listings[0][0] == 0, f"vsim: {listings[0][2]}")
     demand(listings[0] == listings[1], "one worker and four differ")
     status, vcd, said = run([waves, "--map", made], listings[0][1])
     demand(status == 0, f"vsim_waves: {said}")
-    return text, vcd
+    return vcd
 
 
 def is_same(programs, name, folder, *words):
     """Demands that the waves are those of Icarus at the end of each time, or with delays before each of its changes."""
-    _, vcd = convert(programs, name, folder, *words)
+    vcd = convert(programs, name, folder, *words)
     ours, theirs = Waves(vcd, name), Waves(read(f"{FOLDER}/{name}.vcd"), "tb.dut")
     times = sorted({time for time, _, _ in theirs.changes})
     if words:
         times = [time - 1 for time in times[1:]]
-    compare(ours, theirs, times)
+    compare(ours, theirs, known_to(f"{folder}/{name}.map"), times)
+
+
+def are_lines_alike(program, folder):
+    """Demands that a scope need not be named, and that lines of stimuli give the text of the VCD that they say the same as."""
+    path = f"{FOLDER}/counter.vcd"
+    waves, lines = Waves(read(path), "tb.dut"), ["# the inputs of counter.vcd"]
+    names = {waves.variables[name][0]: name for name in ("clk", "clear", "enable", "step")}
+    lines += [f"{time}fs {names[code]} {value}" for time, code, value in waves.changes if code in names]
+    with open(f"{folder}/lines", "w", encoding="utf-8") as file:
+        file.write("\n".join([*lines, f"end {waves.changes[-1][0]}fs", ""]))
+    wanted = text_of(program, "counter", "--stimuli", path, "--scope", "tb.dut")
+    demand(text_of(program, "counter", "--stimuli", path) == wanted, "without --scope the text is another")
+    demand(text_of(program, "counter", "--stimuli", f"{folder}/lines") == wanted, "with lines the text is another")
 
 
 def are_short(program):
@@ -163,19 +196,44 @@ def netlist(cells, **ports):
     """Returns a netlist with these cells, of an input a and an output y unless others are given."""
     ports = ports or {"a": {"direction": "input", "bits": [2]}, "y": {"direction": "output", "bits": [3]}}
     names = {name: {"hide_name": 0, "bits": port["bits"], "attributes": {}} for name, port in ports.items()}
-    return json.dumps({"modules": {"top": {"attributes": {}, "ports": ports, "cells": cells, "netnames": names}}})
+    return json.dumps({"creator": "Yosys 0.23", "modules": {"top": {"attributes": {}, "ports": ports, "cells": cells, "netnames": names}}})
 
 
 GOOD = netlist({"u": cell("$_NOT_", {"A": [2], "Y": [3]})})
+WIRES = {"u": cell("$_BUF_", {"A": [3], "Y": [4]}, attributes={"src": "uart.v:7.5"}), "v": cell("$_BUF_", {"A": [4], "Y": [3]})}
+PLAIN = {"y": {"direction": "output", "bits": [5]}}
 HEAD = "$timescale 1ns $end $scope module tb $end $var wire 1 ! a $end $upscope $end $enddefinitions $end\n"
+# the latest time of vsim, in femtoseconds
+LATEST = 2**62 - 1
+# a netlist, stimuli, words, and what the listing says of y: pairs of a time and a value
+LISTED = [
+    (netlist({"u": cell("$_NOT_", {"A": ["0"], "Y": [3]})}), "", ["--delays", "not=10ps/20ps"], "0 U, 20000 1"),
+    (netlist({"u": cell("$_AND_", {"A": ["1"], "B": ["1"], "Y": [3]})}), "", ["--delays", "and=30ps/20ps"], "0 U, 30000 1"),
+    (netlist({"u": cell("$lut", {"A": [2], "Y": [3]}, parameters={"LUT": "11"})}), "", ["--delays", "lut=10ps/20ps"], "0 U, 20000 1"),
+    (netlist({"u": cell("$_AND_", {"A": ["1"], "B": [2], "Y": [3]})}), "0 a 0\n1ns a 1\n2ns a 0\n", ["--delays", "and=10ps/20ps"],
+     "0 U, 20000 0, 1010000 1, 2020000 0"),
+    (netlist({"u": cell("$_DFF_P_", {"C": [2], "D": ["1"], "Q": [3]})}), "0 a 0\n1ns a 1\n", ["--delays", "dff=10ps/20ps"],
+     "0 U, 1020000 1"),
+    (GOOD, f"0 a 0\n{LATEST - 1}fs a 1\n", ["--hold", "1fs"], f"0 U, 0 1, {LATEST} 0"),
+    # a clock whose first edge comes early, and one whose first edge comes late
+    (GOOD, "0 a 0\n3ns a 1\n8ns a 0\n13ns a 1\n18ns a 0\n23ns a 1\n", [],
+     "0 U, 0 1, 3000000 0, 8000000 1, 13000000 0, 18000000 1, 23000000 0"),
+    (GOOD, "0 a 1\n7ns a 0\n8ns a 1\n9ns a 0\n10ns a 1\n11ns a 0\n12ns a 1\n", [],
+     "0 U, 0 0, 7000000 1, 8000000 0, 9000000 1, 10000000 0, 11000000 1, 12000000 0"),
+]
 # a netlist, stimuli, words, and what is told
 REFUSED = [
     ("", "", [], "no netlist that Yosys' write_json writes"),
     ("{", "", [], "no netlist that Yosys' write_json writes"),
-    ('{"modules": {"m": {"cells": {}}}}', "", [], "no netlist that Yosys' write_json writes"),
-    ('{"modules": {}}', "", [], "no module is marked as the top"),
+    ('{"creator": "Yosys 0.23", "modules": {"m": {"cells": {}}}}', "", [], "no netlist that Yosys' write_json writes"),
+    ('{"creator": "Yosys 0.23", "modules": {}}', "", [], "no module is marked as the top"),
+    ('{"modules": {}}', "", [], "no netlist that Yosys' write_json writes"),
+    (GOOD.replace("Yosys 0.23", "nextpnr 0.4"), "", [], "its creator is 'nextpnr 0.4', not Yosys"),
     (GOOD, "", ["--top", "other"], "there is no module other"),
-    (GOOD.replace('"cells": {', '"cells": {"u": {"type": "$_BUF_", "connections": {"A": [2], "Y": [4]}}, '), "", [], "a cell is there twice"),
+    (GOOD.replace('"cells": {', '"cells": {"u": {"type": "$_BUF_", "connections": {"A": [2], "Y": [4]}}, '), "", [],
+     "the netlist: cell u is there twice"),
+    (json.dumps(json.loads(GOOD)).replace('"u": {', '"u": {"type": "$_BUF_", "connections": {"A": [2], "Y": [4]}}, "u": {"attributes": '
+     '{"src": "uart.v:28.62"}, '), "", [], "the netlist: uart.v:28.62: cell u is there twice"),
     (netlist({"u": cell("$add", {}, attributes={"src": "uart.v:28.62"})}), "", [],
      "uart.v:28.62: cell $add: run memory_map, techmap and simplemap before write_json"),
     (netlist({"u": cell("inner", {})}), "", [], "cell u of type inner: run flatten"),
@@ -184,7 +242,9 @@ REFUSED = [
     (netlist({"u": cell("$_NOT_", {"A": [2, 2], "Y": [3]})}), "", [], "its pin A is not connected with one bit"),
     (netlist({"u": cell("$_NOT_", {"A": [2], "Y": ["0"]})}), "", [], "its output Y is connected with a constant"),
     (netlist({"u": cell("$lut", {"A": [2], "Y": [3]}, parameters={"LUT": "0x"})}), "", [], "its LUT is no table"),
-    (netlist({"u": cell("$_BUF_", {"A": [3], "Y": [4]}), "v": cell("$_BUF_", {"A": [4], "Y": [3]})}), "", [], "y is in a loop of wires"),
+    (netlist(WIRES), "", [], "vsim_netlist: y is in a loop of wires"),
+    (netlist(WIRES, **PLAIN), "", [], "vsim_netlist: uart.v:7.5: cell u is in a loop of wires"),
+    (netlist({"u": cell("$_BUF_", {"A": [3], "Y": [3]})}, **PLAIN), "", [], "vsim_netlist: cell u is in a loop of wires"),
     (GOOD.replace("input", "sideways"), "", [], "port a has no direction"),
     (GOOD, "1ns a 1\n0 a 0\n", [], "line 2: the times fall"),
     (GOOD, "1ns b 1\n", [], "line 1: there is no input b"),
@@ -195,8 +255,10 @@ REFUSED = [
     (GOOD, HEAD + "#0 0! #5 1!", [], "the VCD is cut off"),
     (GOOD, HEAD.replace("$enddefinitions $end", "") + "\n", [], "the VCD is cut off"),
     (GOOD, HEAD + "#0 0! #5 b1\n", [], "the VCD is cut off"),
-    (GOOD, HEAD + "#0 0! #5 1! #4 0!\n", [], "the times fall"),
-    (GOOD, HEAD + "#0 0! #5 q!\n", [], "'q!' is no value of a VCD"),
+    (GOOD, HEAD + "#0 0! #5 1!\n#4 0!\n", [], "line 3: the times fall"),
+    (GOOD, HEAD + "#0 0!\n\n#5 q!\n", [], "line 4: 'q!' is no value of a VCD"),
+    (GOOD, HEAD.replace("$scope", "\nscope") + "#0 0!\n", [], "line 2: 'scope' begins no section of a VCD"),
+    (GOOD, HEAD.replace("1ns", "1ls") + "#0 0!\n", [], "line 1: the time scale is none"),
     (GOOD, HEAD + "#0\n", [], "input a has no value"),
     (GOOD, HEAD.replace("! a", "! b") + "#0 0!\n", [], "no scope has all inputs"),
     (GOOD, HEAD + "#0 0!\n", ["--scope", "tb.dut"], "there is no scope tb.dut"),
@@ -204,33 +266,145 @@ REFUSED = [
     (GOOD, "", ["--delays", "nend=1ns"], "there is no gate 'nend'"),
     (GOOD, "", ["--delays", "nand=1"], "'1' is no time"),
     (GOOD, "", ["--hold", "1.5ns"], "'1.5ns' is no time"),
+    (GOOD, f"0 a 0\n{LATEST}fs a 1\n", ["--hold", "1fs"], f"--hold: an input would change after {LATEST} fs"),
 ]
+
+
+def put_stimuli(folder, stimuli):
+    """Returns the words that name these stimuli, if there are any."""
+    path = f"{folder}/stimuli"
+    with open(path, "w", encoding="utf-8") as file:
+        file.write(stimuli)
+    return ["--stimuli", path] if stimuli else []
 
 
 def is_refused(program, folder, given, stimuli, words, told):
     """Demands that a netlist with stimuli is refused by a sentence."""
-    path = f"{folder}/stimuli"
-    with open(path, "w", encoding="utf-8") as file:
-        file.write(stimuli)
-    status, out, said = run([program, *(["--stimuli", path] if stimuli else []), *words], given.encode())
+    status, out, said = run([program, *put_stimuli(folder, stimuli), *words], given.encode())
     demand(status == 1 and not out, f"status {status} for {told}")
     demand(said.startswith("vsim_netlist: ") and said.count("\n") == 1 and told in said, f"{said.strip()} in place of {told}")
 
 
-def are_mutated_read(programs, seed):
-    """Demands that netlists with another byte are read or refused."""
+def is_listed(programs, folder, given, stimuli, words, wanted):
+    """Demands that the listing of a netlist with stimuli has these values of y."""
+    status, text, said = run([programs[1], *put_stimuli(folder, stimuli), *words], given.encode())
+    demand(status == 0, said)
+    status, listing, said = run([programs[0], "--top", "top"], text)
+    demand(status == 0, f"vsim: {said} for {text.decode()}")
+    lines = [line.split() for line in listing.decode().splitlines()]
+    found = ", ".join(f"{line[0]} {line[3]}" for line in lines if line[2] == "y")
+    demand(found == wanted, f"y is {found}")
+
+
+def is_one_statement(program, folder):
+    """Demands that a clock takes no more bytes the longer it is, whenever its first edge comes."""
+    for first in (3, 5, 9):
+        lengths = set()
+        for count in (10, 60):
+            lines = ["0 a 0", *(f"{first + 5 * it}ns a {1 - it % 2}" for it in range(count)), ""]
+            text = run([program, *put_stimuli(folder, "\n".join(lines))], GOOD.encode())[1]
+            lengths.add(len(text) - len(f"{first + 5 * (count - 1)}"))
+        demand(len(lengths) == 1, f"first edge at {first} ns: {lengths} bytes")
+
+
+def beyond():
+    """Returns netlists beyond a limit of vsim, each with what is told."""
+    many = range(MOST + 1)
+    port = {"a": {"direction": "input", "bits": list(range(2, MOST + 3))}}
+    gates = {f"u{it}": cell("$_BUF_", {"A": [2], "Y": [3]}) for it in many}
+    registers = {f"u{it}": cell("$_DFF_P_", {"C": [2], "D": [2], "Q": [3]}) for it in many}
+    long = {f"u{it}": cell("$_XOR_", {"A": [it], "B": [it + 1], "Y": [it + 2]}) for it in range(2, MOST)}
+    smaller = "a smaller part of the design helps"
+    return [
+        (netlist({}, **port), f"{MOST + 1} nets, of which vsim takes {MOST}: {smaller}"),
+        (netlist(gates), f"{MOST + 1} processes or drivers, of which vsim takes {MOST}: {smaller}"),
+        (netlist(registers), f"{MOST + 1} processes or drivers, of which vsim takes {MOST}: {smaller}"),
+        (netlist(long), "bytes, of which vsim takes 1048576: shorter stimuli or a smaller part of the design help"),
+    ]
+
+
+def failing(folder):
+    """Returns words for VSIM_NETLIST, where its output goes, the exit status and what is told."""
+    return [
+        (["--stimuli", f"{folder}/none/of.vcd"], subprocess.PIPE, 4, "of.vcd: "),
+        (["--map", f"{folder}/none/of.map"], subprocess.PIPE, 4, "of.map: "),
+        ([], "/dev/full", 4, "writing: "),
+        (["--version"], "/dev/full", 4, "writing: "),
+        ([b"--top=\xff"], subprocess.PIPE, 2, "invalid UTF-8"),
+        (["--hold"], subprocess.PIPE, 2, "--hold"),
+    ]
+
+
+def fails(program, words, out, wanted, told):
+    """Demands an exit status and a message, and nothing on standard output."""
+    with open("/dev/full", "wb") as full:
+        to = full if out == "/dev/full" else out
+        ran = subprocess.run([program, *words], input=GOOD.encode(), stdout=to, stderr=subprocess.PIPE, timeout=SECONDS)
+    said = ran.stderr.decode(errors="replace")
+    demand(ran.returncode == wanted and not ran.stdout and told in said, f"status {ran.returncode}: {said}")
+
+
+def has_no_memory(program):
+    """Demands that a lack of memory has its own exit status."""
+    most = 24 << 20
+    ran = subprocess.run([program], input=read(f"{FOLDER}/registers.json") * 400, stdout=subprocess.PIPE, stderr=subprocess.PIPE,
+                         timeout=60, preexec_fn=lambda: resource.setrlimit(resource.RLIMIT_AS, (most, most)))
+    demand(ran.returncode == 4 and not ran.stdout, f"status {ran.returncode}: {ran.stderr.decode()}")
+
+
+def is_read_or_refused(programs, name, text, words):
+    """Demands that a netlist ends in a text that vsim reads, or in a refusal, within 2 s."""
     vsim, netlist, _ = programs
-    random.seed(seed)
-    text = bytearray(read(f"{FOLDER}/counter.json"))
-    for _ in range(MUTATED):
-        mutated = bytearray(text)
-        mutated[random.randrange(len(text))] = random.choice(b'0123456789"[]{},:aPN$_ \n\xff')
-        status, made, said = run([netlist], bytes(mutated), SECONDS)
-        demand(status in (0, 1) and (status == 0) == bool(made), f"status {status}: {said}")
-        if status == 0:
-            top = made.split(b"entity ")[1].split()[0].decode()
-            ran = run([vsim, "--top", top], made, SECONDS)
-            demand(ran[0] == 0, f"vsim: {ran[2]}")
+    status, made, said = run([netlist, "--stimuli", f"{FOLDER}/{name}.vcd", "--scope", "tb.dut", *words], text, SECONDS)
+    demand(status in (0, 1) and (status == 0) == bool(made), f"status {status}: {said}")
+    if status == 0:
+        top = made.split(b"entity ")[1].split()[0].decode()
+        ran = run([vsim, "--top", top, "--limit", "100"], made, SECONDS)
+        demand(ran[0] in (0, 3), f"vsim: {ran[2]} for {words}")
+    else:
+        demand(said.startswith("vsim_netlist: ") and said.count("\n") == 1, said)
+
+
+def are_bytes_mutated(programs, count):
+    """Demands that netlists with another byte are read or refused."""
+    random.seed(1)
+    for it in range(count):
+        name, words = DAMAGED[it % len(DAMAGED)]
+        mutated = bytearray(read(f"{FOLDER}/{name}.json"))
+        mutated[random.randrange(len(mutated))] = random.choice(b'0123456789"[]{},:aPN$_ \n\xff')
+        is_read_or_refused(programs, name, bytes(mutated), words)
+
+
+def places(value):
+    """Yields each object or array of a JSON, with each name or index in it."""
+    for key in value if isinstance(value, dict) else range(len(value)):
+        yield value, key
+        if isinstance(value[key], (dict, list)):
+            yield from places(value[key])
+
+
+def mutate(chance, parent, key):
+    """Gives a member or an item another value, or removes it."""
+    value = parent[key]
+    others = [None, True, -1, 1.5, 0, 1, 2, 3, 7, 2**32, 2**63, 2**64, "", "0", "1", "x", "z", "q", "$_BUF_", "$_NOT_", "$lut", "$_DFF_P_",
+              "$_TBUF_", "input", "output", "inout", "Y", "1" * 70, "a b", "\u00e9", [], {}, [value], {"A": value}, [2, 2], ["0"], ["x"]]
+    if chance.random() < 0.25:
+        del parent[key]
+    elif isinstance(parent, dict) and chance.random() < 0.2:
+        parent[chance.choice([it for it in others if isinstance(it, str)] + list(parent))] = parent.pop(key)
+    else:
+        parent[key] = chance.choice(others)
+
+
+def are_fields_mutated(programs, count):
+    """Demands that netlists with another member or item of their JSON, or without it, are read or refused."""
+    chance = random.Random(2)
+    whole = [json.loads(read(f"{FOLDER}/{name}.json")) for name, _ in DAMAGED]
+    for it in range(count):
+        name, words = DAMAGED[it % len(DAMAGED)]
+        document = copy.deepcopy(whole[it % len(DAMAGED)])
+        mutate(chance, *chance.choice(list(places(document))))
+        is_read_or_refused(programs, name, json.dumps(document).encode(), words)
 
 
 def tally(tests):
@@ -249,17 +423,34 @@ def tally(tests):
     return failed
 
 
+def tests_of(programs, folder, mutated):
+    """Yields the name of each test, and the test."""
+    program = programs[1]
+    for name in NAMES:
+        for words in ((), ("--delays", "others=10ps"), ("--delays", "others=10ps/20ps,dff=30ps", "--hold", "40ps")):
+            yield f"{name} {' '.join(words)}", lambda name=name, words=words: is_same(programs, name, folder, *words)
+    yield "lines of stimuli", lambda: are_lines_alike(program, folder)
+    for row in LISTED:
+        yield f"y is {row[3]}", lambda row=row: is_listed(programs, folder, *row)
+    yield "clocks", lambda: is_one_statement(program, folder)
+    for row in REFUSED:
+        yield row[3], lambda row=row: is_refused(program, folder, *row)
+    for text, told in beyond():
+        yield told, lambda text=text, told=told: is_refused(program, folder, text, "", [], told)
+    for row in failing(folder):
+        yield f"{row[0]} and status {row[2]}", lambda row=row: fails(program, *row)
+    yield "no memory", lambda: has_no_memory(program)
+    yield "bytes of stimuli", lambda: are_short(program)
+    yield "netlists with another byte", lambda: are_bytes_mutated(programs, mutated)
+    yield "netlists with another member", lambda: are_fields_mutated(programs, mutated)
+
+
 def main():
-    if len(sys.argv) != 4:
+    if len(sys.argv) not in (4, 5):
         sys.exit(__doc__)
-    programs = sys.argv[1:]
+    programs, mutated = sys.argv[1:4], int(sys.argv[4]) if len(sys.argv) == 5 else MUTATED
     with tempfile.TemporaryDirectory() as folder:
-        tests = [(f"{name} {' '.join(words)}", lambda name=name, words=words: is_same(programs, name, folder, *words))
-                 for name in NAMES for words in ((), ("--delays", "others=10ps"), ("--delays", "others=10ps/20ps,dff=30ps", "--hold", "40ps"))]
-        tests += [(row[3], lambda row=row: is_refused(programs[1], folder, *row)) for row in REFUSED]
-        tests.append(("bytes of stimuli", lambda: are_short(programs[1])))
-        tests.append(("mutated netlists", lambda: are_mutated_read(programs, 1)))
-        sys.exit(tally(tests) != 0)
+        sys.exit(tally(tests_of(programs, folder, mutated)) != 0)
 
 
 if __name__ == "__main__":

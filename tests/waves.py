@@ -9,7 +9,7 @@ without `--deltas`, and read by a reader that knows only the rules of a VCD. The
 - the times are those of the listing; with `--deltas` one for each delta cycle, always later than the one before it;
 - at each time each net has the value that the listing gives it by then.
 
-Faulty listings and wrong words are refused with a line on standard error.
+Faulty listings and maps and wrong words are refused with a line on standard error.
 
 Differences are printed, and the last line is `N passed, M failed`.
 """
@@ -18,6 +18,7 @@ import os
 import random
 import subprocess
 import sys
+import tempfile
 
 TOP = os.path.dirname(os.path.dirname(os.path.realpath(__file__)))
 VALUES = "UX01ZWLH-"
@@ -44,6 +45,14 @@ REFUSED = [
     ("0 x s 0\ndone 0 0\n", 1),
     ("0 18446744073709551616 s 0\ndone 0 0\n", 1),
     ("0 0 s 0\ndone 0 x\n", 2),
+]
+# a map that is refused, and what is told
+MAPS = [
+    ("vsim_netlist map 2\nend 5\n", "it is a map of version 2, and version 1 is wanted"),
+    ("0 0 s 0\ndone 0 0\n", "it is no map of vsim_netlist"),
+    ("vsim_netlist map 1\nend soon\n", "line 2: the end is no number"),
+    ("vsim_netlist map 1\nend 5\nvar s 0\n", "line 3: a variable is cut off"),
+    ("vsim_netlist map 1\nnet s\n", "line 2: it is no line of a map"),
 ]
 
 
@@ -180,6 +189,15 @@ def check_refusal(program, text, line):
     demand(err.count("\n") == 1, f"it says {err}")
 
 
+def check_map(program, text, told):
+    with tempfile.TemporaryDirectory() as folder:
+        with open(f"{folder}/map", "w", encoding="utf-8") as file:
+            file.write(text)
+        status, out, err = run(program, ["--map", f"{folder}/map"], b"0 0 s 0\ndone 0 0\n")
+    demand(status == 1 and not out, f"status {status}")
+    demand(err.startswith("vsim_waves: ") and err.endswith(f"/map: {told}\n"), f"it says {err}")
+
+
 def check_words(program, words):
     status, out, err = run(program, words, b"done 0 0\n")
     demand(status == 2 and not out and err.startswith("usage: vsim_waves "), f"status {status}: {err}")
@@ -229,6 +247,8 @@ def checks(vsim, program):
         yield f"{name} --deltas", lambda: check(program, ["--deltas"], by_delta, listing)
     for text, line in REFUSED:
         yield f"refusal of {text!r}", lambda: check_refusal(program, text, line)
+    for text, told in MAPS:
+        yield f"a map of which is told: {told}", lambda: check_map(program, text, told)
     for words in (["--delta"], ["--deltas", "--deltas"], ["FILE.vcd"], [""]):
         yield f"the words {words}", lambda: check_words(program, words)
 

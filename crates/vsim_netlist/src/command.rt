@@ -25,9 +25,9 @@ Delays:
 
 Status:
   0  the text is written, or help or the version was asked for
-  1  the netlist or its stimuli are refused, or reading or writing failed
+  1  the netlist, its stimuli or a delay is refused
   2  the command line is refused
-  4  no memory for the words of the command line
+  4  memory was refused, or reading or writing failed
 
 Example:
   vsim_netlist --stimuli uart.vcd --map uart.map < uart.json > uart.vhd

@@ -3,11 +3,11 @@
 use crate::command::Options;
 use crate::delay_list::{read_delays, read_hold};
 use crate::text::{Request, Written, write_text};
-use anyhow::{Context, Result};
+use anyhow::{Context, Result, bail};
 use std::alloc::{AllocError, Global};
 use vsim_netlist_cells::read_netlist;
 use vsim_netlist_design::{Netlist, Port, Stimuli, push};
-use vsim_netlist_stimuli::{Input, read_stimuli};
+use vsim_netlist_stimuli::{Input, LATEST, read_stimuli};
 
 /// Adds an input.
 fn put_input(inputs: &mut Vec<Input>, port: &Port) -> Result<(), AllocError> {
@@ -65,6 +65,29 @@ fn convert_netlist(
     write_netlist(alloc, options, netlist, stimuli.as_ref())
 }
 
+/// The time of the last change of any input.
+fn last_change(stimuli: &Stimuli) -> u64 {
+    let mut latest = 0;
+    for changes in stimuli.bits.iter() {
+        if let Some(change) = changes.last() {
+            latest = change.time.max(latest);
+        }
+    }
+    latest
+}
+
+/// Refuses a hold time by which an input would change after the latest time of vsim.
+fn demand_hold(stimuli: Option<&Stimuli>, hold: u64) -> Result<()> {
+    let last = match stimuli {
+        Some(stimuli) => last_change(stimuli),
+        None => 0,
+    };
+    if LATEST.saturating_sub(last) < hold {
+        bail!("--hold: an input would change after {LATEST} fs, the latest time of vsim");
+    }
+    Ok(())
+}
+
 /// Writes a netlist and its stimuli, with delays.
 fn write_netlist(
     alloc: Global,
@@ -74,6 +97,7 @@ fn write_netlist(
 ) -> Result<Written> {
     let delays = read_delays(alloc, options.delays)?;
     let hold = read_hold(options.hold)?;
+    demand_hold(stimuli, hold)?;
     let request = Request {
         netlist,
         stimuli,

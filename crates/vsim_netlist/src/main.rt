@@ -6,14 +6,16 @@
 mod command;
 mod conversion;
 mod delay_list;
+mod fault;
 mod map;
 mod text;
 
 use crate::command::{Notice, Options, command_line, make_notice, make_options};
 use crate::conversion::convert;
+use crate::fault::Fault;
 use crate::text::Written;
-use anyhow::{Context, Result};
 use clap::ArgMatches;
+use std::alloc::AllocError;
 use std::io::{self, BufWriter, Write, writer};
 use std::process::ExitCode;
 use std::{env, fs};
@@ -27,77 +29,114 @@ const DERIVED: &str = "vsim_netlist: gates or registers make clocks. Without del
 may see new data: give --delays dff=.. and --hold.
 ";
 
-/// The exit status if there is no memory for the words of the command line.
-const NO_MEMORY: u8 = 4;
+/// The message for words that are not valid UTF-8, as `clap` words it.
+const NO_TEXT: &str = "error: invalid UTF-8 was detected in one or more arguments
+
+For more information, try '--help'.
+";
 
 /// The text of a file.
-fn read_file(rt: &HostRuntime, path: &str) -> Result<String> {
-    fs::read_to_string(rt, path).context(format_args!("{path}"))
+fn read_file(rt: &HostRuntime, path: &str) -> Result<String, Fault> {
+    match fs::read_to_string(rt, path) {
+        Ok(text) => Ok(text),
+        Err(fault) => Err(Fault::of_reading(fault, path)),
+    }
 }
 
 /// Writes the map, if requested.
-fn write_map(rt: &HostRuntime, path: Option<&str>, map: &str) -> Result<()> {
-    match path {
-        Some(path) => fs::write(rt, path, map).context(format_args!("{path}")),
-        None => Ok(()),
+fn write_map(rt: &HostRuntime, path: Option<&str>, map: &str) -> Result<(), Fault> {
+    let Some(path) = path else {
+        return Ok(());
+    };
+    match fs::write(rt, path, map) {
+        Ok(()) => Ok(()),
+        Err(fault) => Err(Fault::of_streams(fault, path)),
     }
 }
 
-/// Writes a text.
-fn write_text(rt: &HostRuntime, text: &str) -> Result<()> {
+/// Writes a text on standard output.
+fn write_out(rt: &HostRuntime, text: &str) -> io::Result<()> {
     let mut out = BufWriter::new(rt.alloc(), writer(rt))?;
-    out.write_all(text.as_bytes()).context("writing")?;
-    out.flush().context("writing")
+    out.write_all(text.as_bytes())?;
+    out.flush()
+}
+
+/// Writes a text on standard output, or reports that it could not be written.
+fn write_text(rt: &HostRuntime, text: &str) -> Result<(), Fault> {
+    match write_out(rt, text) {
+        Ok(()) => Ok(()),
+        Err(fault) => Err(Fault::of_streams(fault, "writing")),
+    }
+}
+
+/// Warns of clocks that gates or registers drive, if standard error can be written.
+fn warn(rt: &HostRuntime, options: &Options<'_>, written: &Written) {
+    if written.derived_clocks > 0 && !options.is_timed() {
+        let _warned = rt.eprint(DERIVED);
+    }
 }
 
 /// Writes the text and the map.
-fn write_all(rt: &HostRuntime, options: &Options<'_>, written: &Written) -> Result<()> {
+fn write_all(rt: &HostRuntime, options: &Options<'_>, written: &Written) -> Result<(), Fault> {
     write_map(rt, options.map(), written.map.as_str())?;
-    if written.derived_clocks > 0 && !options.is_timed() {
-        rt.eprint(DERIVED)?;
-    }
+    warn(rt, options, written);
     write_text(rt, written.text.as_str())
 }
 
 /// The text of the stimuli, if they are given.
-fn read_stimuli(rt: &HostRuntime, options: &Options<'_>) -> Result<Option<String>> {
+fn read_stimuli(rt: &HostRuntime, options: &Options<'_>) -> Result<Option<String>, Fault> {
     match options.stimuli() {
         Some(path) => Ok(Some(read_file(rt, path)?)),
         None => Ok(None),
     }
 }
 
+/// Makes the text of a netlist, or tells why there is none.
+fn converted(
+    rt: &HostRuntime,
+    options: &Options<'_>,
+    netlist: &str,
+    stimuli: Option<&str>,
+) -> Result<Written, Fault> {
+    match convert(rt.alloc(), options, netlist, stimuli) {
+        Ok(written) => Ok(written),
+        Err(fault) => Err(Fault::of_conversion(rt.alloc(), fault)),
+    }
+}
+
 /// Makes the text of a netlist.
-fn answer_text(rt: &HostRuntime, options: &Options<'_>, netlist: &str) -> Result<()> {
+fn answer_text(rt: &HostRuntime, options: &Options<'_>, netlist: &str) -> Result<(), Fault> {
     let stimuli = read_stimuli(rt, options)?;
     let of_stimuli = match &stimuli {
         Some(text) => Some(text.as_str()),
         None => None,
     };
-    let written = convert(rt.alloc(), options, netlist, of_stimuli)?;
+    let written = converted(rt, options, netlist, of_stimuli)?;
     write_all(rt, options, &written)
 }
 
 /// Makes the text of the netlist on standard input.
-fn answer_netlist(rt: &HostRuntime, options: &Options<'_>) -> Result<()> {
-    let netlist = io::read_to_string(rt.alloc(), rt.reader()).context("standard input")?;
-    answer_text(rt, options, netlist.as_str())
+fn answer_netlist(rt: &HostRuntime, options: &Options<'_>) -> Result<(), Fault> {
+    match io::read_to_string(rt.alloc(), rt.reader()) {
+        Ok(netlist) => answer_text(rt, options, netlist.as_str()),
+        Err(fault) => Err(Fault::of_reading(fault, "standard input")),
+    }
 }
 
 /// Writes the help or the version.
-fn tell(rt: &HostRuntime, text: &str) -> Result<u8> {
-    rt.print(text)?;
+fn tell(rt: &HostRuntime, text: &str) -> Result<u8, Fault> {
+    write_text(rt, text)?;
     Ok(0)
 }
 
-/// Reports invalid arguments.
-fn refuse(rt: &HostRuntime, text: &str) -> Result<u8> {
-    rt.eprint(text)?;
+/// Reports invalid arguments, if standard error can be written.
+fn refuse(rt: &HostRuntime, text: &str) -> Result<u8, Fault> {
+    let _reported = rt.eprint(text);
     Ok(2)
 }
 
 /// Carries out valid arguments and returns the exit status.
-fn answer_matches(rt: &HostRuntime, matches: &ArgMatches<'_>) -> Result<u8> {
+fn answer_matches(rt: &HostRuntime, matches: &ArgMatches<'_>) -> Result<u8, Fault> {
     if matches.get_flag("version") {
         return tell(rt, VERSION);
     }
@@ -106,18 +145,19 @@ fn answer_matches(rt: &HostRuntime, matches: &ArgMatches<'_>) -> Result<u8> {
 }
 
 /// Answers invalid arguments, or a request for help, and returns the exit status.
-fn answer_notice(rt: &HostRuntime, notice: Notice) -> Result<u8> {
+fn answer_notice(rt: &HostRuntime, notice: Notice) -> Result<u8, Fault> {
     match notice {
         Notice::Help(text) => tell(rt, text.as_str()),
         Notice::Refused(text) => refuse(rt, text.as_str()),
-        Notice::Memory => Ok(NO_MEMORY),
+        Notice::Memory => Err(Fault::of_memory(AllocError)),
     }
 }
 
 /// Carries out the words after the program's name and returns the exit status.
-fn answer_words(rt: &HostRuntime, words: &[String]) -> Result<u8> {
-    let Ok(command) = command_line(rt.alloc()) else {
-        return Ok(NO_MEMORY);
+fn answer_words(rt: &HostRuntime, words: &[String]) -> Result<u8, Fault> {
+    let command = match command_line(rt.alloc()) {
+        Ok(command) => command,
+        Err(fault) => return Err(Fault::of_memory(fault)),
     };
     match command.try_get_matches_from(words) {
         Ok(matches) => answer_matches(rt, &matches),
@@ -125,16 +165,26 @@ fn answer_words(rt: &HostRuntime, words: &[String]) -> Result<u8> {
     }
 }
 
-/// Carries out the arguments and returns the exit status.
-fn answer(rt: &HostRuntime) -> Result<u8> {
-    let words: Vec<String> = env::args(rt)?.skip(1).collect(rt.alloc())?;
-    answer_words(rt, words.as_slice())
+/// The words after the program's name.
+fn words(rt: &HostRuntime) -> io::Result<Vec<String>> {
+    let words = env::args(rt)?.skip(1).collect(rt.alloc())?;
+    Ok(words)
 }
 
-/// Returns the exit status for a fault, which is reported if standard error can be written.
-fn fail(rt: &HostRuntime, fault: anyhow::Error) -> ExitCode {
-    let _reported = eprintln!(rt; "vsim_netlist: {fault:#}");
-    ExitCode::FAILURE
+/// Carries out the arguments and returns the exit status.
+fn answer(rt: &HostRuntime) -> Result<u8, Fault> {
+    match words(rt) {
+        Ok(words) => answer_words(rt, words.as_slice()),
+        Err(fault) if fault.kind() == io::ErrorKind::InvalidData => refuse(rt, NO_TEXT),
+        Err(fault) => Err(Fault::of_streams(fault, "the command line")),
+    }
+}
+
+/// Reports a fault, if standard error can be written, and returns the exit status.
+fn fail(rt: &HostRuntime, fault: Fault) -> ExitCode {
+    let text = &fault.text;
+    let _reported = eprintln!(rt; "vsim_netlist: {text:#}");
+    ExitCode::from(fault.status)
 }
 
 fn main(rt: HostRuntime) -> ExitCode {

@@ -467,21 +467,23 @@ impl<'de> Deserialize<'de> for Module {
 /// A netlist.
 #[derive(Drop)]
 pub(crate) struct Document {
+    pub(crate) creator: String,
     pub(crate) modules: Members<Module>,
 }
 
 impl MadeWith<Global> for Document {
     fn made_with(alloc: Global) -> Document {
         Document {
+            creator: MadeWith::made_with(alloc),
             modules: MadeWith::made_with(alloc),
         }
     }
 }
 
 impl<'de> FromObject<'de> for Document {
-    const NAMES: &'static [Name<'static>] = &[exact!("modules")];
+    const NAMES: &'static [Name<'static>] = &[exact!("creator"), exact!("modules")];
 
-    const REQUIRED: usize = 1;
+    const REQUIRED: usize = 2;
 
     fn read_member<F: Format>(
         &mut self,
@@ -490,7 +492,8 @@ impl<'de> FromObject<'de> for Document {
         from: &mut Deserializer<'de, '_, F>,
     ) -> Result<(), F::Error> {
         match member {
-            0 => read_value(&mut self.modules, alloc, from),
+            0 => read_value(&mut self.creator, alloc, from),
+            1 => read_value(&mut self.modules, alloc, from),
             _ => from.skip(),
         }
     }

@@ -6,7 +6,7 @@ use crate::nets::Nets;
 use anyhow::{Context, Result, anyhow, bail};
 use indexmap::IndexSet;
 use std::alloc::{AllocError, Global};
-use vsim_netlist_design::{Cell, Netlist, Port, Variable, push};
+use vsim_netlist_design::{Cell, Draft, Netlist, Port, Variable, push};
 
 /// Whether a module is marked as the top.
 fn is_top(module: &Module) -> bool {
@@ -38,7 +38,7 @@ fn wanted<'a>(document: &'a Document, top: Option<&str>) -> Result<(&'a str, &'a
     }
 }
 
-/// Refuses a duplicate name, of which `what` tells.
+/// Refuses a name that is there already, and notes it otherwise. `what` says whose name it is.
 fn note(names: &mut IndexSet<String>, name: &String, what: &str) -> Result<()> {
     if !names.insert(name.clone()?)? {
         bail!("{what} is there twice");
@@ -119,44 +119,69 @@ fn placed_cell(
     }
 }
 
+/// The name of a cell, after its place in the source if that is known.
+fn origin(alloc: Global, name: &str, written: &WrittenCell) -> Result<String, AllocError> {
+    let mut origin = Draft::new(alloc);
+    if let Some(src) = written.attributes.src.as_str() {
+        origin.push_all(&[src, ": "]);
+    }
+    origin.push_all(&["cell ", name]);
+    origin.finish()
+}
+
 /// Adds a cell, unless it has no effect in a simulation.
 fn put_cell(
     alloc: Global,
     nets: &mut Nets,
-    cells: &mut Vec<Cell>,
+    netlist: &mut Netlist,
     name: &str,
     written: &WrittenCell,
+    origin: String,
 ) -> Result<()> {
-    match placed_cell(alloc, nets, name, written)? {
-        Some(cell) => Ok(push(cells, cell)?),
-        None => Ok(()),
+    if let Some(cell) = placed_cell(alloc, nets, name, written)? {
+        push(&mut netlist.cells, cell)?;
+        push(&mut netlist.origins, origin)?;
     }
+    Ok(())
 }
 
-/// Adds the cells of a module.
-fn put_cells(
+/// Adds a cell whose name is not among these, and notes its name.
+fn put_new_cell(
     alloc: Global,
     nets: &mut Nets,
-    cells: &mut Vec<Cell>,
-    written: &Members<WrittenCell>,
+    netlist: &mut Netlist,
+    names: &mut IndexSet<String>,
+    name: &String,
+    written: &WrittenCell,
 ) -> Result<()> {
-    let mut names = IndexSet::new(alloc);
-    put_each_cell(alloc, nets, cells, &mut names, written)
+    let origin = origin(alloc, name.as_str(), written)?;
+    note(names, name, origin.as_str())?;
+    put_cell(alloc, nets, netlist, name.as_str(), written, origin)
 }
 
 /// Adds cells whose names are not among these, and notes their names.
 fn put_each_cell(
     alloc: Global,
     nets: &mut Nets,
-    cells: &mut Vec<Cell>,
+    netlist: &mut Netlist,
     names: &mut IndexSet<String>,
     written: &Members<WrittenCell>,
 ) -> Result<()> {
     for (name, written) in written.entries.iter() {
-        put_cell(alloc, nets, cells, name.as_str(), written)?;
-        note(names, name, "a cell")?;
+        put_new_cell(alloc, nets, netlist, names, name, written)?;
     }
     Ok(())
+}
+
+/// Adds the cells of a module.
+fn put_cells(
+    alloc: Global,
+    nets: &mut Nets,
+    netlist: &mut Netlist,
+    written: &Members<WrittenCell>,
+) -> Result<()> {
+    let mut names = IndexSet::new(alloc);
+    put_each_cell(alloc, nets, netlist, &mut names, written)
 }
 
 /// Adds a name of the source, if it is one.
@@ -189,7 +214,7 @@ fn put_variables(
 /// Adds the ports, cells and names of a module.
 fn put_parts(alloc: Global, nets: &mut Nets, netlist: &mut Netlist, module: &Module) -> Result<()> {
     put_ports(alloc, nets, &mut netlist.ports, &module.ports)?;
-    put_cells(alloc, nets, &mut netlist.cells, &module.cells)?;
+    put_cells(alloc, nets, netlist, &module.cells)?;
     Ok(put_variables(alloc, nets, &mut netlist.variables, &module.netnames)?)
 }
 
@@ -208,6 +233,7 @@ fn make_netlist(alloc: Global, name: &str, module: &Module) -> Result<Netlist> {
         name,
         ports: Vec::new(alloc),
         cells: Vec::new(alloc),
+        origins: Vec::new(alloc),
         variables: Vec::new(alloc),
         nets: Vec::new(alloc),
     };
@@ -221,11 +247,30 @@ fn wanted_netlist(alloc: Global, document: &Document, top: Option<&str>) -> Resu
     make_netlist(alloc, name, module)
 }
 
+/// The refusal of a text that is not the JSON of a netlist.
+fn no_netlist(fault: serde_json::Error) -> anyhow::Error {
+    if fault.is_memory() {
+        return anyhow::Error::from(AllocError);
+    }
+    anyhow::Error::from(fault).context("no netlist that Yosys' write_json writes")
+}
+
+/// Refuses a netlist that another program wrote.
+fn demand_creator(creator: &str) -> Result<()> {
+    if !creator.starts_with("Yosys ") {
+        bail!("its creator is '{creator}', not Yosys");
+    }
+    Ok(())
+}
+
 /// Reads the JSON.
 fn read_document(alloc: Global, text: &str) -> Result<Document> {
-    serde_json::from_str::<Document>(alloc, text).context(
-        "no netlist that Yosys' write_json writes",
-    )
+    let document = match serde_json::from_str::<Document>(alloc, text) {
+        Ok(document) => document,
+        Err(fault) => return Err(no_netlist(fault)),
+    };
+    demand_creator(document.creator.as_str())?;
+    Ok(document)
 }
 
 /// Reads the netlist of the module with this name, or of the one marked as the top.

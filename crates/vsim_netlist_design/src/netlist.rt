@@ -42,6 +42,8 @@ pub struct Netlist {
     pub name: String,
     pub ports: Vec<Port>,
     pub cells: Vec<Cell>,
+    /// For each cell its name, after its place in the source if that is known.
+    pub origins: Vec<String>,
     pub variables: Vec<Variable>,
     pub nets: Vec<Net>,
 }

@@ -7,8 +7,8 @@ use vsim_netlist_design::{
     Bit, Cell, Control, Draft, Gate, GateCell, Level, Netlist, Register, Style, push,
 };
 use vsim_netlist_signals::{
-    Delay, Expression, NamedDelay, Statements, delay_of, gate_expression, primary, push_assignment,
-    push_literal, push_stored, push_tristate,
+    Delay, Expression, NamedDelay, Statements, delay_of, gate_expression, literal, named,
+    push_assignment, push_literal, push_stored, push_tristate,
 };
 use vsim_netlist_uses::{Uses, is_marked, longest_within, writing_order};
 
@@ -45,9 +45,9 @@ fn no_expressions(alloc: Global, count: usize) -> Result<Vec<Option<Expression>>
 }
 
 /// The name of a net as an expression.
-fn named(statements: &mut Statements, place: usize) -> Expression {
+fn name_of(statements: &mut Statements, place: usize) -> Expression {
     statements.ensure(place);
-    primary(statements.alloc, statements.signals.text(place))
+    named(statements.alloc, statements.signals.text(place))
 }
 
 /// The maximum length, in bytes, of a gate that is nested in the cell that reads it.
@@ -239,14 +239,14 @@ impl<'a> Builder<'a> {
     fn net(&mut self, place: usize) -> Expression {
         match self.take_expression(place) {
             Some(expression) => expression,
-            None => named(&mut self.statements, place),
+            None => name_of(&mut self.statements, place),
         }
     }
 
     /// A bit as an expression.
     fn operand(&mut self, bit: Bit) -> Expression {
         match bit {
-            Bit::Constant(level) => primary(self.alloc, level.literal()),
+            Bit::Constant(level) => literal(self.alloc, level),
             Bit::Net(place) => self.net(place),
         }
     }

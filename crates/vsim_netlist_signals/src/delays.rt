@@ -49,9 +49,10 @@ impl Delay {
         self.rise.max(self.fall)
     }
 
-    /// Whether an expression has different times to rise and to fall. A constant has not.
+    /// Whether an expression has different times to rise and to fall. One of literals alone, which
+    /// never changes, has not.
     fn differs(self, value: &Expression) -> bool {
-        self.rise != self.fall && !value.text.as_str().starts_with("'")
+        self.rise != self.fall && value.has_name
     }
 
     /// The time to reach a level.

@@ -1,7 +1,7 @@
 //! Expressions as text.
 
 use std::alloc::Global;
-use vsim_netlist_design::Draft;
+use vsim_netlist_design::{Draft, Level};
 
 /// The outermost form of an expression.
 #[derive(Clone, Copy, PartialEq, Eq)]
@@ -17,12 +17,14 @@ pub enum Outside {
     Xnor,
 }
 
-/// An expression: its text, its outermost form, and the depth of its parentheses.
+/// An expression: its text, its outermost form, the depth of its parentheses, and whether it names
+/// a signal. One of literals alone is no condition of VHDL, since `'1'` may be of several types.
 #[derive(Drop)]
 pub struct Expression {
     pub text: Draft,
     pub outside: Outside,
     pub depth: usize,
+    pub has_name: bool,
 }
 
 impl Outside {
@@ -50,12 +52,23 @@ impl Outside {
     }
 }
 
-/// A name or a literal.
-pub fn primary(alloc: Global, text: &str) -> Expression {
+/// The name of a signal.
+pub fn named(alloc: Global, name: &str) -> Expression {
     Expression {
-        text: Draft::of(alloc, text),
+        text: Draft::of(alloc, name),
         outside: Outside::Primary,
         depth: 0,
+        has_name: true,
+    }
+}
+
+/// The literal of a level.
+pub fn literal(alloc: Global, level: Level) -> Expression {
+    Expression {
+        text: Draft::of(alloc, level.literal()),
+        outside: Outside::Primary,
+        depth: 0,
+        has_name: false,
     }
 }
 
@@ -95,6 +108,7 @@ pub fn negation(alloc: Global, operand: &Expression) -> Expression {
         text,
         outside: Outside::Not,
         depth,
+        has_name: operand.has_name,
     }
 }
 
@@ -115,5 +129,6 @@ pub fn binary(
         text,
         outside: operator,
         depth: left_depth.max(right_depth),
+        has_name: left.has_name || right.has_name,
     }
 }

@@ -1,8 +1,8 @@
 //! The gates of Yosys' library as expressions.
 
-use crate::expressions::{Expression, Outside, binary, negation, primary};
+use crate::expressions::{Expression, Outside, binary, literal, negation};
 use std::alloc::{AllocError, Global};
-use vsim_netlist_design::{Draft, Gate, push};
+use vsim_netlist_design::{Draft, Gate, Level, push};
 
 /// Selects one of two expressions, the second by `1`. If both agree, the value is theirs even for
 /// an unknown selection, as in Verilog.
@@ -32,6 +32,7 @@ fn copy(alloc: Global, expression: &Expression) -> Expression {
         text,
         outside: expression.outside,
         depth: expression.depth,
+        has_name: expression.has_name,
     }
 }
 
@@ -125,7 +126,7 @@ fn halve(
 fn last(alloc: Global, items: &[Expression]) -> Expression {
     match items.last() {
         Some(last) => copy(alloc, last),
-        None => primary(alloc, "'X'"),
+        None => literal(alloc, Level::Unknown),
     }
 }
 
@@ -154,20 +155,20 @@ fn multiplexer(
 ) -> Result<Expression, AllocError> {
     match (operands.get(..data), operands.get(data..)) {
         (Some(items), Some(selects)) => chosen(alloc, items, selects, false),
-        _ => Ok(primary(alloc, "'X'")),
+        _ => Ok(literal(alloc, Level::Unknown)),
     }
 }
 
-/// The literal of a bit of a table.
-fn literal(alloc: Global, bit: u8) -> Expression {
-    primary(alloc, if bit == b'1' { "'1'" } else { "'0'" })
+/// The level of a bit of a table.
+fn level_of(bit: u8) -> Level {
+    if bit == b'1' { Level::One } else { Level::Zero }
 }
 
 /// The literals of a table, lowest first.
 fn literals(alloc: Global, table: &str) -> Result<Vec<Expression>, AllocError> {
     let mut items = Vec::new(alloc);
     for bit in table.as_bytes().iter().rev() {
-        push(&mut items, literal(alloc, *bit))?;
+        push(&mut items, literal(alloc, level_of(*bit)))?;
     }
     Ok(items)
 }
@@ -193,7 +194,7 @@ fn pairs(alloc: Global, operands: &[Expression], inner: Outside, outer: Outside)
             let (first, second) = (binary(alloc, a, inner, b), binary(alloc, c, inner, d));
             binary(alloc, &first, outer, &second)
         }
-        _ => primary(alloc, "'X'"),
+        _ => literal(alloc, Level::Unknown),
     }
 }
 
@@ -201,7 +202,7 @@ fn pairs(alloc: Global, operands: &[Expression], inner: Outside, outer: Outside)
 fn two(alloc: Global, operands: &[Expression], operator: Outside) -> Expression {
     match operands {
         [left, right] => binary(alloc, left, operator, right),
-        _ => primary(alloc, "'X'"),
+        _ => literal(alloc, Level::Unknown),
     }
 }
 
@@ -212,7 +213,7 @@ fn with_negation(alloc: Global, operands: &[Expression], operator: Outside) -> E
             let refused = negation(alloc, right);
             binary(alloc, left, operator, &refused)
         }
-        _ => primary(alloc, "'X'"),
+        _ => literal(alloc, Level::Unknown),
     }
 }
 
@@ -221,7 +222,7 @@ fn one(alloc: Global, operands: &[Expression], is_not: bool) -> Expression {
     match operands {
         [operand] if is_not => negation(alloc, operand),
         [operand] => copy(alloc, operand),
-        _ => primary(alloc, "'X'"),
+        _ => literal(alloc, Level::Unknown),
     }
 }
 

@@ -12,7 +12,7 @@ mod statements;
 pub use delays::{
     Delay, NamedDelay, delay_of, push_assignment, push_literal, push_stored, push_tristate,
 };
-pub use expressions::{Expression, primary};
+pub use expressions::{Expression, literal, named};
 pub use gate_text::gate_expression;
 pub use names::Names;
 pub use signals::{Signals, make_signals};

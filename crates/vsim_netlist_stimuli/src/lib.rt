@@ -8,6 +8,7 @@ mod scopes;
 mod times;
 mod values;
 mod vcd;
+mod words;
 
 pub use changes::Input;
 pub use times::{LATEST, read_time};

@@ -6,7 +6,6 @@ use crate::times::LATEST;
 use anyhow::{Context, Result, anyhow, bail};
 use indexmap::IndexSet;
 use std::alloc::{AllocError, Global};
-use std::str::SplitAsciiWhitespace;
 use vsim_netlist_design::{Level, Stimuli, empty_lists, push};
 
 /// The values of a VCD, as far as it has been read.
@@ -184,7 +183,7 @@ impl<'a> Values<'a> {
     }
 
     /// Reads the next word.
-    fn take(&mut self, word: &'a str) -> Result<()> {
+    pub(crate) fn take(&mut self, word: &'a str) -> Result<()> {
         if self.is_comment {
             self.is_comment = word != "$end";
             return Ok(());
@@ -196,14 +195,6 @@ impl<'a> Values<'a> {
                 self.set(word, value)
             }
         }
-    }
-
-    /// Reads all words.
-    pub(crate) fn take_all(&mut self, words: SplitAsciiWhitespace<'a>) -> Result<()> {
-        for word in words {
-            self.take(word)?;
-        }
-        Ok(())
     }
 
     /// Whether a word is missing after the last one.

@@ -5,9 +5,9 @@ use crate::header::Header;
 use crate::lines::read_lines;
 use crate::scopes::choose;
 use crate::values::{Values, make_values};
+use crate::words::{Words, words_of};
 use anyhow::{Context, Result, anyhow, bail};
 use std::alloc::Global;
-use std::str::SplitAsciiWhitespace;
 use vsim_netlist_design::{Change, Stimuli};
 
 /// The refusal of a VCD that ends too early.
@@ -16,9 +16,9 @@ fn cut_off() -> anyhow::Error {
 }
 
 /// Reads words up to the end of a header.
-fn take_header<'a>(header: &mut Header<'a>, words: &mut SplitAsciiWhitespace<'a>) -> Result<()> {
+fn take_header<'a>(header: &mut Header<'a>, words: &mut Words<'a>) -> Result<()> {
     for _ in 0..u64::MAX {
-        let Some(word) = words.next() else {
+        let Some(word) = words.take() else {
             return Err(cut_off());
         };
         header.take(word)?;
@@ -27,6 +27,31 @@ fn take_header<'a>(header: &mut Header<'a>, words: &mut SplitAsciiWhitespace<'a>
         }
     }
     Ok(())
+}
+
+/// The same. An error names the line.
+fn take_placed_header<'a>(header: &mut Header<'a>, words: &mut Words<'a>) -> Result<()> {
+    let taken = take_header(header, words);
+    let line = words.line();
+    taken.context(format_args!("line {line}"))
+}
+
+/// Reads the values up to the end of a VCD.
+fn take_values<'a>(values: &mut Values<'a>, words: &mut Words<'a>) -> Result<()> {
+    for _ in 0..u64::MAX {
+        let Some(word) = words.take() else {
+            break;
+        };
+        values.take(word)?;
+    }
+    Ok(())
+}
+
+/// The same. An error names the line.
+fn take_placed_values<'a>(values: &mut Values<'a>, words: &mut Words<'a>) -> Result<()> {
+    let taken = take_values(values, words);
+    let line = words.line();
+    taken.context(format_args!("line {line}"))
 }
 
 /// The values of a VCD with this header, of which none has been read.
@@ -43,20 +68,20 @@ fn no_values<'a>(
 /// Reads the header of a VCD. Returns its inputs, without values yet.
 fn begin_values<'a>(
     alloc: Global,
-    words: &mut SplitAsciiWhitespace<'a>,
+    words: &mut Words<'a>,
     inputs: &[Input],
     scope: Option<&str>,
 ) -> Result<Values<'a>> {
     let mut header = Header::new(alloc);
-    take_header(&mut header, words)?;
+    take_placed_header(&mut header, words)?;
     no_values(alloc, &header, inputs, scope)
 }
 
 /// Reads a VCD: its header, then its values.
 fn read_vcd(alloc: Global, text: &str, inputs: &[Input], scope: Option<&str>) -> Result<Stimuli> {
-    let mut words = text.split_ascii_whitespace();
+    let mut words = words_of(text);
     let mut values = begin_values(alloc, &mut words, inputs, scope)?;
-    values.take_all(words)?;
+    take_placed_values(&mut values, &mut words)?;
     if values.is_cut() || !text.ends_with("\n") {
         return Err(cut_off());
     }

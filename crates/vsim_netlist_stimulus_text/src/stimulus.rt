@@ -1,6 +1,6 @@
 //! Stimuli as statements.
 
-use crate::tables::{Clock, Tables, is_multiple, later_changes};
+use crate::tables::{Clock, Edges, Tables, is_multiple, later_changes};
 use std::alloc::{AllocError, Global};
 use std::slice::Iter;
 use vsim_netlist_design::{Bit, Change, Draft, Level, Netlist, Port, Stimuli, push, push_time};
@@ -17,36 +17,57 @@ const CLOCK_CHANGES: usize = 6;
 struct Driven<'a> {
     place: usize,
     changes: &'a [Change],
-    /// Half the period, if the net is a clock.
-    half: Option<u64>,
+    /// The edges, if the net is a clock.
+    edges: Option<Edges>,
+}
+
+/// Whether the change of a clock with this number, its value at time 0 being number 0, is at a time.
+fn is_at(edges: Edges, time: u64, number: u64) -> bool {
+    match (number.checked_sub(1), time.checked_sub(edges.start)) {
+        (Some(before), Some(since)) => is_multiple(since, edges.half, before),
+        (None, _) => time == 0,
+        _ => false,
+    }
 }
 
 /// Whether a change is the one with this number of a clock.
-fn is_edge(change: &Change, first: Level, half: u64, number: usize) -> bool {
+fn is_edge(change: &Change, first: Level, edges: Edges, number: usize) -> bool {
     let level = match (first, number % 2) {
         (Level::Zero, 0) | (Level::One, 1) => Level::Zero,
         _ => Level::One,
     };
-    change.level == level && is_multiple(change.time, half, number as u64)
+    change.level == level && is_at(edges, change.time, number as u64)
 }
 
-/// Half the period, if these are the changes of a clock that begins at time 0.
-fn half_period(changes: &[Change]) -> Option<u64> {
-    let [first, second, ..] = changes else {
+/// Whether all changes are those of a clock with these edges.
+fn are_of_clock(changes: &[Change], first: Level, edges: Edges) -> bool {
+    for (number, change) in changes.iter().enumerate() {
+        if !is_edge(change, first, edges, number) {
+            return false;
+        }
+    }
+    true
+}
+
+/// The edges of a clock that has a value from time 0 on, if these are its changes.
+fn edges_of(changes: &[Change]) -> Option<Edges> {
+    let [first, second, third, ..] = changes else {
         return None;
     };
     let is_level = first.level == Level::Zero || first.level == Level::One;
-    let half = second.time;
+    let half = third.time.saturating_sub(second.time);
+    let edges = Edges {
+        start: second.time,
+        half,
+    };
     if changes.len() < CLOCK_CHANGES || !is_level || half == 0 {
         return None;
     }
-    let level = first.level;
-    for (number, change) in changes.iter().enumerate() {
-        if !is_edge(change, level, half, number) {
-            return None;
-        }
+    if are_of_clock(changes, first.level, edges) {
+        Some(edges)
+    } else {
+        None
     }
-    Some(half)
 }
 
 /// Adds the net of a bit with these changes, if it is one.
@@ -97,7 +118,7 @@ fn one(place: usize, changes: &[Change]) -> Driven<'_> {
     Driven {
         place,
         changes,
-        half: half_period(changes),
+        edges: edges_of(changes),
     }
 }
 
@@ -113,7 +134,7 @@ fn last(net: &Driven<'_>) -> u64 {
 fn last_edge(nets: &[Driven<'_>]) -> u64 {
     let mut latest = 0;
     for net in nets {
-        if net.half.is_some() {
+        if net.edges.is_some() {
             latest = last(net).max(latest);
         }
     }
@@ -122,8 +143,8 @@ fn last_edge(nets: &[Driven<'_>]) -> u64 {
 
 /// Whether a net is a clock that ends before others.
 fn ends_early(net: &Driven<'_>, end: u64) -> bool {
-    match (net.half, net.changes.last()) {
-        (Some(half), Some(change)) => change.time.saturating_add(half) <= end,
+    match (net.edges, net.changes.last()) {
+        (Some(edges), Some(change)) => change.time.saturating_add(edges.half) <= end,
         (Some(_), None) => true,
         (None, _) => false,
     }
@@ -133,7 +154,7 @@ fn ends_early(net: &Driven<'_>, end: u64) -> bool {
 fn leave_whole_clocks(nets: &mut Vec<Driven<'_>>, end: u64) {
     for net in nets.iter_mut() {
         if ends_early(net, end) {
-            net.half = None;
+            net.edges = None;
         }
     }
 }
@@ -189,25 +210,68 @@ fn begin<'a>(statements: &mut Statements, net: &Driven<'a>) -> &'a [Change] {
     later_changes(net.changes)
 }
 
-/// Adds a clock that stops when a signal falls.
-fn push_clock(text: &mut Draft, clock: &str, running: &str, half: u64) {
-    text.push(clock);
-    text.push("<=");
-    text.push(clock);
-    text.push(" xor ");
-    text.push(running);
-    text.push(" after ");
+/// Adds the inversion of a clock after half its period, until a signal falls.
+fn push_inversion(text: &mut Draft, clock: &str, running: &str, half: u64) {
+    text.push_all(&[clock, "<=", clock, " xor ", running, " after "]);
     push_time(text, half);
-    text.push(";\n");
+}
+
+/// The level after the first edge of a clock.
+fn inverted(level: Level) -> Level {
+    match level {
+        Level::Zero => Level::One,
+        _ => Level::Zero,
+    }
+}
+
+/// Writes the signal that rises with the first edge of a clock.
+fn put_started(statements: &mut Statements, once: &mut Draft, start: u64) -> usize {
+    let started = statements.signals.add(Some(Level::Zero));
+    statements.count_driver();
+    let rise = Change {
+        time: start,
+        level: Level::One,
+    };
+    push_changes(once, statements.signals.text(started), &[rise], 0);
+    started
+}
+
+/// Writes the end of the assignment of a clock whose first edge is not half a period after time 0:
+/// it is inverted once a signal has risen, and before that takes the level after the first edge.
+fn put_start(statements: &mut Statements, once: &mut Draft, first: Level, start: u64) {
+    let started = put_started(statements, once, start);
+    statements.body.push(" when ");
+    statements.push_name(started);
+    statements.body.push("='1'else ");
+    let change = Change {
+        time: start,
+        level: inverted(first),
+    };
+    push_element(&mut statements.body, &change, 0);
 }
 
 /// Writes a clock that stops when a signal falls.
-fn put_clock(statements: &mut Statements, net: &Driven<'_>, half: u64, running: usize) {
+fn put_clock(
+    statements: &mut Statements,
+    once: &mut Draft,
+    net: &Driven<'_>,
+    edges: Edges,
+    running: usize,
+) {
     statements.signals.ensure(net.place);
     let _ = begin(statements, net);
     statements.count();
     let (signals, text) = (&statements.signals, &mut statements.body);
-    push_clock(text, signals.text(net.place), signals.text(running), half);
+    push_inversion(
+        text,
+        signals.text(net.place),
+        signals.text(running),
+        edges.half,
+    );
+    if let (true, Some(first)) = (edges.start != edges.half, net.changes.first()) {
+        put_start(statements, once, first.level, edges.start);
+    }
+    statements.body.push(";\n");
 }
 
 /// Writes that a net follows another one delta cycle later.
@@ -257,11 +321,11 @@ fn put_changes(
 /// The clock of the tables: the first one.
 fn first_clock(nets: &[Driven<'_>], end: u64) -> Option<Clock> {
     for net in nets {
-        if let (Some(half), Some(first)) = (net.half, net.changes.first()) {
+        if let (Some(edges), Some(first)) = (net.edges, net.changes.first()) {
             return Some(Clock {
                 net: net.place,
                 first: first.level,
-                half,
+                edges,
                 end,
             });
         }
@@ -285,7 +349,7 @@ fn table_inputs<'a>(
 ) -> Result<Vec<(usize, &'a [Change])>, AllocError> {
     let mut inputs = Vec::new(alloc);
     for net in nets {
-        if net.half.is_none() && !is_clock(clocks, net) {
+        if net.edges.is_none() && !is_clock(clocks, net) {
             push(&mut inputs, (net.place, net.changes))?;
         }
     }
@@ -344,8 +408,8 @@ fn put_net(
     tables: &Option<Tables>,
 ) {
     let is_clock = is_clock(manner.clocks, net);
-    match (net.half, manner.running) {
-        (Some(half), Some(running)) => put_clock(statements, net, half, running),
+    match (net.edges, manner.running) {
+        (Some(edges), Some(running)) => put_clock(statements, once, net, edges, running),
         _ if !is_clock && is_in_table(tables, net) => put_in_table(statements, net),
         _ => put_changes(statements, once, net, is_clock, manner.hold),
     }
@@ -428,7 +492,7 @@ fn put_running(
 /// Whether any net is a clock.
 fn has_clock(nets: &[Driven<'_>]) -> bool {
     for net in nets {
-        if net.half.is_some() {
+        if net.edges.is_some() {
             return true;
         }
     }

@@ -5,12 +5,19 @@ use std::alloc::{AllocError, Global};
 use vsim_netlist_design::{Change, Level};
 use vsim_netlist_signals::Statements;
 
-/// A clock: its net, its initial level, half its period, and the time of its last edge.
+/// The edges of a clock of constant period: the time of the first one, and half the period.
+#[derive(Clone, Copy)]
+pub(crate) struct Edges {
+    pub(crate) start: u64,
+    pub(crate) half: u64,
+}
+
+/// A clock: its net, its initial level, its edges, and the time of the last one.
 #[derive(Clone, Copy)]
 pub(crate) struct Clock {
     pub(crate) net: usize,
     pub(crate) first: Level,
-    pub(crate) half: u64,
+    pub(crate) edges: Edges,
     pub(crate) end: u64,
 }
 
@@ -48,21 +55,23 @@ pub(crate) fn is_multiple(time: u64, unit: u64, number: u64) -> bool {
 
 /// The edge of a clock at a time, if there is one.
 fn edge_at(clock: &Clock, time: u64) -> Option<Edge> {
-    let number = time.checked_div(clock.half)?;
-    if number == 0 || time > clock.end || !is_multiple(time, clock.half, number) {
+    let since = time.checked_sub(clock.edges.start)?;
+    let before = since.checked_div(clock.edges.half)?;
+    if time > clock.end || !is_multiple(since, clock.edges.half, before) {
         return None;
     }
-    let is_odd = number % 2 == 1;
+    let is_even = before % 2 == 0;
     Some(Edge {
-        rises: is_odd == (clock.first == Level::Zero),
-        number: (number.saturating_sub(1) / 2) as usize,
+        rises: is_even == (clock.first == Level::Zero),
+        number: (before / 2) as usize,
     })
 }
 
 /// A bound of the number of edges of a clock in one direction, at most one too high.
 fn edges_in_direction(clock: &Clock) -> usize {
-    let edges = clock.end.checked_div(clock.half).unwrap_or(0);
-    (edges / 2).saturating_add(1) as usize
+    let since = clock.end.saturating_sub(clock.edges.start);
+    let after_first = since.checked_div(clock.edges.half).unwrap_or(0);
+    (after_first / 2).saturating_add(1) as usize
 }
 
 /// The changes after time 0.

@@ -53,19 +53,29 @@ fn has(variable: &Variable, place: usize) -> bool {
     false
 }
 
-/// The refusal of a loop of wires that has a name.
-fn named_refusal(name: &str) -> anyhow::Error {
-    anyhow!("{name} is in a loop of wires")
+/// The name of a net in the source; otherwise the cell that drives it.
+fn told<'a>(netlist: &'a Netlist, uses: &Uses, place: usize) -> &'a str {
+    for variable in netlist.variables.iter() {
+        if has(variable, place) {
+            return variable.name.as_str();
+        }
+    }
+    origin_of_driver(netlist, uses, place)
+}
+
+/// The cell that drives a net.
+fn origin_of_driver<'a>(netlist: &'a Netlist, uses: &Uses, place: usize) -> &'a str {
+    let driver = driver(uses, place).unwrap_or(netlist.origins.len());
+    match netlist.origins.get(driver) {
+        Some(origin) => origin.as_str(),
+        None => "a net",
+    }
 }
 
 /// The refusal of a loop of wires.
-fn refusal(netlist: &Netlist, place: usize) -> anyhow::Error {
-    for variable in netlist.variables.iter() {
-        if has(variable, place) {
-            return named_refusal(variable.name.as_str());
-        }
-    }
-    anyhow!("there is a loop of wires")
+fn refusal(netlist: &Netlist, uses: &Uses, place: usize) -> anyhow::Error {
+    let told = told(netlist, uses, place);
+    anyhow!("{told} is in a loop of wires")
 }
 
 /// Refuses a loop of wires.
@@ -73,7 +83,7 @@ pub fn refuse_loops(alloc: Global, netlist: &Netlist, uses: &Uses) -> Result<()>
     let mut marks = vec![in alloc; 0usize; uses.nets.len()]?;
     for place in 0..uses.nets.len() {
         if leads_back(netlist, uses, &mut marks, place) {
-            return Err(refusal(netlist, place));
+            return Err(refusal(netlist, uses, place));
         }
     }
     Ok(())

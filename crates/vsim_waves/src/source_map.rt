@@ -57,8 +57,22 @@ impl Drop for SourceMap {
     }
 }
 
-/// What the first line is.
-const FIRST: &str = "vsim_netlist map 1";
+/// What the first line is, before its last word, which is the version of the map.
+const HEAD: &str = "vsim_netlist map ";
+
+/// The version of a map that is read.
+const VERSION: &str = "1";
+
+/// Refuses a first line that is none of a map, or that of another version.
+fn demand_version(line: &str) -> Result<()> {
+    let Some(version) = line.strip_prefix(HEAD) else {
+        bail!("it is no map of vsim_netlist");
+    };
+    if version != VERSION {
+        bail!("it is a map of version {version}, and version {VERSION} is wanted");
+    }
+    Ok(())
+}
 
 /// The bit that a word is: a literal, a dash, or the name of a signal.
 fn bit(alloc: Global, signals: &mut IndexSet<String>, word: &str) -> Result<MapBit, AllocError> {
@@ -152,8 +166,8 @@ pub fn read_map(alloc: Global, text: &str) -> Result<SourceMap> {
         if index > 0 {
             map.take(alloc, line)
                 .context(format_args!("line {number}"))?;
-        } else if line != FIRST {
-            bail!("it is no map of vsim_netlist");
+        } else {
+            demand_version(line)?;
         }
     }
     Ok(map)
