@@ -29,6 +29,8 @@ MOST = 1 << 20
 LONGEST = 60
 # the numbers of workers beside one
 SEVERAL = ("4", "16")
+# the MiB of address space that the stacks of sixteen workers take, which stay reserved when a run begins again on one thread
+KEPT = 8
 # the most processor seconds and MiB for a text of 1 MiB
 SECONDS, MEBIBYTES = 20, 200
 WORDS = ["--top", "t"]
@@ -231,18 +233,20 @@ def turned(count):
 
 
 def narrow(program, tally, *first):
-    """Runs in an address space of each second MiB: several workers must not lack memory where one has enough."""
+    """Runs in an address space of each second MiB: several workers must not lack memory where one has KEPT MiB more than enough."""
     words = [*first, *WORDS, "--stop", "20000000", "--workers"]
     for name, text in (("600 processes", worked(600, 20)), ("600 flip-flops", turned(600))):
-        ample, refused = run(program, text, [*words, "1"]), {it: [] for it in SEVERAL}
+        ample, refused, least = run(program, text, [*words, "1"]), {it: [] for it in SEVERAL}, None
         tally.note(ample.status == 0, f"{name} by 1", ample)
         for mebibytes in range(10, 62, 2):
             answers = {it: limited(program, text, [*words, it], mebibytes << 10) for it in ("1", *SEVERAL)}
             enough = answers["1"].same(0, ample.out, b"")
+            least = mebibytes if least is None and enough else least
+            short = not enough or mebibytes < least + KEPT
             for workers, answer in answers.items():
-                holds = answer.same(0, ample.out, b"") or not enough and answer.status != 0 and not answer.out
-                tally.note(holds, f"{name} in {mebibytes} MiB by {workers}", answer)
-                if not holds and workers in refused:
+                ended = answer.same(0, ample.out, b"")
+                tally.note(ended or short and answer.status != 0 and not answer.out, f"{name} in {mebibytes} MiB by {workers}", answer)
+                if enough and not ended:
                     refused[workers].append(mebibytes)
         for workers, sizes in refused.items():
             print(f"{name} by {workers}: refused where 1 is not, in {sizes or 'no'} MiB")
