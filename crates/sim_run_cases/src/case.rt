@@ -4,7 +4,7 @@ use crate::repeated::{number, put_blanks, put_line, put_numbered, put_times};
 use std::alloc::{AllocError, Global};
 use std::str;
 
-/// What the program is given, and what it should answer.
+/// The arguments and the input of the program, and its expected answer.
 #[derive(Drop)]
 pub struct Case {
     pub name: String,

@@ -15,7 +15,7 @@ pub enum Comparison {
     OtherError,
 }
 
-/// What the program answers and writes.
+/// The exit status of the program, and the bytes that it writes.
 #[derive(Drop)]
 pub struct Answer {
     pub status: u32,

@@ -137,7 +137,7 @@ pub fn hand_out_phase<D: DesignType>(
 }
 
 /// The input that was shared, and the drivers and variables of all processes according to the
-/// answers to all orders, which had so many processes each.
+/// answers to all orders. `parts` has the number of processes of each order.
 fn collect_answers<D: DesignType>(
     alloc: Global,
     input: Arc<PhaseInput<D>, Global>,

@@ -42,7 +42,7 @@ fn put_recorded(line: &mut Line, alloc: Global, text: &str) {
     line.put("\n");
 }
 
-/// What a store records of each text, and what the plain program leaves.
+/// The records of a store for each text, and those of the plain program.
 fn both(alloc: Global) -> (Line, Line) {
     let mut recorded = Line::new(alloc);
     let mut plain = Line::new(alloc);

@@ -209,7 +209,7 @@ static FOREIGN: [Script<'_>; 2] = [
     ),
 ];
 
-/// What stores answer to the scripts, and what the scripts expect.
+/// The answers of stores to the scripts, and those that the scripts expect.
 fn followed(alloc: Global) -> (Line, Line) {
     let mut found = Line::new(alloc);
     let mut wanted = Line::new(alloc);
@@ -223,7 +223,7 @@ fn followed(alloc: Global) -> (Line, Line) {
     (found, wanted)
 }
 
-/// What two stores answer, one after the other; the second also gets results of the first.
+/// The answers of two stores, one after the other; the second also gets results of the first.
 fn handed_on(alloc: Global) -> (Line, Line) {
     let mut found = Line::new(alloc);
     let mut wanted = Line::new(alloc);

@@ -62,7 +62,7 @@ fn count_units(alloc: Global, text: &[u8]) -> Result<usize, TextError> {
     Ok(found.units().len())
 }
 
-/// What a step counts, and the microseconds that it takes.
+/// The number that a step counts, and the microseconds that it takes.
 fn timed<R: Clock + AllocGlobal>(rt: &R, step: Step, text: &[u8]) -> Result<(usize, u128)> {
     let start = Instant::now(rt)?;
     let found = step.count(rt.alloc(), text)?;

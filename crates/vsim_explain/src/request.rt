@@ -6,7 +6,7 @@ use std::alloc::Global;
 /// The word that asks for the listing.
 const LISTING: &str = "--listing";
 
-/// What the words ask for.
+/// The request that the words of the command line make.
 #[derive(Drop)]
 pub struct Request {
     /// The options of `vsim`.

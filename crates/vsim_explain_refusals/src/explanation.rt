@@ -12,9 +12,9 @@ pub struct Explanation {
     at: Option<usize>,
     /// Whether the token at that place is named.
     is_at_token: bool,
-    /// What such a fault means at its place, and how to mend it.
+    /// The meaning of such a fault at its place, and how to mend it.
     text: &'static str,
-    /// What else is known of this fault.
+    /// A remark on this fault, where more is known of it.
     hint: Option<&'static str>,
 }
 

@@ -118,7 +118,7 @@ pub const BASED: &str = "\
     Based literals are left out. Write the number in decimal.\n\
     See Values in docs/LEFT_OUT.md.";
 
-/// What a word at the place of a `Syntax` begins.
+/// The constructs that a word at the place of a `Syntax` begins.
 pub static AT: [(&str, &str); 20] = [
     ("generic", GENERIC),
     ("constant", CONSTANT),
@@ -142,7 +142,7 @@ pub static AT: [(&str, &str); 20] = [
     ("srl", SHIFT),
 ];
 
-/// What a word before the place of a `Syntax` begins.
+/// The constructs that a word before the place of a `Syntax` begins.
 pub static AFTER: [(&str, &str); 21] = [
     ("wait", WAIT),
     ("case", CASE),
@@ -167,7 +167,7 @@ pub static AFTER: [(&str, &str); 21] = [
     ("others", AGGREGATE),
 ];
 
-/// What an `Unknown` name is in VHDL.
+/// The meaning of an `Unknown` name in VHDL.
 pub static NAMES: [(&str, &str); 15] = [
     ("bit", TYPES),
     ("integer", TYPES),

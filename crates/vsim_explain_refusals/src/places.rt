@@ -32,12 +32,12 @@ fn characters(text: &[u8]) -> usize {
     text.iter().filter(|byte| !is_continuation(**byte)).count()
 }
 
-/// What is shown of a line before a place.
+/// The part of a line before a place that is shown.
 fn shown_before(line: &[u8]) -> &[u8] {
     &line[line.len().saturating_sub(MOST_SHOWN)..]
 }
 
-/// What is shown of a line from a place on.
+/// The part of a line from a place on that is shown.
 fn shown_after(line: &[u8]) -> &[u8] {
     &line[..line.len().min(MOST_SHOWN)]
 }

@@ -134,7 +134,7 @@ pub fn without_comments(text: &[u8]) -> &[u8] {
     text
 }
 
-/// What follows a comment `/* .. */` at the start of a text.
+/// The rest of a text behind a comment `/* .. */` at its start.
 fn behind_comment(text: &[u8]) -> Option<&[u8]> {
     if !text.starts_with(b"/*") {
         return None;

@@ -15,7 +15,7 @@ const MOST_BYTES: usize = 1_048_576;
 /// The maximum number of nets, of processes and of drivers in a design of vsim.
 const MOST: usize = 65_536;
 
-/// What to write.
+/// The netlist, and how its text is to be written.
 #[derive(Clone, Copy)]
 pub(crate) struct Request<'a> {
     pub(crate) netlist: &'a Netlist,

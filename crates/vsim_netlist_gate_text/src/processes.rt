@@ -25,7 +25,7 @@ impl Drop for Conditions {
 }
 
 impl Conditions {
-    /// What the registers of one process have in common.
+    /// The properties that the registers of one process have in common, as a text.
     pub(crate) fn key(&self, alloc: Global, style: Style) -> Draft {
         let mut key = Draft::new(alloc);
         key.push_shown(&(style as u8));

@@ -52,7 +52,7 @@ Status:
 Example:
   vsim --top t < pulse.vhd | vsim_waves > pulse.vcd";
 
-/// What the words ask for.
+/// The request that the words of the command line make.
 enum Request {
     /// Waves, with or without a time of its own for each delta cycle.
     Waves { has_deltas: bool },
@@ -196,7 +196,7 @@ impl<W: Write> Write for Watched<W> {
     }
 }
 
-/// What is to become of a listing, by the map in a file where there is one.
+/// The view that a listing is turned into: that of the map in a file where there is one.
 fn make_view(rt: &HostRuntime, has_deltas: bool, path: Option<String>) -> Result<View> {
     let Some(path) = path else {
         return Ok(View::Nets(Waves::new(rt.alloc(), has_deltas)));
@@ -206,7 +206,7 @@ fn make_view(rt: &HostRuntime, has_deltas: bool, path: Option<String>) -> Result
     read_view(rt.alloc(), text.as_str()).context(format_args!("{path}"))
 }
 
-/// What is to become of a listing by a map.
+/// The view that a listing is turned into by a map.
 fn read_view(alloc: Global, text: &str) -> Result<View> {
     let map = read_map(alloc, text)?;
     let vectors = Vectors::new(alloc, map)?;

@@ -57,7 +57,7 @@ impl Drop for SourceMap {
     }
 }
 
-/// What the first line is, before its last word, which is the version of the map.
+/// The beginning of the first line; its last word is the version of the map.
 const HEAD: &str = "vsim_netlist map ";
 
 /// The version of a map that is read.

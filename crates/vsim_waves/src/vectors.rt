@@ -14,12 +14,12 @@ struct Shown {
     is_changed: bool,
 }
 
-/// What was read of a listing, as variables of its map.
+/// The values read from a listing, as variables of its map.
 #[derive(Drop)]
 pub struct Vectors {
     alloc: Global,
     map: SourceMap,
-    /// Of each signal its value, and the variables that have it.
+    /// The value of each signal, and the variables that have it.
     values: Vec<u8>,
     users: Vec<Vec<usize>>,
     shown: Vec<Shown>,
@@ -72,7 +72,7 @@ fn add_user(
     Ok(())
 }
 
-/// What is shown of each variable: nothing, and all are to be written.
+/// The shown state of each variable at first: nothing is written yet, and all are to be written.
 fn nothing_shown(alloc: Global, count: usize) -> Result<Vec<Shown>, AllocError> {
     let mut shown = Vec::new(alloc);
     for _ in 0..count {

@@ -25,7 +25,7 @@ struct Shown {
     written: Option<Logic>,
 }
 
-/// What has been read of a listing. All changes before the last time are written.
+/// The part of a listing that has been read. All changes before the last time are written.
 #[derive(Drop)]
 pub struct Waves {
     has_deltas: bool,

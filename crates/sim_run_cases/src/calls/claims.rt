@@ -9,7 +9,7 @@ use sim_run_claims::{ClaimSeat, Claims};
 use std::alloc::{AllocError, Global};
 use std::thread::{Threads, join};
 
-/// What four draws give.
+/// The results of four draws.
 type Drawn = [Option<usize>; 4];
 
 /// Claims on three numbers.
@@ -35,7 +35,7 @@ fn split(alloc: Global, claims: &Claims, seat: &mut ClaimSeat) -> Result<ClaimSe
     }
 }
 
-/// What a seat draws.
+/// The results of four draws by a seat.
 fn draw_four(claims: &Claims, seat: &mut ClaimSeat) -> Drawn
     requires { IsOf claims.now seat.old }
     ensures of { IsOf claims.now seat.new }
@@ -91,7 +91,7 @@ fn times(drawn: &Drawn, drawn_too: &Drawn, wanted: Option<usize>) -> usize {
     drawn + drawn_too.iter().filter(|it| **it == wanted).count()
 }
 
-/// What is drawn of three numbers, and how often.
+/// Each result of draws from three numbers, and how often it comes in eight draws.
 static EACH: [(Option<usize>, usize); 4] = [(None, 5), (Some(0), 1), (Some(1), 1), (Some(2), 1)];
 
 /// Whether two threads draw three numbers, each once.

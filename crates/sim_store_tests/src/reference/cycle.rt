@@ -8,7 +8,7 @@ use sim_logic::Logic;
 use sim_wave::Driver;
 use std::alloc::Global;
 
-/// What a cycle leaves of a design.
+/// The state of a design at the end of a cycle.
 #[derive(Drop)]
 pub struct Snapshot {
     /// The time in femtoseconds.
@@ -272,7 +272,7 @@ fn run(
     Some(())
 }
 
-/// What a design leaves at the start and in each cycle after it, up to this number of cycles or
+/// The states of a design at the start and after each cycle, up to this number of cycles or
 /// until nothing is pending. `None` if memory runs out.
 pub fn snapshots(alloc: Global, design: &Design, cycles: usize) -> Option<Vec<Snapshot>> {
     let mut state = first_state(alloc, design)?;
