@@ -67,6 +67,17 @@ fn execute_in_shares<D: DesignType, R: Wait>(
     }
 }
 
+/// Whether the processes that are due have enough work for a team. Each takes about `length` steps,
+/// unless the edge is missing without which it does nothing.
+fn is_worthwhile<D: DesignType>(
+    run: &WaveStore,
+    team: &Team<'_, PhaseWork<D>>,
+    length: usize,
+) -> bool {
+    team.is_useful(run.due().len().saturating_mul(length))
+        && team.is_useful(run.count_busy().saturating_mul(length))
+}
+
 /// Executes all processes that are due, by the team if there is enough work. Each process takes
 /// about `length` steps. `None` if the team fails or memory runs out.
 fn execute<D: DesignType, R: Wait>(
@@ -80,8 +91,7 @@ fn execute<D: DesignType, R: Wait>(
     ensures same { IfSome result (λ s. s ≡ store.with_deposited run s.simulation.deposited) }
     ensures complete { IfSome result (λ s. simulations.IsComplete s.simulation) }
 {
-    let steps = run.due().len().saturating_mul(length);
-    if !team.is_useful(steps) || !run.is_untouched() {
+    if !run.is_untouched() || !is_worthwhile(&run, team, length) {
         return execute_alone(alloc, run);
     }
     execute_in_shares(rt, alloc, run, team)

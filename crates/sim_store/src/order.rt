@@ -84,9 +84,11 @@ fn execute_range<D: DesignType>(
 {
     let _count = input.count();
     let to = from + share.len();
+    let mut place = input.place_from(from);
     let mut next = from;
-    while let Some(number) = input.next(next, to) {
+    while let Some(number) = input.next(place, next, to) {
         input.execute(alloc, number, number - from, frame, share)?;
+        place = place.wrapping_add(1);
         next = number + 1;
     }
     Ok(())
@@ -144,12 +146,14 @@ impl<D: DesignType> Order<D> {
         let input = &*self.input;
         let _count = input.count();
         let to = self.from + self.share.len();
+        let mut place = input.place_from(self.from);
         let mut next = self.from;
         for _turn in 0..least {
-            match input.next(next, to) {
+            match input.next(place, next, to) {
                 None => return false,
                 Some(number) => next = number + 1,
             }
+            place = place.wrapping_add(1);
         }
         true
     }

@@ -93,13 +93,20 @@ impl<D: DesignType> PhaseInput<D> {
         self.fields.codes.frame(alloc)
     }
 
-    /// The first due process from one number on and below another.
-    pub fn next(&self, from: usize, to: usize) -> Option<usize>
+    /// The place among the due processes of the first one from a number on. It is a hint for `next`,
+    /// and nothing is promised of it.
+    pub fn place_from(&self, from: usize) -> usize {
+        self.fields.due.place_from(from)
+    }
+
+    /// The first due process from one number on and below another. It is fast if that is at `place`
+    /// among the due processes.
+    pub fn next(&self, place: usize, from: usize, to: usize) -> Option<usize>
         requires { to ≤ length D.design.processes }
         ensures { MatchOption result (spec.NoneBetween (is_due (spec.at_input D.design self.now)) from to)
             (spec.IsNextBelow (is_due (spec.at_input D.design self.now)) from to) }
     {
-        match self.fields.due.next(from) {
+        match self.fields.due.next_at(place, from) {
             None => None,
             Some(number) => { if number < to { Some(number) } else { None } }
         }

@@ -275,6 +275,13 @@ impl WaveStore {
         self.simulation.mean_length()
     }
 
+    /// About how many due processes have something to do: those not known to lack the edge without
+    /// which they do nothing. It is a hint for dividing work among threads, and nothing is promised
+    /// of it.
+    pub fn count_busy(&self) -> usize {
+        self.simulation.count_busy()
+    }
+
     /// Hands out what the processes own, so that due ones can be executed elsewhere: all processes,
     /// in their order, each share in one order. If allocation fails, the store is lost.
     pub fn hand_out<D: DesignType>(

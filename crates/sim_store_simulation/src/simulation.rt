@@ -172,8 +172,7 @@ fn parted(alloc: Global, design: &Design) -> Result<(Due, Waiting), AllocError>
     Ok((due, waiting))
 }
 
-/// Which processes are due, which wait, which have been executed, and the number of events of each
-/// net.
+/// The processes that are due, wait or have been executed, and the number of events of each net.
 #[derive(Drop)]
 struct FirstMarks {
     due: Due,
@@ -668,8 +667,7 @@ impl Simulation {
     }
 
     /// Executes all due processes that have not been executed in this phase, in place and in rising
-    /// order. If allocation fails, the simulation is lost: the process that needed memory may have
-    /// been executed in part.
+    /// order. If allocation fails, the simulation is lost: a process may be executed in part.
     #[inline(always)]
     pub fn execute_due(self, alloc: Global) -> Result<Simulation, AllocError>
         ensures same { IfOk result (λ s. s ≡ spec.with_marks self s.deposited) }
@@ -731,6 +729,13 @@ impl Simulation {
         self.contents.compiled.codes.mean_length()
     }
 
+    /// About how many processes of this phase have something to do, as such a hint.
+    pub fn count_busy(&self) -> usize {
+        let contents = &*self.contents;
+        let due = contents.due.numbers();
+        contents.state.count_busy(due, &contents.compiled.codes)
+    }
+
     /// The numbers of the processes that this phase executes, rising.
     pub fn due(&self) -> &[usize]
         ensures value { result.now ≡ spec.due_numbers self.now }
@@ -750,8 +755,7 @@ impl Simulation {
         (contents.time, contents.delta)
     }
 
-    /// The value of the net with a number, which is that of its last change in the records; `None`
-    /// if out of range.
+    /// The value of a net, that of its last change in the records; `None` if out of range.
     pub fn value(&self, net: usize) -> Option<Logic>
         ensures value { MatchOption result (length self.now.design.nets ≤ net)
             (λ v. (net < length self.now.design.nets) × (v ≡ (net_at (spec.reached self.now).nets net).value)) }
@@ -760,8 +764,7 @@ impl Simulation {
         self.contents.state.value(net)
     }
 
-    /// The number of events of the net with a number after the initialization; `None` if out of
-    /// range.
+    /// The number of events of a net after the initialization; `None` if out of range.
     pub fn total(&self, net: usize) -> Option<u64>
         ensures { MatchOption result (length self.now.design.nets ≤ net)
             (λ t. (net < length self.now.design.nets) × (t ≡ total_of (records_to self.now.design self.now.cycles) net)) }

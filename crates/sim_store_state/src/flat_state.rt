@@ -563,6 +563,22 @@ impl FlatState {
         self.execute(alloc, number, process, time, codes, frame)
     }
 
+    /// The number of these processes that are not known to lack the edge without which they do
+    /// nothing. It is a hint for dividing work among threads, and nothing is promised of it.
+    pub fn count_busy(&self, numbers: &[usize], codes: &Codes) -> usize {
+        let seen = ByNumber {
+            values: self.values.as_slice(),
+            values_before: self.values_before.as_slice(),
+        };
+        let mut busy: usize = 0;
+        for number in numbers {
+            if !codes.is_idle(&seen, *number) {
+                busy = busy.saturating_add(1);
+            }
+        }
+        busy
+    }
+
     /// Executes these processes in order, as long as the body of each is known to be a single
     /// assignment, and returns how many it has executed: none if what processes own is in several
     /// parts. If allocation fails, an unknown number has been executed, and none must be executed

@@ -64,9 +64,11 @@ fn mark_rows(stale: &mut NumberSet, drivers: &DividedRows<Driver>, processes: &N
     ensures marked { (p : ℕ) → is_in processes.now p ≡ true → (d : ℕ) → is_in stale.new d ≡ false → IsOfRow drivers.now p d → ⊥ }
 {
     let _count = processes.len();
+    let mut place = 0;
     let mut from = 0;
-    while let Some(number) = processes.next(from) {
+    while let Some(number) = processes.next_at(place, from) {
         mark_row(stale, drivers, number);
+        place = place.wrapping_add(1);
         from = number + 1;
     }
 }
