@@ -28,6 +28,11 @@ def design(declarations, statements):
     return f"{CONTEXT}entity t is end;\narchitecture a of t is\n{declarations}begin\n{''.join(statements)}end;\n"
 
 
+def initialized(count, chance):
+    """Declarations of a clock and of signals with initial values at random."""
+    return declared(["clk"]) + "".join(f"signal q{i}: std_logic := '{chance.getrandbits(1)}';\n" for i in range(count))
+
+
 def clock(edges):
     """One inverter: a cycle of one event an edge."""
     return design(declared(["clk"]), [CLOCK]), edges * EDGE
@@ -42,10 +47,9 @@ def deltas(edges):
 
 def shift(count, edges):
     """A ring of flip-flops on one clock, filled at random."""
-    chance = random.Random(count)
-    first = "".join(f"signal q{i}: std_logic := '{chance.getrandbits(1)}';\n" for i in range(count))
+    first = initialized(count, random.Random(count))
     stages = [f"process (clk) begin if rising_edge(clk) then q{i} <= q{i - 1 if i else count - 1}; end if; end process;\n" for i in range(count)]
-    return design(declared(["clk"]) + first, [CLOCK, *stages]), edges * EDGE
+    return design(first, [CLOCK, *stages]), edges * EDGE
 
 
 def counters(count, bits, edges):
@@ -122,29 +126,38 @@ def expression(chance, depth, names):
     return f"({left} {chance.choice(OPERATORS)} {chance.choice(('', '', 'not '))}{right})"
 
 
+def long_process(tree, target):
+    """A process of some twenty statements and forty operators on one clock; `tree` makes its expressions, by their depth."""
+    return (
+        f"process (clk) variable x, y, z, w: std_logic := '0'; variable f, g: boolean; begin if rising_edge(clk) then\n"
+        f"x := {tree(4)}; y := {tree(3)};\n"
+        f"if x = '1' then z := not z;"
+        f" if y = '1' then w := w xor x; if z = w then f := not f; if f then y := z nand w; else y := z nor w; end if; else g := f xor (x = y); end if;"
+        f" elsif z = '0' then w := {tree(2)}; else z := {tree(2)}; end if;\n"
+        f"elsif f and not g then x := {tree(2)}; if x /= y then z := y; else z := w; end if; else g := not g; end if;\n"
+        f"w := {tree(2)}; if f xor g then {target} <= w; else {target} <= {tree(1)}; end if;\n"
+        f"end if; end process;\n"
+    )
+
+
 def heavy(count, edges):
-    """Processes of some twenty statements and forty operators on one clock."""
+    """Long processes on one clock."""
     chance = random.Random(5)
 
-    def body(i):
+    def process(i):
         names = ["x", "y", "z", "w", f"q{i}", f"q{(i + 1) % count}", f"q{(i + 37) % count}"]
+        return long_process(lambda depth: expression(chance, depth, names), f"q{i}")
 
-        def tree(depth):
-            return expression(chance, depth, names)
+    return design(initialized(count, chance), [CLOCK, *map(process, range(count))]), edges * EDGE
 
-        return (
-            f"process (clk) variable x, y, z, w: std_logic := '0'; variable f, g: boolean; begin if rising_edge(clk) then\n"
-            f"x := {tree(4)}; y := {tree(3)};\n"
-            f"if x = '1' then z := not z;"
-            f" if y = '1' then w := w xor x; if z = w then f := not f; if f then y := z nand w; else y := z nor w; end if; else g := f xor (x = y); end if;"
-            f" elsif z = '0' then w := {tree(2)}; else z := {tree(2)}; end if;\n"
-            f"elsif f and not g then x := {tree(2)}; if x /= y then z := y; else z := w; end if; else g := not g; end if;\n"
-            f"w := {tree(2)}; if f xor g then q{i} <= w; else q{i} <= {tree(1)}; end if;\n"
-            f"end if; end process;\n"
-        )
 
-    first = "".join(f"signal q{i}: std_logic := '{chance.getrandbits(1)}';\n" for i in range(count))
-    return design(declared(["clk"]) + first, [CLOCK, *map(body, range(count))]), edges * EDGE
+def cells(count, edges):
+    """Instances of one entity with a long process, on one clock."""
+    chance = random.Random(5)
+    process = long_process(lambda depth: expression(chance, depth, ["x", "y", "z", "w", "a", "b", "q"]), "q")
+    cell = f"entity cell is port (clk, a, b: in std_logic; q: inout std_logic); end;\narchitecture r of cell is begin\n{process}end;\n"
+    instances = (f"c{i}: entity work.cell port map (clk, q{(i + 1) % count}, q{(i + 37) % count}, q{i});\n" for i in range(count))
+    return CONTEXT + cell + design(initialized(count, chance), [CLOCK, *instances]), edges * EDGE
 
 
 def bus(count, edges):

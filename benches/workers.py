@@ -3,9 +3,10 @@
 
     workers.py PROGRAM [--workers N ..] [--repeat N] [--load N] [SHAPE ..]
 
-The shapes are those of shapes.py, and `wide`: a shift register of 60,000 flip-flops on one clock. For each shape and number of
-workers (1, 2, 3 and 4) the least wall seconds of N runs (3), and the processor seconds of that run. All listings of a shape must be
-the same, byte for byte. With --load this many processes that never wait run at the same time.
+The shapes are those of shapes.py; `wide`, a shift register of 60,000 flip-flops on one clock; and `cells`, 8,000 instances of an
+entity with a long process on one clock. For each shape and number of workers (1, 2, 3 and 4) the least wall seconds of N runs (3),
+and the processor seconds of that run. All listings of a shape must be the same, byte for byte. With --load this many processes that
+never wait run at the same time.
 """
 import argparse
 import hashlib
@@ -16,11 +17,14 @@ import tempfile
 import time
 
 from large import NS, shift
-from shapes import SHAPES
+from shapes import SHAPES, cells
 
 
 def wide():
     return shift(15_000), 500 * NS
+
+
+ALL = {**SHAPES, "wide": wide, "cells": lambda: cells(8_000, 400)}
 
 
 def once(program, workers, source, stop):
@@ -41,7 +45,7 @@ def once(program, workers, source, stop):
 def main():
     given = argparse.ArgumentParser()
     given.add_argument("program")
-    given.add_argument("shapes", nargs="*", default=[*SHAPES, "wide"])
+    given.add_argument("shapes", nargs="*", default=[*ALL])
     given.add_argument("--workers", type=int, nargs="+", default=[1, 2, 3, 4])
     given.add_argument("--repeat", type=int, default=3)
     given.add_argument("--load", type=int, default=0)
@@ -59,7 +63,7 @@ def measure(program, given):
     print("| Shape |" + "".join(f" {count}: wall | {count}: processor |" for count in given.workers))
     print("|---|" + "--:|--:|" * len(given.workers))
     for name in given.shapes:
-        text, stop = {**SHAPES, "wide": wide}[name]()
+        text, stop = ALL[name]()
         with tempfile.NamedTemporaryFile("w", suffix=".vhd") as source:
             source.write(text)
             source.flush()
