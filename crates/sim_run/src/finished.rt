@@ -124,7 +124,7 @@ impl Finished {
 
 /// Writes the listing of a run: for each record, in order, a line `TIME DELTA NAME VALUE` for each
 /// of its changes, with the time in femtoseconds, and finally `done CYCLES EVENTS`. The lines are
-/// written in blocks of 8 KiB; nothing is allocated. `RunError::Write` if a write fails or writes
+/// written in blocks of 32 KiB; nothing is allocated. `RunError::Write` if a write fails or writes
 /// nothing: then a prefix of the listing has been written.
 pub fn write_listing<W: Write>(finished: &Finished, out: &mut W) -> Result<(), RunError>
     ensures ok { OnOk result (Appends (W.contents out.old) (W.contents out.new) (listing finished.now.names finished.now.records)) }

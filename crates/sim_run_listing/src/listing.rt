@@ -192,7 +192,7 @@ fn put_last<W: Write>(
 /// Writes the listing of a run: for each record, in order, a line `TIME DELTA NAME VALUE` for each
 /// of its changes, with the time in femtoseconds, and finally `done CYCLES EVENTS`. `names` are
 /// those of the nets by number; `events_in` counts the events of a `Log`. The lines are written in
-/// blocks of 8 KiB; nothing is allocated. `WriteError` if a write fails or writes nothing: then a
+/// blocks of 32 KiB; nothing is allocated. `WriteError` if a write fails or writes nothing: then a
 /// prefix of the listing has been written.
 pub fn write_listing<N: Named, R: Records, W: Write>(
     names: &[N],

@@ -58,11 +58,13 @@ fn set_aside(set: &mut NumberSet, postponed: &NumberSet, waiting: &mut NumberSet
     ensures moved { (p : ℕ) → is_in waiting.new p ≡ (is_in waiting.old p || (is_in set.old p && is_in postponed.now p)) }
 {
     let _count = set.len();
+    let mut place = 0;
     let mut from = 0;
-    while let Some(number) = set.next(from) {
+    while let Some(number) = set.next_at(place, from) {
         let is_postponed = postponed.contains(number);
         waiting.put(number, waiting.contains(number) | is_postponed);
         set.put(number, !is_postponed);
+        place = place.wrapping_add(1);
         from = number + 1;
     }
 }
