@@ -9,6 +9,7 @@ pub mod Slots
 pub mod StepsLeft
 pub mod StepsRight
 pub mod FromTheEnd
+pub mod GuardedBodies
 pub mod HeldVariables
 pub mod Executions
 pub mod EdgesMissing

@@ -1,6 +1,7 @@
 pub mod Operations
 pub mod Bodies
 pub mod Frames
+pub mod Guards
 pub mod Codes
 pub mod Counts
 pub mod Fitting

@@ -11,6 +11,7 @@ mod expressions;
 mod fingerprint;
 mod frame;
 mod gathering;
+mod guards;
 pub mod laws;
 mod lowering;
 mod needs;

@@ -1,7 +1,8 @@
 //! The times of all waveforms of a body ascend (IEEE 1076-2008, 10.5.2.2). The type `Waveform`
 //! ensures it; these functions only visit all waveforms, to pass it on.
 
-ghost use Rattle.std.specs.Prelude.{◌≡◌, true, map};
+ghost use Rattle.std.specs.Prelude.{◌≡◌, [], ◌∷◌, true, map, Some};
+ghost use Rattle.sim_flat_design.specs.declared.statement.Statement.TheVariants as variants;
 ghost use Rattle.sim_flat_design.specs.Bodies.{all};
 ghost use Rattle.sim_exec_code.specs.Bodies.{rises};
 ghost use Rattle.sim_exec_code.specs.Fitting as spec;
@@ -90,4 +91,27 @@ pub fn all_rise(statements: &[Statement])
     for statement in statements {
         statement_rises(statement);
     }
+}
+
+/// The times of each waveform of an if statement ascend.
+#[tactic(auto, unfolding(crate::specs::Fitting::waveforms_rise), using(crate::proofs::TimesRise::statements_rise))]
+pub fn if_rises(branches: &[Branch], otherwise: &[Statement])
+    ensures { spec.waveforms_rise (variants.If branches.now otherwise.now ∷ []) ≡ true }
+{
+    branches_rise(branches);
+    all_rise(otherwise);
+}
+
+/// The times of each waveform of a conditional signal assignment ascend.
+#[tactic(auto, unfolding(crate::specs::Fitting::waveforms_rise), using(crate::proofs::TimesRise::statements_rise))]
+pub fn conditional_rises(
+    assignment: &SignalAssignment,
+    conditionals: &[ConditionalWaveform],
+    last: &Waveform,
+)
+    ensures { spec.waveforms_rise (variants.Signal
+        (record assignment.now { conditional = conditionals.now; otherwise = Some last.now }) ∷ []) ≡ true }
+{
+    conditionals_rise(conditionals);
+    waveform_rises(last);
 }

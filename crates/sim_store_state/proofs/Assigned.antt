@@ -16,7 +16,7 @@ use Rattle.sim_standard.specs.declared.net_view.NetView.{NetView}
 use Rattle.sim_standard.proofs.Names.{no_driver}
 use Rattle.sim_wave.specs.Rising.{RisesFrom}
 use Rattle.sim_exec_code.specs.declared.quick.SingleAssignment.{SingleAssignment}
-use Rattle.sim_exec_code.specs.Codes.{is_missing}
+use Rattle.sim_exec_code.specs.Guards.{is_missing}
 use Rattle.sim_exec_code.specs.Quick.{driven, quick_executed}
 use Rattle.sim_exec_code.proofs.Executions.{ready_after}
 use Rattle.sim_containers.specs.RowArray.{joined}

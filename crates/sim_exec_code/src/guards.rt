@@ -1,0 +1,243 @@
+//! The guards of bodies: an edge without which a body does nothing, unless its reset is active.
+
+ghost use Rattle.std.specs.Prelude.{ℕ, ◌≡◌, ◌∷◌, [], ◌&&◌, None, List, map, IfSome};
+ghost use Rattle.sim_flat_design.specs.declared.held.Held.{Held as held};
+ghost use Rattle.sim_flat_design.specs.declared.expression.BooleanExpression.TheVariants as boolean;
+ghost use Rattle.sim_flat_design.specs.declared.statement.Statement.TheVariants as variants;
+ghost use Rattle.sim_flat_design.specs.declared.statement.Branch.{Branch as branch};
+ghost use Rattle.sim_flat_design.specs.declared.statement.ConditionalWaveform.{ConditionalWaveform as waveform};
+ghost use Rattle.sim_flat_design.specs.declared.statement.Statement.TheViews as views;
+ghost use Rattle.sim_standard.specs.declared.net_view.NetView.{NetView as view};
+ghost use Rattle.sim_standard.specs.Expressions.{boolean_value, has_edge};
+ghost use Rattle.sim_exec_code.specs.Guards as spec;
+
+use crate::program::{EdgeKind, Guard, Level};
+use sim_flat_design::expression::{BooleanExpression, LogicExpression};
+use sim_flat_design::statement::{Branch, ConditionalWaveform, SignalAssignment, Statement};
+use sim_logic::{Logic, Logical, Relational};
+
+/// The level that a comparison tests, if it is one of a port or signal with a literal (9.2.3).
+fn compared_level(
+    left: &LogicExpression,
+    operator: Relational,
+    right: &LogicExpression,
+) -> Option<Level>
+    ensures { IfSome result (spec.TestsLevel (boolean.LogicComparison left.now operator right.now)) }
+{
+    let Relational::Equal = operator else {
+        return None;
+    };
+    let LogicExpression::Object(object) = left else {
+        return None;
+    };
+    let LogicExpression::Literal(value) = right else {
+        return None;
+    };
+    Some(Level {
+        object: *object,
+        value: *value,
+    })
+}
+
+/// The level that a condition tests, if it tests nothing else, as `reset = '1'` does.
+fn tested_level(condition: &BooleanExpression) -> Option<Level>
+    ensures { IfSome result (spec.TestsLevel condition.now) }
+{
+    match condition {
+        BooleanExpression::LogicComparison {
+            left,
+            operator,
+            right,
+        } => compared_level(left.get(), *operator, right.get()),
+        _ => None,
+    }
+}
+
+/// The edge that an event and a level test together, if they are of one port or signal.
+fn event_to(event: &BooleanExpression, level: &BooleanExpression) -> Option<(EdgeKind, usize)>
+    ensures { IfSome result (λ r. (look : ℕ → view) (variables : List held)
+        → (boolean_value look variables event.now && boolean_value look variables level.now) ≡ spec.occurs r.0 (look r.1)) }
+{
+    let BooleanExpression::Event(object) = event else {
+        return None;
+    };
+    let Some(level) = tested_level(level) else {
+        return None;
+    };
+    if level.object == *object {
+        Some((EdgeKind::To(level.value), *object))
+    } else {
+        None
+    }
+}
+
+/// The edge that two conditions test together.
+fn edge_of_both(first: &BooleanExpression, second: &BooleanExpression) -> Option<(EdgeKind, usize)>
+    ensures { IfSome result (λ r. (look : ℕ → view) (variables : List held)
+        → (boolean_value look variables first.now && boolean_value look variables second.now) ≡ spec.occurs r.0 (look r.1)) }
+{
+    match event_to(first, second) {
+        None => event_to(second, first),
+        Some(edge) => Some(edge),
+    }
+}
+
+/// The edge that operands of an operator test, if they test nothing else.
+fn edge_of_chain(
+    operator: Logical,
+    first: &BooleanExpression,
+    rest: &[BooleanExpression],
+) -> Option<(EdgeKind, usize)>
+    ensures { IfSome result (λ r. spec.TestsEdge (boolean.Chain operator first.now rest.now) r.0 r.1) }
+{
+    let Logical::And = operator else {
+        return None;
+    };
+    match rest {
+        [second] => edge_of_both(first, second),
+        _ => None,
+    }
+}
+
+/// The kind of a rising or, if `rising` is false, falling edge.
+fn kind_of(rising: bool) -> EdgeKind
+    ensures { (net : view) → spec.occurs result net ≡ has_edge rising net }
+{
+    if rising {
+        EdgeKind::Rising
+    } else {
+        EdgeKind::Falling
+    }
+}
+
+/// The edge that a condition tests, if it tests nothing else.
+fn tested_edge(condition: &BooleanExpression) -> Option<(EdgeKind, usize)>
+    ensures { IfSome result (λ r. spec.TestsEdge condition.now r.0 r.1) }
+{
+    match condition {
+        BooleanExpression::Edge { rising, object } => Some((kind_of(*rising), *object)),
+        BooleanExpression::Chain {
+            operator,
+            first,
+            rest,
+        } => edge_of_chain(*operator, first.get(), rest.as_slice()),
+        _ => None,
+    }
+}
+
+/// The guard of the last of some conditions, whose reset the others test.
+fn guard_of(last: &BooleanExpression, reset: Option<Level>) -> Option<Guard>
+    ensures { IfSome result (λ g. spec.TestsEdge last.now g.kind g.object × (g.reset ≡ reset)) }
+{
+    match tested_edge(last) {
+        None => None,
+        Some((kind, object)) => Some(Guard {
+            kind,
+            object,
+            reset,
+        }),
+    }
+}
+
+/// The reset that a condition tests, if it tests nothing else.
+fn tested_reset(condition: &BooleanExpression) -> Option<Option<Level>>
+    ensures { IfSome result (spec.TestReset (condition.now ∷ [])) }
+{
+    match tested_level(condition) {
+        None => None,
+        Some(level) => Some(Some(level)),
+    }
+}
+
+/// The reset that these branches test, if they test nothing else.
+fn reset_of_branches(branches: &[Branch]) -> Option<Option<Level>>
+    ensures { IfSome result (spec.TestReset (map (λ (b : branch). (views.out-Branch b).condition) branches.now)) }
+{
+    match branches {
+        [] => Some(None),
+        [only] => tested_reset(&only.condition),
+        _ => None,
+    }
+}
+
+/// The branches of a single if statement without `else` (10.8).
+fn branches_of(statements: &[Statement]) -> Option<&[Branch]>
+    ensures { IfSome result (λ bs. statements.now ≡ variants.If bs.now [] ∷ []) }
+{
+    match statements {
+        [
+            Statement::If {
+                branches,
+                otherwise,
+            },
+        ] if otherwise.as_slice().is_empty() => Some(branches.as_slice()),
+        _ => None,
+    }
+}
+
+/// The guard of a single if statement without `else` whose last condition is an edge, the branches
+/// before the last, and the last.
+pub fn guarded_if(statements: &[Statement]) -> Option<(Guard, &[Branch], &Branch)>
+    ensures { IfSome result (λ r. spec.IsGuardedIf statements.now r.0 r.1.now r.2.now) }
+{
+    let Some([before @ .., last]) = branches_of(statements) else {
+        return None;
+    };
+    let Some(reset) = reset_of_branches(before) else {
+        return None;
+    };
+    let Some(guard) = guard_of(&last.condition, reset) else {
+        return None;
+    };
+    Some((guard, before, last))
+}
+
+/// The reset that the conditions of waveforms test, if they test nothing else.
+fn reset_of_waveforms(waveforms: &[ConditionalWaveform]) -> Option<Option<Level>>
+    ensures { IfSome result (spec.TestReset (map (λ (c : waveform). c.condition) waveforms.now)) }
+{
+    match waveforms {
+        [] => Some(None),
+        [only] => tested_reset(&only.condition),
+        _ => None,
+    }
+}
+
+/// A single conditional signal assignment without a last `else` (10.5.3).
+fn assignment_of(statements: &[Statement]) -> Option<&SignalAssignment>
+    ensures { IfSome result (λ a. (statements.now ≡ variants.Signal a.now ∷ []) × (a.now.otherwise ≡ None)) }
+{
+    match statements {
+        [Statement::Signal(assignment)] if assignment.otherwise.is_none() => Some(assignment),
+        _ => None,
+    }
+}
+
+/// The guard of a single conditional signal assignment without a last `else` whose last condition
+/// is an edge, the assignment, the waveforms before the last, and the last.
+pub fn guarded_assignment(
+    statements: &[Statement],
+) -> Option<
+    (
+        Guard,
+        &SignalAssignment,
+        &[ConditionalWaveform],
+        &ConditionalWaveform,
+    ),
+>
+    ensures { IfSome result (λ r. spec.IsGuardedAssignment statements.now r.0 r.1.now r.2.now r.3.now) }
+{
+    let Some(assignment) = assignment_of(statements) else {
+        return None;
+    };
+    let [before @ .., last] = assignment.conditional.as_slice() else {
+        return None;
+    };
+    let Some(reset) = reset_of_waveforms(before) else {
+        return None;
+    };
+    let Some(guard) = guard_of(&last.condition, reset) else {
+        return None;
+    };
+    Some((guard, assignment, before, last))
+}
