@@ -69,7 +69,7 @@ fn execute_in_shares<D: DesignType, R: Wait>(
 
 /// Whether the processes that are due have enough work for a team. Each takes about `length` steps,
 /// unless the edge is missing without which it does nothing.
-fn is_worthwhile<D: DesignType>(
+fn has_work_for<D: DesignType>(
     run: &WaveStore,
     team: &Team<'_, PhaseWork<D>>,
     length: usize,
@@ -91,7 +91,7 @@ fn execute<D: DesignType, R: Wait>(
     ensures same { IfSome result (λ s. s ≡ store.with_deposited run s.simulation.deposited) }
     ensures complete { IfSome result (λ s. simulations.IsComplete s.simulation) }
 {
-    if !run.is_untouched() || !is_worthwhile(&run, team, length) {
+    if !run.is_untouched() || !has_work_for(&run, team, length) {
         return execute_alone(alloc, run);
     }
     execute_in_shares(rt, alloc, run, team)

@@ -68,14 +68,7 @@ impl Due {
         self.list.contains(number)
     }
 
-    /// The first due process from a number on.
-    pub fn next(&self, from: usize) -> Option<usize>
-        ensures { MatchOption result (NoneFrom (those_in self.now) from) (IsNext (those_in self.now) from) }
-    {
-        self.list.next(from)
-    }
-
-    /// The same. It is fast if the result is at `place` among the due processes.
+    /// The first due process from a number on. It is fast if that is at `place` among them.
     #[inline(always)]
     pub fn next_at(&self, place: usize, from: usize) -> Option<usize>
         ensures { MatchOption result (NoneFrom (those_in self.now) from) (IsNext (those_in self.now) from) }

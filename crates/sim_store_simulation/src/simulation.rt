@@ -667,7 +667,7 @@ impl Simulation {
     }
 
     /// Executes all due processes that have not been executed in this phase, in place and in rising
-    /// order. If allocation fails, the simulation is lost: a process may be executed in part.
+    /// order. If allocation fails, the simulation is lost: a process may have been executed in part.
     #[inline(always)]
     pub fn execute_due(self, alloc: Global) -> Result<Simulation, AllocError>
         ensures same { IfOk result (λ s. s ≡ spec.with_marks self s.deposited) }
@@ -729,7 +729,7 @@ impl Simulation {
         self.contents.compiled.codes.mean_length()
     }
 
-    /// About how many processes of this phase have something to do, as such a hint.
+    /// About how many processes of this phase have something to do. Nothing is promised of it.
     pub fn count_busy(&self) -> usize {
         let contents = &*self.contents;
         let due = contents.due.numbers();

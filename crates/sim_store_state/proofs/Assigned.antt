@@ -9,7 +9,6 @@ use Rattle.std.proofs.lemmas.List.{get_or-set_other, set-get_or}
 use Rattle.std.proofs.lemmas.Result.{on_ok_weaker}
 use Rattle.sim_flat_design.specs.Bodies.{Body}
 use Rattle.sim_exec.specs.Jobs.{IsReady}
-use Rattle.sim_logic.specs.declared.logic.Logic.{Logic}
 use Rattle.sim_standard.specs.Drivers.{DriverState, next_time}
 use Rattle.sim_standard.specs.State.{Owned, driver_at}
 use Rattle.sim_standard.specs.declared.net_view.NetView.{NetView}

@@ -12,7 +12,6 @@ use Rattle.sim_containers.specs.Numbers.{is_in}
 use Rattle.sim_containers.specs.Times as queue
 use Rattle.sim_containers.specs.Times.{time_of, is_at, earliest, those_at, clear, cleared, earlier}
 use Rattle.sim_store_state.specs.Changes.{AreTimes, first_times, time_at}
-use Rattle.sim_store_state.specs.Times.{IsNext as IsNextTime}
 use Rattle.sim_store_state.proofs.Times.{none_next, next_append, least_bound, times}
 use Rattle.sim_containers.specs.Words.{IsNext}
 use Rattle.sim_store_state.proofs.Walks.{Walked, not_both, walk_more}

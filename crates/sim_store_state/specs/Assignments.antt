@@ -1,7 +1,6 @@
 -- What a body that is a single assignment leaves of the drivers of its process.
 use Rattle.std.specs.Prelude.{ℕ, ◌≡◌, List, [], ◌∷◌, Option, Result, OnOk, slice_set}
 use Rattle.std.specs.List.{All}
-use Rattle.sim_logic.specs.declared.logic.Logic.{Logic}
 use Rattle.sim_standard.specs.Drivers.{DriverState, next_time}
 use Rattle.sim_standard.specs.State.{driver_at, driver_values}
 use Rattle.sim_standard.specs.declared.net_view.NetView.{NetView}
