@@ -113,7 +113,8 @@ pub fn find_resumed_by_one(
         → length sensitive.now ≡ length nets → AreSensitive processes sensitive.now
         → is_in resumed.new p ≡ has_event_in nets (process_at processes p).sensitivity }
 {
-    if changes.len() != 1 {
+    let alone = changes.len() == 1;
+    if !alone {
         return false;
     }
     let (net, _value) = changes[0];
