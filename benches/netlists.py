@@ -38,17 +38,27 @@ def copied(module, copies):
     return found
 
 
+# runs a program and prints its processor seconds and megabytes: a process has at least the memory of the one that started it, and ours is large
+SPENT = """
+import os, subprocess, sys
+process = subprocess.Popen(sys.argv[1:], stderr=subprocess.DEVNULL)
+_, status, usage = os.wait4(process.pid, 0)
+print(usage.ru_utime + usage.ru_stime, usage.ru_maxrss / 1024, file=sys.stderr)
+sys.exit(status != 0)
+"""
+
+
 def measure(program, document):
     """Returns the bytes of a netlist and of its text, processor seconds, and megabytes."""
     text = json.dumps(document, indent=2).encode()
     with tempfile.TemporaryFile() as source, tempfile.TemporaryFile() as target:
         source.write(text)
         source.seek(0)
-        process = subprocess.Popen([program], stdin=source, stdout=target, stderr=subprocess.DEVNULL)
-        _, status, usage = os.wait4(process.pid, 0)
+        ran = subprocess.run([sys.executable, "-c", SPENT, program], stdin=source, stdout=target, stderr=subprocess.PIPE, check=False)
         # a text that is too long is refused
-        made = target.seek(0, os.SEEK_END) if status == 0 else None
-    return len(text), made, usage.ru_utime + usage.ru_stime, usage.ru_maxrss / 1024
+        made = target.seek(0, os.SEEK_END) if ran.returncode == 0 else None
+    seconds, memory = (float(word) for word in ran.stderr.split())
+    return len(text), made, seconds, memory
 
 
 def runs(programs):
