@@ -1,6 +1,6 @@
 //! The codes of processes.
 
-use crate::texts::{CHOICE, EXCHANGE, PULSES, TOGGLE, flat};
+use crate::texts::{CHOICE, EXCHANGE, PULSES, REGISTERS, TOGGLE, flat};
 use sim_exec_code::{Code, Codes};
 use sim_flat_design::{Design, Process};
 use std::alloc::Global;
@@ -47,6 +47,27 @@ fn a_code_has_an_operation_for_each_expression(rt: HostRuntime) {
     assert_eq!(rt; first_with_fewer(rt.alloc()), None);
 }
 
+/// By register, the number of operations of its code: the test of the guard, and the steps that are
+/// left under it. A register with a reset has four: the test of the reset, two assignments, and a
+/// jump over the second.
+static REGISTER_OPERATIONS: [usize; 4] = [2, 5, 2, 5];
+
+/// The index of the first register whose code has another number of operations.
+fn first_unguarded(alloc: Global) -> Option<usize> {
+    for (number, expected) in REGISTER_OPERATIONS.iter().enumerate() {
+        match operations_at(alloc, REGISTERS, number) {
+            Some(operations) if operations == *expected => {}
+            _ => return Some(number),
+        }
+    }
+    None
+}
+
+#[test]
+fn registers_have_guards(rt: HostRuntime) {
+    assert_eq!(rt; first_unguarded(rt.alloc()), None);
+}
+
 /// Whether these nets are gathered for the processes and for one more number.
 fn are_gathered(codes: &Codes, nets: &[&[usize]]) -> bool {
     for (number, row) in nets.iter().enumerate() {
@@ -65,12 +86,13 @@ fn are_coded(alloc: Global, design: &Design, nets: &[&[usize]]) -> bool {
     }
 }
 
-/// Texts, and the nets that are gathered for each of their processes and for one more number: that
-/// of the edge that guards the whole body, and those that are read as values.
-static NETS: [(&str, &[&[usize]]); 3] = [
+/// Texts, and the nets that are gathered for each of their processes and for one more number: those
+/// of the edge and of the reset that guard the whole body, and those that are read as values.
+static NETS: [(&str, &[&[usize]]); 4] = [
     (TOGGLE, &[&[0], &[0], &[]]),
     (EXCHANGE, &[&[], &[0, 2], &[0, 1], &[]]),
     (CHOICE, &[&[], &[0], &[]]),
+    (REGISTERS, &[&[0, 1], &[0, 2, 1], &[0, 1], &[0, 2, 1], &[]]),
 ];
 
 /// The index of the first text whose codes gather other nets.

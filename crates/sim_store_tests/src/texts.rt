@@ -41,6 +41,13 @@ pub const TOGGLE: &str =
 clk <= not clk after 5 ns; process (clk) variable v:std_logic:='0'; begin if rising_edge(clk) then v := not v; q <= v; end if; \
 end process; end;";
 
+/// Registers, each in another form.
+pub const REGISTERS: &str =
+    "entity t is end;architecture a of t is signal c,d,r,q,p,s,u:std_logic;begin \
+process(c) begin if c'event and c = '1' then q <= d; end if; end process; \
+process(c,r) begin if r = '1' then p <= '0'; elsif falling_edge(c) then p <= d; end if; end process; \
+s <= d when rising_edge(c); u <= '0' when r = '0' else d when c = '0' and c'event; end;";
+
 /// A conditional waveform, whose condition is evaluated once before and once after it changes.
 pub const CHOICE: &str =
     "entity t is end;architecture a of t is signal a,q:std_logic:='0';begin a <= '1' after 1 ns; \
