@@ -1,6 +1,6 @@
 //! The guards of bodies: an edge without which a body does nothing, unless its reset is active.
 
-ghost use Rattle.std.specs.Prelude.{ℕ, ◌≡◌, ◌∷◌, [], ◌&&◌, None, List, map, IfSome};
+ghost use Rattle.std.specs.Prelude.{ℕ, ◌≡◌, ◌∷◌, ◌++◌, [], ◌&&◌, false, None, Some, List, map, IfSome};
 ghost use Rattle.sim_flat_design.specs.declared.held.Held.{Held as held};
 ghost use Rattle.sim_flat_design.specs.declared.expression.BooleanExpression.TheVariants as boolean;
 ghost use Rattle.sim_flat_design.specs.declared.statement.Statement.TheVariants as variants;
@@ -175,21 +175,36 @@ fn branches_of(statements: &[Statement]) -> Option<&[Branch]>
     }
 }
 
+/// The branches of such an if statement before the last, the last, and the reset that those before
+/// it test, if they test nothing else.
+fn arms_of(statements: &[Statement]) -> Option<(&[Branch], &Branch, Option<Level>)>
+    ensures whole { IfSome result (λ r. statements.now ≡ variants.If (r.0.now ++ r.1.now ∷ []) [] ∷ []) }
+    ensures reset { IfSome result (λ r. spec.TestReset (map (λ (b : branch). (views.out-Branch b).condition) r.0.now) r.2) }
+{
+    let Some(branches) = branches_of(statements) else {
+        return None;
+    };
+    let [before @ .., last] = branches else {
+        return None;
+    };
+    match reset_of_branches(before) {
+        None => None,
+        Some(reset) => Some((before, last, reset)),
+    }
+}
+
 /// The guard of a single if statement without `else` whose last condition is an edge, the branches
 /// before the last, and the last.
 pub fn guarded_if(statements: &[Statement]) -> Option<(Guard, &[Branch], &Branch)>
     ensures { IfSome result (λ r. spec.IsGuardedIf statements.now r.0 r.1.now r.2.now) }
 {
-    let Some([before @ .., last]) = branches_of(statements) else {
+    let Some((before, last, reset)) = arms_of(statements) else {
         return None;
     };
-    let Some(reset) = reset_of_branches(before) else {
-        return None;
-    };
-    let Some(guard) = guard_of(&last.condition, reset) else {
-        return None;
-    };
-    Some((guard, before, last))
+    match guard_of(&last.condition, reset) {
+        None => None,
+        Some(guard) => Some((guard, before, last)),
+    }
 }
 
 /// The reset that the conditions of waveforms test, if they test nothing else.
@@ -213,6 +228,34 @@ fn assignment_of(statements: &[Statement]) -> Option<&SignalAssignment>
     }
 }
 
+/// Such an assignment, its waveforms before the last, the last, and the reset that those before it
+/// test, if they test nothing else.
+fn waveforms_of(
+    statements: &[Statement],
+) -> Option<
+    (
+        &SignalAssignment,
+        &[ConditionalWaveform],
+        &ConditionalWaveform,
+        Option<Level>,
+    ),
+>
+    ensures whole { IfSome result (λ r. (statements.now ≡ variants.Signal r.0.now ∷ []) × (r.0.now.otherwise ≡ None)) }
+    ensures waveforms { IfSome result (λ r. r.0.now.conditional ≡ r.1.now ++ r.2.now ∷ []) }
+    ensures reset { IfSome result (λ r. spec.TestReset (map (λ (c : waveform). c.condition) r.1.now) r.3) }
+{
+    let Some(assignment) = assignment_of(statements) else {
+        return None;
+    };
+    let [before @ .., last] = assignment.conditional.as_slice() else {
+        return None;
+    };
+    match reset_of_waveforms(before) {
+        None => None,
+        Some(reset) => Some((assignment, before, last, reset)),
+    }
+}
+
 /// The guard of a single conditional signal assignment without a last `else` whose last condition
 /// is an edge, the assignment, the waveforms before the last, and the last.
 pub fn guarded_assignment(
@@ -227,17 +270,100 @@ pub fn guarded_assignment(
 >
     ensures { IfSome result (λ r. spec.IsGuardedAssignment statements.now r.0 r.1.now r.2.now r.3.now) }
 {
-    let Some(assignment) = assignment_of(statements) else {
+    let Some((assignment, before, last, reset)) = waveforms_of(statements) else {
         return None;
     };
-    let [before @ .., last] = assignment.conditional.as_slice() else {
+    match guard_of(&last.condition, reset) {
+        None => None,
+        Some(guard) => Some((guard, assignment, before, last)),
+    }
+}
+
+/// An edge without which a condition does not hold that is one of several operands.
+fn edge_among(
+    operator: Logical,
+    first: &BooleanExpression,
+    rest: &[BooleanExpression],
+) -> Option<(EdgeKind, usize)>
+    ensures { IfSome result (λ r. spec.NeedsEdge (boolean.Chain operator first.now rest.now) r.0 r.1) }
+{
+    let Logical::And = operator else {
         return None;
     };
-    let Some(reset) = reset_of_waveforms(before) else {
+    let [second, ..] = rest else {
         return None;
     };
-    let Some(guard) = guard_of(&last.condition, reset) else {
-        return None;
-    };
-    Some((guard, assignment, before, last))
+    match tested_edge(first) {
+        Some(edge) => Some(edge),
+        None => edge_beside(first, second),
+    }
+}
+
+/// An edge that the second of two operands tests, or both together.
+fn edge_beside(first: &BooleanExpression, second: &BooleanExpression) -> Option<(EdgeKind, usize)>
+    ensures { IfSome result (λ r. (look : ℕ → view) (variables : List held) → spec.occurs r.0 (look r.1) ≡ false
+        → (boolean_value look variables first.now && boolean_value look variables second.now) ≡ false) }
+{
+    match tested_edge(second) {
+        Some(edge) => Some(edge),
+        None => edge_of_both(first, second),
+    }
+}
+
+/// An edge without which a condition does not hold.
+fn needed_edge(condition: &BooleanExpression) -> Option<(EdgeKind, usize)>
+    ensures { IfSome result (λ r. spec.NeedsEdge condition.now r.0 r.1) }
+{
+    match condition {
+        BooleanExpression::Chain {
+            operator,
+            first,
+            rest,
+        } => edge_among(*operator, first.get(), rest.as_slice()),
+        _ => None,
+    }
+}
+
+/// The guard whose edge the last of some conditions needs, and whose reset the others test.
+fn needed_guard(last: &BooleanExpression, reset: Option<Level>) -> Option<Guard>
+    ensures { IfSome result (λ g. spec.NeedsEdge last.now g.kind g.object × (g.reset ≡ reset)) }
+{
+    match needed_edge(last) {
+        None => None,
+        Some((kind, object)) => Some(Guard {
+            kind,
+            object,
+            reset,
+        }),
+    }
+}
+
+/// The guard of an if statement whose last condition needs more than an edge.
+fn needed_by_if(statements: &[Statement]) -> Option<Guard>
+    ensures { IfSome result (λ g. spec.IsGuarded (Some g) statements.now statements.now) }
+{
+    match arms_of(statements) {
+        None => None,
+        Some((_before, last, reset)) => needed_guard(&last.condition, reset),
+    }
+}
+
+/// The guard of a conditional signal assignment whose last condition needs more than an edge.
+fn needed_by_assignment(statements: &[Statement]) -> Option<Guard>
+    ensures { IfSome result (λ g. spec.IsGuarded (Some g) statements.now statements.now) }
+{
+    match waveforms_of(statements) {
+        None => None,
+        Some((_assignment, _before, last, reset)) => needed_guard(&last.condition, reset),
+    }
+}
+
+/// The guard of statements that are executed as a whole where it is not idle.
+pub fn guard_of_all(statements: &[Statement]) -> Option<Guard>
+    ensures { spec.IsGuarded result statements.now statements.now }
+{
+    match needed_by_if(statements) {
+        Some(guard) => Some(guard),
+        None => needed_by_assignment(statements),
+    }
 }
