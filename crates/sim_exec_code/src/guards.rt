@@ -2,6 +2,7 @@
 
 ghost use Rattle.std.specs.Prelude.{ℕ, ◌≡◌, ◌∷◌, ◌++◌, [], ◌&&◌, false, None, Some, List, map, IfSome};
 ghost use Rattle.sim_flat_design.specs.declared.held.Held.{Held as held};
+ghost use Rattle.sim_flat_design.specs.declared.expression.LogicExpression.TheVariants as logic;
 ghost use Rattle.sim_flat_design.specs.declared.expression.BooleanExpression.TheVariants as boolean;
 ghost use Rattle.sim_flat_design.specs.declared.statement.Statement.TheVariants as variants;
 ghost use Rattle.sim_flat_design.specs.declared.statement.Branch.{Branch as branch};
@@ -11,7 +12,7 @@ ghost use Rattle.sim_standard.specs.declared.net_view.NetView.{NetView as view};
 ghost use Rattle.sim_standard.specs.Expressions.{boolean_value, has_edge};
 ghost use Rattle.sim_exec_code.specs.Guards as spec;
 
-use crate::program::{EdgeKind, Guard, Level};
+use crate::program::{EdgeKind, Guard, Level, Values};
 use sim_flat_design::expression::{BooleanExpression, LogicExpression};
 use sim_flat_design::statement::{Branch, ConditionalWaveform, SignalAssignment, Statement};
 use sim_logic::{Logic, Logical, Relational};
@@ -35,11 +36,40 @@ fn compared_level(
     };
     Some(Level {
         object: *object,
-        value: *value,
+        values: Values::Only(*value),
     })
 }
 
-/// The level that a condition tests, if it tests nothing else, as `reset = '1'` does.
+/// The level that a value tests to which the condition operator is applied (9.2.9), if it is a port
+/// or signal or the negation of one.
+fn level_of_condition(operand: &LogicExpression) -> Option<Level>
+    ensures { IfSome result (spec.TestsLevel (boolean.Condition operand.now)) }
+{
+    match operand {
+        LogicExpression::Object(object) => Some(Level {
+            object: *object,
+            values: Values::High,
+        }),
+        LogicExpression::Not(negated) => low_of(negated.get()),
+        _ => None,
+    }
+}
+
+/// The level that the negation of a value tests, if it is a port or signal.
+fn low_of(operand: &LogicExpression) -> Option<Level>
+    ensures { IfSome result (spec.TestsLevel (boolean.Condition (logic.Not operand.now))) }
+{
+    match operand {
+        LogicExpression::Object(object) => Some(Level {
+            object: *object,
+            values: Values::Low,
+        }),
+        _ => None,
+    }
+}
+
+/// The level that a condition tests, if it tests nothing else, as `reset = '1'`
+/// and `reset` do.
 fn tested_level(condition: &BooleanExpression) -> Option<Level>
     ensures { IfSome result (spec.TestsLevel condition.now) }
 {
@@ -49,6 +79,7 @@ fn tested_level(condition: &BooleanExpression) -> Option<Level>
             operator,
             right,
         } => compared_level(left.get(), *operator, right.get()),
+        BooleanExpression::Condition(operand) => level_of_condition(operand),
         _ => None,
     }
 }
@@ -65,7 +96,7 @@ fn event_to(event: &BooleanExpression, level: &BooleanExpression) -> Option<(Edg
         return None;
     };
     if level.object == *object {
-        Some((EdgeKind::To(level.value), *object))
+        Some((EdgeKind::To(level.values), *object))
     } else {
         None
     }

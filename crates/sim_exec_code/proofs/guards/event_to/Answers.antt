@@ -1,7 +1,7 @@
 use Rattle.std.proofs.Common.{ℕ, ◌&&◌, Bool, ap, ◌∙◌}
-use Rattle.sim_logic.specs.Logic.{is_same}
 use Rattle.sim_exec.proofs.ValueRules.{boolean_event}
 use Rattle.sim_standard.specs.Expressions.{boolean_value}
+use Rattle.sim_exec_code.specs.Guards.{is_among}
 use Rattle.sim_exec_code.proofs.guards.event_to.Goals as goal
 
 pub returns-then-level-object : goal.returns-then-level-object
@@ -12,4 +12,4 @@ returns-then-level-object c = λ look variables.
     (ap (boolean_value look variables) c.in-Event.is ∙ boolean_event look variables object)
     ∙ ap (λ (b : Bool). (look object).event && b)
     (c.in-Some.ensures look variables
-    ∙ ap (λ (o : ℕ). is_same (look o).value level.value) c.if-level-object.true)
+    ∙ ap (λ (o : ℕ). is_among (look o).value level.values) c.if-level-object.true)
