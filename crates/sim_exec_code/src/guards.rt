@@ -95,8 +95,11 @@ fn event_to(event: &BooleanExpression, level: &BooleanExpression) -> Option<(Edg
     let Some(level) = tested_level(level) else {
         return None;
     };
+    let Values::Only(value) = level.values else {
+        return None;
+    };
     if level.object == *object {
-        Some((EdgeKind::To(level.values), *object))
+        Some((EdgeKind::To(value), *object))
     } else {
         None
     }

@@ -12,4 +12,5 @@ returns-then-level-object c = λ look variables.
     (ap (boolean_value look variables) c.in-Event.is ∙ boolean_event look variables object)
     ∙ ap (λ (b : Bool). (look object).event && b)
     (c.in-Some.ensures look variables
-    ∙ ap (λ (o : ℕ). is_among (look o).value level.values) c.if-level-object.true)
+    ∙ (ap (λ (o : ℕ). is_among (look o).value level.values) c.if-level-object.true
+    ∙ ap (is_among (look object).value) c.in-Only.is))
