@@ -49,8 +49,9 @@ fn a_code_has_an_operation_for_each_expression(rt: HostRuntime) {
 
 /// By register, the number of operations of its code: the test of the guard, and the steps that are
 /// left under it. A register with a reset has four: the test of the reset, two assignments, and a
-/// jump over the second.
-static REGISTER_OPERATIONS: [usize; 4] = [2, 5, 2, 5];
+/// jump over the second; a negation is one more. The last has five for its body as a whole: two
+/// operands, the test of both, an assignment, and the jump behind it.
+static REGISTER_OPERATIONS: [usize; 6] = [2, 5, 2, 5, 6, 6];
 
 /// The index of the first register whose code has another number of operations.
 fn first_unguarded(alloc: Global) -> Option<usize> {
@@ -92,7 +93,18 @@ static NETS: [(&str, &[&[usize]]); 4] = [
     (TOGGLE, &[&[0], &[0], &[]]),
     (EXCHANGE, &[&[], &[0, 2], &[0, 1], &[]]),
     (CHOICE, &[&[], &[0], &[]]),
-    (REGISTERS, &[&[0, 1], &[0, 2, 1], &[0, 1], &[0, 2, 1], &[]]),
+    (
+        REGISTERS,
+        &[
+            &[0, 1],
+            &[0, 2, 1],
+            &[0, 1],
+            &[0, 2, 1],
+            &[0, 2, 1],
+            &[0, 1],
+            &[],
+        ],
+    ),
 ];
 
 /// The index of the first text whose codes gather other nets.

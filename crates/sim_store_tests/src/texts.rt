@@ -43,10 +43,12 @@ end process; end;";
 
 /// Registers, each in another form.
 pub const REGISTERS: &str =
-    "entity t is end;architecture a of t is signal c,d,r,q,p,s,u:std_logic;begin \
+    "entity t is end;architecture a of t is signal c,d,r,q,p,s,u,v,w:std_logic;begin \
 process(c) begin if c'event and c = '1' then q <= d; end if; end process; \
 process(c,r) begin if r = '1' then p <= '0'; elsif falling_edge(c) then p <= d; end if; end process; \
-s <= d when rising_edge(c); u <= '0' when r = '0' else d when c = '0' and c'event; end;";
+s <= d when rising_edge(c); u <= '0' when r = '0' else d when c = '0' and c'event; \
+process(c,r) begin if not r then v <= '0'; elsif rising_edge(c) then v <= d; end if; end process; \
+process(c) begin if rising_edge(c) and d = '1' then w <= d; end if; end process; end;";
 
 /// A conditional waveform, whose condition is evaluated once before and once after it changes.
 pub const CHOICE: &str =
