@@ -131,7 +131,6 @@ pub fn write_listing<W: Write>(finished: &Finished, out: &mut W) -> Result<(), R
     ensures part { OnErr result (AppendsPart (W.contents out.old) (W.contents out.new) (listing finished.now.names finished.now.records)) }
     ensures err { OnErr result (result ≡ Err RunError.Write) }
 {
-    let records = finished.records();
-    sim_run_listing::write_listing(finished.names(), &records, finished.events(), out)?;
+    sim_run_listing::write_listing(finished.names(), finished.records(), finished.events(), out)?;
     Ok(())
 }

@@ -1,10 +1,10 @@
 -- Pieces of text that are buffered, and written one after another.
 use Rattle.std.proofs.Common.{◌≡◌, ℕ, zero, suc, ◌+◌, ◌-◌, ◌<◌, ◌≤◌, List, [], ◌∷◌, ◌++◌, length, take, drop, refl, sym, ap, ◌∙◌, arith, subst}
-use Rattle.std.proofs.Common.{get_or, append_assoc, append-nil, length-append, length-drop, map, take-append-drop}
-use Rattle.std.specs.Prelude.{Option, None, Some, Result, Ok, Err, OnErr, All, flat_map}
+use Rattle.std.proofs.Common.{get_or, append_assoc, append-nil, length-append, length-drop, take-append-drop}
+use Rattle.std.specs.Prelude.{Option, None, Some, Result, Ok, Err, OnErr, flat_map}
 use Rattle.std.specs.Io.KnownBytes.{Appends, Keeps}
 use Rattle.std.proofs.KnownBytes.{Appends-nil, Appends-trans}
-use Rattle.std.proofs.lemmas.List.{take-append-le, get_or-map, length-map}
+use Rattle.std.proofs.lemmas.List.{take-append-le}
 use Rattle.sim_run_listing.specs.Writing.{AppendsPart, Gathers}
 
 take-longer : (xs ys : List ℕ) (n : ℕ) → take (length xs + n) (xs ++ ys) ≡ xs ++ take n ys
@@ -101,14 +101,6 @@ stops_then a b c h m xs ys p q =
 pub stops_within : (a c : Option (List ℕ)) (h xs ys : List ℕ) → AppendsPart a c (h ++ xs) → AppendsPart a c (h ++ (xs ++ ys))
 stops_within a c h xs ys p = subst (λ (l : List ℕ). AppendsPart a c l) (append_assoc h xs ys) (part_of_more a c (h ++ xs) ys p)
 
--- the buffered bytes were written
-pub gathers_out : (a b c : Option (List ℕ)) (h m xs : List ℕ) → Gathers a h b m xs → Appends b c m → Gathers a h c [] xs
-gathers_out a b c h m xs p q = record {
-  written = p.written ++ m;
-  appended = Appends-trans a b c p.written m p.appended q;
-  kept = p.kept ∙ sym (append-nil (p.written ++ m));
-}
-
 -- more is buffered, and nothing written
 pub gathers_more : (a b : Option (List ℕ)) (h m xs more : List ℕ) → Gathers a h b m xs → Gathers a h b (m ++ more) (xs ++ more)
 gathers_more a b h m xs more p = record {
@@ -120,10 +112,6 @@ gathers_more a b h m xs more p = record {
 -- the bytes are buffered, and nothing written
 pub gathers_held : (a : Option (List ℕ)) (h xs left : List ℕ) → left ≡ h ++ xs → Gathers a h a left xs
 gathers_held a h xs left e = record { written = []; appended = Appends-nil a; kept = sym e }
-
--- the buffered bytes were written, and no more is given
-pub gathers_empty : (a b : Option (List ℕ)) (h m : List ℕ) → Appends a b h → m ≡ [] → Gathers a h b m []
-gathers_empty a b h m p e = record { written = h; appended = p; kept = ap (λ (l : List ℕ). h ++ l) (sym e) }
 
 -- one more prefix of the bytes is buffered
 pub put_goes_on : (a b c : Option (List ℕ)) (h m k bytes rest front back new : List ℕ) → ((done : List ℕ) × (done ++ rest ≡ bytes) × Gathers a h b m done)
@@ -141,15 +129,25 @@ pub put_stops : (a b c : Option (List ℕ)) (h m bytes rest : List ℕ) → ((do
 put_stops a b c h m bytes rest p q =
     subst (λ (l : List ℕ). AppendsPart a c (h ++ l)) p.1 (stops_then a b c h m p.0 rest p.2 (part_of_more b c m rest q))
 
--- what was buffered from nothing was all written
-pub all_out : (a b c : Option (List ℕ)) (h m xs : List ℕ) → h ≡ [] → Gathers a h b m xs → Appends b c m → Appends a c xs
-all_out a b c h m xs e p q =
-    subst (λ (l : List ℕ). Appends a c l) (sym p.kept ∙ ap (λ (l : List ℕ). l ++ xs) e) (Appends-trans a b c p.written m p.appended q)
+-- what was buffered was all written
+pub all_out : (a b c : Option (List ℕ)) (h m xs : List ℕ) → Gathers a h b m xs → Appends b c m → Appends a c (h ++ xs)
+all_out a b c h m xs p q = subst (λ (l : List ℕ). Appends a c l) (sym p.kept) (Appends-trans a b c p.written m p.appended q)
 
--- writing what was buffered from nothing fails
-pub all_stops : (a b c : Option (List ℕ)) (h m xs : List ℕ) → h ≡ [] → Gathers a h b m xs → AppendsPart b c m → AppendsPart a c xs
-all_stops a b c h m xs e p q =
-    subst (λ (l : List ℕ). AppendsPart a c l) (sym p.kept ∙ ap (λ (l : List ℕ). l ++ xs) e) (then_part a b c p.written m p.appended q)
+-- writing what was buffered fails
+pub all_stops : (a b c : Option (List ℕ)) (h m xs : List ℕ) → Gathers a h b m xs → AppendsPart b c m → AppendsPart a c (h ++ xs)
+all_stops a b c h m xs p q = subst (λ (l : List ℕ). AppendsPart a c l) (sym p.kept) (then_part a b c p.written m p.appended q)
+
+-- what was buffered from nothing, and then more, was all written
+pub ends_then : (a b c : Option (List ℕ)) (h m xs ys : List ℕ) → h ≡ [] → Gathers a h b m xs → Appends b c (m ++ ys) → Appends a c (xs ++ ys)
+ends_then a b c h m xs ys e p q =
+    let whole : p.written ++ (m ++ ys) ≡ xs ++ ys =
+    sym (append_assoc p.written m ys) ∙ ap (λ (l : List ℕ). l ++ ys) (sym p.kept ∙ ap (λ (l : List ℕ). l ++ xs) e) in
+    subst (λ (l : List ℕ). Appends a c l) whole (Appends-trans a b c p.written (m ++ ys) p.appended q)
+
+-- writing what was buffered from nothing, and then more, fails
+pub stops_at_end : (a b c : Option (List ℕ)) (h m xs ys : List ℕ) → h ≡ [] → Gathers a h b m xs → AppendsPart b c (m ++ ys) → AppendsPart a c (xs ++ ys)
+stops_at_end a b c h m xs ys e p q =
+    subst (λ (l : List ℕ). AppendsPart a c (l ++ (xs ++ ys))) e (stops_then a b c h m xs ys p q)
 
 -- ---- over a list
 
@@ -188,27 +186,6 @@ module _ {A : Type 0} (f : A → List ℕ) where
   pub item_fails : (a b c : Option (List ℕ)) (h m : List ℕ) (xs : List A) (i : ℕ) (x : A) → x ≡ get_or xs i x → i < length xs
       → Gathers a h b m (flat_map f (take i xs)) → AppendsPart b c (m ++ f x) → AppendsPart a c (h ++ flat_map f xs)
   item_fails a b c h m xs i x e lt p q = part_fails f x a b c h m xs i lt p (subst (λ (y : A). AppendsPart b c (m ++ f y)) e q)
-
--- the same over the values of a function
-module _ {A B : Type 0} (f : B → List ℕ) (g : A → B) where
-  at_item : (xs : List A) (i : ℕ) (x : A) → x ≡ get_or xs i x → i < length xs → g x ≡ get_or (map g xs) i (g x)
-  at_item xs i x e lt = sym (get_or-map g xs i x (g x) lt ∙ ap g (sym e))
-
-  within : (xs : List A) (i : ℕ) → i < length xs → i < length (map g xs)
-  within xs i lt = subst (λ (n : ℕ). i < n) (sym (length-map xs g)) lt
-
-  pub given_holds : (P : B → Type 0) (xs : List A) (i : ℕ) (x : A) (y : B) → x ≡ get_or xs i x → y ≡ g x → i < length xs → All P (map g xs) → P y
-  given_holds P xs i x y e is lt all = subst P (sym (is ∙ at_item xs i x e lt)) (all i (g x) (within xs i lt))
-
-  pub next_given : (a b c : Option (List ℕ)) (h m k : List ℕ) (xs : List A) (i : ℕ) (x : A) (y : B) → x ≡ get_or xs i x → y ≡ g x → i < length xs
-      → Gathers a h b m (flat_map f (take i (map g xs))) → Gathers b m c k (f y) → Gathers a h c k (flat_map f (take (i + 1) (map g xs)))
-  next_given a b c h m k xs i x y e is lt p q = next_item f a b c h m k (map g xs) i (g x) (at_item xs i x e lt) (within xs i lt) p
-      (subst (λ (z : B). Gathers b m c k (f z)) is q)
-
-  pub given_fails : (a b c : Option (List ℕ)) (h m : List ℕ) (xs : List A) (i : ℕ) (x : A) (y : B) → x ≡ get_or xs i x → y ≡ g x → i < length xs
-      → Gathers a h b m (flat_map f (take i (map g xs))) → AppendsPart b c (m ++ f y) → AppendsPart a c (h ++ flat_map f (map g xs))
-  given_fails a b c h m xs i x y e is lt p q = item_fails f a b c h m (map g xs) i (g x) (at_item xs i x e lt) (within xs i lt) p
-      (subst (λ (z : B). AppendsPart b c (m ++ f z)) is q)
 
 pub on_err : {T E : Type 0} (r : Result T E) (P : Type 0) → P → OnErr r P
 on_err (Ok x) P p = tt

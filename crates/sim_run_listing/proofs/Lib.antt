@@ -1,5 +1,6 @@
 pub mod Copies
 pub mod Divided
+pub mod Entries
 pub mod Gathering
 pub mod Heads
 pub mod Histories

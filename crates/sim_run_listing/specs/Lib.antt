@@ -1,3 +1,4 @@
 pub mod Head
 pub mod Listing
+pub mod Moments
 pub mod Writing

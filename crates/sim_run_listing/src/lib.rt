@@ -1,16 +1,17 @@
-//! The listing of a simulation's history, from any source of records.
+//! The listing of a simulation's history, from the log of a store or from records.
 #![tactic(auto)]
 
 mod block;
 mod copying;
 mod error;
 mod head;
-mod history;
 mod listing;
+mod log;
+mod moment;
 mod named;
 
 pub use block::write_whole;
 pub use error::WriteError;
-pub use history::{Change, Records};
 pub use listing::write_listing;
+pub use log::write_log;
 pub use named::Named;

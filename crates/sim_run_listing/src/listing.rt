@@ -3,7 +3,6 @@ ghost use Rattle.std.specs.Prelude.{◌≡◌, ◌++◌, ◌<◌, length, IfSome
 ghost use Rattle.std.specs.List.{concat};
 ghost use Rattle.std.specs.Io.KnownBytes.{Appends};
 ghost use Rattle.sim_logic.specs.declared.logic.Logic as logic;
-ghost use Rattle.sim_store_state.specs.Log.{record_at};
 ghost use Rattle.sim_standard.specs.Records.{IsNamed, event_count};
 ghost use Rattle.sim_run_listing.specs.Listing.{IsHistory, line_of, pieces_of, lines_of, end_of, listing};
 ghost use Rattle.sim_run_listing.specs.Writing.{AppendsPart, Gathers};
@@ -11,11 +10,11 @@ ghost use Rattle.sim_run_listing.specs.Writing.{AppendsPart, Gathers};
 use crate::block::{Block, put, put_all, put_path, write_out};
 use crate::error::WriteError;
 use crate::head::Head;
-use crate::history::{Change, Records};
 use crate::named::Named;
 use itoa::Buffer;
 use sim_flat_design::PathPiece;
 use sim_logic::Logic;
+use sim_standard::Record;
 use std::io::Write;
 
 /// Buffers a line, and writes each full block.
@@ -89,7 +88,7 @@ fn put_divided<W: Write>(
 }
 
 /// The line of a change: `TIME DELTA NAME VALUE`.
-fn put_line<N: Named, W: Write>(
+pub fn put_line<N: Named, W: Write>(
     out: &mut W,
     block: &mut Block,
     names: &[N],
@@ -111,63 +110,60 @@ fn put_line<N: Named, W: Write>(
 }
 
 /// The lines of a cycle's changes.
-fn put_changes<N: Named, C: Change, W: Write>(
+fn put_changes<N: Named, W: Write>(
     out: &mut W,
     block: &mut Block,
     names: &[N],
     head: &Head,
-    changes: &[C],
+    changes: &[(usize, Logic)],
 ) -> Result<(), WriteError>
-    requires { All (λ (c : ℕ × logic.Logic). c.0 < length names.now) (map C.change_of changes.now) }
+    requires { All (λ (c : ℕ × logic.Logic). c.0 < length names.now) changes.now }
     ensures ok { OnOk result (Gathers (W.contents out.old) block.old (W.contents out.new) block.new
-        (flat_map (line_of head.now.text (map N.name_of names.now)) (map C.change_of changes.now))) }
+        (flat_map (line_of head.now.text (map N.name_of names.now)) changes.now)) }
     ensures part { OnErr result (AppendsPart (W.contents out.old) (W.contents out.new) (block.old ++
-        flat_map (line_of head.now.text (map N.name_of names.now)) (map C.change_of changes.now))) }
+        flat_map (line_of head.now.text (map N.name_of names.now)) changes.now)) }
 {
     for change in changes {
-        let (net, value) = change.to_change();
+        let (net, value) = *change;
         put_line(out, block, names, head, net, value)?;
     }
     Ok(())
 }
 
 /// The lines of a cycle.
-fn put_record<N: Named, R: Records, W: Write>(
+fn put_record<N: Named, W: Write>(
     out: &mut W,
     block: &mut Block,
     names: &[N],
     head: &mut Head,
-    records: &R,
-    number: usize,
+    record: &Record,
 ) -> Result<(), WriteError>
-    requires number { number < length (R.contents records.now) }
-    requires named { IsNamed (length names.now) (record_at (R.contents records.now) number) }
+    requires { IsNamed (length names.now) record.now }
     ensures ok { OnOk result (Gathers (W.contents out.old) block.old (W.contents out.new) block.new
-        (lines_of (map N.name_of names.now) (record_at (R.contents records.now) number))) }
+        (lines_of (map N.name_of names.now) record.now)) }
     ensures part { OnErr result (AppendsPart (W.contents out.old) (W.contents out.new) (block.old ++
-        lines_of (map N.name_of names.now) (record_at (R.contents records.now) number))) }
+        lines_of (map N.name_of names.now) record.now)) }
 {
-    let (time, delta) = records.time(number);
-    head.set(time, delta);
-    put_changes(out, block, names, head, records.changes(number))
+    head.set(record.time, record.delta);
+    put_changes(out, block, names, head, record.changes.as_slice())
 }
 
 /// The lines of all cycles.
-fn put_records<N: Named, R: Records, W: Write>(
+fn put_records<N: Named, W: Write>(
     out: &mut W,
     block: &mut Block,
     names: &[N],
-    records: &R,
+    records: &[Record],
 ) -> Result<(), WriteError>
-    requires { All (IsNamed (length names.now)) (R.contents records.now) }
+    requires { All (IsNamed (length names.now)) records.now }
     ensures ok { OnOk result (Gathers (W.contents out.old) block.old (W.contents out.new) block.new
-        (flat_map (lines_of (map N.name_of names.now)) (R.contents records.now))) }
+        (flat_map (lines_of (map N.name_of names.now)) records.now)) }
     ensures part { OnErr result (AppendsPart (W.contents out.old) (W.contents out.new)
-        (block.old ++ flat_map (lines_of (map N.name_of names.now)) (R.contents records.now))) }
+        (block.old ++ flat_map (lines_of (map N.name_of names.now)) records.now)) }
 {
     let mut head = Head::new();
-    for number in 0..records.len() {
-        put_record(out, block, names, &mut head, records, number)?;
+    for each in records {
+        put_record(out, block, names, &mut head, each)?;
     }
     Ok(())
 }
@@ -189,24 +185,37 @@ fn put_last<W: Write>(
     put_all(out, block, &[b"done ", cycles, b" ", events, b"\n"])
 }
 
+/// Writes what is buffered, and the last line.
+pub fn finish<W: Write>(
+    out: &mut W,
+    block: &mut Block,
+    cycles: usize,
+    events: u64,
+) -> Result<(), WriteError>
+    ensures ok { OnOk result (Appends (W.contents out.old) (W.contents out.new) (block.old ++ end_of cycles events)) }
+    ensures part { OnErr result (AppendsPart (W.contents out.old) (W.contents out.new) (block.old ++ end_of cycles events)) }
+{
+    put_last(out, block, cycles, events)?;
+    write_out(out, block)
+}
+
 /// Writes the listing of a run: for each record, in order, a line `TIME DELTA NAME VALUE` for each
 /// of its changes, with the time in femtoseconds, and finally `done CYCLES EVENTS`. `names` are
-/// those of the nets by number; `events_in` counts the events of a `Log`. The lines are written in
-/// blocks of 32 KiB; nothing is allocated. `WriteError` if a write fails or writes nothing: then a
-/// prefix of the listing has been written.
-pub fn write_listing<N: Named, R: Records, W: Write>(
+/// those of the nets by number, `events` counts the changes after the first record. The lines are
+/// written in blocks of 32 KiB; nothing is allocated. `WriteError` if a write fails or writes
+/// nothing: then a prefix of the listing has been written.
+pub fn write_listing<N: Named, W: Write>(
     names: &[N],
-    records: &R,
+    records: &[Record],
     events: u64,
     out: &mut W,
 ) -> Result<(), WriteError>
-    requires history { IsHistory (map N.name_of names.now) (R.contents records.now) }
-    requires events { events ≡ event_count (R.contents records.now) }
-    ensures ok { OnOk result (Appends (W.contents out.old) (W.contents out.new) (listing (map N.name_of names.now) (R.contents records.now))) }
-    ensures part { OnErr result (AppendsPart (W.contents out.old) (W.contents out.new) (listing (map N.name_of names.now) (R.contents records.now))) }
+    requires history { IsHistory (map N.name_of names.now) records.now }
+    requires events { events ≡ event_count records.now }
+    ensures ok { OnOk result (Appends (W.contents out.old) (W.contents out.new) (listing (map N.name_of names.now) records.now)) }
+    ensures part { OnErr result (AppendsPart (W.contents out.old) (W.contents out.new) (listing (map N.name_of names.now) records.now)) }
 {
     let mut block = Block::new();
     put_records(out, &mut block, names, records)?;
-    put_last(out, &mut block, records.len() - 1, events)?;
-    write_out(out, &mut block)
+    finish(out, &mut block, records.len() - 1, events)
 }

@@ -12,7 +12,7 @@ ghost use Rattle.sim_run_session.specs.Run.{Finishes, IsCut, IsRefusalAlone, IsR
 use crate::error::RunError;
 use crate::team::carry_to_end;
 use sim_flat_design::Design;
-use sim_run_listing::write_listing;
+use sim_run_listing::write_log;
 use sim_run_options::Options;
 use sim_run_team::Hints;
 use sim_store::{Step, WaveStore};
@@ -162,6 +162,6 @@ pub fn write_run<W: Write>(run: &WaveStore, out: &mut W) -> Result<(), RunError>
     ensures part { OnErr result (AppendsPart (W.contents out.old) (W.contents out.new) (listing (history_of run.now).names (history_of run.now).records)) }
     ensures err { IfErr result (λ e. e ≡ refusal.Write) }
 {
-    write_listing(run.design().nets(), run.history(), run.look().events, out)?;
+    write_log(run.design().nets(), run.history(), run.look().events, out)?;
     Ok(())
 }

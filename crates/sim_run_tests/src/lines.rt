@@ -1,5 +1,4 @@
-//! Listings to a writer that accepts one byte at a time, and records in both representations that a
-//! listing reads.
+//! Listings to a writer that accepts one byte at a time.
 
 ghost use Rattle.std.specs.Prelude.{◌≡◌, ◌<◌, length, All, IfOk, ℕ};
 ghost use Rattle.sim_logic.specs.declared.logic.Logic as logic;
@@ -7,7 +6,7 @@ ghost use Rattle.sim_standard.specs.Records.{IsNamed, event_count};
 
 use sim_flat_design::{InstancePath, Net};
 use sim_logic::Logic;
-use sim_run_listing::{Change, Records, WriteError, write_listing, write_whole};
+use sim_run_listing::{WriteError, write_listing, write_whole};
 use sim_store_state::{Log, Record};
 use sqlite_items::Items;
 use std::alloc::{AllocError, Global};
@@ -87,7 +86,7 @@ fn listed(alloc: Global, room: usize) -> Result<(Vec<u8>, Result<(), WriteError>
         bytes: Vec::new(alloc),
         room,
     };
-    let ended = write_listing(names.as_slice(), &records.as_slice(), 1, &mut out);
+    let ended = write_listing(names.as_slice(), records.as_slice(), 1, &mut out);
     Ok((out.bytes, ended))
 }
 
@@ -130,7 +129,7 @@ fn listed_by_nets(alloc: Global) -> Result<Vec<u8>, AllocError> {
     let nets = nets(alloc)?;
     let records = records(alloc)?;
     let mut out = Vec::new(alloc);
-    let _ended = write_listing(nets.as_slice(), &records.as_slice(), 1, &mut out);
+    let _ended = write_listing(nets.as_slice(), records.as_slice(), 1, &mut out);
     Ok(out)
 }
 
@@ -154,45 +153,7 @@ fn all_bytes_are_written(rt: HostRuntime) {
     assert!(rt; goes_out_whole(rt.alloc()));
 }
 
-/// Whether there is one change, of this net to this value.
-fn is_one(changes: &[(usize, Logic)], net: usize, value: Logic) -> bool {
-    match changes {
-        [change] => change.0 == net && change.1 == value,
-        _ => false,
-    }
-}
-
-/// Whether the only record of a slice is read.
-fn is_read(alloc: Global) -> Result<bool, AllocError> {
-    let records = vec![in alloc; record(alloc, 7, Logic::H)?]?;
-    let records = records.as_slice();
-    let cycle = Records::time(&records, 0);
-    let is_timed = cycle.0 == 7 && cycle.1 == 0;
-    Ok(
-        Records::len(&records) == 1
-            && is_timed
-            && is_one(Records::changes(&records, 0), 0, Logic::H),
-    )
-}
-
-#[test]
-fn records_of_a_slice_are_read(rt: HostRuntime) -> Result<(), Fail> {
-    assert!(rt; is_read(rt.alloc())?);
-    Ok(())
-}
-
 #[test]
 fn a_log_begins_with_no_records(rt: HostRuntime) {
-    assert!(rt; Records::len(&Log::new(rt.alloc())) == 0);
-}
-
-/// Whether changes in both representations give their net and value.
-fn are_named() -> bool {
-    matches!((3u32, Logic::H).to_change(), (3, Logic::H))
-        && matches!((4usize, Logic::Z).to_change(), (4, Logic::Z))
-}
-
-#[test]
-fn changes_name_a_net_and_a_value(rt: HostRuntime) {
-    assert!(rt; are_named());
+    assert!(rt; Log::new(rt.alloc()).len() == 0);
 }

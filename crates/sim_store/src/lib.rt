@@ -14,5 +14,5 @@ pub use design_type::DesignType;
 pub use error::{HandOutError, StoreError};
 pub use handed_out::HandedOutStore;
 pub use order::{Answer, Order};
-pub use sim_store_state::{Log, Record};
+pub use sim_store_state::{Entry, Log, Record};
 pub use store::{Look, Step, WaveStore};

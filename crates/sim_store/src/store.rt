@@ -449,8 +449,8 @@ impl WaveStore {
         self.simulation.total(net)
     }
 
-    /// The log of all records, not copied: the time and the delta number of each, and its changes
-    /// in net order. Record 0 has every net.
+    /// The log of all records, not copied: entries from which the time and the delta number of each
+    /// and its changes, in net order, are read one after another. Record 0 has every net.
     pub fn history(&self) -> &Log
         ensures records { result.now.records ≡ records_to self.now.simulation.design self.now.simulation.cycles }
         ensures named { All (IsNamed (length self.now.simulation.design.nets)) result.now.records }

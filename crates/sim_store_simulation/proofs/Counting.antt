@@ -1,9 +1,10 @@
 -- The totals and the values of a simulation are those of its records.
 use Rattle.std.proofs.Common.{ℕ, ◌+◌, ◌-◌, ◌<◌, ◌≤◌, ◌≡◌, nat_lt, Bool, true, false, List, [], ◌∷◌, ◌++◌, Option, None, Some, MatchOption, IfSome}
-use Rattle.std.proofs.Common.{length, get_or, take, replicate, refl, ap, sym, ◌∙◌, subst, arith}
+use Rattle.std.proofs.Common.{length, get_or, take, drop, replicate, refl, ap, sym, ◌∙◌, subst, arith}
 use Rattle.std.specs.List.{enumerate_from, filter}
 use Rattle.std.proofs.lemmas.Bool.Decides.{nat_tests}
-use Rattle.std.proofs.lemmas.List.{get_or-replicate, get_or_past, length-append, length-map, length-replicate, length-take}
+use Rattle.std.proofs.lemmas.List.{get_or-replicate, get_or_past, length-append, length-map, length-replicate, take-append-drop}
+use Rattle.std.proofs.lemmas.List.Elements.{filter-append}
 use Rattle.std.proofs.lemmas.List.FromFn.{length-enumerate_from}
 use Rattle.std.proofs.lemmas.List.Sums.{count_by-le-length, length-filter}
 use Rattle.sim_logic.specs.declared.logic.Logic.{Logic}
@@ -11,7 +12,9 @@ use Rattle.sim_standard.specs.declared.net_view.NetView.{NetView}
 use Rattle.sim_standard.specs.State.{net_at}
 use Rattle.sim_standard.specs.declared.record.Record.{Record}
 use Rattle.sim_store_state.specs.FlatState.{FlatState}
-use Rattle.sim_store_state.specs.Log.{record_at}
+use Rattle.sim_store_state.specs.declared.log.Entry.{Entry}
+use Rattle.sim_store_state.specs.Log.{changes_of, record_at}
+use Rattle.sim_store_state.proofs.Logged.{changes-append, changes-more}
 use Rattle.sim_standard.specs.Records.{changes_from, records_to}
 use Rattle.sim_standard.proofs.Names.{numbered_value}
 use Rattle.sim_standard.specs.Agreement.{is_of, total_of, value_by}
@@ -27,17 +30,47 @@ get_or-all P xs n out within = go (nat_lt n (length xs)) refl
     go true e = within (grind (arith, nat_tests))
     go false e = subst P (sym (get_or_past xs n 0 (grind (arith, nat_tests)))) out
 
-length-filter-take : {X : Type 0} (p : X → Bool) (xs : List X) (i : ℕ) → length (filter p (take i xs)) ≤ i
-length-filter-take p xs i = omega (arith, length-filter p (take i xs), count_by-le-length p (take i xs), length-take i xs)
+-- the changes of the entries so far that pass a test, and those of one more, are not more than those of all
+changes-split : (p : ℕ × Logic → Bool) (es : List Entry) (i : ℕ) (d : Entry) → i < length es
+    → length (filter p (changes_of (take i es))) + length (changes_of (get_or es i d ∷ [])) ≤ length (changes_of es)
+changes-split p es i d lt =
+    let so_far = changes_of (take i es) in
+    omega (
+      arith,
+      ap (λ w. length (changes_of w)) (take-append-drop (i + 1) es),
+      ap length (changes-append (take (i + 1) es) (drop (i + 1) es)),
+      length-append (changes_of (take (i + 1) es)) (changes_of (drop (i + 1) es)),
+      ap length (changes-more es i d lt),
+      length-append so_far (changes_of (get_or es i d ∷ [])),
+      length-filter p so_far,
+      count_by-le-length p so_far,
+    )
 
--- a net that was counted in fewer changes than there are can be counted once more
-pub room-for-one : {X : Type 0} (p : ℕ → X → Bool) (old now : List ℕ) (xs : List X) (i n high : ℕ) → i < length xs
-    → ((m : ℕ) → get_or old m 0 + length xs < high)
-    → ((m : ℕ) → m < length now → get_or now m 0 ≡ get_or old m 0 + length (filter (p m) (take i xs)))
-    → get_or now n 0 + 1 < high
-room-for-one p old now xs i n high lt room counted =
-    get_or-all (λ t. t + 1 < high) now n (omega (arith, lt, room n))
-    (λ there. omega (arith, lt, room n, counted n there, length-filter-take (p n) xs i))
+-- a net that was counted in the entries so far can be counted in one more
+pub room-for-entry : (old now : List ℕ) (es : List Entry) (i n high : ℕ) (d : Entry) → i < length es
+    → ((m : ℕ) → get_or old m 0 + length (changes_of es) < high)
+    → ((m : ℕ) → m < length now → get_or now m 0 ≡ get_or old m 0 + length (filter (is_of m) (changes_of (take i es))))
+    → get_or now n 0 + length (changes_of (get_or es i d ∷ [])) < high
+room-for-entry old now es i n high d lt room counted =
+    let split = changes-split (is_of n) es i d lt in
+    get_or-all (λ t. t + length (changes_of (get_or es i d ∷ [])) < high) now n (omega (arith, room n, split))
+    (λ there. omega (arith, room n, counted n there, split))
+
+-- and then the total is that of the entries so far
+pub entry-counted : (es : List Entry) (i n old now new : ℕ) (d : Entry) → i < length es → now ≡ old + length (filter (is_of n) (changes_of (take i es)))
+    → new ≡ now + length (filter (is_of n) (changes_of (get_or es i d ∷ [])))
+    → new ≡ old + length (filter (is_of n) (changes_of (take (i + 1) es)))
+entry-counted es i n old now new d lt so_far one =
+    let before = changes_of (take i es) in
+    let here = changes_of (get_or es i d ∷ []) in
+    omega (
+      arith,
+      so_far,
+      one,
+      ap (λ w. length (filter (is_of n) w)) (changes-more es i d lt),
+      ap length (filter-append (is_of n) before here),
+      length-append (filter (is_of n) before) (filter (is_of n) here),
+    )
 
 -- ---- the start
 

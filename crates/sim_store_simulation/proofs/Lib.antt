@@ -10,3 +10,5 @@ pub mod Along
 pub mod Listed
 pub mod Assignments
 pub mod Crossing
+pub mod Recorded
+pub mod Reading

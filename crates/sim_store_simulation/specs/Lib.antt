@@ -1,3 +1,4 @@
+pub mod History
 pub mod Waiting
 pub mod Contents
 pub mod Simulation

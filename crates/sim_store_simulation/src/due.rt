@@ -129,13 +129,13 @@ impl Due {
             || (has_event_in nets (process_at processes p).sensitivity && those_in waiting.old.postponed p)) }
     {
         // f.2) Processes resume; the postponed ones wait for h.4.
-        let changes = log.changes(log.len() - 1);
+        let entries = log.last();
         if !waiting.has_postponed() {
-            if find_resumed_by_one(&mut self.list, changes, sensitive) {
+            if find_resumed_by_one(&mut self.list, entries, sensitive) {
                 return;
             }
         }
-        find_resumed(&mut self.set, changes, sensitive.rows());
+        find_resumed(&mut self.set, entries, sensitive.rows());
         waiting.set_aside(&mut self.set);
         self.list.set_from(&self.set);
     }

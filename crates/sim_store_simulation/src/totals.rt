@@ -1,12 +1,11 @@
 //! The number of events of each net.
 
-ghost use Rattle.std.specs.Prelude.{ℕ, ◌≡◌, ◌==◌, ◌<◌, ◌+◌, ◌-◌, ◌^◌, length, replicate, slice_index_or, if◌then◌else◌, IfOk};
+ghost use Rattle.std.specs.Prelude.{ℕ, ◌≡◌, ◌==◌, ◌<◌, ◌+◌, ◌-◌, ◌^◌, ◌∷◌, [], length, replicate, slice_index_or, if◌then◌else◌, IfOk};
 ghost use Rattle.std.specs.List.{filter};
-ghost use Rattle.sim_store_state.specs.Log.{record_at};
+ghost use Rattle.sim_store_state.specs.Log.{changes_of, record_at};
 ghost use Rattle.sim_standard.specs.Agreement.{is_of};
 
-use sim_logic::Logic;
-use sim_store_state::Log;
+use sim_store_state::{Entry, Log};
 use std::alloc::{AllocError, Global};
 
 /// No events, for this number of nets.
@@ -30,15 +29,28 @@ fn count_one(totals: &mut [u64], net: usize)
     }
 }
 
-/// Counts each change as one more event of its net.
-fn count(totals: &mut [u64], changes: &[(u32, Logic)])
-    requires { (n : ℕ) → slice_index_or totals.old n 0 + length changes.now < 2 ^ 64 }
+/// Counts the change that an entry notes, if it notes one, as one more event of its net.
+fn count_entry(totals: &mut [u64], entry: Entry)
+    requires { (n : ℕ) → slice_index_or totals.old n 0 + length (changes_of (entry ∷ [])) < 2 ^ 64 }
     ensures sized { length totals.new ≡ length totals.old }
     ensures counted { (n : ℕ) → n < length totals.old
-        → slice_index_or totals.new n 0 ≡ slice_index_or totals.old n 0 + length (filter (is_of n) changes.now) }
+        → slice_index_or totals.new n 0 ≡ slice_index_or totals.old n 0 + length (filter (is_of n) (changes_of (entry ∷ []))) }
 {
-    for (net, _value) in changes {
-        count_one(totals, *net as usize);
+    match entry.change() {
+        None => {}
+        Some((net, _value)) => count_one(totals, net as usize),
+    }
+}
+
+/// Counts each change of these entries as one more event of its net.
+fn count(totals: &mut [u64], entries: &[Entry])
+    requires { (n : ℕ) → slice_index_or totals.old n 0 + length (changes_of entries.now) < 2 ^ 64 }
+    ensures sized { length totals.new ≡ length totals.old }
+    ensures counted { (n : ℕ) → n < length totals.old
+        → slice_index_or totals.new n 0 ≡ slice_index_or totals.old n 0 + length (filter (is_of n) (changes_of entries.now)) }
+{
+    for entry in entries {
+        count_entry(totals, *entry);
     }
 }
 
@@ -50,5 +62,5 @@ pub fn count_last(totals: &mut [u64], log: &Log)
     ensures counted { (n : ℕ) → n < length totals.old → slice_index_or totals.new n 0
         ≡ slice_index_or totals.old n 0 + length (filter (is_of n) (record_at log.now.records (length log.now.records - 1)).changes) }
 {
-    count(totals, log.changes(log.len() - 1));
+    count(totals, log.last());
 }

@@ -1,62 +1,23 @@
 -- Laws of flat records.
-use Rattle.std.proofs.Common.{ℕ, zero, suc, ◌+◌, ◌-◌, ◌<◌, ◌≤◌, ◌≡◌, ◌++◌, List, [], ◌∷◌, length, get_or, take, drop, add-one, map, refl, ap, sym, ◌∙◌, subst}
-use Rattle.std.proofs.Common.{arith, append_assoc, length-append}
-use Rattle.std.specs.Prelude.{slice_range}
-use Rattle.std.proofs.lemmas.List.{append-nil, take_at, drop_at}
-use Rattle.sim_store_state.specs.declared.log.Mark.{Mark}
+use Rattle.std.proofs.Common.{ℕ, zero, suc, ◌+◌, ◌-◌, ◌<◌, ◌≤◌, ◌≡◌, ◌≢◌, ◌==◌, ◌++◌, Bool, true, false, List, [], ◌∷◌, length, get_or, set, take, map}
+use Rattle.std.proofs.Common.{refl, ap, sym, ◌∙◌, arith, append_assoc, append-nil, length-append}
+use Rattle.std.specs.Prelude.{if◌then◌else◌}
+use Rattle.std.specs.List.{filter}
+use Rattle.std.proofs.lemmas.Bool.Decides.{nat_tests}
+use Rattle.std.proofs.lemmas.List.{length-map, drop_at, take_more}
+use Rattle.std.proofs.lemmas.List.FromFn.{length-enumerate_from}
+use Rattle.std.proofs.lemmas.List.Sums.{count_by-le-length, length-filter}
 use Rattle.sim_logic.specs.declared.logic.Logic.{Logic}
-use Rattle.sim_standard.specs.declared.record.Record.{Record}
 use Rattle.std.specs.List.{enumerate_from}
 use Rattle.sim_store_state.specs.FlatState.{views_of}
-use Rattle.sim_standard.specs.Records.{all_changes}
 use Rattle.sim_standard.proofs.Names.{numbered_value}
-use Rattle.sim_store_state.specs.Log.{marks_from, records_in, IsLog, end_mark, record_at}
-
-records-from : (before : List (ℕ × Logic)) (n : ℕ) (rs : List Record) → n ≡ length before → records_in (marks_from n rs) (before ++ all_changes rs) ≡ rs
-records-from before n [] e = refl
-records-from before n (r ∷ []) e =
-    ap (λ w. record { time = r.time; delta = r.delta; changes = w } ∷ []) (drop_at before (r.changes ++ []) n (sym e) ∙ append-nil r.changes)
-records-from before n (r ∷ q ∷ rs) e =
-    let k : (n + length r.changes) - n ≡ length r.changes = omega arith in
-    let here : slice_range (before ++ (r.changes ++ all_changes (q ∷ rs))) n (n + length r.changes) ≡ r.changes =
-    rw (k, drop_at before (r.changes ++ all_changes (q ∷ rs)) n (sym e)) (take_at r.changes (all_changes (q ∷ rs)) (length r.changes) refl) in
-    let rest : records_in (marks_from (n + length r.changes) (q ∷ rs)) (before ++ (r.changes ++ all_changes (q ∷ rs))) ≡ q ∷ rs =
-    ap (records_in (marks_from (n + length r.changes) (q ∷ rs))) (sym (append_assoc before r.changes (all_changes (q ∷ rs)))) ∙ records-from
-    (before ++ r.changes) (n + length r.changes) (q ∷ rs) (omega (arith, length-append before r.changes)) in
-    ap (λ w. record { time = r.time; delta = r.delta; changes = w } ∷ records_in (marks_from (n + length r.changes) (q ∷ rs))
-    (before ++ (r.changes ++ all_changes (q ∷ rs)))) here ∙ ap (λ w. r ∷ w) rest
-
-pub records-log : {rs : List Record} {marks : List Mark} {changes : List (ℕ × Logic)} → IsLog rs marks changes → records_in marks changes ≡ rs
-records-log {rs} i = rw (i.marking, i.changing) (records-from [] 0 rs refl)
-
-pub logged : {rs : List Record} {marks : List Mark} {changes : List (ℕ × Logic)} → IsLog rs marks changes → IsLog (records_in marks changes) marks changes
-logged {marks = marks} {changes = changes} i = subst (λ w. IsLog w marks changes) (sym (records-log i)) i
-
-pub all_changes-push : (rs : List Record) (r : Record) → all_changes (rs ++ r ∷ []) ≡ all_changes rs ++ r.changes
-all_changes-push [] r = append-nil r.changes
-all_changes-push (q ∷ rs) r = ap (λ w. q.changes ++ w) (all_changes-push rs r) ∙ sym (append_assoc q.changes (all_changes rs) r.changes)
-
-pub marks-push : (n m : ℕ) (rs : List Record) (r : Record) → m ≡ n + length (all_changes rs) → marks_from n (rs ++ r ∷ [])
-    ≡ marks_from n rs ++ record { time = r.time; delta = r.delta; start = m } ∷ []
-marks-push n m [] r e = let k : n ≡ m = omega arith in rw k refl
-marks-push n m (q ∷ rs) r e =
-    ap (λ w. record { time = q.time; delta = q.delta; start = n } ∷ w) (marks-push (n + length q.changes) m rs r
-    (omega (arith, length-append q.changes (all_changes rs))))
-
--- one more mark, with its changes, is one more record
-pub log-push : {rs qs : List Record} {marks : List Mark} {changes : List (ℕ × Logic)} → IsLog rs marks changes → rs ≡ qs → (time delta m : ℕ)
-    (cs : List (ℕ × Logic)) (marks₁ marks' : List Mark) (changes₁ changes' : List (ℕ × Logic))
-    → m ≡ length changes → marks₁ ≡ marks → changes₁ ≡ changes → marks' ≡ marks₁ ++ record { time = time; delta = delta; start = m } ∷ [] → changes'
-    ≡ changes₁ ++ cs
-    → IsLog (qs ++ record { time = time; delta = delta; changes = cs } ∷ []) marks' changes'
-log-push {qs = qs} {marks = marks} {changes = changes} i e time delta m cs marks₁ marks' changes₁ changes' em e₁ e₂ ek ec =
-    let j = subst (λ w. IsLog w marks changes) e i in
-    let r : Record = record { time = time; delta = delta; changes = cs } in
-    record {
-      marking = ek ∙ (ap (λ w. w ++ record { time = time; delta = delta; start = m } ∷ []) (e₁ ∙ j.marking) ∙ sym
-          (marks-push 0 m qs r (omega (arith, em, ap length j.changing))));
-      changing = ec ∙ (ap (λ w. w ++ cs) (e₂ ∙ j.changing) ∙ sym (all_changes-push qs r));
-    }
+use Rattle.sim_standard.specs.declared.net_view.NetView.{NetView}
+use Rattle.sim_standard.specs.declared.record.Record.{Record}
+use Rattle.sim_standard.specs.Records.{all_changes, changes_from}
+use Rattle.sim_store_state.specs.declared.log.Entry.{Entry}
+use Rattle.sim_store_state.specs.declared.log.Entry.TheVariants as entry
+use Rattle.sim_store_state.specs.Log.{begun, changed, changes_before, changes_of, count_times, delta_after, first, last_record, record_at, recorded}
+use Rattle.sim_store_state.specs.Log.{records_after, records_in, time_after, time_with, IsLog, IsNext}
 
 -- a record of each net has their values
 pub all_values : (n : ℕ) (values values_before : List Logic) → length values ≡ length values_before
@@ -66,93 +27,349 @@ all_values n [] values_before e = refl
 all_values n (v ∷ values) [] e = absurd (omega arith)
 all_values n (v ∷ values) (l ∷ values_before) e = ap (λ w. (n, v) ∷ w) (all_values (n + 1) values values_before (omega arith))
 
-pub records-count : (marks : List Mark) (changes : List (ℕ × Logic)) → length (records_in marks changes) ≡ length marks
-records-count [] changes = refl
-records-count (m ∷ []) changes = refl
-records-count (m ∷ k ∷ marks) changes = ap suc (records-count (k ∷ marks) changes)
+-- ---- entries
 
--- ---- reading
+-- the changes of entries one after another
+pub changes-append : (es fs : List Entry) → changes_of (es ++ fs) ≡ changes_of es ++ changes_of fs
+changes-append [] fs = refl
+changes-append (entry.Change value net ∷ es) fs = ap (λ cs. (net, value) ∷ cs) (changes-append es fs)
+changes-append (entry.Delta value net ∷ es) fs = ap (λ cs. (net, value) ∷ cs) (changes-append es fs)
+changes-append (entry.Time value net ∷ es) fs = ap (λ cs. (net, value) ∷ cs) (changes-append es fs)
+changes-append (entry.QuietDelta ∷ es) fs = changes-append es fs
+changes-append (entry.QuietTime ∷ es) fs = changes-append es fs
 
--- when a record is
-pub time-at : (rs : List Record) (n p : ℕ) (m : Mark) → p < length rs
-    → ((get_or (marks_from n rs) p m).time ≡ (record_at rs p).time) × ((get_or (marks_from n rs) p m).delta ≡ (record_at rs p).delta)
-time-at [] n p m lt = absurd (omega arith)
-time-at (r ∷ rs) n zero m lt = (refl, refl)
-time-at (r ∷ rs) n (suc p) m lt = time-at rs (n + length r.changes) p m (omega arith)
+-- the changes of one more entry
+pub changes-more : (entries : List Entry) (i : ℕ) (d : Entry) → i < length entries
+    → changes_of (take (i + 1) entries) ≡ changes_of (take i entries) ++ changes_of (get_or entries i d ∷ [])
+changes-more entries i d lt = ap changes_of (take_more entries i d lt) ∙ changes-append (take i entries) (get_or entries i d ∷ [])
 
-abbrev pair : ℕ → ℕ → ℕ × ℕ
-pair time delta = (time, delta)
+-- ---- one record after others
 
-abbrev times_of : Mark → ℕ × ℕ
-times_of m = pair m.time m.delta
+-- the changes before a record begins, where another one begins after these entries
+pub before-append : (es fs : List Entry) → changes_before fs ≡ [] → changes_before (es ++ fs) ≡ changes_before es
+before-append [] fs b = b
+before-append (entry.Change value net ∷ es) fs b = ap (λ cs. (net, value) ∷ cs) (before-append es fs b)
+before-append (entry.Delta value net ∷ es) fs b = refl
+before-append (entry.Time value net ∷ es) fs b = refl
+before-append (entry.QuietDelta ∷ es) fs b = refl
+before-append (entry.QuietTime ∷ es) fs b = refl
 
-pub time-of : {rs qs : List Record} {marks : List Mark} {changes : List (ℕ × Logic)} → IsLog rs marks changes → rs ≡ qs → (p : ℕ) (m : Mark) → p < length qs
-    → m ≡ get_or marks p m → ◌≡◌ {A = ℕ × ℕ} (m.time, m.delta) ((record_at qs p).time, (record_at qs p).delta)
-time-of {qs = qs} {marks = marks} {changes = changes} i e p m lt is =
-    let j = subst (λ w. IsLog w marks changes) e i in
-    let here : m ≡ get_or (marks_from 0 qs) p m = is ∙ ap (λ w. get_or w p m) j.marking in
-    let at = time-at qs 0 p m lt in
-    ap times_of here ∙ (ap (λ t. pair t (get_or (marks_from 0 qs) p m).delta) at.0 ∙ ap (pair (record_at qs p).time) at.1)
+-- how many of them begin at a new time
+pub count-append : (es fs : List Entry) → count_times (es ++ fs) ≡ count_times es + count_times fs
+count-append [] fs = omega arith
+count-append (entry.Change value net ∷ es) fs = count-append es fs
+count-append (entry.Delta value net ∷ es) fs = count-append es fs
+count-append (entry.Time value net ∷ es) fs = omega (arith, count-append es fs)
+count-append (entry.QuietDelta ∷ es) fs = count-append es fs
+count-append (entry.QuietTime ∷ es) fs = omega (arith, count-append es fs)
 
--- where its changes start
-start-at : (rs : List Record) (n p : ℕ) (m : Mark) → p < length rs → (get_or (marks_from n rs) p m).start ≡ n + length (all_changes (take p rs))
-start-at [] n p m lt = absurd (omega arith)
-start-at (r ∷ rs) n zero m lt = omega arith
-start-at (r ∷ rs) n (suc p) m lt =
-    omega (arith, start-at rs (n + length r.changes) p m (omega arith), length-append r.changes (all_changes (take p rs)))
+-- their records are those of the first, and then those of the second
+pub records-append : (times : List ℕ) (n k time delta : ℕ) (es fs : List Entry) → changes_before fs ≡ [] → k ≡ n + count_times es
+    → records_after times n time delta (es ++ fs)
+    ≡ records_after times n time delta es ++ records_after times k (time_after times n time es) (delta_after delta es) fs
+records-append times n k time delta [] fs b e = let same : k ≡ n = omega (arith, e) in ap (λ m. records_after times m time delta fs) (sym same)
+records-append times n k time delta (entry.Change value net ∷ es) fs b e = records-append times n k time delta es fs b e
+records-append times n k time delta (entry.Delta value net ∷ es) fs b e =
+    rw (before-append es fs b) (ap (λ rs. begun time (suc delta) ((net, value) ∷ changes_before es) ∷ rs) (records-append times n k time (suc delta) es fs b e))
+records-append times n k time delta (entry.Time value net ∷ es) fs b e =
+    rw (before-append es fs b) (ap (λ rs. begun (time_with times n) 0 ((net, value) ∷ changes_before es) ∷ rs)
+    (records-append times (suc n) k (time_with times n) 0 es fs b (omega (arith, e))))
+records-append times n k time delta (entry.QuietDelta ∷ es) fs b e =
+    rw (before-append es fs b) (ap (λ rs. begun time (suc delta) (changes_before es) ∷ rs) (records-append times n k time (suc delta) es fs b e))
+records-append times n k time delta (entry.QuietTime ∷ es) fs b e =
+    rw (before-append es fs b) (ap (λ rs. begun (time_with times n) 0 (changes_before es) ∷ rs)
+    (records-append times (suc n) k (time_with times n) 0 es fs b (omega (arith, e))))
 
--- and where they end
-first-start : (rs : List Record) (n : ℕ) (m : Mark) → m.start ≡ n + length (all_changes rs) → (get_or (marks_from n rs) 0 m).start ≡ n
-first-start [] n m e = omega (arith, e)
-first-start (r ∷ rs) n m e = refl
+-- the time and the delta number after them
+pub time-append : (times : List ℕ) (n k time : ℕ) (es fs : List Entry) → k ≡ n + count_times es
+    → time_after times n time (es ++ fs) ≡ time_after times k (time_after times n time es) fs
+time-append times n k time [] fs e = let same : k ≡ n = omega (arith, e) in ap (λ m. time_after times m time fs) (sym same)
+time-append times n k time (entry.Change value net ∷ es) fs e = time-append times n k time es fs e
+time-append times n k time (entry.Delta value net ∷ es) fs e = time-append times n k time es fs e
+time-append times n k time (entry.Time value net ∷ es) fs e = time-append times (suc n) k (time_with times n) es fs (omega (arith, e))
+time-append times n k time (entry.QuietDelta ∷ es) fs e = time-append times n k time es fs e
+time-append times n k time (entry.QuietTime ∷ es) fs e = time-append times (suc n) k (time_with times n) es fs (omega (arith, e))
 
-end-at : (rs : List Record) (n p : ℕ) (m : Mark) → p < length rs → m.start ≡ n + length (all_changes rs)
-    → (get_or (marks_from n rs) (suc p) m).start ≡ n + length (all_changes (take p rs)) + length (record_at rs p).changes
-end-at [] n p m lt e = absurd (omega arith)
-end-at (r ∷ rs) n zero m lt e =
-    omega (arith, first-start rs (n + length r.changes) m (omega (arith, e, length-append r.changes (all_changes rs))))
-end-at (r ∷ rs) n (suc p) m lt e =
+pub delta-append : (delta : ℕ) (es fs : List Entry) → delta_after delta (es ++ fs) ≡ delta_after (delta_after delta es) fs
+delta-append delta [] fs = refl
+delta-append delta (entry.Change value net ∷ es) fs = delta-append delta es fs
+delta-append delta (entry.Delta value net ∷ es) fs = delta-append (suc delta) es fs
+delta-append delta (entry.Time value net ∷ es) fs = delta-append 0 es fs
+delta-append delta (entry.QuietDelta ∷ es) fs = delta-append (suc delta) es fs
+delta-append delta (entry.QuietTime ∷ es) fs = delta-append 0 es fs
+
+-- ---- one more time
+
+with-more : (times more : List ℕ) (n : ℕ) → n < length times → time_with (times ++ more) n ≡ time_with times n
+with-more [] more n lt = absurd (omega (arith, lt))
+with-more (t ∷ times) more zero lt = refl
+with-more (t ∷ times) more (suc n) lt = with-more times more n (omega (arith, lt))
+
+with-last : (times : List ℕ) (time n : ℕ) → n ≡ length times → time_with (times ++ time ∷ []) n ≡ time
+with-last [] time zero e = refl
+with-last [] time (suc n) e = absurd (omega (arith, e))
+with-last (t ∷ times) time zero e = absurd (omega (arith, e))
+with-last (t ∷ times) time (suc n) e = with-last times time n (omega (arith, e))
+
+-- entries that need no more times than there are do not see more
+records-more : (times more : List ℕ) (n time delta : ℕ) (es : List Entry) → n + count_times es ≤ length times
+    → records_after (times ++ more) n time delta es ≡ records_after times n time delta es
+records-more times more n time delta [] le = refl
+records-more times more n time delta (entry.Change value net ∷ es) le = records-more times more n time delta es le
+records-more times more n time delta (entry.Delta value net ∷ es) le =
+    ap (λ rs. begun time (suc delta) ((net, value) ∷ changes_before es) ∷ rs) (records-more times more n time (suc delta) es le)
+records-more times more n time delta (entry.Time value net ∷ es) le =
+    rw (with-more times more n (omega (arith, le))) (ap (λ rs. begun (time_with times n) 0 ((net, value) ∷ changes_before es) ∷ rs)
+    (records-more times more (suc n) (time_with times n) 0 es (omega (arith, le))))
+records-more times more n time delta (entry.QuietDelta ∷ es) le =
+    ap (λ rs. begun time (suc delta) (changes_before es) ∷ rs) (records-more times more n time (suc delta) es le)
+records-more times more n time delta (entry.QuietTime ∷ es) le =
+    rw (with-more times more n (omega (arith, le))) (ap (λ rs. begun (time_with times n) 0 (changes_before es) ∷ rs)
+    (records-more times more (suc n) (time_with times n) 0 es (omega (arith, le))))
+
+time-more : (times more : List ℕ) (n time : ℕ) (es : List Entry) → n + count_times es ≤ length times
+    → time_after (times ++ more) n time es ≡ time_after times n time es
+time-more times more n time [] le = refl
+time-more times more n time (entry.Change value net ∷ es) le = time-more times more n time es le
+time-more times more n time (entry.Delta value net ∷ es) le = time-more times more n time es le
+time-more times more n time (entry.Time value net ∷ es) le =
+    rw (with-more times more n (omega (arith, le))) (time-more times more (suc n) (time_with times n) es (omega (arith, le)))
+time-more times more n time (entry.QuietDelta ∷ es) le = time-more times more n time es le
+time-more times more n time (entry.QuietTime ∷ es) le =
+    rw (with-more times more n (omega (arith, le))) (time-more times more (suc n) (time_with times n) es (omega (arith, le)))
+
+-- ---- the entries of one record
+
+changed-before : (cs : List (ℕ × Logic)) → changes_before (map changed cs) ≡ cs
+changed-before [] = refl
+changed-before (c ∷ cs) = ap (λ ds. c ∷ ds) (changed-before cs)
+
+changed-of : (cs : List (ℕ × Logic)) → changes_of (map changed cs) ≡ cs
+changed-of [] = refl
+changed-of (c ∷ cs) = ap (λ ds. c ∷ ds) (changed-of cs)
+
+changed-records : (times : List ℕ) (n time delta : ℕ) (cs : List (ℕ × Logic)) → records_after times n time delta (map changed cs) ≡ []
+changed-records times n time delta [] = refl
+changed-records times n time delta (c ∷ cs) = changed-records times n time delta cs
+
+changed-time : (times : List ℕ) (n time : ℕ) (cs : List (ℕ × Logic)) → time_after times n time (map changed cs) ≡ time
+changed-time times n time [] = refl
+changed-time times n time (c ∷ cs) = changed-time times n time cs
+
+changed-delta : (delta : ℕ) (cs : List (ℕ × Logic)) → delta_after delta (map changed cs) ≡ delta
+changed-delta delta [] = refl
+changed-delta delta (c ∷ cs) = changed-delta delta cs
+
+changed-count : (cs : List (ℕ × Logic)) → count_times (map changed cs) ≡ 0
+changed-count [] = refl
+changed-count (c ∷ cs) = changed-count cs
+
+-- a record at a new time, or of a delta cycle
+abbrev time-or : Bool → ℕ → ℕ → ℕ
+time-or b at time = if b then at else time
+
+recorded-begins : (b : Bool) (cs : List (ℕ × Logic)) → changes_before (recorded b cs) ≡ []
+recorded-begins true [] = refl
+recorded-begins false [] = refl
+recorded-begins true (c ∷ cs) = refl
+recorded-begins false (c ∷ cs) = refl
+
+recorded-of : (b : Bool) (cs : List (ℕ × Logic)) → changes_of (recorded b cs) ≡ cs
+recorded-of true [] = refl
+recorded-of false [] = refl
+recorded-of true (c ∷ cs) = ap (λ ds. c ∷ ds) (changed-of cs)
+recorded-of false (c ∷ cs) = ap (λ ds. c ∷ ds) (changed-of cs)
+
+recorded-long : (b : Bool) (cs : List (ℕ × Logic)) → (length cs ≤ length (recorded b cs)) × (0 < length (recorded b cs))
+recorded-long b [] = (omega arith, omega arith)
+recorded-long b (c ∷ cs) = (omega (arith, length-map cs changed), omega arith)
+
+-- a record is its first change, written anew, and the others
+pub recorded-first : (b : Bool) (before : List Entry) (cs : List (ℕ × Logic)) (es : List Entry) (start net : ℕ) (value : Logic) (new : Entry)
+    → es ≡ before ++ map changed cs → start ≡ length before → start < length es
+    → get_or es start (entry.Change value net) ≡ entry.Change value net → new ≡ first b (net, value)
+    → set es start new ≡ before ++ recorded b cs
+recorded-first b before [] es start net value new e at lt is en =
+    let none : List Entry = [] in absurd (omega (arith, lt, at, ap length e, length-append before none))
+recorded-first b before (c ∷ cs) es start net value new e at lt is en =
+    let here : entry.Change c.1 c.0 ≡ entry.Change value net =
+    sym (get-middle before (map changed cs) (changed c) start (entry.Change value net) at) ∙ (ap (λ w. get_or w start (entry.Change value net)) (sym e) ∙ is) in
+    ap (λ w. set w start new) e ∙ (set-middle before (map changed cs) (changed c) new start at
+    ∙ ap (λ w. before ++ w ∷ map changed cs) (en ∙ sym (same-first b c net value here)))
+  where
+    get-middle : (xs ys : List Entry) (x : Entry) (n : ℕ) (d : Entry) → n ≡ length xs → get_or (xs ++ x ∷ ys) n d ≡ x
+    get-middle [] ys x zero d f = refl
+    get-middle [] ys x (suc n) d f = absurd (omega (arith, f))
+    get-middle (w ∷ xs) ys x zero d f = absurd (omega (arith, f))
+    get-middle (w ∷ xs) ys x (suc n) d f = get-middle xs ys x n d (omega (arith, f))
+
+    set-middle : (xs ys : List Entry) (x y : Entry) (n : ℕ) → n ≡ length xs → set (xs ++ x ∷ ys) n y ≡ xs ++ y ∷ ys
+    set-middle [] ys x y zero f = refl
+    set-middle [] ys x y (suc n) f = absurd (omega (arith, f))
+    set-middle (w ∷ xs) ys x y zero f = absurd (omega (arith, f))
+    set-middle (w ∷ xs) ys x y (suc n) f = ap (λ vs. w ∷ vs) (set-middle xs ys x y n (omega (arith, f)))
+
+    as_first : Bool → Entry → Entry
+    as_first b (entry.Change v n) = first b (n, v)
+    as_first b e = e
+
+    same-first : (b : Bool) (c : ℕ × Logic) (net : ℕ) (value : Logic) → entry.Change c.1 c.0 ≡ entry.Change value net → first b c ≡ first b (net, value)
+    same-first true c net value f = ap (as_first true) f
+    same-first false c net value f = ap (as_first false) f
+
+recorded-count : (b : Bool) (cs : List (ℕ × Logic)) → count_times (recorded b cs) ≡ (if b then 1 else 0)
+recorded-count true [] = refl
+recorded-count false [] = refl
+recorded-count true (c ∷ cs) = ap suc (changed-count cs)
+recorded-count false (c ∷ cs) = changed-count cs
+
+recorded-records : (times : List ℕ) (n time delta : ℕ) (b : Bool) (cs : List (ℕ × Logic))
+    → records_after times n time delta (recorded b cs) ≡ begun (time-or b (time_with times n) time) (time-or b 0 (suc delta)) cs ∷ []
+recorded-records times n time delta true [] = refl
+recorded-records times n time delta false [] = refl
+recorded-records times n time delta true (c ∷ cs) = rw (changed-before cs, changed-records times (suc n) (time_with times n) 0 cs) refl
+recorded-records times n time delta false (c ∷ cs) = rw (changed-before cs, changed-records times n time (suc delta) cs) refl
+
+recorded-time : (times : List ℕ) (n time : ℕ) (b : Bool) (cs : List (ℕ × Logic)) → time_after times n time (recorded b cs) ≡ time-or b (time_with times n) time
+recorded-time times n time true [] = refl
+recorded-time times n time false [] = refl
+recorded-time times n time true (c ∷ cs) = changed-time times (suc n) (time_with times n) cs
+recorded-time times n time false (c ∷ cs) = changed-time times n time cs
+
+recorded-delta : (delta : ℕ) (b : Bool) (cs : List (ℕ × Logic)) → delta_after delta (recorded b cs) ≡ time-or b 0 (suc delta)
+recorded-delta delta true [] = refl
+recorded-delta delta false [] = refl
+recorded-delta delta true (c ∷ cs) = changed-delta 0 cs
+recorded-delta delta false (c ∷ cs) = changed-delta (suc delta) cs
+
+-- ---- one more record
+
+pub all_changes-push : (rs : List Record) (r : Record) → all_changes (rs ++ r ∷ []) ≡ all_changes rs ++ r.changes
+all_changes-push [] r = append-nil r.changes
+all_changes-push (q ∷ rs) r = ap (λ w. q.changes ++ w) (all_changes-push rs r) ∙ sym (append_assoc q.changes (all_changes rs) r.changes)
+
+-- the last record is the one that was appended
+pub last-pushed : (rs : List Record) (r : Record) → last_record (rs ++ r ∷ []) ≡ r
+last-pushed rs r =
+    let at : length (rs ++ r ∷ []) - 1 ≡ length rs = omega (arith, length-append rs (r ∷ [])) in
+    ap (record_at (rs ++ r ∷ [])) at ∙ go rs
+  where
+    go : (qs : List Record) → record_at (qs ++ r ∷ []) (length qs) ≡ r
+    go [] = refl
+    go (q ∷ qs) = go qs
+
+-- the times after a record at this time and delta number
+abbrev pub times_with : List ℕ → Bool → ℕ → List ℕ
+times_with times is_time time = if is_time then times ++ time ∷ [] else times
+
+-- what is known once the entries of a record, and its time if it is a new one, are appended
+pub record Pushed (times : List ℕ) (entries : List Entry) (records changes last : ℕ) (after : List Record) : Type 0 where
+  pub log : IsLog times entries records changes last
+  pub are : records_in times entries ≡ after
+
+module _ {times : List ℕ} {entries : List Entry} {records changes last : ℕ} (i : IsLog times entries records changes last) where
+  -- the records, given that those before them are not changed by a new time, and when the new one is
+  push : (rs : List Record) → records_in times entries ≡ rs → (b : Bool) (time delta : ℕ) (cs : List (ℕ × Logic)) (times' : List ℕ)
+      → records_in times' entries ≡ records_in times entries
+      → time-or b (time_with times' (count_times entries)) (time_after times' 0 0 entries) ≡ time → time-or b 0 (suc (delta_after 0 entries)) ≡ delta
+      → length times' ≡ length times + (if b then 1 else 0)
+      → Pushed times' (entries ++ recorded b cs) (records + 1) (changes + length cs) (length entries) (rs ++ begun time delta cs ∷ [])
+  push rs e b time delta cs times' same et ed el =
+      let fs = recorded b cs in
+      let r = begun time delta cs in
+      let k = count_times entries in
+      let ek : k ≡ 0 + count_times entries = omega arith in
+      let are : records_in times' (entries ++ fs) ≡ rs ++ r ∷ [] =
+      records-append times' 0 k 0 0 entries fs (recorded-begins b cs) ek
+      ∙ (ap (λ w. records_in times' entries ++ w) (recorded-records times' k (time_after times' 0 0 entries) (delta_after 0 entries) b cs
+      ∙ (ap (λ t. begun t (time-or b 0 (suc (delta_after 0 entries))) cs ∷ []) et ∙ ap (λ m. begun time m cs ∷ []) ed))
+      ∙ ap (λ w. w ++ r ∷ []) (same ∙ e)) in
+      let long = length-append entries fs in
+      let last_one : last_record (records_in times' (entries ++ fs)) ≡ r = ap last_record are ∙ last-pushed rs r in
+      record {
+        log = record {
+          counted = count-append entries fs ∙ omega (arith, i.counted, recorded-count b cs, el);
+          begins = before-append entries fs (recorded-begins b cs) ∙ i.begins;
+          records_are = omega (arith, i.records_are, ap length e, ap length are, length-append rs (r ∷ []));
+          changes_are = omega (
+            arith,
+            i.changes_are,
+            ap (λ w. length (all_changes w)) e,
+            ap (λ w. length (all_changes w)) are,
+            ap length (all_changes-push rs r),
+            length-append (all_changes rs) cs,
+          );
+          few_records = omega (arith, i.few_records, long, (recorded-long b cs).1);
+          few_changes = omega (arith, i.few_changes, long, (recorded-long b cs).0);
+          within = omega (arith, long);
+          last_are = ap changes_of (drop_at entries fs (length entries) refl) ∙ (recorded-of b cs ∙ sym (ap (λ (q : Record). q.changes) last_one));
+          time_is = λ _. ap (λ (q : Record). q.time) last_one ∙ sym
+              (time-append times' 0 k 0 entries fs ek ∙ (recorded-time times' k (time_after times' 0 0 entries) b cs ∙ et));
+          delta_is = λ _. ap (λ (q : Record). q.delta) last_one ∙ sym (delta-append 0 entries fs ∙ (recorded-delta (delta_after 0 entries) b cs ∙ ed));
+        };
+        are = are;
+      }
+
+  pub log-push : (rs : List Record) → records_in times entries ≡ rs → (time delta : ℕ) (cs : List (ℕ × Logic)) → IsNext rs time delta
+      → Pushed (times_with times (delta == 0) time) (entries ++ recorded (delta == 0) cs) (records + 1) (changes + length cs) (length entries)
+      (rs ++ begun time delta cs ∷ [])
+  log-push rs e time delta cs next = go (delta == 0) refl
+    where
+      fits : 0 + count_times entries ≤ length times
+      fits = omega (arith, i.counted)
+
+      go : (b : Bool) → (delta == 0) ≡ b
+          → Pushed (times_with times b time) (entries ++ recorded b cs) (records + 1) (changes + length cs) (length entries) (rs ++ begun time delta cs ∷ [])
+      go true f =
+          let none : delta ≡ 0 = grind (arith, nat_tests) in
+          push rs e true time delta cs (times ++ time ∷ []) (records-more times (time ∷ []) 0 0 0 entries fits)
+          (with-last times time (count_times entries) i.counted) (sym none) (omega (arith, length-append times (time ∷ [])))
+      go false f =
+          let some : delta ≢ 0 = λ z. grind (arith, nat_tests) in
+          let begun-there : 0 < length (records_in times entries) = omega (arith, next.some some, ap length e) in
+          push rs e false time delta cs times refl
+          (sym (i.time_is begun-there) ∙ (ap (λ w. (last_record w).time) e ∙ sym (next.time_is some)))
+          (omega (arith, i.delta_is begun-there, ap (λ w. (last_record w).delta) e, next.delta_is some)) (omega arith)
+
+-- a log without records
+pub log-empty : IsLog [] [] 0 0 0
+log-empty = record {
+  counted = refl;
+  begins = refl;
+  records_are = refl;
+  changes_are = refl;
+  few_records = omega arith;
+  few_changes = omega arith;
+  within = omega arith;
+  last_are = refl;
+  time_is = λ lt. absurd (omega (arith, lt));
+  delta_is = λ lt. absurd (omega (arith, lt));
+}
+
+-- a cycle has no more changes than there are nets
+pub changes-few : (nets : List NetView) → length (changes_from 0 nets) ≤ length nets
+changes-few nets =
+    let has_event : ℕ × NetView → Bool = λ x. x.1.event in
     omega (
       arith,
-      end-at rs (n + length r.changes) p m (omega arith) (omega (arith, e, length-append r.changes (all_changes rs))),
-      length-append r.changes (all_changes (take p rs)),
+      length-map (filter has_event (enumerate_from 0 nets)) numbered_value,
+      length-filter has_event (enumerate_from 0 nets),
+      count_by-le-length has_event (enumerate_from 0 nets),
+      length-enumerate_from 0 nets,
     )
 
-cut : (rs : List Record) (p : ℕ) → p < length rs → all_changes rs ≡ all_changes (take p rs) ++ ((record_at rs p).changes ++ all_changes (drop (suc p) rs))
-cut [] p lt = absurd (omega arith)
-cut (r ∷ rs) zero lt = refl
-cut (r ∷ rs) (suc p) lt = ap (λ w. r.changes ++ w) (cut rs p (omega arith)) ∙ sym (append_assoc r.changes _ _)
+-- the same, as the code finds it: where the record starts, and where its changes end
+pub log-appended : {times : List ℕ} {entries : List Entry} {records changes last : ℕ} → IsLog times entries records changes last
+    → (rs : List Record) → records_in times entries ≡ rs → (time delta : ℕ) (cs : List (ℕ × Logic)) → IsNext rs time delta
+    → (start end : ℕ) (es entries' : List Entry) (times' : List ℕ) → start ≡ length entries → es ≡ entries ++ map changed cs → end ≡ length es
+    → times' ≡ times_with times (delta == 0) time → entries' ≡ entries ++ recorded (delta == 0) cs
+    → Pushed times' entries' (records + 1) (changes + (end - start)) start (rs ++ begun time delta cs ∷ [])
+log-appended {entries = entries} {records = records} {changes = changes} i rs e time delta cs next start end es entries' times' at ee el et en =
+    let count : end - start ≡ length cs = omega (arith, at, el, ap length ee, length-append entries (map changed cs), length-map cs changed) in
+    rw (et, en, count, at) (log-push i rs e time delta cs next)
 
--- what a reader of the changes of a record has to know
-pub record Stands (rs : List Record) (changes : List (ℕ × Logic)) (p a b : ℕ) : Type 0 where
-  pub order : a ≤ b
-  pub within : b ≤ length changes
-  pub holds : slice_range changes a b ≡ (record_at rs p).changes
-
-stands : (rs : List Record) (p a b : ℕ) → p < length rs → a ≡ length (all_changes (take p rs)) → b ≡ a + length (record_at rs p).changes → Stands rs
-    (all_changes rs) p a b
-stands rs p a b lt ea eb =
-    let front = all_changes (take p rs) in
-    let here = (record_at rs p).changes in
-    let rest = all_changes (drop (suc p) rs) in
-    let k : b - a ≡ length here = omega (arith, eb) in
-    record {
-      order = omega (arith, eb);
-      within = omega (arith, ea, eb, ap length (cut rs p lt), length-append front (here ++ rest), length-append here rest);
-      holds = rw (k, cut rs p lt, drop_at front (here ++ rest) a (sym ea)) (take_at here rest (length here) refl);
-    }
-
-pub read-at : {rs qs : List Record} {marks : List Mark} {changes : List (ℕ × Logic)} → IsLog rs marks changes → rs ≡ qs → (p a b count : ℕ) (marks₁ : List Mark)
-    (changes₁ : List (ℕ × Logic)) → p < length qs → marks₁ ≡ marks → changes₁ ≡ changes → count ≡ length changes → a ≡ (get_or marks₁ p (end_mark count)).start
-    → b ≡ (get_or marks₁ (p + 1) (end_mark count)).start → Stands qs changes₁ p a b
-read-at {qs = qs} {marks = marks} {changes = changes} i e p a b count marks₁ changes₁ lt em ec el ea eb =
-    let j = subst (λ w. IsLog w marks changes) e i in
-    let k : marks₁ ≡ marks_from 0 qs = em ∙ j.marking in
-    let c : changes₁ ≡ all_changes qs = ec ∙ j.changing in
-    let total : count ≡ 0 + length (all_changes qs) = omega (arith, el, ap length j.changing) in
-    let first : a ≡ length (all_changes (take p qs)) =
-    ea ∙ (ap (λ w. (get_or w p (end_mark count)).start) k ∙ (start-at qs 0 p (end_mark count) lt ∙ omega arith)) in
-    let last : b ≡ a + length (record_at qs p).changes =
-    eb ∙ (ap (λ n. (get_or marks₁ n (end_mark count)).start) (add-one p) ∙ (ap (λ w. (get_or w (suc p) (end_mark count)).start) k
-    ∙ (end-at qs 0 p (end_mark count) lt total ∙ omega (arith, first)))) in
-    rw c (stands qs p a b lt first last)
+-- there is room for one more entry after the changes of a record
+pub room-after : (entries es : List Entry) (cs : List (ℕ × Logic)) (few len len' capacity capacity' room : ℕ) → es ≡ entries ++ map changed cs
+    → len ≡ length entries → len' ≡ length es → length cs ≤ few → capacity' ≡ capacity → room ≡ capacity - len → few < room → len' < capacity'
+room-after entries es cs few len len' capacity capacity' room e el el' le ec er lt =
+    omega (arith, ap length e, length-append entries (map changed cs), length-map cs changed, el, el', le, ec, er, lt)

@@ -11,6 +11,9 @@ use Rattle.sim_standard.specs.Processes.{process_at}
 use Rattle.sim_store_state.specs.Sensitive.{AreSensitive, is_sensitive, is_resumed_by, has_event_in}
 use Rattle.sim_standard.specs.Orders.{is_among}
 use Rattle.sim_containers.specs.Numbers as contained
+use Rattle.sim_store_state.specs.declared.log.Entry.{Entry}
+use Rattle.sim_store_state.specs.Log.{changes_of}
+use Rattle.sim_store_state.proofs.Logged.{changes-more}
 
 -- ---- truth values
 
@@ -164,17 +167,18 @@ resumed-by-append sensitive (x ∷ xs) ys p =
     let here = is_among (get_or sensitive x.0 []) p in
     ap (λ b. here || b) (resumed-by-append sensitive xs ys p) ∙ sym (or-assoc here (is_resumed_by sensitive xs p) (is_resumed_by sensitive ys p))
 
--- the processes sensitive to one more net resume, after those sensitive to the nets before it
-pub resumed-by-more : (sensitive : List (List ℕ)) (changes : List (ℕ × Logic)) (i p : ℕ) (d : ℕ × Logic) (row : List ℕ) (was now new : Bool)
-    → i < length changes
-    → row ≡ get_or sensitive (get_or changes i d).0 [] → now ≡ (is_resumed_by sensitive (take i changes) p || was) → new ≡ (is_among row p || now)
-    → new ≡ (is_resumed_by sensitive (take (i + 1) changes) p || was)
-resumed-by-more sensitive changes i p d row was now new lt er e f =
-    let here = is_among (get_or sensitive (get_or changes i d).0 []) p in
-    let before = is_resumed_by sensitive (take i changes) p in
-    let more : is_resumed_by sensitive (take (i + 1) changes) p ≡ (before || here) = ap (λ cs. is_resumed_by sensitive cs p) (take_more changes i d lt)
-    ∙ (resumed-by-append sensitive (take i changes) (get_or changes i d ∷ []) p ∙ ap (λ b. before || b) (or_false here)) in
-    f ∙ (ap (λ r. is_among r p || now) er ∙ (ap (λ b. here || b) e ∙ (or-turn here before was ∙ ap (λ b. b || was) (sym more))))
+-- the processes sensitive to the net of one more entry resume, after those sensitive to the nets before it
+pub resumed-by-entry : (sensitive : List (List ℕ)) (entries : List Entry) (i p : ℕ) (d : Entry) (was now new : Bool) → i < length entries
+    → now ≡ (is_resumed_by sensitive (changes_of (take i entries)) p || was)
+    → new ≡ (is_resumed_by sensitive (changes_of (get_or entries i d ∷ [])) p || now)
+    → new ≡ (is_resumed_by sensitive (changes_of (take (i + 1) entries)) p || was)
+resumed-by-entry sensitive entries i p d was now new lt en ew =
+    let here = is_resumed_by sensitive (changes_of (get_or entries i d ∷ [])) p in
+    let before = is_resumed_by sensitive (changes_of (take i entries)) p in
+    let more : is_resumed_by sensitive (changes_of (take (i + 1) entries)) p ≡ (before || here) =
+    ap (λ cs. is_resumed_by sensitive cs p) (changes-more entries i d lt)
+    ∙ resumed-by-append sensitive (changes_of (take i entries)) (changes_of (get_or entries i d ∷ [])) p in
+    ew ∙ (ap (λ b. here || b) en ∙ (or-turn here before was ∙ ap (λ b. b || was) (sym more)))
 
 -- ---- processes sensitive to nets
 
@@ -260,11 +264,15 @@ processes-more processes i p n q was now new lt is e f =
     ∙ ap (λ b. was || b) (sym (process-more processes i p n q lt is))))
 
 -- those sensitive to the net of a single change
-pub resumed-by-one : (sensitive : List (List ℕ)) (changes : List (ℕ × Logic)) (p : ℕ) (d : ℕ × Logic) → length changes ≡ 1
-    → is_resumed_by sensitive changes p ≡ is_among (get_or sensitive (get_or changes 0 d).0 []) p
-resumed-by-one sensitive [] p d one = absurd (omega (arith, one))
-resumed-by-one sensitive (x ∷ y ∷ xs) p d one = absurd (omega (arith, one))
-resumed-by-one sensitive (x ∷ []) p d one = or_false (is_among (get_or sensitive x.0 []) p)
+pub resumed-by-one : (sensitive : List (List ℕ)) (changes : List (ℕ × Logic)) (p net : ℕ) (value : Logic) → changes ≡ (net, value) ∷ []
+    → is_resumed_by sensitive changes p ≡ is_among (get_or sensitive net []) p
+resumed-by-one sensitive changes p net value e = ap (λ cs. is_resumed_by sensitive cs p) e ∙ or_false (is_among (get_or sensitive net []) p)
+
+-- the changes of a single entry
+pub changes-only : (entries : List Entry) (d : Entry) → length entries ≡ 1 → changes_of entries ≡ changes_of (get_or entries 0 d ∷ [])
+changes-only [] d one = absurd (omega (arith, one))
+changes-only (e ∷ f ∷ entries) d one = absurd (omega (arith, one))
+changes-only (e ∷ []) d one = refl
 
 -- a number is among others by either definition
 pub among-both : (numbers : List ℕ) (n : ℕ) → contained.is_among numbers n ≡ is_among numbers n

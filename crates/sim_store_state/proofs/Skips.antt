@@ -1,5 +1,5 @@
 -- Nets without an event, one after another, add nothing.
-use Rattle.std.proofs.Common.{ℕ, zero, suc, ◌+◌, ◌<◌, ◌≤◌, ◌≡◌, ◌≢◌, ◌++◌, ◌||◌, ◌&&◌, Bool, true, false, not, List, [], ◌∷◌, length, get_or, drop}
+use Rattle.std.proofs.Common.{ℕ, zero, suc, ◌+◌, ◌<◌, ◌≤◌, ◌≡◌, ◌≢◌, ◌++◌, ◌||◌, ◌&&◌, Bool, true, false, not, List, [], ◌∷◌, length, get_or, drop, map}
 use Rattle.std.proofs.Common.{refl, ap, sym, ◌∙◌, arith, add-one, append_assoc}
 use Rattle.std.proofs.Math.Decide.{dec_lt}
 use Rattle.std.proofs.lemmas.List.{append-nil}
@@ -32,9 +32,14 @@ quiet {values} {values_before} {touched} i l n other = elim (dec_lt n (length va
 
 -- ---- what is recorded of them
 
-abbrev changes_if : Bool → ℕ × Logic → List (ℕ × Logic) → List (ℕ × Logic)
+abbrev changes_if : {X : Type 0} → Bool → X → List X → List X
 changes_if true change rest = change ∷ rest
 changes_if false change rest = rest
+
+map-if : {X : Type 0} (f : ℕ × Logic → X) (b : Bool) (change : ℕ × Logic) (rest : List (ℕ × Logic))
+    → map f (changes_if b change rest) ≡ changes_if b (f change) (map f rest)
+map-if f true change rest = refl
+map-if f false change rest = refl
 
 first-change : (k : ℕ) (v : NetView) (nets : List NetView) → changes_from k (v ∷ nets) ≡ changes_if v.event (k, v.value) (changes_from (k + 1) nets)
 first-change k v nets = go v.event refl
@@ -75,14 +80,14 @@ drop-here [] n lt = absurd (omega arith)
 drop-here (v ∷ nets) zero lt = refl
 drop-here (v ∷ nets) (suc n) lt = drop-here nets n (omega arith)
 
-pub changes-step : {values values_before : List Logic} {touched : List Bool} {from n : ℕ} (old new total : List (ℕ × Logic))
+pub entries-step : {X : Type 0} (f : ℕ × Logic → X) {values values_before : List Logic} {touched : List Bool} {from n : ℕ} (old new total : List X)
     → AreTouched values values_before touched
     → length values ≡ length values_before → IsNext (is_in touched) from n → n < length values
-    → (value_at values n ≢ value_at values_before n → new ≡ old ++ (n, value_at values n) ∷ []) → (value_at values n ≡ value_at values_before n → new ≡ old)
-    → old ++ changes_from from (drop from (views_of values values_before)) ≡ total
-    → new ++ changes_from (n + 1) (drop (n + 1) (views_of values values_before)) ≡ total
-changes-step {values} {values_before} {touched} {from} {n} old new total i l next lt changed same e =
-    ap (λ k. new ++ changes_from (n + 1) (drop k views)) (add-one n) ∙ (go (is_same before value) refl ∙ (sym (ap (λ w. old ++ w) front) ∙ e))
+    → (value_at values n ≢ value_at values_before n → new ≡ old ++ f (n, value_at values n) ∷ []) → (value_at values n ≡ value_at values_before n → new ≡ old)
+    → old ++ map f (changes_from from (drop from (views_of values values_before))) ≡ total
+    → new ++ map f (changes_from (n + 1) (drop (n + 1) (views_of values values_before))) ≡ total
+entries-step {X} f {values} {values_before} {touched} {from} {n} old new total i l next lt changed same e =
+    ap (λ k. new ++ map f (changes_from (n + 1) (drop k views))) (add-one n) ∙ (go (is_same before value) refl ∙ (sym (ap (λ w. old ++ w) front) ∙ e))
   where
     views : List NetView
     views = views_of values values_before
@@ -93,23 +98,24 @@ changes-step {values} {values_before} {touched} {from} {n} old new total i l nex
     before : Logic
     before = value_at values_before n
 
-    rest : List (ℕ × Logic)
-    rest = changes_from (n + 1) (drop (suc n) views)
+    rest : List X
+    rest = map f (changes_from (n + 1) (drop (suc n) views))
 
-    front : changes_from from (drop from views) ≡ changes_if (not (is_same before value)) (n, value) rest
+    front : map f (changes_from from (drop from views)) ≡ changes_if (not (is_same before value)) (f (n, value)) rest
     front =
-        changes-skip views from n from n next.further (omega arith) (between values values_before touched from n i l next)
+        ap (map f) (changes-skip views from n from n next.further (omega arith) (between values values_before touched from n i l next)
         ∙ (ap (changes_from n) (drop-here views n (omega (arith, lt, length-views_of values values_before l)))
         ∙ (ap (λ v. changes_from n (v ∷ drop (suc n) views)) (view-at values values_before n lt l)
-        ∙ first-change n (changed_to value before) (drop (suc n) views)))
+        ∙ first-change n (changed_to value before) (drop (suc n) views))))
+        ∙ map-if f (not (is_same before value)) (n, value) (changes_from (n + 1) (drop (suc n) views))
 
-    go : (b : Bool) → is_same before value ≡ b → new ++ rest ≡ old ++ changes_if (not (is_same before value)) (n, value) rest
-    go true f =
-        ap (λ w. w ++ rest) (same (sym (same_from_is_same before value f))) ∙ ap (λ b. old ++ changes_if (not b) (n, value) rest) (sym f)
-    go false f =
-        let apart : value ≢ before = λ g. not_both (is_same before value) f (is_same_from_same before value (sym g)) in
-        ap (λ w. w ++ rest) (changed apart) ∙ (append_assoc old ((n, value) ∷ []) rest
-        ∙ ap (λ b. old ++ changes_if (not b) (n, value) rest) (sym f))
+    go : (b : Bool) → is_same before value ≡ b → new ++ rest ≡ old ++ changes_if (not (is_same before value)) (f (n, value)) rest
+    go true g =
+        ap (λ w. w ++ rest) (same (sym (same_from_is_same before value g))) ∙ ap (λ b. old ++ changes_if (not b) (f (n, value)) rest) (sym g)
+    go false g =
+        let apart : value ≢ before = λ h. not_both (is_same before value) g (is_same_from_same before value (sym h)) in
+        ap (λ w. w ++ rest) (changed apart) ∙ (append_assoc old (f (n, value) ∷ []) rest
+        ∙ ap (λ b. old ++ changes_if (not b) (f (n, value)) rest) (sym g))
 
 changes-rest : (nets : List NetView) (from k : ℕ) → ((m : ℕ) → from ≤ m → (net_at nets m).event ≡ false) → changes_from k (drop from nets) ≡ []
 changes-rest [] zero k q = refl
@@ -119,11 +125,11 @@ changes-rest (v ∷ nets) zero k q =
     ∙ changes-rest nets zero (k + 1) (λ m f. q (suc m) (omega arith)))
 changes-rest (v ∷ nets) (suc from) k q = changes-rest nets from k (λ m f. q (suc m) (omega arith))
 
-pub changes-end : {values values_before : List Logic} {touched : List Bool} {from : ℕ} (now total : List (ℕ × Logic)) → AreTouched values values_before touched
-    → length values ≡ length values_before → NoneFrom (is_in touched) from → now ++ changes_from from (drop from (views_of values values_before)) ≡ total
-    → now ≡ total
-changes-end {values} {values_before} {touched} {from} now total i l none e =
-    sym (ap (λ w. now ++ w) (changes-rest (views_of values values_before) from from (λ m le. quiet i l m (none m le))) ∙ append-nil now) ∙ e
+pub entries-end : {X : Type 0} (f : ℕ × Logic → X) {values values_before : List Logic} {touched : List Bool} {from : ℕ} (now total : List X)
+    → AreTouched values values_before touched → length values ≡ length values_before → NoneFrom (is_in touched) from
+    → now ++ map f (changes_from from (drop from (views_of values values_before))) ≡ total → now ≡ total
+entries-end f {values} {values_before} {touched} {from} now total i l none e =
+    sym (ap (λ w. now ++ map f w) (changes-rest (views_of values values_before) from from (λ m le. quiet i l m (none m le))) ∙ append-nil now) ∙ e
 
 -- ---- processes sensitive to the recorded nets
 

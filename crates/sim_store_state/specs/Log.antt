@@ -1,41 +1,136 @@
--- Records, held as marks and one flat list of changes.
+-- Records, held as a flat list of entries and the times at which they begin.
 -- Implementation only: what `simulate` promises does not rest on this file.
-use Rattle.std.specs.Prelude.{ℕ, ◌+◌, ◌≡◌, List, [], ◌∷◌, length, drop, slice_range, slice_index_or}
+use Rattle.std.specs.Prelude.{ℕ, suc, ◌-◌, ◌<◌, ◌≡◌, ◌≢◌, ◌≤◌, List, [], ◌∷◌, Bool, true, false, length, map, drop, slice_index_or}
 use Rattle.sim_logic.specs.declared.logic.Logic.{Logic}
 use Rattle.sim_standard.specs.declared.record.Record.{Record}
-use Rattle.sim_store_state.specs.declared.log.Mark.{Mark}
 use Rattle.sim_standard.specs.Records.{all_changes}
+use Rattle.sim_store_state.specs.declared.log.Entry.{Entry}
+use Rattle.sim_store_state.specs.declared.log.Entry.TheVariants as entry
 
--- a log: its records, and room for how many more marks and changes it has
+-- a log: its records, and room for how many more times and entries it has
 pub record Logged : Type 0 where
   pub records : List Record
-  pub marks_room : ℕ
-  pub changes_room : ℕ
+  pub times_room : ℕ
+  pub entries_room : ℕ
 
--- the mark of each record, which says where its changes start, counted from this place
-abbrev pub marks_from : ℕ → List Record → List Mark
-marks_from start [] = []
-marks_from start (r ∷ records) = record { time = r.time; delta = r.delta; start = start } ∷ marks_from (start + length r.changes) records
+-- ---- how entries are read
 
--- the record with this mark and these changes
-abbrev pub marked : Mark → List (ℕ × Logic) → Record
-marked m changes = record { time = m.time; delta = m.delta; changes = changes }
+-- the changes of these entries
+abbrev pub changes_of : List Entry → List (ℕ × Logic)
+changes_of [] = []
+changes_of (entry.Change value net ∷ entries) = (net, value) ∷ changes_of entries
+changes_of (entry.Delta value net ∷ entries) = (net, value) ∷ changes_of entries
+changes_of (entry.Time value net ∷ entries) = (net, value) ∷ changes_of entries
+changes_of (entry.QuietDelta ∷ entries) = changes_of entries
+changes_of (entry.QuietTime ∷ entries) = changes_of entries
 
--- the records in flat lists
-abbrev pub records_in : List Mark → List (ℕ × Logic) → List Record
-records_in [] changes = []
-records_in (m ∷ []) changes = marked m (drop m.start changes) ∷ []
-records_in (m ∷ next ∷ marks) changes = marked m (slice_range changes m.start next.start) ∷ records_in (next ∷ marks) changes
+-- the changes of these entries before another record begins
+abbrev pub changes_before : List Entry → List (ℕ × Logic)
+changes_before [] = []
+changes_before (entry.Change value net ∷ entries) = (net, value) ∷ changes_before entries
+changes_before (entry.Delta value net ∷ entries) = []
+changes_before (entry.Time value net ∷ entries) = []
+changes_before (entry.QuietDelta ∷ entries) = []
+changes_before (entry.QuietTime ∷ entries) = []
 
--- These marks and changes hold the records.
-pub record IsLog (records : List Record) (marks : List Mark) (changes : List (ℕ × Logic)) : Type 0 where
-  pub marking : marks ≡ marks_from 0 records
-  pub changing : changes ≡ all_changes records
+-- the record that begins here with these changes, and those of the entries after it
+abbrev pub begun : ℕ → ℕ → List (ℕ × Logic) → Record
+begun time delta changes = record { time = time; delta = delta; changes = changes }
 
--- a mark at the end of this many changes
-abbrev pub end_mark : ℕ → Mark
-end_mark count = record { time = 0; delta = 0; start = count }
+-- the time with a number; beyond the last, 0
+abbrev pub time_with : List ℕ → ℕ → ℕ
+time_with times n = slice_index_or times n 0
+
+-- the records that begin in these entries, after one at this time and delta number, and after this number of times
+abbrev pub records_after : List ℕ → ℕ → ℕ → ℕ → List Entry → List Record
+records_after times n time delta [] = []
+records_after times n time delta (entry.Change value net ∷ entries) = records_after times n time delta entries
+records_after times n time delta (entry.Delta value net ∷ entries) =
+    begun time (suc delta) ((net, value) ∷ changes_before entries) ∷ records_after times n time (suc delta) entries
+records_after times n time delta (entry.Time value net ∷ entries) =
+    begun (time_with times n) 0 ((net, value) ∷ changes_before entries) ∷ records_after times (suc n) (time_with times n) 0 entries
+records_after times n time delta (entry.QuietDelta ∷ entries) =
+    begun time (suc delta) (changes_before entries) ∷ records_after times n time (suc delta) entries
+records_after times n time delta (entry.QuietTime ∷ entries) =
+    begun (time_with times n) 0 (changes_before entries) ∷ records_after times (suc n) (time_with times n) 0 entries
+
+-- the records in these lists
+abbrev pub records_in : List ℕ → List Entry → List Record
+records_in times entries = records_after times 0 0 0 entries
+
+-- how many of these entries begin a record at a new time
+abbrev pub count_times : List Entry → ℕ
+count_times [] = 0
+count_times (entry.Change value net ∷ entries) = count_times entries
+count_times (entry.Delta value net ∷ entries) = count_times entries
+count_times (entry.Time value net ∷ entries) = suc (count_times entries)
+count_times (entry.QuietDelta ∷ entries) = count_times entries
+count_times (entry.QuietTime ∷ entries) = suc (count_times entries)
+
+-- the time of the last record that begins in these entries, after one at this time, and after this number of times
+abbrev pub time_after : List ℕ → ℕ → ℕ → List Entry → ℕ
+time_after times n time [] = time
+time_after times n time (entry.Change value net ∷ entries) = time_after times n time entries
+time_after times n time (entry.Delta value net ∷ entries) = time_after times n time entries
+time_after times n time (entry.Time value net ∷ entries) = time_after times (suc n) (time_with times n) entries
+time_after times n time (entry.QuietDelta ∷ entries) = time_after times n time entries
+time_after times n time (entry.QuietTime ∷ entries) = time_after times (suc n) (time_with times n) entries
+
+-- its delta number, after a record with this one
+abbrev pub delta_after : ℕ → List Entry → ℕ
+delta_after delta [] = delta
+delta_after delta (entry.Change value net ∷ entries) = delta_after delta entries
+delta_after delta (entry.Delta value net ∷ entries) = delta_after (suc delta) entries
+delta_after delta (entry.Time value net ∷ entries) = delta_after 0 entries
+delta_after delta (entry.QuietDelta ∷ entries) = delta_after (suc delta) entries
+delta_after delta (entry.QuietTime ∷ entries) = delta_after 0 entries
+
+-- ---- how a record is written
+
+-- one more change
+abbrev pub changed : ℕ × Logic → Entry
+changed change = entry.Change change.1 change.0
+
+-- the first change of a record, at a new time or not
+abbrev pub first : Bool → ℕ × Logic → Entry
+first true change = entry.Time change.1 change.0
+first false change = entry.Delta change.1 change.0
+
+-- a record without changes
+abbrev pub quiet : Bool → Entry
+quiet true = entry.QuietTime
+quiet false = entry.QuietDelta
+
+-- the entries of a record
+abbrev pub recorded : Bool → List (ℕ × Logic) → List Entry
+recorded is_time [] = quiet is_time ∷ []
+recorded is_time (change ∷ changes) = first is_time change ∷ map changed changes
+
+-- ---- records
 
 -- the record with a number; beyond the last, one without changes
 abbrev pub record_at : List Record → ℕ → Record
 record_at records n = slice_index_or records n (record { time = 0; delta = 0; changes = [] })
+
+-- the last record
+abbrev pub last_record : List Record → Record
+last_record records = record_at records (length records - 1)
+
+-- A record at this time and delta number may come after these: with delta number 0 at any time, with another one after that of the delta cycle before.
+pub record IsNext (records : List Record) (time delta : ℕ) : Type 0 where
+  pub some : delta ≢ 0 → 0 < length records
+  pub time_is : delta ≢ 0 → time ≡ (last_record records).time
+  pub delta_is : delta ≢ 0 → delta ≡ suc (last_record records).delta
+
+-- These lists, and numbers of records and changes, are those of a log whose last record has its entries from this place on.
+pub record IsLog (times : List ℕ) (entries : List Entry) (records changes last : ℕ) : Type 0 where
+  pub counted : count_times entries ≡ length times
+  pub begins : changes_before entries ≡ []
+  pub records_are : records ≡ length (records_in times entries)
+  pub changes_are : changes ≡ length (all_changes (records_in times entries))
+  pub few_records : records ≤ length entries
+  pub few_changes : changes ≤ length entries
+  pub within : last ≤ length entries
+  pub last_are : changes_of (drop last entries) ≡ (last_record (records_in times entries)).changes
+  pub time_is : 0 < length (records_in times entries) → (last_record (records_in times entries)).time ≡ time_after times 0 0 entries
+  pub delta_is : 0 < length (records_in times entries) → (last_record (records_in times entries)).delta ≡ delta_after 0 entries

@@ -23,6 +23,7 @@ ghost use Rattle.sim_standard.specs.Initialization.{first_state};
 ghost use Rattle.sim_standard.specs.Cycle.{updated};
 ghost use Rattle.sim_store_state.specs.Executions.{IsReadyToExecute};
 ghost use Rattle.sim_store_state.specs.FlatState.{flat_state_of, held};
+ghost use Rattle.sim_store_state.specs.Log.{IsNext};
 ghost use Rattle.sim_store_state.specs.Changes.{IsConsistent};
 ghost use Rattle.sim_store_state.specs.InTurn.{AreExecuted, IsExecutable, IsOther};
 ghost use Rattle.sim_standard.specs.Records.{changes_from, values_of};
@@ -619,8 +620,9 @@ impl FlatState {
     /// Appends the changes of the last cycle to a log that has room for them.
     pub fn record(&self, log: &mut Log, time: u64, delta: u64)
         requires few { length self.now.nets < 2 ^ 32 }
-        requires mark { 0 < log.old.marks_room }
-        requires changes { length self.now.nets ≤ log.old.changes_room }
+        requires next { IsNext log.old.records time delta }
+        requires time { 0 < log.old.times_room }
+        requires entries { length self.now.nets < log.old.entries_room }
         ensures { log.new.records ≡ log.old.records ++ record { time = time; delta = delta; changes = changes_from 0 self.now.nets } ∷ [] }
     {
         log.append(
@@ -636,8 +638,9 @@ impl FlatState {
     /// for it.
     pub fn record_all(&self, log: &mut Log, time: u64, delta: u64)
         requires few { length self.now.nets < 2 ^ 32 }
-        requires mark { 0 < log.old.marks_room }
-        requires changes { length self.now.nets ≤ log.old.changes_room }
+        requires next { IsNext log.old.records time delta }
+        requires time { 0 < log.old.times_room }
+        requires entries { length self.now.nets < log.old.entries_room }
         ensures { log.new.records ≡ log.old.records ++ record { time = time; delta = delta; changes = values_of self.now.nets } ∷ [] }
     {
         log.append_all(time, delta, self.values.as_slice());

@@ -23,7 +23,7 @@ mod touched;
 
 pub use flat_state::{FlatState, Lists, Part};
 pub use lending::{SplitState, UpdateLists, put_together, take_apart};
-pub use log::{Log, Mark};
+pub use log::{Entry, Log};
 pub use resumption::{find_resumed, find_resumed_by_one, sensitive};
 pub use share::Share;
 pub use shares::Shares;

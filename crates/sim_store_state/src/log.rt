@@ -1,44 +1,71 @@
 //! The records of a run, in flat lists.
 
-ghost use Rattle.std.specs.Prelude.{◌≡◌, ◌≢◌, ◌≤◌, ◌<◌, ◌+◌, ◌^◌, ◌++◌, ◌∷◌, [], length, slice_index_or, slice_range, vec_len, vec_capacity, OnOk};
+ghost use Rattle.std.specs.Prelude.{ℕ, suc, ◌≡◌, ◌≢◌, ◌≤◌, ◌<◌, ◌+◌, ◌-◌, ◌^◌, ◌==◌, List, [], ◌∷◌, ◌++◌, length, map, drop};
+ghost use Rattle.std.specs.Prelude.{Bool, true, false, if◌then◌else◌, MatchOption, OnOk, vec_len, vec_capacity};
 ghost use Rattle.std.specs.List.{enumerate_from};
 ghost use Rattle.sim_store_state.specs.Changes.{AreTouched};
 ghost use Rattle.sim_store_state.specs.FlatState.{views_of};
 ghost use Rattle.sim_standard.specs.Records.{all_changes, changes_from};
-ghost use Rattle.sim_store_state.specs.Log.{end_mark, record_at};
+ghost use Rattle.sim_store_state.specs.Log.{changed, changes_before, changes_of, count_times, last_record, recorded, records_in, IsNext};
+ghost use Rattle.sim_store_state.specs.Log as spec;
 
 use crate::touched::Touched;
 use sim_logic::Logic;
 use std::alloc::{AllocError, Global};
 use std::marker::Model;
 
-/// The time of a record in femtoseconds, its delta number, and where its changes start.
+/// An entry of a log, in eight bytes: a change, which is the new value of a net and its number, and
+/// whether a record begins with it. A record without changes has an entry of its own.
 #[derive(Clone, Copy)]
-pub struct Mark {
-    pub time: u64,
-    pub delta: u64,
-    pub start: usize,
+pub enum Entry {
+    /// One more change in the same record.
+    Change(Logic, u32),
+    /// The first change of a record at the time of the one before: that of a delta cycle.
+    Delta(Logic, u32),
+    /// The first change of a record at the next time.
+    Time(Logic, u32),
+    /// A record of a delta cycle in which nothing changes.
+    QuietDelta,
+    /// A record at the next time in which nothing changes.
+    QuietTime,
+}
+
+const _: () = prove!(std::mem::size_of::<Entry>() == 8);
+
+impl Entry {
+    /// The change that the entry notes, if it notes one.
+    #[inline(always)]
+    pub fn change(self) -> Option<(u32, Logic)>
+        ensures { MatchOption result (changes_of (self ∷ []) ≡ []) (λ c. changes_of (self ∷ []) ≡ (c.0, c.1) ∷ []) }
+    {
+        match self {
+            Entry::Change(value, net) | Entry::Delta(value, net) | Entry::Time(value, net) => {
+                Some((net, value))
+            }
+            Entry::QuietDelta | Entry::QuietTime => None,
+        }
+    }
 }
 
 /// Appends the change of a net, if it has changed.
 #[inline(always)]
-fn append_change(changes: &mut Vec<(u32, Logic)>, number: usize, value: Logic, before: Logic)
+fn append_change(entries: &mut Vec<Entry>, number: usize, value: Logic, before: Logic)
     requires few { number < 2 ^ 32 }
-    requires room { vec_len changes.old < vec_capacity changes.old }
-    ensures changed { value ≢ before → changes.new.items ≡ changes.old.items ++ (number, value) ∷ [] }
-    ensures same { value ≡ before → changes.new.items ≡ changes.old.items }
-    ensures capacity { vec_capacity changes.new ≡ vec_capacity changes.old }
-    ensures longer { vec_len changes.new ≤ vec_len changes.old + 1 }
+    requires room { vec_len entries.old < vec_capacity entries.old }
+    ensures changed { value ≢ before → entries.new.items ≡ entries.old.items ++ changed (number, value) ∷ [] }
+    ensures same { value ≡ before → entries.new.items ≡ entries.old.items }
+    ensures capacity { vec_capacity entries.new ≡ vec_capacity entries.old }
+    ensures longer { vec_len entries.new ≤ vec_len entries.old + 1 }
 {
     if before != value {
-        changes.push_reserved((number as u32, value));
+        entries.push_reserved(Entry::Change(value, number as u32));
     }
 }
 
 /// Appends the changes of nets, in net order. It looks only at touched nets; a single one costs no
 /// loop.
 pub(crate) fn append_changes(
-    changes: &mut Vec<(u32, Logic)>,
+    entries: &mut Vec<Entry>,
     values: &[Logic],
     values_before: &[Logic],
     touched: &Touched,
@@ -46,66 +73,112 @@ pub(crate) fn append_changes(
     requires same { length values_before.now ≡ length values.now }
     requires touched { AreTouched values.now values_before.now touched.now }
     requires few { length values.now < 2 ^ 32 }
-    requires room { vec_len changes.old + length values.now ≤ vec_capacity changes.old }
-    ensures { changes.new.items ≡ changes.old.items ++ changes_from 0 (views_of values.now values_before.now) }
+    requires room { vec_len entries.old + length values.now ≤ vec_capacity entries.old }
+    ensures appended { entries.new.items ≡ entries.old.items ++ map changed (changes_from 0 (views_of values.now values_before.now)) }
+    ensures capacity { vec_capacity entries.new ≡ vec_capacity entries.old }
 {
     let nets = touched.numbers();
     if nets.len() == 1 {
         let only = nets[0];
-        append_change(changes, only, values[only], values_before[only]);
+        append_change(entries, only, values[only], values_before[only]);
         return;
     }
     for place in 0..nets.len() {
         let number = nets[place];
-        append_change(changes, number, values[number], values_before[number]);
+        append_change(entries, number, values[number], values_before[number]);
     }
 }
 
 /// Appends the value of each net.
-fn append_values(changes: &mut Vec<(u32, Logic)>, values: &[Logic])
+fn append_values(entries: &mut Vec<Entry>, values: &[Logic])
     requires few { length values.now < 2 ^ 32 }
-    requires room { vec_len changes.old + length values.now ≤ vec_capacity changes.old }
-    ensures { changes.new.items ≡ changes.old.items ++ enumerate_from 0 values.now }
+    requires room { vec_len entries.old + length values.now ≤ vec_capacity entries.old }
+    ensures appended { entries.new.items ≡ entries.old.items ++ map changed (enumerate_from 0 values.now) }
+    ensures capacity { vec_capacity entries.new ≡ vec_capacity entries.old }
 {
     for number in 0..values.len() {
-        changes.push_reserved((number as u32, values[number]));
+        entries.push_reserved(Entry::Change(values[number], number as u32));
     }
 }
 
-/// Where the changes of a record start and end; `count` is the number of all changes.
-fn bounds(marks: &[Mark], count: usize, number: usize) -> (usize, usize)
-    requires { number + 1 ≤ length marks.now }
-    ensures start { result.0 ≡ (slice_index_or marks.now number (end_mark count)).start }
-    ensures end { result.1 ≡ (slice_index_or marks.now (number + 1) (end_mark count)).start }
+/// The entry of the first change of a record, at a new time or not.
+#[inline(always)]
+fn first(is_time: bool, net: u32, value: Logic) -> Entry
+    ensures { result ≡ spec.first is_time (net, value) }
 {
-    let end = match marks.get(number + 1) {
-        Some(next) => next.start,
-        None => count,
-    };
-    (marks[number].start, end)
+    if is_time {
+        Entry::Time(value, net)
+    } else {
+        Entry::Delta(value, net)
+    }
 }
 
-/// The changes between two places.
-fn between(changes: &[(u32, Logic)], start: usize, end: usize) -> &[(u32, Logic)]
-    requires order { start ≤ end }
-    requires within { end ≤ length changes.now }
-    ensures { result.now ≡ slice_range changes.now start end }
+/// The entry of a record without changes, at a new time or not.
+fn quiet(is_time: bool) -> Entry
+    ensures { result ≡ spec.quiet is_time }
 {
-    &changes[start..end]
+    if is_time {
+        Entry::QuietTime
+    } else {
+        Entry::QuietDelta
+    }
 }
 
-/// The records of a run: a mark for each, and one list of changes.
+/// Makes the entries from a place on, which are changes, those of a record.
+#[inline(always)]
+fn begin_entries(entries: &mut Vec<Entry>, start: usize, is_time: bool)
+    requires room { vec_len entries.old < vec_capacity entries.old }
+    ensures { (before : List Entry) (changes : List (ℕ × Logic)) → entries.old.items ≡ before ++ map changed changes → start ≡ length before
+        → entries.new.items ≡ before ++ recorded is_time changes }
+{
+    match entries.get(start).copied() {
+        Some(Entry::Change(value, net)) => entries[start] = first(is_time, net, value),
+        _ => entries.push_reserved(quiet(is_time)),
+    }
+}
+
+/// Makes the entries from a place on, which are changes, those of a record with this time and delta
+/// number.
+#[inline(always)]
+fn begin_record(times: &mut Vec<u64>, entries: &mut Vec<Entry>, start: usize, time: u64, delta: u64)
+    requires time { vec_len times.old < vec_capacity times.old }
+    requires room { vec_len entries.old < vec_capacity entries.old }
+    ensures times { times.new.items ≡ (if delta == 0 then times.old.items ++ time ∷ [] else times.old.items) }
+    ensures entries { (before : List Entry) (changes : List (ℕ × Logic)) → entries.old.items ≡ before ++ map changed changes → start ≡ length before
+        → entries.new.items ≡ before ++ recorded (delta == 0) changes }
+{
+    let is_time = delta == 0;
+    if is_time {
+        times.push_reserved(time);
+    }
+    begin_entries(entries, start, is_time);
+}
+
+/// The records of a run: entries, and the times at which records begin. So a record of one change
+/// takes 8 bytes, and 16 if it is the first at its time.
 pub struct Log {
-    marks: Vec<Mark>,
-    changes: Vec<(u32, Logic)>,
+    times: Vec<u64>,
+    entries: Vec<Entry>,
+    /// How many records there are.
+    records: usize,
+    /// How many changes they have.
+    changes: usize,
+    /// Where the entries of the last record start.
+    last: usize,
 }
 
 /// Written by hand so that code which drops it needs no proof about its contents.
 impl Drop for Log {
     fn drop(self) {
-        let Log { marks, changes } = self;
-        drop(marks);
-        drop(changes);
+        let Log {
+            times,
+            entries,
+            records: _,
+            changes: _,
+            last: _,
+        } = self;
+        drop(times);
+        drop(entries);
     }
 }
 
@@ -116,12 +189,12 @@ impl Model for Log {
     ghost Value = { Logged };
 
     ghost view = { λ s. record {
-      records = records_in s.marks.items s.changes.items;
-      marks_room = vec_capacity s.marks - vec_len s.marks;
-      changes_room = vec_capacity s.changes - vec_len s.changes;
+      records = records_in s.times.items s.entries.items;
+      times_room = vec_capacity s.times - vec_len s.times;
+      entries_room = vec_capacity s.entries - vec_len s.entries;
     } };
 
-    ghost invariant = { λ s. IsLog (records_in s.marks.items s.changes.items) s.marks.items s.changes.items };
+    ghost invariant = { λ s. IsLog s.times.items s.entries.items s.records s.changes s.last };
 }
 
 impl Log {
@@ -130,8 +203,11 @@ impl Log {
         ensures { result.records ≡ [] }
     {
         Log {
-            marks: Vec::new(alloc),
-            changes: Vec::new(alloc),
+            times: Vec::new(alloc),
+            entries: Vec::new(alloc),
+            records: 0,
+            changes: 0,
+            last: 0,
         }
     }
 
@@ -139,42 +215,42 @@ impl Log {
     pub fn len(&self) -> usize
         ensures { result ≡ length self.now.records }
     {
-        self.marks.len()
+        self.records
     }
 
     /// The number of changes in all records.
     pub fn count(&self) -> usize
         ensures { result ≡ length (all_changes self.now.records) }
     {
-        self.changes.len()
+        self.changes
     }
 
-    /// The time, in femtoseconds, and the delta number of the record with a number.
-    pub fn time(&self, number: usize) -> (u64, u64)
-        requires { number < length self.now.records }
-        ensures { result ≡ ((record_at self.now.records number).time, (record_at self.now.records number).delta) }
+    /// The times at which records begin, and the entries, by which the records are read.
+    pub fn lists(&self) -> (&[u64], &[Entry])
+        ensures records { records_in result.0.now result.1.now ≡ self.now.records }
+        ensures times { count_times result.1.now ≡ length result.0.now }
+        ensures begins { changes_before result.1.now ≡ [] }
     {
-        let mark = self.marks[number];
-        (mark.time, mark.delta)
+        (self.times.as_slice(), self.entries.as_slice())
     }
 
-    /// The changes of the record with a number.
-    pub fn changes(&self, number: usize) -> &[(u32, Logic)]
-        requires { number < length self.now.records }
-        ensures { result.now ≡ (record_at self.now.records number).changes }
+    /// The entries of the last record.
+    pub fn last(&self) -> &[Entry]
+        requires { 0 < length self.now.records }
+        ensures { changes_of result.now ≡ (last_record self.now.records).changes }
     {
-        let (start, end) = bounds(self.marks.as_slice(), self.changes.len(), number);
-        between(self.changes.as_slice(), start, end)
+        &self.entries[self.last..]
     }
 
-    /// Makes room for a record of this number of changes. The records stay.
+    /// Makes room for a record of at most this number of changes. The records stay.
     pub fn reserve(&mut self, changes: usize) -> Result<(), AllocError>
+        requires few { changes < 2 ^ 32 }
         ensures same { self.new.records ≡ self.old.records }
-        ensures mark { OnOk result (0 < self.new.marks_room) }
-        ensures changes { OnOk result (changes ≤ self.new.changes_room) }
+        ensures time { OnOk result (0 < self.new.times_room) }
+        ensures entries { OnOk result (changes < self.new.entries_room) }
     {
-        self.marks.reserve(1)?;
-        self.changes.reserve(changes)?;
+        self.times.reserve(1)?;
+        self.entries.reserve(changes + 1)?;
         Ok(())
     }
 
@@ -191,8 +267,9 @@ impl Log {
         requires same { length values_before.now ≡ length values.now }
         requires touched { AreTouched values.now values_before.now touched.now }
         requires few { length values.now < 2 ^ 32 }
-        requires mark { 0 < self.old.marks_room }
-        requires changes { length values.now ≤ self.old.changes_room }
+        requires next { IsNext self.old.records time delta }
+        requires time { 0 < self.old.times_room }
+        requires entries { length values.now < self.old.entries_room }
         ensures { self.new.records ≡ self.old.records ++ record {
           time = time;
           delta = delta;
@@ -200,20 +277,27 @@ impl Log {
               (views_of values.now values_before.now);
         } ∷ [] }
     {
-        let start = self.changes.len();
-        append_changes(&mut self.changes, values, values_before, touched);
-        self.marks.push_reserved(Mark { time, delta, start });
+        let start = self.entries.len();
+        append_changes(&mut self.entries, values, values_before, touched);
+        self.changes += self.entries.len() - start;
+        begin_record(&mut self.times, &mut self.entries, start, time, delta);
+        self.records += 1;
+        self.last = start;
     }
 
     /// Appends a record of all nets. There is room for it, so it takes no memory.
     pub(crate) fn append_all(&mut self, time: u64, delta: u64, values: &[Logic])
         requires few { length values.now < 2 ^ 32 }
-        requires mark { 0 < self.old.marks_room }
-        requires changes { length values.now ≤ self.old.changes_room }
+        requires next { IsNext self.old.records time delta }
+        requires time { 0 < self.old.times_room }
+        requires entries { length values.now < self.old.entries_room }
         ensures { self.new.records ≡ self.old.records ++ record { time = time; delta = delta; changes = enumerate_from 0 values.now } ∷ [] }
     {
-        let start = self.changes.len();
-        append_values(&mut self.changes, values);
-        self.marks.push_reserved(Mark { time, delta, start });
+        let start = self.entries.len();
+        append_values(&mut self.entries, values);
+        self.changes += self.entries.len() - start;
+        begin_record(&mut self.times, &mut self.entries, start, time, delta);
+        self.records += 1;
+        self.last = start;
     }
 }

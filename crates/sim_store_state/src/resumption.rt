@@ -1,19 +1,20 @@
 //! Which processes a cycle resumes (IEEE 1076-2008, 14.7.5.3 f).
 
-ghost use Rattle.std.specs.Prelude.{ℕ, ◌≡◌, ◌<◌, ◌||◌, ◌&&◌, ◌==◌, true, [], List, length, slice_index_or, IfOk, OnOk};
+ghost use Rattle.std.specs.Prelude.{ℕ, ◌≡◌, ◌<◌, ◌||◌, ◌&&◌, ◌==◌, ◌∷◌, true, [], List, length, slice_index_or, IfOk, OnOk};
 ghost use Rattle.sim_flat_design.specs.Processes.{Process as process_value};
 ghost use Rattle.sim_standard.specs.declared.net_view.NetView.{NetView};
 ghost use Rattle.sim_standard.specs.Records.{changes_from};
 ghost use Rattle.sim_standard.specs.Processes.{process_at};
 ghost use Rattle.sim_containers.specs.Numbers.{is_in};
+ghost use Rattle.sim_store_state.specs.Log.{changes_of};
 ghost use Rattle.sim_store_state.specs.Sensitive.{AreSensitive, is_resumed_by, has_event_in};
 ghost use Rattle.sim_standard.specs.Orders.{is_among};
 
 use crate::lists::{add, empty_lists, in_rows};
+use crate::log::Entry;
 use crate::sets::insert_each;
 use sim_containers::{NumberList, NumberSet, RisingRows, RowArray};
 use sim_flat_design::{Design, Process};
-use sim_logic::Logic;
 use sqlite_items::Items;
 use std::alloc::{AllocError, Global};
 
@@ -78,26 +79,40 @@ fn sensitive_to(sensitive: &RowArray<usize>, net: usize) -> &[usize]
     sensitive.row(net)
 }
 
-/// Resumes the processes sensitive to a net of these changes.
-fn resume_sensitive(resumed: &mut NumberSet, changes: &[(u32, Logic)], sensitive: &RowArray<usize>)
+/// Resumes the processes sensitive to the net of an entry, if it notes a change.
+fn resume_entry(resumed: &mut NumberSet, entry: Entry, sensitive: &RowArray<usize>)
     ensures sized { length resumed.new ≡ length resumed.old }
-    ensures members { (p : ℕ) → p < length resumed.old → is_in resumed.new p ≡ (is_resumed_by sensitive.now changes.now p || is_in resumed.old p) }
+    ensures members { (p : ℕ) → p < length resumed.old
+        → is_in resumed.new p ≡ (is_resumed_by sensitive.now (changes_of (entry ∷ [])) p || is_in resumed.old p) }
 {
-    for (net, _value) in changes {
-        insert_each(resumed, sensitive_to(sensitive, *net as usize));
+    match entry.change() {
+        None => {}
+        Some((net, _value)) => insert_each(resumed, sensitive_to(sensitive, net as usize)),
     }
 }
 
-/// Finds the processes that resume in a cycle with these changes (14.7.5.3 f.2): those sensitive to
-/// a net with an event, and no others. It looks only at nets that changed.
-pub fn find_resumed(resumed: &mut NumberSet, changes: &[(u32, Logic)], sensitive: &RowArray<usize>)
+/// Resumes the processes sensitive to a net of these entries.
+fn resume_sensitive(resumed: &mut NumberSet, entries: &[Entry], sensitive: &RowArray<usize>)
     ensures sized { length resumed.new ≡ length resumed.old }
-    ensures found { (nets : List NetView) (processes : List process_value) (p : ℕ) → changes.now ≡ changes_from 0 nets → length sensitive.now ≡ length nets
+    ensures members { (p : ℕ) → p < length resumed.old
+        → is_in resumed.new p ≡ (is_resumed_by sensitive.now (changes_of entries.now) p || is_in resumed.old p) }
+{
+    for entry in entries {
+        resume_entry(resumed, *entry, sensitive);
+    }
+}
+
+/// Finds the processes that resume in a cycle with these entries (14.7.5.3 f.2): those sensitive to
+/// a net with an event, and no others. It looks only at nets that changed.
+pub fn find_resumed(resumed: &mut NumberSet, entries: &[Entry], sensitive: &RowArray<usize>)
+    ensures sized { length resumed.new ≡ length resumed.old }
+    ensures found { (nets : List NetView) (processes : List process_value) (p : ℕ) → changes_of entries.now ≡ changes_from 0 nets
+        → length sensitive.now ≡ length nets
         → AreSensitive processes sensitive.now → p < length resumed.old
         → is_in resumed.new p ≡ has_event_in nets (process_at processes p).sensitivity }
 {
     resumed.clear();
-    resume_sensitive(resumed, changes, sensitive);
+    resume_sensitive(resumed, entries, sensitive);
 }
 
 /// The same, if a single net changed and the numbers of the processes sensitive to it are known to
@@ -105,18 +120,19 @@ pub fn find_resumed(resumed: &mut NumberSet, changes: &[(u32, Logic)], sensitive
 #[inline(always)]
 pub fn find_resumed_by_one(
     resumed: &mut NumberList,
-    changes: &[(u32, Logic)],
+    entries: &[Entry],
     sensitive: &RisingRows,
 ) -> bool
     ensures sized { length resumed.new ≡ length resumed.old }
-    ensures found { result ≡ true → (nets : List NetView) (processes : List process_value) (p : ℕ) → changes.now ≡ changes_from 0 nets
+    ensures found { result ≡ true → (nets : List NetView) (processes : List process_value) (p : ℕ) → changes_of entries.now ≡ changes_from 0 nets
         → length sensitive.now ≡ length nets → AreSensitive processes sensitive.now
         → is_in resumed.new p ≡ has_event_in nets (process_at processes p).sensitivity }
 {
-    let alone = changes.len() == 1;
-    if !alone {
+    let [only] = entries else {
         return false;
+    };
+    match only.change() {
+        None => false,
+        Some((net, _value)) => resumed.set_rising(sensitive, net as usize),
     }
-    let (net, _value) = changes[0];
-    resumed.set_rising(sensitive, net as usize)
 }

@@ -7,7 +7,7 @@ use anyhow::{Result, bail};
 use sim_flat_design::Design;
 use sim_run_options::Options;
 use sim_run_session::write_run;
-use sim_store::{Look, Step, WaveStore};
+use sim_store::{Entry, Look, Step, WaveStore};
 use std::alloc::Global;
 use std::io::{self, Write};
 
@@ -20,12 +20,21 @@ struct Deepest {
 
 /// The longest sequence of delta cycles of a run; the first of several.
 fn longest_sequence(store: &WaveStore) -> Deepest {
-    let history = store.history();
-    let mut found = Deepest { delta: 0, time: 0 };
-    for number in 0..history.len() {
-        let (time, delta) = history.time(number);
-        if delta > found.delta {
-            found = Deepest { delta, time };
+    let (times, entries) = store.history().lists();
+    let mut later = times.iter();
+    let mut now = Deepest { delta: 0, time: 0 };
+    let mut found = now;
+    for entry in entries {
+        match entry {
+            Entry::Change(_, _) => {}
+            Entry::Delta(_, _) | Entry::QuietDelta => now.delta = now.delta.saturating_add(1),
+            Entry::Time(_, _) | Entry::QuietTime => {
+                let time = later.next().copied().unwrap_or(now.time);
+                now = Deepest { delta: 0, time };
+            }
+        }
+        if now.delta > found.delta {
+            found = now;
         }
     }
     found

@@ -6,4 +6,4 @@ use Rattle.sim_run_listing.proofs.listing.put_changes.Given as goal
 
 abbrev pub invariant-loop-change : goal.invariant-loop-change
 invariant-loop-change g l = Gathers (g.W.Write.contents l.initial.out) l.initial.block (g.W.Write.contents l.out) l.block
-    (flat_map (line_of l.fn.head.text (map g.N.Named.name_of l.fn.names)) (take l.change-index (map g.C.Change.change_of l.fn.changes)))
+    (flat_map (line_of l.fn.head.text (map g.N.Named.name_of l.fn.names)) (take l.change-index l.fn.changes))

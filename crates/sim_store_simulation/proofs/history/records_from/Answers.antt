@@ -1,9 +1,21 @@
-use Rattle.std.proofs.Common.{arith}
-use Rattle.std.proofs.lemmas.Grind.{common_steps}
+use Rattle.std.proofs.Common.{List, IfOk, ap, sym, subst, length, ◌≡◌, ◌∙◌}
+use Rattle.sim_standard.specs.declared.record.Record.{Record}
+use Rattle.sim_store_simulation.specs.declared.history.Place.{Place}
+use Rattle.sim_store_simulation.proofs.Reading.{all-counted, from-number, times-below}
 use Rattle.sim_store_simulation.proofs.history.records_from.Goals as goal
 
-pub loop-place-preserved : goal.loop-place-preserved
-loop-place-preserved c = grind (arith, common_steps)
+pub entries_before-from-requires-clause-records : goal.entries_before-from-requires-clause-records
+entries_before-from-requires-clause-records c =
+    sym (all-counted c.lists.result.0.now c.lists.result.1.now) ∙ (ap length c.lists.ensures.records ∙ sym c.len-count.ensures)
+
+pub records_after-requires-clause-times : goal.records_after-requires-clause-times
+records_after-requires-clause-times c =
+    times-below c.lists.result.1.now c.entries_before-from.result.0 _ c.entries_before-from.ensures.within c.entries_before-from.ensures.times
 
 pub returns : goal.returns
-returns c = grind (arith, common_steps)
+returns c =
+    let place : Place = record { times = c.entries_before-from.result.1; time = c.last_time.result; delta = c.delta_before.result } in
+    let all = from-number c.lists.result.0.now c.lists.result.1.now c.entries_before-from.result.0 c.args.number place c.args.log.now.records
+    c.lists.ensures.records c.entries_before-from.ensures.records c.entries_before-from.ensures.times c.last_time.ensures
+    (c.delta_before.ensures.same c.lists.result.0.now place.times place.time) in
+    subst (λ (rs : List Record). IfOk c.records_after.result (λ v. v.items ≡ rs)) all c.records_after.ensures

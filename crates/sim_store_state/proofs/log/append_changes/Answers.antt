@@ -1,8 +1,9 @@
-use Rattle.std.proofs.Common.{ℕ, ◌≡◌, ◌+◌, ◌-◌, ◌≤◌, ◌++◌, length, drop, vec_capacity, vec_len, add-one, refl, sym, subst, arith}
+use Rattle.std.proofs.Common.{ℕ, ◌≡◌, ◌+◌, ◌-◌, ◌≤◌, ◌++◌, length, map, drop, vec_capacity, vec_len, add-one, refl, sym, subst, arith, ◌∙◌}
 use Rattle.sim_containers.proofs.Ranges.{member_small}
 use Rattle.sim_store_state.specs.FlatState.{views_of}
 use Rattle.sim_standard.specs.Records.{changes_from}
-use Rattle.sim_store_state.proofs.Skips.{changes-step, changes-end}
+use Rattle.sim_store_state.specs.Log.{changed}
+use Rattle.sim_store_state.proofs.Skips.{entries-step, entries-end}
 use Rattle.sim_store_state.proofs.Walks.{bound_at, listed_step, none_else, none_listed, only_step}
 use Rattle.sim_store_state.proofs.log.append_changes.Goals as goal
 
@@ -24,19 +25,19 @@ append_change-requires c =
       room = omega (arith, within, c.requires.touched.sized, c.requires.room);
     }
 
-pub returns-then-nets-eq1 : goal.returns-then-nets-eq1
-returns-then-nets-eq1 c =
+pub returns-then-nets-eq1-clause-appended : goal.returns-then-nets-eq1-clause-appended
+returns-then-nets-eq1-clause-appended c =
     let nets = c.numbers-nets.result.now in
-    let total = c.args.changes.now.items ++ changes_from 0 (views_of c.args.values.now c.args.values_before.now) in
+    let total = c.args.entries.now.items ++ map changed (changes_from 0 (views_of c.args.values.now c.args.values_before.now)) in
     let within = member_small c.args.touched.now nets 0 c.numbers-nets.ensures (omega (arith, c.if-nets-eq1.true)) in
     let next = only_step c.args.touched.now nets c.numbers-nets.ensures c.if-nets-eq1.true in
     let none = none_else c.args.touched.now nets c.numbers-nets.ensures c.if-nets-eq1.true in
-    changes-end c.append_change.new.changes.items total c.requires.touched (sym c.requires.same) none
-    (changes-step c.args.changes.now.items c.append_change.new.changes.items total c.requires.touched (sym c.requires.same) next
+    entries-end changed c.append_change.new.entries.items total c.requires.touched (sym c.requires.same) none
+    (entries-step changed c.args.entries.now.items c.append_change.new.entries.items total c.requires.touched (sym c.requires.same) next
     (omega (arith, within, c.requires.touched.sized)) c.append_change.ensures.changed c.append_change.ensures.same refl)
 
 pub loop-place-init : goal.loop-place-init
-loop-place-init c = record { room = omega (arith, c.requires.room); done = refl }
+loop-place-init c = record { room = omega (arith, c.requires.room); capacity = refl; done = refl }
 
 pub bounds-values-number : goal.bounds-values-number
 bounds-values-number c =
@@ -64,8 +65,8 @@ loop-place-preserved c =
     let nets = c.numbers-nets.result.now in
     let place = c.loop-place.place in
     let views = views_of c.args.values.now c.args.values_before.now in
-    let total = c.args.changes.now.items ++ changes_from 0 views in
-    let new = c.append_change-in-loop-place.new.changes in
+    let total = c.args.entries.now.items ++ map changed (changes_from 0 views) in
+    let new = c.append_change-in-loop-place.new.entries in
     let within = member_small c.args.touched.now nets place c.numbers-nets.ensures c.loop-place-test.true in
     let next = listed_step c.args.touched.now nets place c.numbers-nets.ensures c.loop-place-test.true in
     record {
@@ -78,15 +79,16 @@ loop-place-preserved c =
         c.append_change-in-loop-place.ensures.longer,
         c.append_change-in-loop-place.ensures.capacity,
       ));
-      done = subst (λ (k : ℕ). new.items ++ changes_from (bound_at nets k) (drop (bound_at nets k) views) ≡ total) (sym (add-one place))
-          (changes-step c.loop-place.changes.items new.items total c.requires.touched (sym c.requires.same) next
+      capacity = c.append_change-in-loop-place.ensures.capacity ∙ c.loop-place.invariant.capacity;
+      done = subst (λ (k : ℕ). new.items ++ map changed (changes_from (bound_at nets k) (drop (bound_at nets k) views)) ≡ total) (sym (add-one place))
+          (entries-step changed c.loop-place.entries.items new.items total c.requires.touched (sym c.requires.same) next
           (omega (arith, within, c.requires.touched.sized)) c.append_change-in-loop-place.ensures.changed c.append_change-in-loop-place.ensures.same
           c.loop-place.invariant.done);
     }
 
-pub returns : goal.returns
-returns c =
-    changes-end c.loop-place.changes.items (c.args.changes.now.items ++ changes_from 0 (views_of c.args.values.now c.args.values_before.now))
-    c.requires.touched (sym c.requires.same)
+pub returns-clause-appended : goal.returns-clause-appended
+returns-clause-appended c =
+    let views = views_of c.args.values.now c.args.values_before.now in
+    entries-end changed c.loop-place.entries.items (c.args.entries.now.items ++ map changed (changes_from 0 views)) c.requires.touched (sym c.requires.same)
     (none_listed c.args.touched.now c.numbers-nets.result.now c.loop-place.place c.numbers-nets.ensures c.loop-place-test.false c.loop-place.auto.place-end)
     c.loop-place.invariant.done

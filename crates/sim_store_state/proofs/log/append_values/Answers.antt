@@ -5,5 +5,5 @@ use Rattle.sim_store_state.proofs.log.append_values.Goals as goal
 pub loop-number-preserved : goal.loop-number-preserved
 loop-number-preserved c = grind (arith, common_steps)
 
-pub returns : goal.returns
-returns c = grind (arith, common_steps)
+pub returns-clause-appended : goal.returns-clause-appended
+returns-clause-appended c = grind (arith, common_steps)

@@ -3,7 +3,7 @@ use Rattle.std.proofs.lemmas.List.{length-append, length-replicate}
 use Rattle.std.specs.List.{filter}
 use Rattle.sim_containers.proofs.Flat.{written_back}
 use Rattle.sim_standard.specs.declared.record.Record.{Record}
-use Rattle.sim_store_state.specs.Log.{record_at}
+use Rattle.sim_store_state.specs.Log.{record_at, IsNext}
 use Rattle.sim_standard.specs.Records.{changes_from}
 use Rattle.sim_standard.specs.Cycle.{CycleAt}
 use Rattle.sim_store_state.specs.Sensitive.{has_event_in}
@@ -12,6 +12,7 @@ use Rattle.sim_standard.specs.Agreement.{is_of}
 use Rattle.sim_store_simulation.specs.Simulation.{ArePostponed, AreTotals, Simulation, IsExecuted, after, next_after, reached, those_in}
 use Rattle.sim_store_simulation.proofs.Counting.{changes-few, last-record, totals-few, totals-go-on}
 use Rattle.sim_store_simulation.proofs.Going.{advanced-count, advanced-keeps, advanced-time, cycle-count, next-time-is, none-marked-for, slow, state_of}
+use Rattle.sim_store_simulation.proofs.Recorded.{next-recorded}
 use Rattle.sim_store_simulation.specs.declared.simulation.Contents.{Contents}
 use Rattle.sim_store_simulation.specs.Contents.{IsOf, simulation_of}
 use Rattle.sim_store_simulation.proofs.Boxes.{held, shown}
@@ -24,6 +25,11 @@ next_delta-contents-requires c =
     let view = shown c.self.inside.design c.deref_mut-contents.ensures.value c.self.view_is in
     let few : (simulation_of c.self.inside.design m).cycles < 4294967296 = subst (λ (g : Simulation). g.cycles < 4294967296) (sym view) c.requires.bound in
     omega (arith, few, slow kept.state)
+
+pub reserve-requires : goal.reserve-requires
+reserve-requires c =
+    let kept = held c.self.inside.design c.deref_mut-contents.ensures.value c.self.invariant in
+    omega (arith, ap length c.nets-nets.ensures.value, kept.state.few)
 
 pub update-requires : goal.update-requires
 update-requires c =
@@ -44,13 +50,19 @@ record-requires-clause-few c =
     let count = advanced-count kept.state done c.args.time c.update.new.self c.in_ok-update.ensures.ok in
     omega (arith, count, kept.state.few)
 
-pub record-requires-clause-changes : goal.record-requires-clause-changes
-record-requires-clause-changes c =
+pub record-requires-clause-next : goal.record-requires-clause-next
+record-requires-clause-next c =
+    let kept = held c.self.inside.design c.deref_mut-contents.ensures.value c.self.invariant in
+    subst (λ (rs : List Record). IsNext rs c.args.time c.next_delta-contents.result) (sym c.in_ok-reserve.ensures.same)
+    (next-recorded kept.state c.args.time c.next_delta-contents.result c.next_delta-contents.ensures)
+
+pub record-requires-clause-entries : goal.record-requires-clause-entries
+record-requires-clause-entries c =
     let kept = held c.self.inside.design c.deref_mut-contents.ensures.value c.self.invariant in
     let view = shown c.self.inside.design c.deref_mut-contents.ensures.value c.self.view_is in
     let done = subst IsExecuted (sym view) c.requires.executed in
     let count = advanced-count kept.state done c.args.time c.update.new.self c.in_ok-update.ensures.ok in
-    omega (arith, count, ap length c.nets-nets.ensures.value, c.in_ok-reserve.ensures.changes)
+    omega (arith, count, ap length c.nets-nets.ensures.value, c.in_ok-reserve.ensures.entries)
 
 pub find-requires-clause-processes : goal.find-requires-clause-processes
 find-requires-clause-processes c =

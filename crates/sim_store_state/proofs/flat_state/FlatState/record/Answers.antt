@@ -13,8 +13,9 @@ append-requires c =
       same = omega (arith, v, ap length c.as_slice-2.ensures.value, c.self.invariant.lists.nets);
       touched = rw (c.as_slice.ensures.value, c.as_slice-2.ensures.value) c.self.invariant.touching;
       few = omega (arith, c.requires.few, n, v);
-      mark = c.requires.mark;
-      changes = omega (arith, c.requires.changes, n, v);
+      next = c.requires.next;
+      time = c.requires.time;
+      entries = omega (arith, c.requires.entries, n, v);
     }
 
 pub returns : goal.returns

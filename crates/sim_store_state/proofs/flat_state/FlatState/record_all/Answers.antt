@@ -13,8 +13,9 @@ append_all-requires c =
     let v = ap length c.as_slice.ensures.value in
     record {
       few = omega (arith, c.requires.few, n, v);
-      mark = c.requires.mark;
-      changes = omega (arith, c.requires.changes, n, v);
+      next = c.requires.next;
+      time = c.requires.time;
+      entries = omega (arith, c.requires.entries, n, v);
     }
 
 pub returns : goal.returns
