@@ -212,8 +212,8 @@ fn delta_before(entries: &[Entry], from: usize) -> u64
     last_delta(&entries[..from])
 }
 
-/// The records from a number on. Of those before, only the ones at the time of that record are
-/// read.
+/// The records from a number on. Earlier records are read only if they are at the time of the first
+/// of these.
 pub fn records_from(alloc: Global, log: &Log, number: usize) -> Result<Vec<Record>, AllocError>
     requires { number ≤ length log.now.records }
     ensures { IfOk result (λ v. v.items ≡ drop number log.now.records) }
