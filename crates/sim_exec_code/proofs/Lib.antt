@@ -13,6 +13,7 @@ pub mod GuardedBodies
 pub mod HeldVariables
 pub mod Executions
 pub mod EdgesMissing
+mod AlikeEdges
 pub mod QuickBodies
 pub mod Assembled
 pub mod OperationsCounted

@@ -12,7 +12,7 @@ fn mixed(number: u64, word: u64) -> u64 {
 }
 
 /// Mixes a kind, and a word of that kind, into a number.
-fn mixed_both(number: u64, kind: u64, word: u64) -> u64 {
+pub fn mixed_both(number: u64, kind: u64, word: u64) -> u64 {
     mixed(mixed(number, kind), word)
 }
 

@@ -28,7 +28,7 @@ fn guess(
 }
 
 /// A number as 32 bits.
-fn small(number: usize) -> Result<u32, AllocError>
+pub fn small(number: usize) -> Result<u32, AllocError>
     ensures { IfOk result (λ n. n ≡ number) }
 {
     match u32::try_from(number) {

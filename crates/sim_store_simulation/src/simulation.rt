@@ -319,7 +319,8 @@ fn execute(
 }
 
 /// Executes due processes in place, from a place in their list on, as long as the body of each is
-/// known to be a single assignment, and returns how many it has executed. None is marked.
+/// known to be a single assignment or to lack the edge that guards it, and returns how many it has
+/// executed. None is marked.
 fn execute_assignments(
     design: &Design,
     contents: &mut Contents,

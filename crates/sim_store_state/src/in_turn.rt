@@ -8,6 +8,7 @@ ghost use Rattle.sim_flat_design.specs.declared.held.Held.{Held as held_value};
 ghost use Rattle.sim_flat_design.specs.declared.design.Source.{Source};
 ghost use Rattle.sim_exec.specs.Jobs.{IsReady};
 ghost use Rattle.sim_exec_code.specs.Codes as code;
+ghost use Rattle.sim_exec_code.specs.Guards.{is_missing};
 ghost use Rattle.sim_exec_code.specs.Quick.{quick_executed};
 ghost use Rattle.sim_standard.specs.State.{driver_values, owned_at};
 ghost use Rattle.sim_wave.specs.Rising.{RisesFrom};
@@ -32,11 +33,13 @@ fn execute_one<N: Nets>(
     nets: &N,
     now: u64,
     quick: &SingleAssignment,
+    is_idle: bool,
     number: usize,
     drivers: &mut RowArray<Driver>,
     queue: &mut TimeQueue,
     stale: &mut NumberSet,
 ) -> Result<(), AllocError>
+    requires idle { is_idle ≡ is_missing (N.look nets.now) quick.now.edge }
     requires now { now ≤ largest_time }
     requires at { number < length drivers.old }
     requires pending { All (λ d. RisesFrom now d.pending) (slice_index_or drivers.old number []) }
@@ -50,14 +53,38 @@ fn execute_one<N: Nets>(
     ensures values { driver_values (slice_index_or drivers.new number []) ≡ driver_values (slice_index_or drivers.old number []) }
     ensures times { AreTimes queue.new stale.new (joined drivers.new) }
 {
-    if quick.is_idle(nets) {
+    if is_idle {
         return Ok(());
     }
     assign_and_tell(nets, now, quick, number, drivers, queue, stale)
 }
 
-/// Executes these processes in order, as long as their bodies are single assignments. Returns how
-/// many it has executed. The drivers of each process are at its number.
+/// How many of these processes, from the first on, lack the edge that guards them all. It is not
+/// inlined, so that the loop that asks it keeps its registers.
+#[inline(never)]
+fn count_idle<N: Nets>(nets: &N, codes: &Codes, numbers: &[usize]) -> usize
+    ensures within { result ≤ length numbers.now }
+    ensures idle { All (code.DoesNothing codes.now (N.look nets.now)) (take result numbers.now) }
+{
+    codes.count_idle(nets, numbers)
+}
+
+/// The same if the process before them lacked its edge, for which others may wait as well; else 0.
+#[inline(always)]
+fn count_idle_after<N: Nets>(is_idle: bool, nets: &N, codes: &Codes, numbers: &[usize]) -> usize
+    ensures within { result ≤ length numbers.now }
+    ensures idle { All (code.DoesNothing codes.now (N.look nets.now)) (take result numbers.now) }
+{
+    if is_idle {
+        count_idle(nets, codes, numbers)
+    } else {
+        0
+    }
+}
+
+/// Executes these processes in order, as long as their bodies are single assignments or they lack the
+/// edges that guard them. Returns how many it has executed. The drivers of each process are at its
+/// number. Where one lacks its edge, those after it that wait for the same edge are passed over.
 fn execute_each(
     nets: &ByNumber,
     processes: &[Process],
@@ -85,14 +112,23 @@ fn execute_each(
     ensures values { driver_values (joined drivers.new) ≡ driver_values (joined drivers.old) }
     ensures times { AreTimes queue.new stale.new (joined drivers.new) }
 {
-    for place in 0..numbers.len() {
+    let mut place = 0;
+    while place < numbers.len() {
         let number = numbers[place];
-        match codes.quick(number) {
-            None => return Ok(place),
-            Some(quick) => execute_one(nets, now, quick, number, drivers, queue, stale)?,
-        }
+        let Some(quick) = codes.quick(number) else {
+            let idle = count_idle(nets, codes, &numbers[place..]);
+            if idle == 0 {
+                return Ok(place);
+            }
+            place += idle;
+            continue;
+        };
+        let is_idle = quick.is_idle(nets);
+        execute_one(nets, now, quick, is_idle, number, drivers, queue, stale)?;
+        place += 1;
+        place += count_idle_after(is_idle, nets, codes, &numbers[place..]);
     }
-    Ok(numbers.len())
+    Ok(place)
 }
 
 /// The same, if drivers are in one part; else it executes none.

@@ -10,7 +10,7 @@ returns-then-is_idle g c =
     let row = get_or c.args.drivers.now c.args.number [] in
     record {
       drivers = sym (set-get_or c.args.drivers.now c.args.number []);
-      ok = λ vs. sym (idle_left look look c.args.now c.args.quick.now (as_owned row vs) refl (sym c.is_idle.ensures ∙ c.if-is_idle.true));
+      ok = λ vs. sym (idle_left look look c.args.now c.args.quick.now (as_owned row vs) refl (sym c.requires.idle ∙ c.if-is_idle.true));
       ready = λ body vs ready. ready;
       values = refl;
       times = c.requires.times;
@@ -26,7 +26,7 @@ returns g c =
     let row' = get_or t.new.drivers c.args.number [] in
     record {
       drivers = e.drivers;
-      ok = λ vs. assigned_left look look c.args.now q t.result (as_owned row vs) (as_owned row' vs) refl (sym c.is_idle.ensures ∙ c.if-is_idle.false)
+      ok = λ vs. assigned_left look look c.args.now q t.result (as_owned row vs) (as_owned row' vs) refl (sym c.requires.idle ∙ c.if-is_idle.false)
           e.assigned refl;
       ready = λ body vs ready. assigned_ready body look c.args.now q t.result (as_owned row vs) (as_owned row' vs) e.assigned refl ready;
       values = e.assigned.values;

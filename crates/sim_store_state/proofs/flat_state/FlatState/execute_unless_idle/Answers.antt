@@ -27,7 +27,7 @@ returns-then-is_idle-clause-ok c =
     c.as_slice-2.ensures.value refl in
     let same : executed (seen h.nets nets) c.args.time process.body.statements own ≡ own =
     subst (λ (f : ℕ → NetView). executed f c.args.time process.body.statements own ≡ own) look
-    (c.is_idle.ensures process.body nets c.args.time own c.if-is_idle.true c.requires.code c.requires.nets) in
+    (c.is_idle.ensures c.if-is_idle.true process.body nets c.args.time own c.requires.code c.requires.nets) in
     ap (with_all h) (sym (set-get_or h.owned n nothing_owned) ∙ ap (λ (o : Owned). set h.owned n o) (sym same))
 
 pub returns-in-Some-clause-ok : goal.returns-in-Some-clause-ok

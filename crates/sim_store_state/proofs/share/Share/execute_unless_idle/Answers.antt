@@ -14,7 +14,7 @@ returns-then-is_idle-clause-ok c =
     let process = c.args.process.now in
     let own = get_or all place nothing_owned in
     let same : executed (seen (views_of c.args.values.now c.args.values_before.now) process.nets) c.args.time process.body.statements own ≡ own =
-    c.is_idle.ensures process.body process.nets c.args.time own c.if-is_idle.true c.requires.code c.requires.nets in
+    c.is_idle.ensures c.if-is_idle.true process.body process.nets c.args.time own c.requires.code c.requires.nets in
     sym (set-get_or all place nothing_owned) ∙ ap (set all place) (sym same)
 
 pub returns-then-is_idle-clause-alone : goal.returns-then-is_idle-clause-alone
