@@ -64,7 +64,7 @@ two_more at a b xs long =
     take-set_at (set xs at a) (at + 1) (at + 2) b (omega arith) (omega arith) ∙
     (ap (λ (l : List ℕ). l ++ b ∷ []) (take-set_at xs at (at + 1) a refl (omega arith)) ∙ append_assoc (take at xs) (a ∷ []) (b ∷ []))
 
-three_more : (at a b c : ℕ) (xs : List ℕ) → at + 3 ≤ length xs
+pub three_more : (at a b c : ℕ) (xs : List ℕ) → at + 3 ≤ length xs
     → take (at + 3) (set (set (set xs at a) (at + 1) b) (at + 2) c) ≡ take at xs ++ a ∷ b ∷ c ∷ []
 three_more at a b c xs long =
     let two = set (set xs at a) (at + 1) b in

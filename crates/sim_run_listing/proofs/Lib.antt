@@ -4,3 +4,4 @@ pub mod Entries
 pub mod Gathering
 pub mod Heads
 pub mod Histories
+pub mod ShortNames

@@ -1,4 +1,5 @@
 pub mod Head
 pub mod Listing
 pub mod Moments
+pub mod ShortNames
 pub mod Writing

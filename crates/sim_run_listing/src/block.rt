@@ -1,12 +1,14 @@
 //! Bytes for a writer, buffered in blocks.
-ghost use Rattle.std.specs.Prelude.{◌≡◌, ◌<◌, ◌≤◌, ◌+◌, ◌++◌, [], length, true, OnOk, OnErr, flat_map};
+ghost use Rattle.std.specs.Prelude.{◌≡◌, ◌<◌, ◌≤◌, ◌+◌, ◌++◌, [], Some, length, true, false, OnOk, OnErr, flat_map};
 ghost use Rattle.std.specs.Io.KnownBytes.{Appends};
 ghost use Rattle.sim_run_listing.specs.Listing.{joined, pieces_of};
+ghost use Rattle.sim_run_listing.specs.ShortNames.{length_of, with_line};
 ghost use Rattle.sim_run_listing.specs.Writing.{AppendsPart, Gathers};
 
 use crate::copying::{WINDOW, copy_to};
 use crate::error::WriteError;
 use crate::head::{Head, WIDTH};
+use crate::short_name::{ROOM, ShortName};
 use sim_flat_design::PathPiece;
 use sim_logic::Logic;
 use std::io::Write;
@@ -82,6 +84,41 @@ impl Block {
         let beside = WIDTH + path.len() + WINDOW;
         let room = SIZE - self.len;
         beside <= room && simple_name.len() <= room - beside
+    }
+
+    /// Buffers the line of a short name with this number of bytes, copied as a whole.
+    #[inline(always)]
+    fn gather_whole(&mut self, head: &Head, name: &ShortName, len: usize, value: Logic)
+        requires room { length self.old + WIDTH + ROOM + WINDOW ≤ SIZE }
+        requires len { length_of name.now ≡ Some len }
+        requires fits { len < ROOM }
+        ensures { Some self.new ≡ with_line self.old head.now.text name.now value }
+    {
+        let at = self.len;
+        let named = at + head.len();
+        head.copy_to(&mut self.bytes, at);
+        name.copy_to(&mut self.bytes, named);
+        let tail = named + len;
+        self.bytes[tail] = b' ';
+        self.bytes[tail + 1] = value.to_byte();
+        self.bytes[tail + 2] = b'\n';
+        self.len = tail + 3;
+    }
+
+    /// Buffers the line of a name, if that is short and there is room. Returns whether it has.
+    #[inline(always)]
+    pub fn gather_short(&mut self, head: &Head, name: &ShortName, value: Logic) -> bool
+        ensures line { result ≡ true → Some self.new ≡ with_line self.old head.now.text name.now value }
+        ensures same { result ≡ false → self.new ≡ self.old }
+    {
+        let Some(len) = name.len() else {
+            return false;
+        };
+        if self.len > SIZE - WIDTH - ROOM - WINDOW {
+            return false;
+        }
+        self.gather_whole(head, name, len, value);
+        true
     }
 
     /// Buffers a line, without a call for short names.

@@ -9,6 +9,7 @@ mod listing;
 mod log;
 mod moment;
 mod named;
+mod short_name;
 
 pub use block::write_whole;
 pub use error::WriteError;

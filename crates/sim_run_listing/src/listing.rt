@@ -87,7 +87,9 @@ fn put_divided<W: Write>(
     put_pieces(out, block, &[], &[], simple_name, value)
 }
 
-/// The line of a change: `TIME DELTA NAME VALUE`.
+/// The line of a change: `TIME DELTA NAME VALUE`. A call, since the lines of short names in a log
+/// are made without it.
+#[inline(never)]
 pub fn put_line<N: Named, W: Write>(
     out: &mut W,
     block: &mut Block,
@@ -136,16 +138,16 @@ fn put_record<N: Named, W: Write>(
     block: &mut Block,
     names: &[N],
     head: &mut Head,
-    record: &Record,
+    cycle: &Record,
 ) -> Result<(), WriteError>
-    requires { IsNamed (length names.now) record.now }
+    requires { IsNamed (length names.now) cycle.now }
     ensures ok { OnOk result (Gathers (W.contents out.old) block.old (W.contents out.new) block.new
-        (lines_of (map N.name_of names.now) record.now)) }
+        (lines_of (map N.name_of names.now) cycle.now)) }
     ensures part { OnErr result (AppendsPart (W.contents out.old) (W.contents out.new) (block.old ++
-        lines_of (map N.name_of names.now) record.now)) }
+        lines_of (map N.name_of names.now) cycle.now)) }
 {
-    head.set(record.time, record.delta);
-    put_changes(out, block, names, head, record.changes.as_slice())
+    head.set(cycle.time, cycle.delta);
+    put_changes(out, block, names, head, cycle.changes.as_slice())
 }
 
 /// The lines of all cycles.

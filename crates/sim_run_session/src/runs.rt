@@ -155,13 +155,13 @@ pub fn run_without_lock<R: Threads + Wait + Sync>(
     run_alone(alloc, copy, options)
 }
 
-/// Writes the listing of a store's history, from its log and the nets of its design. Nothing is
-/// copied or allocated.
-pub fn write_run<W: Write>(run: &WaveStore, out: &mut W) -> Result<(), RunError>
+/// Writes the listing of a store's history, from its log and the nets of its design. A table of the
+/// short names is made; if memory is refused, all names are taken from the nets.
+pub fn write_run<W: Write>(alloc: Global, run: &WaveStore, out: &mut W) -> Result<(), RunError>
     ensures ok { OnOk result (Appends (W.contents out.old) (W.contents out.new) (listing (history_of run.now).names (history_of run.now).records)) }
     ensures part { OnErr result (AppendsPart (W.contents out.old) (W.contents out.new) (listing (history_of run.now).names (history_of run.now).records)) }
     ensures err { IfErr result (λ e. e ≡ refusal.Write) }
 {
-    write_log(run.design().nets(), run.history(), run.look().events, out)?;
+    write_log(alloc, run.design().nets(), run.history(), run.look().events, out)?;
     Ok(())
 }

@@ -129,5 +129,5 @@ pub fn simulate_with_hints<R: Threads + Wait + Sync, W: Write>(
         return Err(RunError::Options);
     }
     let run = run_text(rt, alloc, source, options, hints)?;
-    write_run(&run, out)
+    write_run(alloc, &run, out)
 }

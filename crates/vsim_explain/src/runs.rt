@@ -106,7 +106,7 @@ fn tell_end<W: Write>(
         return Ok(3);
     }
     if request.listing {
-        write_run(store, out)?;
+        write_run(alloc, store, out)?;
     }
     write_finished(alloc, out, store)?;
     Ok(0)

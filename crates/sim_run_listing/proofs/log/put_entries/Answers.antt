@@ -14,8 +14,8 @@ loop-entry-init g c = (
   c.new-moment.ensures.head,
 )
 
-pub put_entry-requires : goal.put_entry-requires
-put_entry-requires g c =
+pub put_entry-requires-clause-named : goal.put_entry-requires-clause-named
+put_entry-requires-clause-named g c =
     let none : Entry = entry.Change logic.U 0 in
     one_named (length c.args.names.now) c.args.entries.now c.loop-entry.entry-index (slice_index_or c.args.entries.now c.loop-entry.entry-index none)
     none refl c.loop-entry-test.true (records_named (length c.args.names.now) c.args.times.now c.args.entries.now c.requires.begins c.requires.named)
