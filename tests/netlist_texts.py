@@ -26,8 +26,9 @@ import tempfile
 TOP = os.path.dirname(os.path.dirname(os.path.realpath(__file__)))
 FOLDER = f"{TOP}/tests/netlists"
 NAMES = ["gates", "tables", "registers", "counter", "sharing", "operands"]
-# the most bytes of a text for each change of an input, where inputs change with the clock
+# the most bytes of a text for each change of a bit of an input, on average, and the inputs that are clocks
 BYTES = 16
+CLOCKS = ["clk", "cp"]
 # how many netlists with another byte, and with another member or item, are tried
 MUTATED = 1000
 SECONDS = 2
@@ -174,17 +175,24 @@ def are_lines_alike(program, folder):
     demand(text_of(program, "counter", "--stimuli", f"{folder}/lines") == wanted, "with lines the text is another")
 
 
-def are_short(program):
-    """Demands that changes of inputs with the clock take few bytes."""
-    given, vcd = read(f"{FOLDER}/operands.json"), f"{FOLDER}/operands.vcd"
-    (_, alone, _), (_, text, _) = (run([program, *words], given) for words in ([], ["--stimuli", vcd]))
-    waves = Waves(read(vcd), "tb.dut")
-    inputs, before, count = {waves.variables[name][0]: waves.variables[name][1] for name in "abc"}, {}, 0
+def count_changes(name):
+    """Returns how many changes of bits a VCD has after the first values, in inputs other than clocks."""
+    waves = Waves(read(f"{FOLDER}/{name}.vcd"), "tb.dut")
+    ports = json.loads(read(f"{FOLDER}/{name}.json"))["modules"][name]["ports"]
+    driven = [port for port, it in ports.items() if it["direction"] != "output" and port not in CLOCKS]
+    inputs, before, count = dict(waves.variables[port] for port in driven), {}, 0
     for _, code, value in waves.changes:
         if code in inputs:
             value = wide(value, inputs[code])
             count += sum(one != other for one, other in zip(value, before.get(code, value)))
             before[code] = value
+    return count
+
+
+def are_short(program, name):
+    """Demands that changes of inputs take few bytes."""
+    alone, text = text_of(program, name), text_of(program, name, "--stimuli", f"{FOLDER}/{name}.vcd", "--scope", "tb.dut")
+    count = count_changes(name)
     demand(len(text) - len(alone) <= BYTES * count, f"{len(text) - len(alone)} bytes for {count} changes")
 
 
@@ -440,7 +448,8 @@ def tests_of(programs, folder, mutated):
     for row in failing(folder):
         yield f"{row[0]} and status {row[2]}", lambda row=row: fails(program, *row)
     yield "no memory", lambda: has_no_memory(program)
-    yield "bytes of stimuli", lambda: are_short(program)
+    for name in NAMES:
+        yield f"bytes of stimuli of {name}", lambda name=name: are_short(program, name)
     yield "netlists with another byte", lambda: are_bytes_mutated(programs, mutated)
     yield "netlists with another member", lambda: are_fields_mutated(programs, mutated)
 

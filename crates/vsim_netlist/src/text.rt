@@ -3,10 +3,10 @@
 use crate::map::make_map;
 use anyhow::{Result, bail};
 use std::alloc::{AllocError, Global};
-use vsim_netlist_design::{Draft, Netlist, Stimuli};
+use vsim_netlist_design::{Draft, Level, Netlist, Stimuli};
 use vsim_netlist_gate_text::put_cells;
 use vsim_netlist_signals::{NamedDelay, Signals, Statements, make_signals};
-use vsim_netlist_stimulus_text::put_stimuli;
+use vsim_netlist_stimulus_text::{frequent_levels, put_stimuli};
 use vsim_netlist_uses::{Clocks, Uses, all_within, refuse_loops, wanted_nets};
 
 /// The maximum size of a text of vsim, in bytes.
@@ -129,6 +129,27 @@ fn uses(alloc: Global, request: &Request<'_>) -> Result<(Uses, Clocks)> {
     Ok((Uses::of(alloc, request.netlist, true)?, clocks))
 }
 
+/// The levels for which stimuli name a signal.
+fn named_levels(alloc: Global, request: &Request<'_>) -> Result<Vec<Level>, AllocError> {
+    match request.stimuli {
+        Some(stimuli) => frequent_levels(alloc, request.netlist, stimuli),
+        None => Ok(Vec::new(alloc)),
+    }
+}
+
+/// The signals of the netlist, with names for those that need one.
+fn signals(
+    alloc: Global,
+    request: &Request<'_>,
+    uses: &Uses,
+    within: &[bool],
+) -> Result<Signals, AllocError> {
+    let levels = named_levels(alloc, request)?;
+    let wanted = wanted_nets(alloc, uses, within)?;
+    let (levels, wanted) = (levels.as_slice(), wanted.as_slice());
+    Ok(make_signals(alloc, request.netlist, levels, wanted))
+}
+
 /// The statements of the cells, which name those signals that need a name.
 fn cell_statements(
     alloc: Global,
@@ -136,8 +157,7 @@ fn cell_statements(
     uses: &Uses,
     within: &[bool],
 ) -> Result<Statements, AllocError> {
-    let wanted = wanted_nets(alloc, uses, within)?;
-    let signals = make_signals(alloc, request.netlist, wanted.as_slice());
+    let signals = signals(alloc, request, uses, within)?;
     let statements = Statements::new(alloc, signals);
     put_cells(statements, request.netlist, request.delays, uses, within)
 }

@@ -151,6 +151,24 @@ impl Signals {
         place
     }
 
+    /// Adds signals that always have these levels.
+    fn push_constants(&mut self, levels: &[Level]) {
+        for level in levels {
+            let _ = self.constant(*level);
+        }
+    }
+
+    /// The name of the signal that always has a level, if there is one with a name that is shorter
+    /// than the literal.
+    pub fn short_constant(&self, level: Level) -> Option<&str> {
+        let name = self.text(self.known_constant(level)?);
+        if name.len() < level.literal().len() {
+            Some(name)
+        } else {
+            None
+        }
+    }
+
     /// The signal of a bit, which has a name.
     pub fn of_bit(&mut self, bit: Bit) -> usize {
         match bit {
@@ -231,12 +249,18 @@ fn named_with(signal: &Signal, initial: Option<Level>) -> Option<&str> {
     }
 }
 
-/// The signals of a netlist, with names for those of its ports, and short ones for these nets, each
-/// given after the number by which it is sorted.
-pub fn make_signals(alloc: Global, netlist: &Netlist, wanted: &[(usize, usize)]) -> Signals {
+/// The signals of a netlist, with names for those of its ports, short ones for signals that always
+/// have these levels, and then for these nets, each given after the number by which it is sorted.
+pub fn make_signals(
+    alloc: Global,
+    netlist: &Netlist,
+    levels: &[Level],
+    wanted: &[(usize, usize)],
+) -> Signals {
     let mut signals = Signals::new(alloc, netlist);
     signals.push_nets(netlist);
     signals.name_ports(netlist);
+    signals.push_constants(levels);
     for (_, place) in wanted {
         signals.ensure(*place);
     }

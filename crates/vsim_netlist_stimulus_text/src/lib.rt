@@ -5,4 +5,4 @@ mod stimulus;
 mod table;
 mod tables;
 
-pub use stimulus::put_stimuli;
+pub use stimulus::{frequent_levels, put_stimuli};

@@ -4,13 +4,17 @@ use crate::tables::{Clock, Edges, Tables, is_multiple, later_changes};
 use std::alloc::{AllocError, Global};
 use std::slice::Iter;
 use vsim_netlist_design::{Bit, Change, Draft, Level, Netlist, Port, Stimuli, push, push_time};
-use vsim_netlist_signals::Statements;
+use vsim_netlist_signals::{Signals, Statements};
 
 /// The maximum number of elements of a waveform.
 const ELEMENTS: usize = 16;
 
 /// The minimum number of changes of a clock.
 const CLOCK_CHANGES: usize = 6;
+
+/// The minimum number of changes to a level for which a signal that has it takes fewer bytes than
+/// the literals: it saves one or two for each, and its declaration takes up to 25.
+const FREQUENT: usize = 32;
 
 /// A net of an input, and its changes.
 #[derive(Clone, Copy)]
@@ -172,29 +176,45 @@ struct Manner<'a> {
     running: Option<usize>,
 }
 
-/// Adds an element of a waveform.
-fn push_element(text: &mut Draft, change: &Change, later: u64) {
-    text.push_all(&[change.level.literal(), "after "]);
+/// Adds an element of a waveform. Its value is a signal that always has it, if that is shorter.
+fn push_element(text: &mut Draft, signals: &Signals, change: &Change, later: u64) {
+    match signals.short_constant(change.level) {
+        Some(name) => text.push_all(&[name, " after "]),
+        None => text.push_all(&[change.level.literal(), "after "]),
+    }
     push_time(text, change.time.saturating_add(later));
 }
 
 /// Adds the assignment of some changes.
-fn push_waveform(text: &mut Draft, target: &str, changes: &[Change], later: u64, is_first: bool) {
-    let mut before = if is_first { "" } else { "transport" };
-    text.push_all(&[target, "<="]);
+fn push_waveform(
+    text: &mut Draft,
+    signals: &Signals,
+    target: usize,
+    changes: &[Change],
+    later: u64,
+    is_first: bool,
+) {
+    let mut before = if is_first { "<=" } else { "<=transport " };
+    text.push(signals.text(target));
     for change in changes {
         text.push(before);
-        push_element(text, change, later);
+        push_element(text, signals, change, later);
         before = ",";
     }
     text.push(";\n");
 }
 
 /// Adds the assignments of all changes of a signal.
-fn push_changes(text: &mut Draft, target: &str, changes: &[Change], later: u64) {
+fn push_changes(
+    text: &mut Draft,
+    signals: &Signals,
+    target: usize,
+    changes: &[Change],
+    later: u64,
+) {
     let mut is_first = true;
     for some in changes.chunks(ELEMENTS) {
-        push_waveform(text, target, some, later, is_first);
+        push_waveform(text, signals, target, some, later, is_first);
         is_first = false;
     }
 }
@@ -232,7 +252,7 @@ fn put_started(statements: &mut Statements, once: &mut Draft, start: u64) -> usi
         time: start,
         level: Level::One,
     };
-    push_changes(once, statements.signals.text(started), &[rise], 0);
+    push_changes(once, &statements.signals, started, &[rise], 0);
     started
 }
 
@@ -247,7 +267,7 @@ fn put_start(statements: &mut Statements, once: &mut Draft, first: Level, start:
         time: start,
         level: inverted(first),
     };
-    push_element(&mut statements.body, &change, 0);
+    push_element(&mut statements.body, &statements.signals, &change, 0);
 }
 
 /// Writes a clock that stops when a signal falls.
@@ -315,7 +335,7 @@ fn put_changes(
     };
     statements.count_driver();
     let later = if is_clock { 0 } else { hold };
-    push_changes(once, statements.signals.text(target), rest, later);
+    push_changes(once, &statements.signals, target, rest, later);
 }
 
 /// The clock of the tables: the first one.
@@ -471,7 +491,7 @@ fn put_run(statements: &mut Statements, once: &mut Draft, end: u64) -> usize {
         time: end,
         level: Level::Zero,
     };
-    push_changes(once, statements.signals.text(running), &[stop], 0);
+    push_changes(once, &statements.signals, running, &[stop], 0);
     running
 }
 
@@ -499,6 +519,57 @@ fn has_clock(nets: &[Driven<'_>]) -> bool {
     false
 }
 
+/// The number of changes to a level.
+fn count_level(changes: &[Change], level: Level) -> usize {
+    let mut count = 0usize;
+    for change in changes {
+        if change.level == level {
+            count = count.saturating_add(1);
+        }
+    }
+    count
+}
+
+/// Whether inputs other than clocks change to a level often, after time 0.
+fn is_frequent(nets: &[Driven<'_>], level: Level) -> bool {
+    let mut count = 0usize;
+    for net in nets {
+        if net.edges.is_none() {
+            count = count.saturating_add(count_level(later_changes(net.changes), level));
+        }
+    }
+    FREQUENT <= count
+}
+
+/// The inputs of a netlist with their changes.
+fn prepared<'a>(
+    alloc: Global,
+    netlist: &Netlist,
+    stimuli: &'a Stimuli,
+) -> Result<Vec<Driven<'a>>, AllocError> {
+    let mut nets = driven_nets(alloc, netlist, stimuli)?;
+    let end = last_edge(nets.as_slice());
+    leave_whole_clocks(&mut nets, end);
+    Ok(nets)
+}
+
+/// The levels to which inputs change so often that signals which always have them make the text of
+/// stimuli shorter.
+pub fn frequent_levels(
+    alloc: Global,
+    netlist: &Netlist,
+    stimuli: &Stimuli,
+) -> Result<Vec<Level>, AllocError> {
+    let nets = prepared(alloc, netlist, stimuli)?;
+    let mut levels = Vec::new(alloc);
+    for level in [Level::Zero, Level::One] {
+        if is_frequent(nets.as_slice(), level) {
+            push(&mut levels, level)?;
+        }
+    }
+    Ok(levels)
+}
+
 /// Writes stimuli, given for each net whether a clock depends on it, and the hold time of inputs
 /// other than clocks, in femtoseconds.
 pub fn put_stimuli(
@@ -508,9 +579,8 @@ pub fn put_stimuli(
     clocks: &[bool],
     hold: u64,
 ) -> Result<(), AllocError> {
-    let mut nets = driven_nets(statements.alloc, netlist, stimuli)?;
+    let nets = prepared(statements.alloc, netlist, stimuli)?;
     let end = last_edge(nets.as_slice());
-    leave_whole_clocks(&mut nets, end);
     put_driven(statements, nets.as_slice(), clocks, hold, end)
 }
 

@@ -162,16 +162,17 @@ fn push_ends(text: &mut Draft, count: usize) {
     }
 }
 
-/// Adds the assignment of a level.
-fn push_assignment(text: &mut Draft, name: &str, level: Level) {
-    push_part(text, name, "<=");
-    push_part(text, level.literal(), ";");
+/// Adds the assignment of a level: of a signal that always has it, if that is shorter.
+fn push_assignment(text: &mut Draft, signals: &Signals, net: usize, level: Level) {
+    push_part(text, signals.text(net), "<=");
+    let constant = signals.short_constant(level);
+    push_part(text, constant.unwrap_or(level.literal()), ";");
 }
 
 /// Adds the assignment of the change at an index.
 fn push_change(text: &mut Draft, signals: &Signals, table: &Table, at: usize) {
     if let Some((net, level)) = table.changes.get(at) {
-        push_assignment(text, signals.text(*net), *level);
+        push_assignment(text, signals, *net, *level);
     }
 }
 
