@@ -26,8 +26,10 @@ import tempfile
 TOP = os.path.dirname(os.path.dirname(os.path.realpath(__file__)))
 FOLDER = f"{TOP}/tests/netlists"
 NAMES = ["gates", "tables", "registers", "counter", "sharing", "operands"]
-# the most bytes of a text for each change of a bit of an input, on average, and the inputs that are clocks
+# the most bytes of a text for each change of a bit of an input, on average, the same where inputs change in steps without a clock, and the
+# inputs that are clocks
 BYTES = 16
+BYTES_IN_STEPS = {"gates": 12}
 CLOCKS = ["clk", "cp"]
 # how many netlists with another byte, and with another member or item, are tried
 MUTATED = 1000
@@ -193,7 +195,7 @@ def are_short(program, name):
     """Demands that changes of inputs take few bytes."""
     alone, text = text_of(program, name), text_of(program, name, "--stimuli", f"{FOLDER}/{name}.vcd", "--scope", "tb.dut")
     count = count_changes(name)
-    demand(len(text) - len(alone) <= BYTES * count, f"{len(text) - len(alone)} bytes for {count} changes")
+    demand(len(text) - len(alone) <= BYTES_IN_STEPS.get(name, BYTES) * count, f"{len(text) - len(alone)} bytes for {count} changes")
 
 
 def cell(kind, pins, **more):
@@ -276,6 +278,25 @@ REFUSED = [
     (GOOD, "", ["--hold", "1.5ns"], "'1.5ns' is no time"),
     (GOOD, f"0 a 0\n{LATEST}fs a 1\n", ["--hold", "1fs"], f"--hold: an input would change after {LATEST} fs"),
 ]
+
+
+def stepped():
+    """Returns a row as in LISTED: a register whose input changes in steps, often when its clock does, which has no constant period."""
+    chance, lines, wanted = random.Random(3), ["0 c 0", "0 a 0"], ["0 U"]
+    level = data = 0
+    for time in range(30, 1000, 10):
+        if chance.random() < 0.5:
+            level = 1 - level
+            lines.append(f"{time}ns c {level}")
+            # the register takes what stood before
+            if level and not wanted[-1].endswith(f" {data & 1}"):
+                wanted.append(f"{time * 10**6} {data & 1}")
+        if chance.random() < 0.8:
+            data = chance.getrandbits(16)
+            lines.append(f"{time}ns a {data:016b}")
+    ports = {"c": {"direction": "input", "bits": [2]}, "a": {"direction": "input", "bits": list(range(4, 20))}}
+    ports["y"] = {"direction": "output", "bits": [3]}
+    return netlist({"u": cell("$_DFF_P_", {"C": [2], "D": [4], "Q": [3]})}, **ports), "\n".join([*lines, ""]), [], ", ".join(wanted)
 
 
 def put_stimuli(folder, stimuli):
@@ -440,6 +461,7 @@ def tests_of(programs, folder, mutated):
     yield "lines of stimuli", lambda: are_lines_alike(program, folder)
     for row in LISTED:
         yield f"y is {row[3]}", lambda row=row: is_listed(programs, folder, *row)
+    yield "steps without a clock", lambda: is_listed(programs, folder, *stepped())
     yield "clocks", lambda: is_one_statement(program, folder)
     for row in REFUSED:
         yield row[3], lambda row=row: is_refused(program, folder, *row)

@@ -1,6 +1,7 @@
 //! Stimuli as statements.
 #![tactic(auto)]
 
+mod steps;
 mod stimulus;
 mod table;
 mod tables;

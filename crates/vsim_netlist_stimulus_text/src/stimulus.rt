@@ -9,6 +9,9 @@ use vsim_netlist_signals::{Signals, Statements};
 /// The maximum number of elements of a waveform.
 const ELEMENTS: usize = 16;
 
+/// The beginning of an assignment of further elements.
+const TRANSPORT: &str = "<=transport";
+
 /// The minimum number of changes of a clock.
 const CLOCK_CHANGES: usize = 6;
 
@@ -176,11 +179,13 @@ struct Manner<'a> {
     running: Option<usize>,
 }
 
-/// Adds an element of a waveform. Its value is a signal that always has it, if that is shorter.
-fn push_element(text: &mut Draft, signals: &Signals, change: &Change, later: u64) {
+/// Adds an element of a waveform and what is before it. Its value is a signal that always has it, if
+/// that is shorter, which it is not where it takes blanks on both sides.
+fn push_element(text: &mut Draft, signals: &Signals, before: &str, change: &Change, later: u64) {
+    text.push(before);
     match signals.short_constant(change.level) {
-        Some(name) => text.push_all(&[name, " after "]),
-        None => text.push_all(&[change.level.literal(), "after "]),
+        Some(name) if before != TRANSPORT => text.push_all(&[name, " after "]),
+        _ => text.push_all(&[change.level.literal(), "after "]),
     }
     push_time(text, change.time.saturating_add(later));
 }
@@ -194,11 +199,10 @@ fn push_waveform(
     later: u64,
     is_first: bool,
 ) {
-    let mut before = if is_first { "<=" } else { "<=transport " };
+    let mut before = if is_first { "<=" } else { TRANSPORT };
     text.push(signals.text(target));
     for change in changes {
-        text.push(before);
-        push_element(text, signals, change, later);
+        push_element(text, signals, before, change, later);
         before = ",";
     }
     text.push(";\n");
@@ -262,12 +266,12 @@ fn put_start(statements: &mut Statements, once: &mut Draft, first: Level, start:
     let started = put_started(statements, once, start);
     statements.body.push(" when ");
     statements.push_name(started);
-    statements.body.push("='1'else ");
     let change = Change {
         time: start,
         level: inverted(first),
     };
-    push_element(&mut statements.body, &statements.signals, &change, 0);
+    let (signals, text) = (&statements.signals, &mut statements.body);
+    push_element(text, signals, "='1'else ", &change, 0);
 }
 
 /// Writes a clock that stops when a signal falls.
@@ -378,29 +382,64 @@ fn table_inputs<'a>(
 
 /// The tables of the inputs that change with a clock.
 fn tables_with(
-    alloc: Global,
+    statements: &Statements,
     clock: Clock,
     nets: &[Driven<'_>],
     clocks: &[bool],
 ) -> Result<Tables, AllocError> {
-    let inputs = table_inputs(alloc, nets, clocks)?;
-    Tables::of(alloc, clock, inputs.as_slice())
+    let inputs = table_inputs(statements.alloc, nets, clocks)?;
+    let (alloc, signals) = (statements.alloc, &statements.signals);
+    Tables::of(alloc, signals, clock, inputs.as_slice())
 }
 
-/// The tables of the inputs that change with the first clock, one delta cycle after its edges;
-/// none if inputs change later.
+/// Writes a clock that is added for tables, and stops at its last edge.
+fn put_added_clock(statements: &mut Statements, once: &mut Draft, tables: &mut Tables) {
+    let clock = tables.clock();
+    let running = put_run(statements, once, clock.end);
+    let net = statements.signals.add(Some(clock.first));
+    tables.set_clock(net);
+    statements.count();
+    let (signals, text) = (&statements.signals, &mut statements.body);
+    push_inversion(
+        text,
+        signals.text(net),
+        signals.text(running),
+        clock.edges.half,
+    );
+    text.push(";\n");
+}
+
+/// The table of the inputs that change in steps, with a clock that is added for it.
+fn stepped_tables(
+    statements: &mut Statements,
+    once: &mut Draft,
+    nets: &[Driven<'_>],
+    clocks: &[bool],
+) -> Result<Option<Tables>, AllocError> {
+    let inputs = table_inputs(statements.alloc, nets, clocks)?;
+    let (alloc, signals) = (statements.alloc, &statements.signals);
+    let mut tables = Tables::of_steps(alloc, signals, inputs.as_slice())?;
+    if let Some(tables) = &mut tables {
+        put_added_clock(statements, once, tables);
+    }
+    Ok(tables)
+}
+
+/// The tables of the inputs that change with the first clock, one delta cycle after its edges, or
+/// without a clock in steps; none if inputs change later.
 fn tables(
-    alloc: Global,
+    statements: &mut Statements,
+    once: &mut Draft,
     nets: &[Driven<'_>],
     manner: Manner<'_>,
 ) -> Result<Option<Tables>, AllocError> {
-    let Some(clock) = first_clock(nets, manner.end) else {
-        return Ok(None);
-    };
     if manner.hold != 0 {
         return Ok(None);
     }
-    let tables = tables_with(alloc, clock, nets, manner.clocks)?;
+    let Some(clock) = first_clock(nets, manner.end) else {
+        return stepped_tables(statements, once, nets, manner.clocks);
+    };
+    let tables = tables_with(statements, clock, nets, manner.clocks)?;
     Ok(Some(tables))
 }
 
@@ -455,7 +494,7 @@ fn put_inputs(
     nets: &[Driven<'_>],
     manner: Manner<'_>,
 ) -> Result<(), AllocError> {
-    let tables = tables(statements.alloc, nets, manner)?;
+    let tables = tables(statements, once, nets, manner)?;
     put_nets(statements, once, nets, manner, &tables);
     match &tables {
         Some(tables) => tables.put(statements),

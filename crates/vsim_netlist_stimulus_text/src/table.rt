@@ -3,16 +3,22 @@
 ghost use Rattle.std.specs.Prelude.{◌≤◌, length};
 
 use std::alloc::{AllocError, Global};
-use vsim_netlist_design::{Draft, Level, push};
+use vsim_netlist_design::{Change, Draft, Level, push, push_time};
 use vsim_netlist_signals::{Names, Signals, Statements};
+
+/// The bytes that the tests for an edge take, on average.
+const EDGE: usize = 27;
+
+/// The bytes that an element of a waveform takes besides its time.
+const ELEMENT: usize = 10;
 
 /// The changes of inputs at the edges of a clock in one direction, by the number of the edge, from
 /// 0.
 pub(crate) struct Table {
     /// For each change, the number of its edge and its index in `changes`.
     order: Vec<(usize, usize)>,
-    /// The index of the net that changes, and its value.
-    changes: Vec<(usize, Level)>,
+    /// The index of the net that changes, and its change.
+    changes: Vec<(usize, Change)>,
 }
 
 impl Drop for Table {
@@ -41,9 +47,14 @@ impl Table {
     }
 
     /// Adds a change at the edge with a number.
-    pub(crate) fn push(&mut self, edge: usize, net: usize, level: Level) -> Result<(), AllocError> {
+    pub(crate) fn push(
+        &mut self,
+        edge: usize,
+        net: usize,
+        change: Change,
+    ) -> Result<(), AllocError> {
         push(&mut self.order, (edge, self.changes.len()))?;
-        push(&mut self.changes, (net, level))
+        push(&mut self.changes, (net, change))
     }
 
     /// Sorts the changes by their edges.
@@ -52,12 +63,51 @@ impl Table {
         Ok(())
     }
 
-    /// Whether a process takes fewer bytes than waveforms: an edge takes some 25, and a change 8
-    /// instead of 18.
-    pub(crate) fn pays(&self) -> bool {
-        let edges = edge_count(self.order.as_slice());
-        !self.order.is_empty() && self.changes.len() >= edges.saturating_mul(3)
+    /// The number of different edges.
+    pub(crate) fn edges(&self) -> usize {
+        edge_count(self.order.as_slice())
     }
+
+    /// Whether a process takes fewer bytes than waveforms, given those that it takes apart from
+    /// edges and assignments. Changes are sorted.
+    pub(crate) fn pays(&self, alloc: Global, signals: &Signals, others: usize) -> bool {
+        let changes = self.changes.as_slice();
+        let edges = self.edges().saturating_mul(EDGE).saturating_add(others);
+        let costs = edges.saturating_add(assignment_bytes(signals, changes));
+        !self.order.is_empty() && costs <= element_bytes(alloc, changes)
+    }
+}
+
+/// The bytes that assignments of the values of these changes take.
+fn assignment_bytes(signals: &Signals, changes: &[(usize, Change)]) -> usize {
+    let mut bytes = 0usize;
+    for (net, change) in changes {
+        let name = signals.text(*net).len();
+        let level = level_text(signals, change.level).len();
+        bytes = bytes.saturating_add(name.saturating_add(level).saturating_add(3));
+    }
+    bytes
+}
+
+/// The bytes that elements of waveforms take for these changes.
+fn element_bytes(alloc: Global, changes: &[(usize, Change)]) -> usize {
+    let mut bytes = 0usize;
+    for (_, change) in changes {
+        bytes = bytes.saturating_add(time_bytes(alloc, change.time).saturating_add(ELEMENT));
+    }
+    bytes
+}
+
+/// The bytes that a time takes.
+fn time_bytes(alloc: Global, time: u64) -> usize {
+    let mut text = Draft::new(alloc);
+    push_time(&mut text, time);
+    text.as_str().len()
+}
+
+/// The text of a level: a signal that always has it, if that is shorter than the literal.
+fn level_text(signals: &Signals, level: Level) -> &str {
+    signals.short_constant(level).unwrap_or(level.literal())
 }
 
 /// The number of different edges in changes that are sorted.
@@ -162,17 +212,16 @@ fn push_ends(text: &mut Draft, count: usize) {
     }
 }
 
-/// Adds the assignment of a level: of a signal that always has it, if that is shorter.
+/// Adds the assignment of a level.
 fn push_assignment(text: &mut Draft, signals: &Signals, net: usize, level: Level) {
     push_part(text, signals.text(net), "<=");
-    let constant = signals.short_constant(level);
-    push_part(text, constant.unwrap_or(level.literal()), ";");
+    push_part(text, level_text(signals, level), ";");
 }
 
 /// Adds the assignment of the change at an index.
 fn push_change(text: &mut Draft, signals: &Signals, table: &Table, at: usize) {
-    if let Some((net, level)) = table.changes.get(at) {
-        push_assignment(text, signals, *net, *level);
+    if let Some((net, change)) = table.changes.get(at) {
+        push_assignment(text, signals, *net, change.level);
     }
 }
 

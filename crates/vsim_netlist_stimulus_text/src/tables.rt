@@ -1,9 +1,17 @@
 //! Which inputs are written as tables of their changes at the edges of a clock.
 
+use crate::steps::clock_of_steps;
 use crate::table::{Table, put_table};
 use std::alloc::{AllocError, Global};
 use vsim_netlist_design::{Change, Level};
-use vsim_netlist_signals::Statements;
+use vsim_netlist_signals::{Signals, Statements};
+
+/// The bytes that a process takes for the counter of edges, less those of the additional signals
+/// that inputs with waveforms have.
+const COUNTER: usize = 300;
+
+/// The bytes that a clock takes.
+const CLOCK: usize = 100;
 
 /// The edges of a clock of constant period: the time of the first one, and half the period.
 #[derive(Clone, Copy)]
@@ -101,7 +109,7 @@ fn push_change(
     change: &Change,
 ) -> Result<(), AllocError> {
     match edge_at(clock, change.time) {
-        Some(edge) => table.push(edge.number, net, change.level),
+        Some(edge) => table.push(edge.number, net, *change),
         None => Ok(()),
     }
 }
@@ -151,13 +159,18 @@ fn push_inputs(
 /// one direction; `None` if waveforms are shorter.
 fn table_of(
     alloc: Global,
+    signals: &Signals,
     clock: &Clock,
     inputs: &[(usize, &[Change])],
     rises: bool,
 ) -> Result<Option<Table>, AllocError> {
     let mut table = Table::new(alloc);
     push_inputs(&mut table, clock, inputs, rises)?;
-    Ok(if table.pays() { Some(table) } else { None })
+    Ok(if table.pays(alloc, signals, COUNTER) {
+        Some(table)
+    } else {
+        None
+    })
 }
 
 /// Writes the process of a table, if there is one.
@@ -178,16 +191,57 @@ impl Tables {
     /// The tables of the inputs that change with a clock, given by their nets and changes.
     pub(crate) fn of(
         alloc: Global,
+        signals: &Signals,
         clock: Clock,
         inputs: &[(usize, &[Change])],
     ) -> Result<Tables, AllocError> {
-        let rising = table_of(alloc, &clock, inputs, true)?;
-        let falling = table_of(alloc, &clock, inputs, false)?;
+        let rising = table_of(alloc, signals, &clock, inputs, true)?;
+        let falling = table_of(alloc, signals, &clock, inputs, false)?;
         Ok(Tables {
             clock,
             rising,
             falling,
         })
+    }
+
+    /// The table of inputs that change at multiples of a step, at the rising edges of a clock that
+    /// is to be added; `None` if waveforms are shorter.
+    pub(crate) fn of_steps(
+        alloc: Global,
+        signals: &Signals,
+        inputs: &[(usize, &[Change])],
+    ) -> Result<Option<Tables>, AllocError> {
+        let Some(clock) = clock_of_steps(inputs) else {
+            return Ok(None);
+        };
+        let tables = Tables::of(alloc, signals, clock, inputs)?;
+        Ok(if tables.pay_with_clock(alloc, signals) {
+            Some(tables)
+        } else {
+            None
+        })
+    }
+
+    /// Whether the table of the rising edges is worth a clock that is added for it, and has changes
+    /// at half of its edges or more.
+    fn pay_with_clock(&self, alloc: Global, signals: &Signals) -> bool {
+        match &self.rising {
+            Some(table) => {
+                let is_dense = edges_in_direction(&self.clock) / 2 <= table.edges();
+                is_dense && table.pays(alloc, signals, COUNTER + CLOCK)
+            }
+            None => false,
+        }
+    }
+
+    /// The clock of the tables.
+    pub(crate) fn clock(&self) -> Clock {
+        self.clock
+    }
+
+    /// Sets the net of the clock.
+    pub(crate) fn set_clock(&mut self, net: usize) {
+        self.clock.net = net;
     }
 
     /// Whether a table has the changes of an input.
