@@ -136,8 +136,9 @@ pub whole_line : (at n len b : ℕ) (value : Logic) (old xs ys us text : List �
 whole_line at n len b value old xs ys us text None has is_old is_n is_text is_name long is_byte = absurd (none-some len has)
 whole_line at n len b value old xs ys us text (Some name) has is_old is_n is_text is_name long is_byte =
     let e : length name ≡ len = same_Some (length name) len has in
-    subst (λ (k : ℕ). Some (take (at + n + k + 3) (set (set (set us (at + n + k) 32) (at + n + k + 1) b) (at + n + k + 2) 10)) ≡ with_line old text (Some name) value)
-    e (ap Some (short_line at n 32 b 10 (byte_of value) old xs ys us text name is_old is_n is_text is_name (omega arith) is_byte))
+    let line = short_line at n 32 b 10 (byte_of value) old xs ys us text name is_old is_n is_text is_name (omega arith) is_byte in
+    subst (λ (k : ℕ). Some (take (at + n + k + 3) (set (set (set us (at + n + k) 32) (at + n + k + 1) b) (at + n + k + 2) 10))
+    ≡ with_line old text (Some name) value) e (ap Some line)
 
 -- the line of a net whose name is known
 pub line_known : (names : List (List ℕ)) (known : List (Option (List ℕ))) (net : ℕ) (name : Option (List ℕ)) (head old new : List ℕ) (value : Logic)

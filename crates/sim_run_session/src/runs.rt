@@ -162,6 +162,12 @@ pub fn write_run<W: Write>(alloc: Global, run: &WaveStore, out: &mut W) -> Resul
     ensures part { OnErr result (AppendsPart (W.contents out.old) (W.contents out.new) (listing (history_of run.now).names (history_of run.now).records)) }
     ensures err { IfErr result (λ e. e ≡ refusal.Write) }
 {
-    write_log(alloc, run.design().nets(), run.history(), run.look().events, out)?;
+    write_log(
+        alloc,
+        run.design().nets(),
+        run.history(),
+        run.look().events,
+        out,
+    )?;
     Ok(())
 }
