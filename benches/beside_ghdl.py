@@ -4,6 +4,8 @@ to all changes in a file.
 
     beside_ghdl.py PROGRAM [--workers N] [--repeat N] [--ghdl COMMAND].. [--root FOLDER] [SHAPE ..]
 
+A shape is one of SHAPES, which are all measured by default, or of OTHERS; `others` is all of these.
+
 For vsim that is one process, with its listing. For GHDL it is the analysis, the elaboration (and what it compiles), and the run
 with a VCD. The least of N runs counts (3), and of several GHDLs the fastest. COMMAND is by default each of ghdl-mcode,
 ghdl-llvm and ghdl-gcc that is installed; with --root those of the system in that folder are measured too, by chroot.
@@ -15,7 +17,7 @@ import subprocess
 import sys
 import tempfile
 
-from shapes import SHAPES
+from shapes import OTHERS, SHAPES
 
 GHDLS = ("ghdl-mcode", "ghdl-llvm", "ghdl-gcc")
 LONGEST = 300
@@ -82,13 +84,14 @@ def main():
     words.add_argument("--ghdl", action="append")
     words.add_argument("--root", default="")
     given = words.parse_intermixed_args()
+    shapes = list(OTHERS) if given.shapes == ["others"] else given.shapes
     program = os.path.abspath(given.program)
     commands = given.ghdl or GHDLS
     others = [(it, "") for it in commands if shutil.which(it)]
     others += [(it, given.root) for it in commands if given.root and os.path.exists(f"{given.root}/usr/bin/{it}")]
     print("| Shape | vsim, s | MiB | GHDL, s | ratio | Last line |\n|---|--:|--:|--:|--:|---|")
-    for name in given.shapes:
-        text, stop = SHAPES[name]()
+    for name in shapes:
+        text, stop = {**SHAPES, **OTHERS}[name]()
         spent, memory, last = least(given.repeat, lambda: of_vsim(program, given.workers, text, stop)) or (None, None, "")
         peers = [least(given.repeat, lambda it=it: of_ghdl(*it, text, stop)) for it in others]
         peer = min((it for it in peers if it is not None), default=None)

@@ -63,6 +63,26 @@ def counters(count, bits, edges):
     return design(declared(["clk", *names]), [CLOCK, *map(stage, range(len(names)))]), edges * EDGE
 
 
+def feedback(count, edges):
+    """A shift register whose first bit is made of its last ones, and a copy of it whose bits each ask the one before."""
+    first = initialized(count, random.Random(count)) + declared(numbered("r", count))
+    taps = " xor ".join(f"q{i}" for i in (count - 1, count - 2, count // 2, 1))
+    stages = [f"process (clk) begin if rising_edge(clk) then q{i} <= {f'q{i - 1}' if i else taps}; end if; end process;\n" for i in range(count)]
+    asking = [f"process (clk) begin if rising_edge(clk) then if q{i - 1} = '1' then r{i} <= q{i}; end if; end if; end process;\n" for i in range(1, count)]
+    return design(first, [CLOCK, *stages, *asking]), edges * EDGE
+
+
+def tangle(count, edges):
+    """Flip-flops whose inputs are gates of two others, chosen at random."""
+    chance = random.Random(count)
+    stages = []
+    for i in range(count):
+        left, right = chance.randrange(count), chance.randrange(count)
+        stages.append(f"g{i} <= q{left} {chance.choice(OPERATORS)} q{right};\n")
+        stages.append(f"process (clk) begin if rising_edge(clk) then q{i} <= g{i}; end if; end process;\n")
+    return design(initialized(count, chance) + declared(numbered("g", count)), [CLOCK, *stages]), edges * EDGE
+
+
 class Gates:
     """Gates with two inputs, each a concurrent assignment to its own signal."""
 
@@ -183,6 +203,20 @@ SHAPES = {
     "token": lambda: token(16_000, 60_000),
     "heavy": lambda: heavy(1000, 4_000),
     "bus": lambda: bus(4000, 1_500),
+}
+
+# the same at other sizes, and two more
+OTHERS = {
+    "shift_16": lambda: shift(16, 400_000),
+    "shift_256": lambda: shift(256, 40_000),
+    "shift_4096": lambda: shift(4096, 3_000),
+    "feedback": lambda: feedback(100, 60_000),
+    "tangle": lambda: tangle(2000, 3_000),
+    "counters_4": lambda: counters(250, 4, 8_000),
+    "multiplier_24": lambda: multiplier(24, False, 150),
+    "token_2000": lambda: token(2000, 60_000),
+    "heavy_250": lambda: heavy(250, 8_000),
+    "bus_1000": lambda: bus(1000, 6_000),
 }
 
 
