@@ -98,6 +98,18 @@ impl NumberSet {
         }
     }
 
+    /// Whether there is no member, as far as is known without a search: nothing was added since the
+    /// set was cleared.
+    #[inline(always)]
+    pub(crate) fn is_clear(&self) -> bool
+        ensures { IsTrue result → self.now ≡ replicate (length self.now) false }
+    {
+        if self.end > 0 {
+            return false;
+        }
+        true
+    }
+
     /// Whether a number is a member. Numbers beyond the bound are not.
     pub fn contains(&self, number: usize) -> bool
         ensures { result ≡ is_in self.now number }

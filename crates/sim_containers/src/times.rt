@@ -1,7 +1,7 @@
 //! A time for each of some drivers, with fast access to the least time.
 
 ghost use Rattle.std.specs.Prelude.{◌≡◌, ◌≢◌, ◌<◌, ◌⊎◌, ℕ, length, false, Option, None, Some, replicate, slice_index_or, slice_set};
-ghost use Rattle.std.specs.Prelude.{OnOk, OnErr, IfOk, IfNone, IfSome, MatchOption};
+ghost use Rattle.std.specs.Prelude.{IsTrue, OnOk, OnErr, IfOk, IfNone, IfSome, MatchOption};
 ghost use Rattle.std.specs.BinaryHeap.{heap_items, IsHeap};
 ghost use Rattle.sim_containers.specs.Times.{clear, cleared, due_at, earlier, earliest, is_at, those_at};
 ghost use Rattle.sim_containers.specs.Numbers.{is_in};
@@ -86,8 +86,8 @@ impl TimeQueue {
             return Ok(());
         }
         if before.is_none() && is_time(time, self.front_time) {
-            self.front.insert(driver);
             self.times[driver] = Some(self.front_time);
+            self.front.insert(driver);
             return Ok(());
         }
         self.put_beyond(driver, time)
@@ -101,23 +101,40 @@ impl TimeQueue {
         ensures err { OnErr result (self.new ≡ self.old) }
     {
         self.choose_later(time);
-        let is_free = self.times[driver].is_none();
-        if is_free && is_later(time, self.front_time, self.later_time) {
-            self.later.insert(driver);
-            self.times[driver] = time;
+        if self.is_put_later(driver, time) {
             return Ok(());
         }
         self.change(driver, time)
     }
 
-    /// Makes `time` the time of the set `later`, where neither this set nor the heap has a driver.
+    /// Puts a driver that has no time into the set `later`, if its time is that of the set. Returns
+    /// whether it did; else nothing changes.
+    #[inline(always)]
+    fn is_put_later(&mut self, driver: usize, time: Option<u64>) -> bool
+        requires { driver < length self.old }
+        ensures put { IsTrue result → self.new ≡ slice_set self.old driver time }
+        ensures same { result ≡ false → self.new ≡ self.old }
+    {
+        if self.times[driver].is_some() {
+            return false;
+        }
+        if is_later(time, self.front_time, self.later_time) {
+            self.times[driver] = time;
+            self.later.insert(driver);
+            return true;
+        }
+        false
+    }
+
+    /// Makes `time` the time of the set `later`, where neither this set nor the heap has a driver, as
+    /// far as is known without a search.
     fn choose_later(&mut self, time: Option<u64>)
         ensures { self.new ≡ self.old }
     {
         let Some(time) = time else {
             return;
         };
-        if self.heap.is_empty() && self.later.is_empty() {
+        if self.heap.is_empty() && self.later.is_clear() {
             self.later_time = time;
         }
     }

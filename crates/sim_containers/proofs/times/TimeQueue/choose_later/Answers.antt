@@ -8,5 +8,5 @@ pub invariant_of-self : goal.invariant_of-self
 invariant_of-self c =
     let none : length (heap_items c.self.inside.heap) ≡ 0 = grind (arith, nat_tests) in
     chosen c.self.inside.times.items c.self.inside.front_time c.self.inside.later_time c.in-Some.time c.self.inside.front c.self.inside.later
-    (heap_items c.self.inside.heap) (c.is_empty-then-is_empty.ensures.0 c.if-is_empty-2.true) (nil_from_length (heap_items c.self.inside.heap) none)
+    (heap_items c.self.inside.heap) (c.is_clear.ensures c.if-is_clear.true) (nil_from_length (heap_items c.self.inside.heap) none)
     c.self.invariant

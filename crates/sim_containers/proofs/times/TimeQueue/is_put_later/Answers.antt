@@ -2,7 +2,7 @@ use Rattle.std.proofs.Common.{◌≡◌, ◌∙◌, None, heap_items, rules, sym
 use Rattle.std.proofs.lemmas.Grind.{common_steps}
 use Rattle.sim_containers.specs.Times.{time_of}
 use Rattle.sim_containers.proofs.Queues.{joined_later}
-use Rattle.sim_containers.proofs.times.TimeQueue.put_beyond.Goals as goal
+use Rattle.sim_containers.proofs.times.TimeQueue.is_put_later.Goals as goal
 
 pub invariant_of-self : goal.invariant_of-self
 invariant_of-self c =
