@@ -14,6 +14,7 @@ pub mod HeldVariables
 pub mod Executions
 pub mod EdgesMissing
 mod AlikeEdges
+mod EdgesOfBodies
 pub mod QuickBodies
 pub mod Assembled
 pub mod OperationsCounted
