@@ -4,4 +4,5 @@ pub mod Entries
 pub mod Gathering
 pub mod Heads
 pub mod Histories
+pub mod LastDigits
 pub mod ShortNames

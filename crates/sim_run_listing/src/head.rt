@@ -1,6 +1,6 @@
 //! The start of a line.
 
-ghost use Rattle.std.specs.Prelude.{◌≡◌, ◌+◌, ◌<◌, ◌≤◌, ◌++◌, length, take, codes, decimal};
+ghost use Rattle.std.specs.Prelude.{◌≡◌, ◌+◌, ◌%◌, ◌<◌, ◌≤◌, ◌++◌, length, take, codes, decimal, true};
 
 use crate::copying::{copy_to, put_chunk};
 use itoa::{Buffer, write_digits};
@@ -12,6 +12,13 @@ pub const WIDTH: usize = 48;
 /// Where the digits of the time end.
 const TIME_END: usize = 20;
 
+/// The number of digits at the end of a time that are not written anew, if those of the time before
+/// are the same. Most times of a run end alike, since they are whole nanoseconds in femtoseconds.
+const LOW_DIGITS: usize = 6;
+
+/// The number of values that these digits can have. A time below it may have fewer digits.
+const LOW_VALUES: u64 = 1_000_000;
+
 /// Where the digits of the delta number start.
 const DELTA: usize = 21;
 
@@ -22,17 +29,20 @@ pub struct Head {
     start: usize,
     end: usize,
     time: u64,
+    /// The value of the last six digits of the time.
+    low: u64,
 }
 
 impl Model for Head {
-    ghost use Rattle.std.specs.Prelude.{◌≡◌, ◌≤◌, ◌++◌, slice_range, codes, decimal};
+    ghost use Rattle.std.specs.Prelude.{◌≡◌, ◌%◌, ◌≤◌, ◌++◌, slice_range, codes, decimal};
     ghost use Rattle.sim_run_listing.specs.Head.{TimedText};
 
     ghost Value = { TimedText };
 
     ghost view = { λ s. record { time = s.time; text = slice_range s.bytes s.start s.end } };
 
-    ghost invariant = { λ s. (s.start ≤ 20) × (21 ≤ s.end) × (s.end ≤ 42) × (slice_range s.bytes s.start 21 ≡ decimal s.time ++ codes " ") };
+    ghost invariant = { λ s. (s.start ≤ 20) × (21 ≤ s.end) × (s.end ≤ 42) × (slice_range s.bytes s.start 21 ≡ decimal s.time ++ codes " ")
+        × (s.low ≡ s.time % 1000000) };
 }
 
 impl Head {
@@ -43,16 +53,59 @@ impl Head {
             start: 19,
             end: DELTA,
             time: 0,
+            low: 0,
         }
+    }
+
+    /// Writes all digits of a time.
+    #[inline(never)]
+    fn set_all_digits(&mut self, time: u64, low: u64)
+        requires { low ≡ time % LOW_VALUES }
+        ensures { self.new.time ≡ time }
+    {
+        self.start = write_digits(time, &mut self.bytes, TIME_END);
+        self.bytes[TIME_END] = b' ';
+        self.time = time;
+        self.low = low;
+    }
+
+    /// Writes the digits of a time before its last six, which the time before has left there.
+    #[inline(always)]
+    fn set_high_digits(&mut self, time: u64)
+        requires long { (LOW_VALUES ≤ time) × (LOW_VALUES ≤ self.old.time) }
+        requires same { self.old.time % LOW_VALUES ≡ time % LOW_VALUES }
+        ensures { self.new.time ≡ time }
+    {
+        self.start = write_digits(time / LOW_VALUES, &mut self.bytes, TIME_END - LOW_DIGITS);
+        self.time = time;
+    }
+
+    /// Whether the last six digits of a time are there, and others before them in both times.
+    #[inline(always)]
+    fn has_low_digits(&self, time: u64, low: u64) -> bool
+        requires { low ≡ time % LOW_VALUES }
+        ensures long { result ≡ true → (LOW_VALUES ≤ time) × (LOW_VALUES ≤ self.now.time) }
+        ensures same { result ≡ true → self.now.time % LOW_VALUES ≡ time % LOW_VALUES }
+    {
+        if low != self.low {
+            return false;
+        }
+        if time < LOW_VALUES {
+            return false;
+        }
+        self.time >= LOW_VALUES
     }
 
     /// Writes the digits of a time.
     fn set_time(&mut self, time: u64)
         ensures { self.new.time ≡ time }
     {
-        self.start = write_digits(time, &mut self.bytes, TIME_END);
-        self.bytes[TIME_END] = b' ';
-        self.time = time;
+        let low = time % LOW_VALUES;
+        if self.has_low_digits(time, low) {
+            self.set_high_digits(time);
+        } else {
+            self.set_all_digits(time, low);
+        }
     }
 
     /// Writes the digits of a time, unless they are there.

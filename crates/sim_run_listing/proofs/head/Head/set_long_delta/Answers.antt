@@ -11,7 +11,7 @@ invariant_of-self c =
     let room : 21 + length digits < length c.copy_to.new.to = search rules in
     let written = delta_is c.args.delta c.self.inside.bytes c.copy_to.new.to digits is_digits c.copy_to.ensures room in
     let time = kept c.self.inside.start 21 _ c.self.inside.bytes _ _ (omega arith) (omega arith) written ∙ c.self.invariant.3 in
-    (c.self.invariant.0, omega arith, omega arith, time)
+    (c.self.invariant.0, omega arith, omega arith, time, c.self.invariant.4)
 
 pub returns : goal.returns
 returns c =
