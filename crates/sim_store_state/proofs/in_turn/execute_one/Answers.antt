@@ -1,34 +1,31 @@
-use Rattle.std.proofs.Common.{[], refl, sym, ◌∙◌, get_or}
-use Rattle.std.proofs.lemmas.List.{set-get_or}
-use Rattle.sim_store_state.proofs.Assigned.{idle_left, assigned_left, assigned_ready}
-use Rattle.sim_store_state.proofs.Contents.{as_owned}
+use Rattle.sim_store_state.specs.FlatState.{views_of}
+use Rattle.sim_standard.specs.State.{net_at}
+use Rattle.sim_store_state.proofs.InTurn.{assigned-done, assigned-kept, executable-at, executable-pending}
 use Rattle.sim_store_state.proofs.in_turn.execute_one.Goals as goal
 
-pub returns-then-is_idle : goal.returns-then-is_idle
-returns-then-is_idle g c =
-    let look = g.N.Nets.look c.args.nets.now in
-    let row = get_or c.args.drivers.now c.args.number [] in
-    record {
-      drivers = sym (set-get_or c.args.drivers.now c.args.number []);
-      ok = λ vs. sym (idle_left look look c.args.now c.args.quick.now (as_owned row vs) refl (sym c.requires.idle ∙ c.if-is_idle.true));
-      ready = λ body vs ready. ready;
-      values = refl;
-      times = c.requires.times;
-    }
+pub assign_and_tell-requires-clause-at : goal.assign_and_tell-requires-clause-at
+assign_and_tell-requires-clause-at c =
+    executable-at c.args.processes.now c.args.now c.args.variables.now c.args.number c.args.drivers.now c.requires.owned c.requires.here
+
+pub assign_and_tell-requires-clause-pending : goal.assign_and_tell-requires-clause-pending
+assign_and_tell-requires-clause-pending c =
+    executable-pending c.args.processes.now c.args.now c.args.variables.now c.args.number c.args.drivers.now c.requires.owned c.requires.here
 
 pub returns : goal.returns
-returns g c =
-    let look = g.N.Nets.look c.args.nets.now in
+returns c =
+    let n = c.args.number in
+    let time = c.args.now in
     let q = c.args.quick.now in
+    let values = c.args.nets.now.values.now in
+    let before = c.args.nets.now.values_before.now in
+    let vss = c.args.variables.now in
+    let old = c.args.drivers.now in
     let t = c.assign_and_tell in
-    let e = t.ensures in
-    let row = get_or c.args.drivers.now c.args.number [] in
-    let row' = get_or t.new.drivers c.args.number [] in
+    let new = t.new.drivers in
+    let r = c.requires in
     record {
-      drivers = e.drivers;
-      ok = λ vs. assigned_left look look c.args.now q t.result (as_owned row vs) (as_owned row' vs) refl (sym c.requires.idle ∙ c.if-is_idle.false)
-          e.assigned refl;
-      ready = λ body vs ready. assigned_ready body look c.args.now q t.result (as_owned row vs) (as_owned row' vs) e.assigned refl ready;
-      values = e.assigned.values;
-      times = e.times;
+      done = assigned-done c.args.processes.now time values before vss t.result c.args.codes.now n q old new r.codes r.body r.owned r.here r.edge
+          t.ensures.drivers t.ensures.assigned;
+      kept = assigned-kept t.result (net_at (views_of values before)) time vss n q old new r.owned t.ensures.drivers t.ensures.assigned;
+      times = t.ensures.times;
     }
