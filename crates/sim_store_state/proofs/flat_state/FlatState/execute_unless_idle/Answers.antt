@@ -37,7 +37,7 @@ returns-in-Some-clause-ok c =
     let process = c.args.process.now in
     let own = get_or h.owned n nothing_owned in
     let now = get_or c.execute_quick_unless_idle.new.self.owned n nothing_owned in
-    let known = rw c.in-Some.is at c.quick.ensures in
+    let known = rw c.in-Some.is at c.quick.ensures.body in
     let does = known (net_at h.nets) process.body process.nets c.args.time own c.requires.code c.requires.nets c.requires.ready.variables in
     on_ok_weaker c.execute_quick_unless_idle.result (λ (is : now ≡ _).
     c.execute_quick_unless_idle.ensures.alone ∙ ap (λ (o : Owned). with_all h (set h.owned n o)) (is ∙ sym does)) c.execute_quick_unless_idle.ensures.ok
