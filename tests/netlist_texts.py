@@ -29,7 +29,7 @@ NAMES = ["gates", "tables", "registers", "counter", "sharing", "operands"]
 # the most bytes of a text for each change of a bit of an input, on average, the same where inputs change in steps without a clock, and the
 # inputs that are clocks
 BYTES = 16
-BYTES_IN_STEPS = {"gates": 12}
+BYTES_IN_STEPS = {"gates": 10}
 CLOCKS = ["clk", "cp"]
 # how many netlists with another byte, and with another member or item, are tried
 MUTATED = 1000

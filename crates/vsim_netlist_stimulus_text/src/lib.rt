@@ -1,6 +1,7 @@
 //! Stimuli as statements.
 #![tactic(auto)]
 
+mod choice;
 mod steps;
 mod stimulus;
 mod table;

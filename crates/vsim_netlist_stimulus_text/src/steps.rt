@@ -1,4 +1,4 @@
-//! The steps in which the inputs of a design without a clock change.
+//! The steps in which inputs change that no clock of the design is for.
 
 use crate::tables::{Clock, Edges, later_changes};
 use vsim_netlist_design::{Change, Level};
@@ -60,6 +60,44 @@ pub(crate) fn clock_of_steps(inputs: &[(usize, &[Change])]) -> Option<Clock> {
         net: 0,
         first: Level::One,
         edges: Edges { start: half, half },
+        end: last_time(inputs),
+    })
+}
+
+/// The greatest common divisor of the times between the changes of an input after time 0, and the
+/// time of the first one.
+fn raster_of(changes: &[Change]) -> (u64, u64) {
+    let changes = later_changes(changes);
+    let mut step = 0;
+    let mut before = None;
+    for change in changes {
+        if let Some(time) = before {
+            step = common_divisor(step, change.time.saturating_sub(time));
+        }
+        before = Some(change.time);
+    }
+    match changes.first() {
+        Some(first) => (first.time, step),
+        None => (0, step),
+    }
+}
+
+/// A clock, yet without a net, that rises at each time at which an input changes after time 0, and in
+/// the same steps up to the last change of all inputs; `None` if there is none.
+pub(crate) fn clock_of_input(inputs: &[(usize, &[Change])], changes: &[Change]) -> Option<Clock> {
+    let (start, step) = raster_of(changes);
+    let half = step / 2;
+    if half == 0 || step % 2 != 0 {
+        return None;
+    }
+    let before = (start.saturating_sub(1) / step).saturating_mul(step);
+    Some(Clock {
+        net: 0,
+        first: Level::Zero,
+        edges: Edges {
+            start: start.saturating_sub(before),
+            half,
+        },
         end: last_time(inputs),
     })
 }

@@ -1,5 +1,8 @@
 //! Stimuli as statements.
 
+ghost use Rattle.std.specs.Prelude.{◌<◌, length, IfSome};
+
+use crate::table::is_relayed;
 use crate::tables::{Clock, Edges, Tables, is_multiple, later_changes};
 use std::alloc::{AllocError, Global};
 use std::slice::Iter;
@@ -380,18 +383,6 @@ fn table_inputs<'a>(
     Ok(inputs)
 }
 
-/// The tables of the inputs that change with a clock.
-fn tables_with(
-    statements: &Statements,
-    clock: Clock,
-    nets: &[Driven<'_>],
-    clocks: &[bool],
-) -> Result<Tables, AllocError> {
-    let inputs = table_inputs(statements.alloc, nets, clocks)?;
-    let (alloc, signals) = (statements.alloc, &statements.signals);
-    Tables::of(alloc, signals, clock, inputs.as_slice())
-}
-
 /// Writes a clock that is added for tables, and stops at its last edge.
 fn put_added_clock(statements: &mut Statements, once: &mut Draft, tables: &mut Tables) {
     let clock = tables.clock();
@@ -406,56 +397,132 @@ fn put_added_clock(statements: &mut Statements, once: &mut Draft, tables: &mut T
         signals.text(running),
         clock.edges.half,
     );
-    text.push(";\n");
+    if clock.edges.start != clock.edges.half {
+        put_start(statements, once, clock.first, clock.edges.start);
+    }
+    statements.body.push(";\n");
 }
 
 /// The table of the inputs that change in steps, with a clock that is added for it.
 fn stepped_tables(
     statements: &mut Statements,
     once: &mut Draft,
-    nets: &[Driven<'_>],
-    clocks: &[bool],
+    inputs: &[(usize, &[Change])],
 ) -> Result<Option<Tables>, AllocError> {
-    let inputs = table_inputs(statements.alloc, nets, clocks)?;
     let (alloc, signals) = (statements.alloc, &statements.signals);
-    let mut tables = Tables::of_steps(alloc, signals, inputs.as_slice())?;
+    let mut tables = Tables::of_steps(alloc, signals, inputs)?;
     if let Some(tables) = &mut tables {
         put_added_clock(statements, once, tables);
     }
     Ok(tables)
 }
 
-/// The tables of the inputs that change with the first clock, one delta cycle after its edges, or
-/// without a clock in steps; none if inputs change later.
+/// The inputs that are in no table.
+fn inputs_beside<'a>(
+    alloc: Global,
+    inputs: &[(usize, &'a [Change])],
+    tables: &[Tables],
+) -> Result<Vec<(usize, &'a [Change])>, AllocError> {
+    let mut others = Vec::new(alloc);
+    for (net, changes) in inputs {
+        if place_with(tables, *net).is_none() {
+            push(&mut others, (*net, *changes))?;
+        }
+    }
+    Ok(others)
+}
+
+/// The place of the tables that have an input, if there are any.
+fn place_with(tables: &[Tables], net: usize) -> Option<usize>
+    ensures { IfSome result (λ place. place < length tables.now) }
+{
+    for place in 0..tables.len() {
+        if tables[place].has(net) {
+            return Some(place);
+        }
+    }
+    None
+}
+
+/// The tables of the inputs that change with the first clock, one delta cycle after its edges.
+fn clocked_tables(
+    statements: &Statements,
+    nets: &[Driven<'_>],
+    manner: Manner<'_>,
+    inputs: &[(usize, &[Change])],
+) -> Result<Vec<Tables>, AllocError> {
+    let alloc = statements.alloc;
+    let mut found = Vec::new(alloc);
+    if let Some(clock) = first_clock(nets, manner.end) {
+        let tables = Tables::of(alloc, &statements.signals, clock, inputs)?;
+        push(&mut found, tables)?;
+    }
+    Ok(found)
+}
+
+/// The tables of the inputs that change with the first clock, and those of inputs that change in
+/// steps; none if inputs change later.
 fn tables(
     statements: &mut Statements,
     once: &mut Draft,
     nets: &[Driven<'_>],
     manner: Manner<'_>,
-) -> Result<Option<Tables>, AllocError> {
+) -> Result<Vec<Tables>, AllocError> {
     if manner.hold != 0 {
-        return Ok(None);
+        return Ok(Vec::new(statements.alloc));
     }
-    let Some(clock) = first_clock(nets, manner.end) else {
-        return stepped_tables(statements, once, nets, manner.clocks);
-    };
-    let tables = tables_with(statements, clock, nets, manner.clocks)?;
-    Ok(Some(tables))
+    let inputs = table_inputs(statements.alloc, nets, manner.clocks)?;
+    let mut found = clocked_tables(statements, nets, manner, inputs.as_slice())?;
+    add_stepped(statements, once, inputs.as_slice(), &mut found)?;
+    Ok(found)
 }
 
-/// Whether a table has the changes of a net.
-fn is_in_table(tables: &Option<Tables>, net: &Driven<'_>) -> bool {
-    match tables {
-        Some(tables) => tables.has(net.changes),
-        None => false,
+/// Adds the table of those inputs that change in steps and are in no other one.
+fn add_stepped(
+    statements: &mut Statements,
+    once: &mut Draft,
+    inputs: &[(usize, &[Change])],
+    found: &mut Vec<Tables>,
+) -> Result<(), AllocError> {
+    let others = inputs_beside(statements.alloc, inputs, found.as_slice())?;
+    match stepped_tables(statements, once, others.as_slice())? {
+        Some(tables) => push(found, tables),
+        None => Ok(()),
     }
 }
 
 /// Prepares an input whose changes are in a table.
-fn put_in_table(statements: &mut Statements, net: &Driven<'_>) {
-    let _ = begin(statements, net);
+fn put_in_table(
+    statements: &mut Statements,
+    tables: &mut Tables,
+    net: &Driven<'_>,
+) -> Result<(), AllocError> {
+    let changes = begin(statements, net).len();
     statements.count_driver();
+    if is_relayed(statements.signals.text(net.place).len(), changes) {
+        let relay = put_relay(statements, net);
+        return tables.relay(net.place, relay);
+    }
     statements.signals.ensure(net.place);
+    Ok(())
+}
+
+/// Writes the driver of an input that is no clock of constant period.
+fn put_input(
+    statements: &mut Statements,
+    once: &mut Draft,
+    net: &Driven<'_>,
+    manner: Manner<'_>,
+    tables: &mut [Tables],
+) -> Result<(), AllocError> {
+    let is_clock = is_clock(manner.clocks, net);
+    if !is_clock {
+        if let Some(place) = place_with(tables, net.place) {
+            return put_in_table(statements, &mut tables[place], net);
+        }
+    }
+    put_changes(statements, once, net, is_clock, manner.hold);
+    Ok(())
 }
 
 /// Writes the driver of an input.
@@ -464,13 +531,14 @@ fn put_net(
     once: &mut Draft,
     net: &Driven<'_>,
     manner: Manner<'_>,
-    tables: &Option<Tables>,
-) {
-    let is_clock = is_clock(manner.clocks, net);
+    tables: &mut [Tables],
+) -> Result<(), AllocError> {
     match (net.edges, manner.running) {
-        (Some(edges), Some(running)) => put_clock(statements, once, net, edges, running),
-        _ if !is_clock && is_in_table(tables, net) => put_in_table(statements, net),
-        _ => put_changes(statements, once, net, is_clock, manner.hold),
+        (Some(edges), Some(running)) => {
+            put_clock(statements, once, net, edges, running);
+            Ok(())
+        }
+        _ => put_input(statements, once, net, manner, tables),
     }
 }
 
@@ -480,11 +548,12 @@ fn put_nets(
     once: &mut Draft,
     nets: &[Driven<'_>],
     manner: Manner<'_>,
-    tables: &Option<Tables>,
-) {
+    tables: &mut [Tables],
+) -> Result<(), AllocError> {
     for net in nets {
-        put_net(statements, once, net, manner, tables);
+        put_net(statements, once, net, manner, tables)?;
     }
+    Ok(())
 }
 
 /// Writes the drivers of the inputs.
@@ -494,12 +563,12 @@ fn put_inputs(
     nets: &[Driven<'_>],
     manner: Manner<'_>,
 ) -> Result<(), AllocError> {
-    let tables = tables(statements, once, nets, manner)?;
-    put_nets(statements, once, nets, manner, &tables);
-    match &tables {
-        Some(tables) => tables.put(statements),
-        None => Ok(()),
+    let mut tables = tables(statements, once, nets, manner)?;
+    put_nets(statements, once, nets, manner, tables.as_mut_slice())?;
+    for tables in tables.as_slice() {
+        tables.put(statements)?;
     }
+    Ok(())
 }
 
 /// Adds a process that waits for a signal, with these statements.

@@ -3,14 +3,34 @@
 ghost use Rattle.std.specs.Prelude.{◌≤◌, length};
 
 use std::alloc::{AllocError, Global};
+use std::collections::HashMap;
 use vsim_netlist_design::{Change, Draft, Level, push, push_time};
 use vsim_netlist_signals::{Names, Signals, Statements};
 
-/// The bytes that the tests for an edge take, on average.
+/// The bytes that the tests for an edge take, on average, if there are changes at each edge.
 const EDGE: usize = 27;
+
+/// The bytes that the test of one more bit takes.
+const BIT: usize = 11;
 
 /// The bytes that an element of a waveform takes besides its time.
 const ELEMENT: usize = 10;
+
+/// The bytes of a short name, of which there are many.
+const SHORT: usize = 2;
+
+/// The bytes that a copy of a signal takes besides the name of the other one.
+const COPY: usize = 6;
+
+/// For the net of each input in a table, the signal that the process assigns.
+pub(crate) type Targets = HashMap<usize, usize>;
+
+/// Whether a signal with a short name, which the input follows, makes the text shorter, for an input
+/// with a name of this length that changes this many times.
+pub(crate) fn is_relayed(name: usize, changes: usize) -> bool {
+    let saved = changes.saturating_mul(name.saturating_sub(SHORT));
+    saved > name.saturating_add(COPY)
+}
 
 /// The changes of inputs at the edges of a clock in one direction, by the number of the edge, from
 /// 0.
@@ -70,21 +90,51 @@ impl Table {
 
     /// Whether a process takes fewer bytes than waveforms, given those that it takes apart from
     /// edges and assignments. Changes are sorted.
-    pub(crate) fn pays(&self, alloc: Global, signals: &Signals, others: usize) -> bool {
+    /// `all` is the number of edges of the clock.
+    pub(crate) fn pays(&self, alloc: Global, signals: &Signals, all: usize, others: usize) -> bool {
         let changes = self.changes.as_slice();
-        let edges = self.edges().saturating_mul(EDGE).saturating_add(others);
-        let costs = edges.saturating_add(assignment_bytes(signals, changes));
+        let edges = self.edges();
+        let tests = edges.saturating_mul(edge_bytes(all, edges));
+        let costs = tests
+            .saturating_add(others)
+            .saturating_add(assignment_bytes(signals, changes));
         !self.order.is_empty() && costs <= element_bytes(alloc, changes)
     }
+}
+
+/// The bytes that the tests for an edge take, on average, if this many of all edges have
+/// changes: where they are sparse, more bits are tested for each.
+pub(crate) fn edge_bytes(all: usize, used: usize) -> usize {
+    let mut bytes = EDGE;
+    let mut left = all.checked_div(used).unwrap_or(0);
+    for _ in 0..usize::BITS {
+        if left < 2 {
+            break;
+        }
+        bytes = bytes.saturating_add(BIT);
+        left /= 2;
+    }
+    bytes
+}
+
+/// The bytes that the assignment of a level takes; a signal with a short name stands in for one with
+/// a longer name.
+pub(crate) fn assignment_of(signals: &Signals, net: usize, level: Level) -> usize {
+    let name = signals.text(net).len().min(SHORT);
+    let value = level_text(signals, level).len();
+    name.saturating_add(value.saturating_add(3))
+}
+
+/// The bytes that an element of a waveform takes, at a time.
+pub(crate) fn element_of(alloc: Global, time: u64) -> usize {
+    time_bytes(alloc, time).saturating_add(ELEMENT)
 }
 
 /// The bytes that assignments of the values of these changes take.
 fn assignment_bytes(signals: &Signals, changes: &[(usize, Change)]) -> usize {
     let mut bytes = 0usize;
     for (net, change) in changes {
-        let name = signals.text(*net).len();
-        let level = level_text(signals, change.level).len();
-        bytes = bytes.saturating_add(name.saturating_add(level).saturating_add(3));
+        bytes = bytes.saturating_add(assignment_of(signals, *net, change.level));
     }
     bytes
 }
@@ -93,7 +143,7 @@ fn assignment_bytes(signals: &Signals, changes: &[(usize, Change)]) -> usize {
 fn element_bytes(alloc: Global, changes: &[(usize, Change)]) -> usize {
     let mut bytes = 0usize;
     for (_, change) in changes {
-        bytes = bytes.saturating_add(time_bytes(alloc, change.time).saturating_add(ELEMENT));
+        bytes = bytes.saturating_add(element_of(alloc, change.time));
     }
     bytes
 }
@@ -219,16 +269,23 @@ fn push_assignment(text: &mut Draft, signals: &Signals, net: usize, level: Level
 }
 
 /// Adds the assignment of the change at an index.
-fn push_change(text: &mut Draft, signals: &Signals, table: &Table, at: usize) {
+fn push_change(text: &mut Draft, signals: &Signals, table: &Table, targets: &Targets, at: usize) {
     if let Some((net, change)) = table.changes.get(at) {
-        push_assignment(text, signals, *net, change.level);
+        let target = targets.get(net).copied().unwrap_or(*net);
+        push_assignment(text, signals, target, change.level);
     }
 }
 
 /// Adds the assignments of changes.
-fn push_assignments(text: &mut Draft, signals: &Signals, table: &Table, order: &[(usize, usize)]) {
+fn push_assignments(
+    text: &mut Draft,
+    signals: &Signals,
+    table: &Table,
+    targets: &Targets,
+    order: &[(usize, usize)],
+) {
     for (_, at) in order {
-        push_change(text, signals, table, *at);
+        push_change(text, signals, table, targets, *at);
     }
     text.push("\n");
 }
@@ -251,15 +308,16 @@ fn push_tested(
     bits: &[CounterBit],
     signals: &Signals,
     table: &Table,
+    targets: &Targets,
     changes: &[(usize, usize)],
     number: usize,
     tested: usize,
 ) {
     if tested >= bits.len() {
-        return push_assignments(text, signals, table, changes);
+        return push_assignments(text, signals, table, targets, changes);
     }
     push_last_if(text, bits, number, tested);
-    push_assignments(text, signals, table, changes);
+    push_assignments(text, signals, table, targets, changes);
     push_ends(text, 1)
 }
 
@@ -270,6 +328,7 @@ fn push_edge(
     bits: &[CounterBit],
     signals: &Signals,
     table: &Table,
+    targets: &Targets,
     changes: &[(usize, usize)],
     number: usize,
     from: usize,
@@ -277,13 +336,19 @@ fn push_edge(
 ) {
     push_ifs(text, bits, number, from, to);
     let tested = from.max(to);
-    push_tested(text, bits, signals, table, changes, number, tested);
+    push_tested(text, bits, signals, table, targets, changes, number, tested);
     push_ends(text, from.saturating_sub(to))
 }
 
 /// Adds the changes of a table, edge by edge. The bits in which an edge is equal to the next one
 /// are tested once for both.
-fn push_edges(text: &mut Draft, bits: &[CounterBit], signals: &Signals, table: &Table) {
+fn push_edges(
+    text: &mut Draft,
+    bits: &[CounterBit],
+    signals: &Signals,
+    table: &Table,
+    targets: &Targets,
+) {
     let mut rest = table.order.as_slice();
     let mut from = 0;
     for _ in 0..table.order.len() {
@@ -295,7 +360,9 @@ fn push_edges(text: &mut Draft, bits: &[CounterBit], signals: &Signals, table: &
         if from > 0 {
             text.push("else ");
         }
-        push_edge(text, bits, signals, table, changes, *number, from, to);
+        push_edge(
+            text, bits, signals, table, targets, changes, *number, from, to,
+        );
         from = to;
         rest = others;
     }
@@ -357,12 +424,13 @@ fn push_table(
     text: &mut Draft,
     signals: &Signals,
     table: &Table,
+    targets: &Targets,
     clock: usize,
     condition: &str,
     bits: &[CounterBit],
 ) {
     push_head(text, signals.text(clock), condition, bits);
-    push_edges(text, bits, signals, table);
+    push_edges(text, bits, signals, table, targets);
     push_tail(text, bits);
 }
 
@@ -371,6 +439,7 @@ fn push_table(
 pub(crate) fn put_table(
     statements: &mut Statements,
     table: &Table,
+    targets: &Targets,
     clock: usize,
     condition: &str,
     edges: usize,
@@ -378,6 +447,14 @@ pub(crate) fn put_table(
     let bits = counter(statements.alloc, &mut statements.signals.names, edges)?;
     statements.count_process();
     let (signals, text) = (&statements.signals, &mut statements.body);
-    push_table(text, signals, table, clock, condition, bits.as_slice());
+    push_table(
+        text,
+        signals,
+        table,
+        targets,
+        clock,
+        condition,
+        bits.as_slice(),
+    );
     Ok(())
 }

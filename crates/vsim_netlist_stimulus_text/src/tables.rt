@@ -1,8 +1,10 @@
 //! Which inputs are written as tables of their changes at the edges of a clock.
 
-use crate::steps::clock_of_steps;
-use crate::table::{Table, put_table};
+use crate::choice::chosen;
+use crate::steps::{clock_of_input, clock_of_steps};
+use crate::table::{Table, Targets, put_table};
 use std::alloc::{AllocError, Global};
+use std::collections::HashMap;
 use vsim_netlist_design::{Change, Level};
 use vsim_netlist_signals::{Signals, Statements};
 
@@ -12,6 +14,9 @@ const COUNTER: usize = 300;
 
 /// The bytes that a clock takes.
 const CLOCK: usize = 100;
+
+/// For how many inputs the steps in which they change are tried.
+const TRIES: usize = 8;
 
 /// The edges of a clock of constant period: the time of the first one, and half the period.
 #[derive(Clone, Copy)]
@@ -34,6 +39,7 @@ pub(crate) struct Tables {
     clock: Clock,
     rising: Option<Table>,
     falling: Option<Table>,
+    targets: Targets,
 }
 
 impl Drop for Tables {
@@ -42,6 +48,7 @@ impl Drop for Tables {
             clock: _,
             rising: _rising,
             falling: _falling,
+            targets: _targets,
         } = self;
     }
 }
@@ -75,8 +82,16 @@ fn edge_at(clock: &Clock, time: u64) -> Option<Edge> {
     })
 }
 
+/// The number of the edge of a clock at a time, if there is one.
+pub(crate) fn edge_number(clock: &Clock, time: u64) -> Option<usize> {
+    match edge_at(clock, time) {
+        Some(edge) => Some(edge.number),
+        None => None,
+    }
+}
+
 /// A bound of the number of edges of a clock in one direction, at most one too high.
-fn edges_in_direction(clock: &Clock) -> usize {
+pub(crate) fn edges_in_direction(clock: &Clock) -> usize {
     let since = clock.end.saturating_sub(clock.edges.start);
     let after_first = since.checked_div(clock.edges.half).unwrap_or(0);
     (after_first / 2).saturating_add(1) as usize
@@ -91,7 +106,7 @@ pub(crate) fn later_changes(changes: &[Change]) -> &[Change] {
 }
 
 /// Whether all changes after time 0 are at edges of a clock in one direction.
-fn are_at(clock: &Clock, changes: &[Change], rises: bool) -> bool {
+pub(crate) fn are_at(clock: &Clock, changes: &[Change], rises: bool) -> bool {
     for change in changes {
         match edge_at(clock, change.time) {
             Some(edge) if edge.rises == rises => {}
@@ -108,8 +123,8 @@ fn push_change(
     net: usize,
     change: &Change,
 ) -> Result<(), AllocError> {
-    match edge_at(clock, change.time) {
-        Some(edge) => table.push(edge.number, net, *change),
+    match edge_number(clock, change.time) {
+        Some(edge) => table.push(edge, net, *change),
         None => Ok(()),
     }
 }
@@ -121,68 +136,72 @@ fn push_changes(
     net: usize,
     changes: &[Change],
 ) -> Result<(), AllocError> {
-    for change in changes {
+    for change in later_changes(changes) {
         push_change(table, clock, net, change)?;
     }
     Ok(())
 }
 
-/// Adds the changes of an input to the table of the edges in one direction, if all are at these.
-fn push_input(
-    table: &mut Table,
-    clock: &Clock,
-    net: usize,
-    changes: &[Change],
-    rises: bool,
-) -> Result<(), AllocError> {
-    let changes = later_changes(changes);
-    if are_at(clock, changes, rises) {
-        return push_changes(table, clock, net, changes);
-    }
-    Ok(())
-}
-
-/// Adds the changes of inputs to a table of the edges in one direction, by their edges.
+/// Adds the changes of the inputs that are chosen to a table, by their edges.
 fn push_inputs(
     table: &mut Table,
     clock: &Clock,
     inputs: &[(usize, &[Change])],
-    rises: bool,
+    chosen: &[bool],
 ) -> Result<(), AllocError> {
-    for (net, changes) in inputs {
-        push_input(table, clock, *net, changes, rises)?;
+    for ((net, changes), is_chosen) in inputs.iter().zip(chosen) {
+        if *is_chosen {
+            push_changes(table, clock, *net, changes)?;
+        }
     }
     table.sort()
 }
 
-/// The table of the inputs, given by their nets and changes, that change at the edges of a clock in
-/// one direction; `None` if waveforms are shorter.
+/// Notes that the inputs that are chosen are assigned.
+fn note(
+    targets: &mut Targets,
+    inputs: &[(usize, &[Change])],
+    chosen: &[bool],
+) -> Result<(), AllocError> {
+    for ((net, _), is_chosen) in inputs.iter().zip(chosen) {
+        if *is_chosen {
+            targets.insert(*net, *net)?;
+        }
+    }
+    Ok(())
+}
+
+/// The table of those inputs, given by their nets and changes, that change at the edges of a clock in
+/// one direction and take fewer bytes there, which it notes; `None` if waveforms are shorter.
 fn table_of(
     alloc: Global,
     signals: &Signals,
     clock: &Clock,
     inputs: &[(usize, &[Change])],
     rises: bool,
+    targets: &mut Targets,
 ) -> Result<Option<Table>, AllocError> {
+    let chosen = chosen(alloc, signals, clock, inputs, rises)?;
     let mut table = Table::new(alloc);
-    push_inputs(&mut table, clock, inputs, rises)?;
-    Ok(if table.pays(alloc, signals, COUNTER) {
-        Some(table)
-    } else {
-        None
-    })
+    push_inputs(&mut table, clock, inputs, chosen.as_slice())?;
+    if !table.pays(alloc, signals, edges_in_direction(clock), COUNTER) {
+        return Ok(None);
+    }
+    note(targets, inputs, chosen.as_slice())?;
+    Ok(Some(table))
 }
 
 /// Writes the process of a table, if there is one.
 fn put_one(
     statements: &mut Statements,
     table: &Option<Table>,
+    targets: &Targets,
     clock: usize,
     condition: &str,
     edges: usize,
 ) -> Result<(), AllocError> {
     match table {
-        Some(table) => put_table(statements, table, clock, condition, edges),
+        Some(table) => put_table(statements, table, targets, clock, condition, edges),
         None => Ok(()),
     }
 }
@@ -195,23 +214,26 @@ impl Tables {
         clock: Clock,
         inputs: &[(usize, &[Change])],
     ) -> Result<Tables, AllocError> {
-        let rising = table_of(alloc, signals, &clock, inputs, true)?;
-        let falling = table_of(alloc, signals, &clock, inputs, false)?;
+        let mut targets = HashMap::new(alloc);
+        let rising = table_of(alloc, signals, &clock, inputs, true, &mut targets)?;
+        let falling = table_of(alloc, signals, &clock, inputs, false, &mut targets)?;
         Ok(Tables {
             clock,
             rising,
             falling,
+            targets,
         })
     }
 
-    /// The table of inputs that change at multiples of a step, at the rising edges of a clock that
-    /// is to be added; `None` if waveforms are shorter.
-    pub(crate) fn of_steps(
+    /// The table of inputs that change at the rising edges of a clock that is to be added; `None` if
+    /// waveforms are shorter.
+    fn of_added(
         alloc: Global,
         signals: &Signals,
+        clock: Option<Clock>,
         inputs: &[(usize, &[Change])],
     ) -> Result<Option<Tables>, AllocError> {
-        let Some(clock) = clock_of_steps(inputs) else {
+        let Some(clock) = clock else {
             return Ok(None);
         };
         let tables = Tables::of(alloc, signals, clock, inputs)?;
@@ -222,13 +244,53 @@ impl Tables {
         })
     }
 
+    /// The table of inputs that change in the steps of one of them, the first for which that is
+    /// shorter than waveforms, if one is found soon.
+    fn of_input(
+        alloc: Global,
+        signals: &Signals,
+        inputs: &[(usize, &[Change])],
+    ) -> Result<Option<Tables>, AllocError> {
+        let mut tried = 0usize;
+        for (_, changes) in inputs {
+            let clock = clock_of_input(inputs, changes);
+            if clock.is_none() {
+                continue;
+            }
+            if tried == TRIES {
+                break;
+            }
+            tried = tried.saturating_add(1);
+            let tables = Tables::of_added(alloc, signals, clock, inputs)?;
+            if tables.is_some() {
+                return Ok(tables);
+            }
+        }
+        Ok(None)
+    }
+
+    /// The table of inputs that change in steps, from time 0 on or from the first change of one of
+    /// them, at the rising edges of a clock that is to be added; `None` if waveforms are shorter.
+    pub(crate) fn of_steps(
+        alloc: Global,
+        signals: &Signals,
+        inputs: &[(usize, &[Change])],
+    ) -> Result<Option<Tables>, AllocError> {
+        let tables = Tables::of_added(alloc, signals, clock_of_steps(inputs), inputs)?;
+        if tables.is_some() {
+            return Ok(tables);
+        }
+        Tables::of_input(alloc, signals, inputs)
+    }
+
     /// Whether the table of the rising edges is worth a clock that is added for it, and has changes
     /// at half of its edges or more.
     fn pay_with_clock(&self, alloc: Global, signals: &Signals) -> bool {
         match &self.rising {
             Some(table) => {
-                let is_dense = edges_in_direction(&self.clock) / 2 <= table.edges();
-                is_dense && table.pays(alloc, signals, COUNTER + CLOCK)
+                let edges = edges_in_direction(&self.clock);
+                let is_dense = edges / 2 <= table.edges();
+                is_dense && table.pays(alloc, signals, edges, COUNTER + CLOCK)
             }
             None => false,
         }
@@ -244,14 +306,15 @@ impl Tables {
         self.clock.net = net;
     }
 
-    /// Whether a table has the changes of an input.
-    pub(crate) fn has(&self, changes: &[Change]) -> bool {
-        let changes = later_changes(changes);
-        if changes.is_empty() {
-            return false;
-        }
-        (self.rising.is_some() && are_at(&self.clock, changes, true))
-            || (self.falling.is_some() && are_at(&self.clock, changes, false))
+    /// Whether a table has the changes of the input with a net.
+    pub(crate) fn has(&self, net: usize) -> bool {
+        self.targets.contains_key(&net)
+    }
+
+    /// Lets the input with a net follow a signal, which is assigned in its place.
+    pub(crate) fn relay(&mut self, net: usize, signal: usize) -> Result<(), AllocError> {
+        self.targets.insert(net, signal)?;
+        Ok(())
     }
 
     /// Writes the processes of the tables.
@@ -259,7 +322,22 @@ impl Tables {
         let clock = self.clock.net;
         let edges = edges_in_direction(&self.clock);
         statements.signals.ensure(clock);
-        put_one(statements, &self.rising, clock, "rising_edge", edges)?;
-        put_one(statements, &self.falling, clock, "falling_edge", edges)
+        let targets = &self.targets;
+        put_one(
+            statements,
+            &self.rising,
+            targets,
+            clock,
+            "rising_edge",
+            edges,
+        )?;
+        put_one(
+            statements,
+            &self.falling,
+            targets,
+            clock,
+            "falling_edge",
+            edges,
+        )
     }
 }
