@@ -299,6 +299,29 @@ def stepped():
     return netlist({"u": cell("$_DFF_P_", {"C": [2], "D": [4], "Q": [3]})}, **ports), "\n".join([*lines, ""]), [], ", ".join(wanted)
 
 
+def stepped_beside():
+    """Returns a row as in LISTED: a register whose input changes in steps of its own, every other time with the rising edge of its clock."""
+    chance, wanted, last = random.Random(5), ["0 U", "5000000 0"], 0
+    changes = [(time, chance.getrandbits(16)) for time in range(35, 1135, 55)]
+    events = sorted([*((5 * it, f"c {it % 2}") for it in range(1, 232)), *((time, f"a {data:016b}") for time, data in changes)])
+    lines = ["0 c 0", "0 a 0", *(f"{time}ns {event}" for time, event in events)]
+    for time, data in changes:
+        if data & 1 != last:
+            last = data & 1
+            wanted.append(f"{(time + (10 if time % 10 else 5)) * 10**6} {last}")
+    ports = {"c": {"direction": "input", "bits": [2]}, "a": {"direction": "input", "bits": list(range(4, 20))}}
+    ports["y"] = {"direction": "output", "bits": [3]}
+    return netlist({"u": cell("$_DFF_P_", {"C": [2], "D": [4], "Q": [3]})}, **ports), "\n".join([*lines, ""]), [], ", ".join(wanted)
+
+
+def has_two_clocks(programs, folder):
+    """Demands that a clock is added for inputs that change in steps of their own, and that the register takes what stood before its edge."""
+    given, stimuli, words, wanted = stepped_beside()
+    text = run([programs[1], *put_stimuli(folder, stimuli), *words], given.encode())[1].decode()
+    demand(text.count("rising_edge") == 2 and " when " in text, f"no clock is added: {text}")
+    is_listed(programs, folder, given, stimuli, words, wanted)
+
+
 def put_stimuli(folder, stimuli):
     """Returns the words that name these stimuli, if there are any."""
     path = f"{folder}/stimuli"
@@ -462,6 +485,7 @@ def tests_of(programs, folder, mutated):
     for row in LISTED:
         yield f"y is {row[3]}", lambda row=row: is_listed(programs, folder, *row)
     yield "steps without a clock", lambda: is_listed(programs, folder, *stepped())
+    yield "steps beside a clock", lambda: has_two_clocks(programs, folder)
     yield "clocks", lambda: is_one_statement(program, folder)
     for row in REFUSED:
         yield row[3], lambda row=row: is_refused(program, folder, *row)
