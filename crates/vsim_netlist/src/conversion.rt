@@ -3,10 +3,9 @@
 use crate::command::Options;
 use crate::delay_list::{read_delays, read_hold};
 use crate::text::{Request, Written, write_text};
-use anyhow::{Context, Result, bail};
 use std::alloc::{AllocError, Global};
 use vsim_netlist_cells::read_netlist;
-use vsim_netlist_design::{Netlist, Port, Stimuli, push};
+use vsim_netlist_design::{Draft, Fault, Netlist, Port, Stimuli, push};
 use vsim_netlist_stimuli::{Input, LATEST, read_stimuli};
 
 /// Adds an input.
@@ -33,14 +32,16 @@ fn stimuli(
     options: &Options<'_>,
     netlist: &Netlist,
     text: Option<&str>,
-) -> Result<Option<Stimuli>> {
+) -> Result<Option<Stimuli>, Fault> {
     let Some(text) = text else {
         return Ok(None);
     };
     let inputs = inputs(alloc, netlist)?;
     let path = options.stimuli().unwrap_or("");
-    let stimuli = read_stimuli(alloc, text, inputs.as_slice(), options.scope());
-    Ok(Some(stimuli.context(format_args!("{path}"))?))
+    match read_stimuli(alloc, text, inputs.as_slice(), options.scope()) {
+        Ok(stimuli) => Ok(Some(stimuli)),
+        Err(fault) => Err(fault.about(alloc, &[path])),
+    }
 }
 
 /// Makes the text of a netlist, with the text of its stimuli, if there are any.
@@ -49,9 +50,11 @@ pub(crate) fn convert(
     options: &Options<'_>,
     text: &str,
     of_stimuli: Option<&str>,
-) -> Result<Written> {
-    let netlist = read_netlist(alloc, text, options.top()).context("the netlist")?;
-    convert_netlist(alloc, options, &netlist, of_stimuli)
+) -> Result<Written, Fault> {
+    match read_netlist(alloc, text, options.top()) {
+        Ok(netlist) => convert_netlist(alloc, options, &netlist, of_stimuli),
+        Err(fault) => Err(fault.about(alloc, &["the netlist"])),
+    }
 }
 
 /// Makes the text of a netlist that has been read.
@@ -60,7 +63,7 @@ fn convert_netlist(
     options: &Options<'_>,
     netlist: &Netlist,
     of_stimuli: Option<&str>,
-) -> Result<Written> {
+) -> Result<Written, Fault> {
     let stimuli = stimuli(alloc, options, netlist, of_stimuli)?;
     write_netlist(alloc, options, netlist, stimuli.as_ref())
 }
@@ -76,14 +79,22 @@ fn last_change(stimuli: &Stimuli) -> u64 {
     latest
 }
 
+/// The refusal of a hold time that is too long.
+fn too_late(alloc: Global) -> Fault {
+    let mut text = Draft::of(alloc, "--hold: an input would change after ");
+    text.push_shown(&LATEST);
+    text.push(" fs, the latest time of vsim");
+    Fault::of_draft(text)
+}
+
 /// Refuses a hold time by which an input would change after the latest time of vsim.
-fn demand_hold(stimuli: Option<&Stimuli>, hold: u64) -> Result<()> {
+fn demand_hold(alloc: Global, stimuli: Option<&Stimuli>, hold: u64) -> Result<(), Fault> {
     let last = match stimuli {
         Some(stimuli) => last_change(stimuli),
         None => 0,
     };
     if LATEST.saturating_sub(last) < hold {
-        bail!("--hold: an input would change after {LATEST} fs, the latest time of vsim");
+        return Err(too_late(alloc));
     }
     Ok(())
 }
@@ -94,10 +105,10 @@ fn write_netlist(
     options: &Options<'_>,
     netlist: &Netlist,
     stimuli: Option<&Stimuli>,
-) -> Result<Written> {
+) -> Result<Written, Fault> {
     let delays = read_delays(alloc, options.delays)?;
-    let hold = read_hold(options.hold)?;
-    demand_hold(stimuli, hold)?;
+    let hold = read_hold(alloc, options.hold)?;
+    demand_hold(alloc, stimuli, hold)?;
     let request = Request {
         netlist,
         stimuli,

@@ -6,19 +6,19 @@
 mod command;
 mod conversion;
 mod delay_list;
-mod fault;
+mod failure;
 mod map;
 mod text;
 
 use crate::command::{Notice, Options, command_line, make_notice, make_options};
 use crate::conversion::convert;
-use crate::fault::Fault;
+use crate::failure::Failure;
 use crate::text::Written;
 use clap::ArgMatches;
-use std::alloc::AllocError;
 use std::io::{self, BufWriter, Write, writer};
 use std::process::ExitCode;
 use std::{env, fs};
+use vsim_netlist_design::Fault;
 
 /// The output of `--version`. In the copy that is built, the script `build` fills in this line.
 const VERSION: &str = "vsim_netlist 1.0.0, sources unknown, toolchain unknown
@@ -29,6 +29,10 @@ const DERIVED: &str = "vsim_netlist: gates or registers make clocks. Without del
 may see new data: give --delays dff=.. and --hold.
 ";
 
+/// The message for a lack of memory.
+const NO_MEMORY: &str = "vsim_netlist: memory allocation failed
+";
+
 /// The message for words that are not valid UTF-8, as `clap` words it.
 const NO_TEXT: &str = "error: invalid UTF-8 was detected in one or more arguments
 
@@ -36,21 +40,21 @@ For more information, try '--help'.
 ";
 
 /// The text of a file.
-fn read_file(rt: &HostRuntime, path: &str) -> Result<String, Fault> {
+fn read_file(rt: &HostRuntime, path: &str) -> Result<String, Failure> {
     match fs::read_to_string(rt, path) {
         Ok(text) => Ok(text),
-        Err(fault) => Err(Fault::of_reading(fault, path)),
+        Err(fault) => Err(Failure::of_reading(fault, path)),
     }
 }
 
 /// Writes the map, if requested.
-fn write_map(rt: &HostRuntime, path: Option<&str>, map: &str) -> Result<(), Fault> {
+fn write_map(rt: &HostRuntime, path: Option<&str>, map: &str) -> Result<(), Failure> {
     let Some(path) = path else {
         return Ok(());
     };
     match fs::write(rt, path, map) {
         Ok(()) => Ok(()),
-        Err(fault) => Err(Fault::of_streams(fault, path)),
+        Err(fault) => Err(Failure::of_streams(fault, path)),
     }
 }
 
@@ -62,10 +66,10 @@ fn write_out(rt: &HostRuntime, text: &str) -> io::Result<()> {
 }
 
 /// Writes a text on standard output, or reports that it could not be written.
-fn write_text(rt: &HostRuntime, text: &str) -> Result<(), Fault> {
+fn write_text(rt: &HostRuntime, text: &str) -> Result<(), Failure> {
     match write_out(rt, text) {
         Ok(()) => Ok(()),
-        Err(fault) => Err(Fault::of_streams(fault, "writing")),
+        Err(fault) => Err(Failure::of_streams(fault, "writing")),
     }
 }
 
@@ -77,14 +81,14 @@ fn warn(rt: &HostRuntime, options: &Options<'_>, written: &Written) {
 }
 
 /// Writes the text and the map.
-fn write_all(rt: &HostRuntime, options: &Options<'_>, written: &Written) -> Result<(), Fault> {
+fn write_all(rt: &HostRuntime, options: &Options<'_>, written: &Written) -> Result<(), Failure> {
     write_map(rt, options.map(), written.map.as_str())?;
     warn(rt, options, written);
     write_text(rt, written.text.as_str())
 }
 
 /// The text of the stimuli, if they are given.
-fn read_stimuli(rt: &HostRuntime, options: &Options<'_>) -> Result<Option<String>, Fault> {
+fn read_stimuli(rt: &HostRuntime, options: &Options<'_>) -> Result<Option<String>, Failure> {
     match options.stimuli() {
         Some(path) => Ok(Some(read_file(rt, path)?)),
         None => Ok(None),
@@ -97,15 +101,15 @@ fn converted(
     options: &Options<'_>,
     netlist: &str,
     stimuli: Option<&str>,
-) -> Result<Written, Fault> {
+) -> Result<Written, Failure> {
     match convert(rt.alloc(), options, netlist, stimuli) {
         Ok(written) => Ok(written),
-        Err(fault) => Err(Fault::of_conversion(rt.alloc(), fault)),
+        Err(fault) => Err(Failure::Conversion(fault)),
     }
 }
 
 /// Makes the text of a netlist.
-fn answer_text(rt: &HostRuntime, options: &Options<'_>, netlist: &str) -> Result<(), Fault> {
+fn answer_text(rt: &HostRuntime, options: &Options<'_>, netlist: &str) -> Result<(), Failure> {
     let stimuli = read_stimuli(rt, options)?;
     let of_stimuli = match &stimuli {
         Some(text) => Some(text.as_str()),
@@ -116,27 +120,27 @@ fn answer_text(rt: &HostRuntime, options: &Options<'_>, netlist: &str) -> Result
 }
 
 /// Makes the text of the netlist on standard input.
-fn answer_netlist(rt: &HostRuntime, options: &Options<'_>) -> Result<(), Fault> {
+fn answer_netlist(rt: &HostRuntime, options: &Options<'_>) -> Result<(), Failure> {
     match io::read_to_string(rt.alloc(), rt.reader()) {
         Ok(netlist) => answer_text(rt, options, netlist.as_str()),
-        Err(fault) => Err(Fault::of_reading(fault, "standard input")),
+        Err(fault) => Err(Failure::of_reading(fault, "standard input")),
     }
 }
 
 /// Writes the help or the version.
-fn tell(rt: &HostRuntime, text: &str) -> Result<u8, Fault> {
+fn tell(rt: &HostRuntime, text: &str) -> Result<u8, Failure> {
     write_text(rt, text)?;
     Ok(0)
 }
 
 /// Reports invalid arguments, if standard error can be written.
-fn refuse(rt: &HostRuntime, text: &str) -> Result<u8, Fault> {
+fn refuse(rt: &HostRuntime, text: &str) -> Result<u8, Failure> {
     let _reported = rt.eprint(text);
     Ok(2)
 }
 
 /// Carries out valid arguments and returns the exit status.
-fn answer_matches(rt: &HostRuntime, matches: &ArgMatches<'_>) -> Result<u8, Fault> {
+fn answer_matches(rt: &HostRuntime, matches: &ArgMatches<'_>) -> Result<u8, Failure> {
     if matches.get_flag("version") {
         return tell(rt, VERSION);
     }
@@ -145,19 +149,19 @@ fn answer_matches(rt: &HostRuntime, matches: &ArgMatches<'_>) -> Result<u8, Faul
 }
 
 /// Answers invalid arguments, or a request for help, and returns the exit status.
-fn answer_notice(rt: &HostRuntime, notice: Notice) -> Result<u8, Fault> {
+fn answer_notice(rt: &HostRuntime, notice: Notice) -> Result<u8, Failure> {
     match notice {
         Notice::Help(text) => tell(rt, text.as_str()),
         Notice::Refused(text) => refuse(rt, text.as_str()),
-        Notice::Memory => Err(Fault::of_memory(AllocError)),
+        Notice::Memory => Err(Failure::of_memory()),
     }
 }
 
 /// Carries out the words after the program's name and returns the exit status.
-fn answer_words(rt: &HostRuntime, words: &[String]) -> Result<u8, Fault> {
+fn answer_words(rt: &HostRuntime, words: &[String]) -> Result<u8, Failure> {
     let command = match command_line(rt.alloc()) {
         Ok(command) => command,
-        Err(fault) => return Err(Fault::of_memory(fault)),
+        Err(_lack) => return Err(Failure::of_memory()),
     };
     match command.try_get_matches_from(words) {
         Ok(matches) => answer_matches(rt, &matches),
@@ -172,24 +176,29 @@ fn words(rt: &HostRuntime) -> io::Result<Vec<String>> {
 }
 
 /// Carries out the arguments and returns the exit status.
-fn answer(rt: &HostRuntime) -> Result<u8, Fault> {
+fn answer(rt: &HostRuntime) -> Result<u8, Failure> {
     match words(rt) {
         Ok(words) => answer_words(rt, words.as_slice()),
         Err(fault) if fault.kind() == io::ErrorKind::InvalidData => refuse(rt, NO_TEXT),
-        Err(fault) => Err(Fault::of_streams(fault, "the command line")),
+        Err(fault) => Err(Failure::of_streams(fault, "the command line")),
     }
 }
 
-/// Reports a fault, if standard error can be written, and returns the exit status.
-fn fail(rt: &HostRuntime, fault: Fault) -> ExitCode {
-    let text = &fault.text;
-    let _reported = eprintln!(rt; "vsim_netlist: {text:#}");
-    ExitCode::from(fault.status)
+/// Reports a failure, if standard error can be written, and returns the exit status.
+fn fail(rt: &HostRuntime, failure: &Failure) -> ExitCode {
+    let _reported = match failure {
+        Failure::Conversion(Fault::Refused(text)) => {
+            eprintln!(rt; "vsim_netlist: {}", text.as_str())
+        }
+        Failure::Conversion(Fault::Memory) => rt.eprint(NO_MEMORY),
+        Failure::Streams(fault, _) => eprintln!(rt; "vsim_netlist: {fault:#}"),
+    };
+    ExitCode::from(failure.status())
 }
 
 fn main(rt: HostRuntime) -> ExitCode {
     match answer(&rt) {
         Ok(status) => ExitCode::from(status),
-        Err(fault) => fail(&rt, fault),
+        Err(failure) => fail(&rt, &failure),
     }
 }

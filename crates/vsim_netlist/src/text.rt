@@ -1,9 +1,8 @@
 //! The text of a netlist.
 
 use crate::map::make_map;
-use anyhow::{Result, bail};
 use std::alloc::{AllocError, Global};
-use vsim_netlist_design::{Draft, Level, Netlist, Stimuli};
+use vsim_netlist_design::{Draft, Fault, Level, Netlist, Stimuli};
 use vsim_netlist_gate_text::put_cells;
 use vsim_netlist_signals::{NamedDelay, Signals, Statements, make_signals};
 use vsim_netlist_stimulus_text::{frequent_levels, put_stimuli};
@@ -33,25 +32,38 @@ pub(crate) struct Written {
     pub(crate) derived_clocks: usize,
 }
 
+/// The refusal of a number above a limit of vsim.
+fn beyond(alloc: Global, count: usize, most: usize, what: &str, advice: &str) -> Fault {
+    let mut text = Draft::new(alloc);
+    text.push_shown(&count);
+    text.push_all(&[" ", what, ", of which vsim takes "]);
+    text.push_shown(&most);
+    text.push_all(&[": ", advice]);
+    Fault::of_draft(text)
+}
+
 /// Refuses a number above a limit of vsim.
-fn demand(count: usize, most: usize, what: &str, advice: &str) -> Result<()> {
+fn demand(alloc: Global, count: usize, most: usize, what: &str, advice: &str) -> Result<(), Fault> {
     if most < count {
-        bail!("{count} {what}, of which vsim takes {most}: {advice}");
+        return Err(beyond(alloc, count, most, what, advice));
     }
     Ok(())
 }
 
 /// Refuses a text that exceeds a limit of vsim.
-fn demand_limits(statements: &Statements, bytes: usize) -> Result<()> {
+fn demand_limits(statements: &Statements, bytes: usize) -> Result<(), Fault> {
+    let alloc = statements.alloc;
     let smaller = "a smaller part of the design helps";
     demand(
+        alloc,
         bytes,
         MOST_BYTES,
         "bytes",
         "shorter stimuli or a smaller part of the design help",
     )?;
-    demand(statements.signals.count(), MOST, "nets", smaller)?;
+    demand(alloc, statements.signals.count(), MOST, "nets", smaller)?;
     demand(
+        alloc,
         statements.processes.max(statements.drivers),
         MOST,
         "processes or drivers",
@@ -82,7 +94,7 @@ fn whole(statements: &Statements) -> Result<String, AllocError> {
 }
 
 /// The whole text, within the limits.
-fn limited(statements: &Statements) -> Result<String> {
+fn limited(statements: &Statements) -> Result<String, Fault> {
     let text = whole(statements)?;
     demand_limits(statements, text.len())?;
     Ok(text)
@@ -101,7 +113,7 @@ fn finished(
     statements: &Statements,
     request: &Request<'_>,
     derived_clocks: usize,
-) -> Result<Written> {
+) -> Result<Written, Fault> {
     let text = limited(statements)?;
     let end = end(request.stimuli);
     let map = make_map(statements.alloc, request.netlist, &statements.signals, end)?;
@@ -113,14 +125,14 @@ fn finished(
 }
 
 /// The uses of the nets of a netlist without a loop of wires.
-fn checked_uses(alloc: Global, netlist: &Netlist) -> Result<Uses> {
+fn checked_uses(alloc: Global, netlist: &Netlist) -> Result<Uses, Fault> {
     let uses = Uses::of(alloc, netlist, false)?;
     refuse_loops(alloc, netlist, &uses)?;
     Ok(uses)
 }
 
 /// The uses of the nets, and the clocks. Gates may be nested in registers if no clock comes late.
-fn uses(alloc: Global, request: &Request<'_>) -> Result<(Uses, Clocks)> {
+fn uses(alloc: Global, request: &Request<'_>) -> Result<(Uses, Clocks), Fault> {
     let first = checked_uses(alloc, request.netlist)?;
     let clocks = Clocks::of(alloc, request.netlist, &first)?;
     if clocks.derived > 0 {
@@ -175,7 +187,11 @@ fn put_inputs(
 }
 
 /// Adds the statements of the stimuli. Returns the text and the map.
-fn finish(statements: &mut Statements, request: &Request<'_>, clocks: &Clocks) -> Result<Written> {
+fn finish(
+    statements: &mut Statements,
+    request: &Request<'_>,
+    clocks: &Clocks,
+) -> Result<Written, Fault> {
     put_inputs(statements, request, clocks.is_before.as_slice())?;
     finished(statements, request, clocks.derived)
 }
@@ -186,14 +202,14 @@ fn write_with(
     request: &Request<'_>,
     uses: &Uses,
     clocks: &Clocks,
-) -> Result<Written> {
+) -> Result<Written, Fault> {
     let within = all_within(alloc, request.netlist, uses, !request.delays.is_empty())?;
     let mut statements = cell_statements(alloc, request, uses, within.as_slice())?;
     finish(&mut statements, request, clocks)
 }
 
 /// Writes the text of a netlist.
-pub(crate) fn write_text(alloc: Global, request: &Request<'_>) -> Result<Written> {
+pub(crate) fn write_text(alloc: Global, request: &Request<'_>) -> Result<Written, Fault> {
     let (uses, clocks) = uses(alloc, request)?;
     write_with(alloc, request, &uses, &clocks)
 }

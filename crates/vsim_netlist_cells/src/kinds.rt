@@ -3,15 +3,17 @@
 use crate::document::{WrittenBit, WrittenCell};
 use crate::nets::Nets;
 use crate::registers::letters;
-use anyhow::{Context, Result, anyhow, bail};
 use std::alloc::Global;
-use vsim_netlist_design::{Bit, Cell, Control, Gate, GateCell, Level, Register, Style, push};
+use vsim_netlist_design::{
+    Bit, Cell, Control, Draft, Fault, Gate, GateCell, Level, Register, Style, push,
+};
 
 /// The maximum number of inputs of a look-up table.
 const MOST_INPUTS: usize = 6;
 
 /// The kind of a cell type: a gate, a register with the letters of its type, a note without effect
 /// in a simulation, or none of these.
+#[derive(Clone, Copy)]
 enum Kind<'a> {
     Gate(Gate),
     Register(&'a str, &'static str, Style),
@@ -71,18 +73,23 @@ fn pins<'a>(cell: &'a WrittenCell, name: &str) -> Option<&'a [WrittenBit]> {
 }
 
 /// The connection of a pin of one bit.
-fn pin(cell: &WrittenCell, nets: &mut Nets, name: &str) -> Result<Bit> {
+fn pin(alloc: Global, cell: &WrittenCell, nets: &mut Nets, name: &str) -> Result<Bit, Fault> {
     match pins(cell, name) {
         Some([bit]) => Ok(nets.bit(*bit)?),
-        _ => Err(anyhow!("its pin {name} is not connected with one bit")),
+        _ => Err(Fault::of(alloc, &["its pin ", name, " is not connected with one bit"])),
     }
 }
 
 /// The net of an output.
-fn output(cell: &WrittenCell, nets: &mut Nets, name: &str) -> Result<usize> {
-    match pin(cell, nets, name)? {
+fn output(alloc: Global, cell: &WrittenCell, nets: &mut Nets, name: &str) -> Result<usize, Fault> {
+    match pin(alloc, cell, nets, name)? {
         Bit::Net(place) => Ok(place),
-        Bit::Constant(_) => Err(anyhow!("its output {name} is connected with a constant")),
+        Bit::Constant(_) => {
+            Err(Fault::of(
+                alloc,
+                &["its output ", name, " is connected with a constant"],
+            ))
+        }
     }
 }
 
@@ -92,23 +99,39 @@ fn letter_at(names: &str, place: usize) -> &str {
 }
 
 /// Adds the connection of an input.
-fn put_input(cell: &WrittenCell, nets: &mut Nets, bits: &mut Vec<Bit>, name: &str) -> Result<()> {
-    let bit = pin(cell, nets, name)?;
+fn put_input(
+    alloc: Global,
+    cell: &WrittenCell,
+    nets: &mut Nets,
+    bits: &mut Vec<Bit>,
+    name: &str,
+) -> Result<(), Fault> {
+    let bit = pin(alloc, cell, nets, name)?;
     Ok(push(bits, bit)?)
 }
 
 /// The connections of a gate's inputs, each named by a letter.
-fn inputs(alloc: Global, cell: &WrittenCell, nets: &mut Nets, names: &str) -> Result<Vec<Bit>> {
+fn inputs(
+    alloc: Global,
+    cell: &WrittenCell,
+    nets: &mut Nets,
+    names: &str,
+) -> Result<Vec<Bit>, Fault> {
     let mut bits = Vec::new(alloc);
     for place in 0..names.len() {
-        put_input(cell, nets, &mut bits, letter_at(names, place))?;
+        put_input(alloc, cell, nets, &mut bits, letter_at(names, place))?;
     }
     Ok(bits)
 }
 
 /// Reads a gate other than a look-up table.
-fn gate(alloc: Global, cell: &WrittenCell, nets: &mut Nets, gate: Gate) -> Result<Option<Cell>> {
-    let output = output(cell, nets, "Y")?;
+fn gate(
+    alloc: Global,
+    cell: &WrittenCell,
+    nets: &mut Nets,
+    gate: Gate,
+) -> Result<Option<Cell>, Fault> {
+    let output = output(alloc, cell, nets, "Y")?;
     let inputs = inputs(alloc, cell, nets, gate.pins())?;
     Ok(Some(Cell::Gate(GateCell {
         gate,
@@ -133,24 +156,32 @@ fn is_table(table: &str, inputs: usize) -> bool {
     inputs <= MOST_INPUTS && table.len() == (1usize << inputs) && is_binary(table.as_bytes())
 }
 
+/// The refusal of a parameter that is no table.
+fn no_table(alloc: Global) -> Fault {
+    let mut text = Draft::of(alloc, "its LUT is no table of at most ");
+    text.push_shown(&MOST_INPUTS);
+    text.push(" inputs, of 0 and 1");
+    Fault::of_draft(text)
+}
+
 /// The table of a cell with this number of inputs.
-fn table(cell: &WrittenCell, inputs: usize) -> Result<&str> {
-    let table = cell
-        .parameters
-        .table
-        .as_str()
-        .context("it has no parameter LUT")?;
+fn table(alloc: Global, cell: &WrittenCell, inputs: usize) -> Result<&str, Fault> {
+    let Some(table) = cell.parameters.table.as_str() else {
+        return Err(Fault::of(alloc, &["it has no parameter LUT"]));
+    };
     if !is_table(table, inputs) {
-        bail!("its LUT is no table of at most {MOST_INPUTS} inputs, of 0 and 1");
+        return Err(no_table(alloc));
     }
     Ok(table)
 }
 
 /// Reads a look-up table.
-fn lookup(alloc: Global, cell: &WrittenCell, nets: &mut Nets) -> Result<Option<Cell>> {
-    let output = output(cell, nets, "Y")?;
-    let written = pins(cell, "A").context("its pin A is not connected")?;
-    let table = table(cell, written.len())?;
+fn lookup(alloc: Global, cell: &WrittenCell, nets: &mut Nets) -> Result<Option<Cell>, Fault> {
+    let output = output(alloc, cell, nets, "Y")?;
+    let Some(written) = pins(cell, "A") else {
+        return Err(Fault::of(alloc, &["its pin A is not connected"]));
+    };
+    let table = table(alloc, cell, written.len())?;
     lookup_of(alloc, nets, written, table, output)
 }
 
@@ -161,7 +192,7 @@ fn lookup_of(
     written: &[WrittenBit],
     table: &str,
     output: usize,
-) -> Result<Option<Cell>> {
+) -> Result<Option<Cell>, Fault> {
     let table = String::from_str(alloc, table)?;
     let inputs = nets.bits(alloc, written)?;
     Ok(Some(Cell::Gate(GateCell {
@@ -186,20 +217,24 @@ fn pin_name(letter: u8) -> &'static str {
 /// Connects a pin of a register, given its letter and the letter in the type for it: `P` or `N`, or
 /// `1` or `0` for the reset value.
 fn connect(
+    alloc: Global,
     cell: &WrittenCell,
     nets: &mut Nets,
     register: &mut Register,
     letter: u8,
     given: u8,
-) -> Result<()> {
+) -> Result<(), Fault> {
     if letter == b'v' {
-        register.value = Level::from_byte(given).context("its type has no such reset")?;
+        let Some(value) = Level::from_byte(given) else {
+            return Err(Fault::of(alloc, &["its type has no such reset"]));
+        };
+        register.value = value;
         return Ok(());
     }
     if given != b'P' && given != b'N' {
-        bail!("a gate that this program does not know");
+        return Err(Fault::of(alloc, &["a gate that this program does not know"]));
     }
-    let bit = pin(cell, nets, pin_name(letter))?;
+    let bit = pin(alloc, cell, nets, pin_name(letter))?;
     let is_high = given == b'P';
     register.connect(letter, Control { bit, is_high });
     Ok(())
@@ -207,42 +242,56 @@ fn connect(
 
 /// Connects the pins of a register, given their letters and those in its type.
 fn connect_all(
+    alloc: Global,
     cell: &WrittenCell,
     nets: &mut Nets,
     register: &mut Register,
     pins: &[u8],
     given: &[u8],
-) -> Result<()> {
+) -> Result<(), Fault> {
     for (letter, given) in pins.iter().zip(given.iter()) {
-        connect(cell, nets, register, *letter, *given)?;
+        connect(alloc, cell, nets, register, *letter, *given)?;
     }
     Ok(())
 }
 
 /// Connects the data input and the output of a register.
-fn connect_data(cell: &WrittenCell, nets: &mut Nets, register: &mut Register) -> Result<()> {
+fn connect_data(
+    alloc: Global,
+    cell: &WrittenCell,
+    nets: &mut Nets,
+    register: &mut Register,
+) -> Result<(), Fault> {
     if register.style == Style::Bare {
         return Ok(());
     }
-    register.data = Some(pin(cell, nets, "D")?);
+    register.data = Some(pin(alloc, cell, nets, "D")?);
     if register.style == Style::Loaded {
-        register.loaded = Some(pin(cell, nets, "AD")?);
+        register.loaded = Some(pin(alloc, cell, nets, "AD")?);
     }
     Ok(())
 }
 
 /// Reads a register, given the letters of its pins and those in its type.
 fn register(
+    alloc: Global,
     cell: &WrittenCell,
     nets: &mut Nets,
     given: &str,
     pins: &str,
     style: Style,
-) -> Result<Option<Cell>> {
-    let output = output(cell, nets, "Q")?;
+) -> Result<Option<Cell>, Fault> {
+    let output = output(alloc, cell, nets, "Q")?;
     let mut register = Register::new(style, output);
-    connect_all(cell, nets, &mut register, pins.as_bytes(), given.as_bytes())?;
-    connect_data(cell, nets, &mut register)?;
+    connect_all(
+        alloc,
+        cell,
+        nets,
+        &mut register,
+        pins.as_bytes(),
+        given.as_bytes(),
+    )?;
+    connect_data(alloc, cell, nets, &mut register)?;
     Ok(Some(Cell::Register(register)))
 }
 
@@ -251,13 +300,16 @@ pub(crate) fn make_cell(
     alloc: Global,
     cell: &WrittenCell,
     nets: &mut Nets,
-) -> Result<Option<Cell>> {
+) -> Result<Option<Cell>, Fault> {
     let kind = cell.kind.as_str();
     match kind_of(kind) {
         Kind::Note => Ok(None),
-        Kind::Other => Err(anyhow!("{}", advice(kind))),
+        Kind::Other => {
+            let told = advice(kind);
+            Err(Fault::of(alloc, &[told]))
+        }
         Kind::Gate(Gate::Lut) => lookup(alloc, cell, nets),
         Kind::Gate(found) => gate(alloc, cell, nets, found),
-        Kind::Register(given, pins, style) => register(cell, nets, given, pins, style),
+        Kind::Register(given, pins, style) => register(alloc, cell, nets, given, pins, style),
     }
 }

@@ -3,10 +3,9 @@
 use crate::document::{Document, Members, Module, WrittenCell, WrittenName, WrittenPort};
 use crate::kinds::make_cell;
 use crate::nets::Nets;
-use anyhow::{Context, Result, anyhow, bail};
 use indexmap::IndexSet;
 use std::alloc::{AllocError, Global};
-use vsim_netlist_design::{Cell, Draft, Netlist, Port, Variable, push};
+use vsim_netlist_design::{Cell, Draft, Fault, Netlist, Port, Variable, push};
 
 /// Whether a module is marked as the top.
 fn is_top(module: &Module) -> bool {
@@ -25,7 +24,11 @@ fn is_wanted(name: &str, module: &Module, top: Option<&str>, is_only: bool) -> b
 }
 
 /// The requested module, and its name.
-fn wanted<'a>(document: &'a Document, top: Option<&str>) -> Result<(&'a str, &'a Module)> {
+fn wanted<'a>(
+    alloc: Global,
+    document: &'a Document,
+    top: Option<&str>,
+) -> Result<(&'a str, &'a Module), Fault> {
     let is_only = document.modules.entries.len() == 1;
     for (name, module) in document.modules.entries.iter() {
         if is_wanted(name.as_str(), module, top, is_only) {
@@ -33,31 +36,46 @@ fn wanted<'a>(document: &'a Document, top: Option<&str>) -> Result<(&'a str, &'a
         }
     }
     match top {
-        Some(top) => Err(anyhow!("there is no module {top}")),
-        None => Err(anyhow!("no module is marked as the top: --top names it")),
+        Some(top) => Err(Fault::of(alloc, &["there is no module ", top])),
+        None => Err(Fault::of(alloc, &["no module is marked as the top: --top names it"])),
     }
 }
 
+/// Notes a name, and returns whether it was not there yet.
+fn is_new(names: &mut IndexSet<String>, name: &String) -> Result<bool, AllocError> {
+    Ok(names.insert(name.clone()?)?)
+}
+
 /// Refuses a name that is there already, and notes it otherwise. `what` says whose name it is.
-fn note(names: &mut IndexSet<String>, name: &String, what: &str) -> Result<()> {
-    if !names.insert(name.clone()?)? {
-        bail!("{what} is there twice");
+fn note(
+    alloc: Global,
+    names: &mut IndexSet<String>,
+    name: &String,
+    what: &str,
+) -> Result<(), Fault> {
+    if !is_new(names, name)? {
+        return Err(Fault::of(alloc, &[what, " is there twice"]));
     }
     Ok(())
 }
 
 /// Whether a port is an input.
-fn is_input(name: &str, written: &WrittenPort) -> Result<bool> {
+fn is_input(alloc: Global, name: &str, written: &WrittenPort) -> Result<bool, Fault> {
     match written.direction.as_str() {
         "input" | "inout" => Ok(true),
         "output" => Ok(false),
-        _ => Err(anyhow!("port {name} has no direction")),
+        _ => Err(Fault::of(alloc, &["port ", name, " has no direction"])),
     }
 }
 
 /// Reads a port.
-fn make_port(alloc: Global, nets: &mut Nets, name: &str, written: &WrittenPort) -> Result<Port> {
-    let is_input = is_input(name, written)?;
+fn make_port(
+    alloc: Global,
+    nets: &mut Nets,
+    name: &str,
+    written: &WrittenPort,
+) -> Result<Port, Fault> {
+    let is_input = is_input(alloc, name, written)?;
     let bits = nets.bits(alloc, written.bits.as_slice())?;
     let name = String::from_str(alloc, name)?;
     Ok(Port {
@@ -74,7 +92,7 @@ fn put_port(
     ports: &mut Vec<Port>,
     name: &str,
     written: &WrittenPort,
-) -> Result<()> {
+) -> Result<(), Fault> {
     let port = make_port(alloc, nets, name, written)?;
     Ok(push(ports, port)?)
 }
@@ -85,7 +103,7 @@ fn put_ports(
     nets: &mut Nets,
     ports: &mut Vec<Port>,
     written: &Members<WrittenPort>,
-) -> Result<()> {
+) -> Result<(), Fault> {
     let mut names = IndexSet::new(alloc);
     put_each_port(alloc, nets, ports, &mut names, written)
 }
@@ -97,12 +115,21 @@ fn put_each_port(
     ports: &mut Vec<Port>,
     names: &mut IndexSet<String>,
     written: &Members<WrittenPort>,
-) -> Result<()> {
+) -> Result<(), Fault> {
     for (name, written) in written.entries.iter() {
-        note(names, name, name.as_str())?;
+        note(alloc, names, name, name.as_str())?;
         put_port(alloc, nets, ports, name.as_str(), written)?;
     }
     Ok(())
+}
+
+/// A fault of a cell after its place in the source, or after its name if that is not known.
+fn about_cell(alloc: Global, fault: Fault, name: &str, written: &WrittenCell) -> Fault {
+    let kind = written.kind.as_str();
+    match written.attributes.src.as_str() {
+        Some(src) => fault.about(alloc, &[src, ": cell ", kind]),
+        None => fault.about(alloc, &["cell ", name, " of type ", kind]),
+    }
 }
 
 /// Reads a cell. The error names its place in the source.
@@ -111,11 +138,10 @@ fn placed_cell(
     nets: &mut Nets,
     name: &str,
     written: &WrittenCell,
-) -> Result<Option<Cell>> {
-    let kind = written.kind.as_str();
-    match written.attributes.src.as_str() {
-        Some(src) => make_cell(alloc, written, nets).context(format_args!("{src}: cell {kind}")),
-        None => make_cell(alloc, written, nets).context(format_args!("cell {name} of type {kind}")),
+) -> Result<Option<Cell>, Fault> {
+    match make_cell(alloc, written, nets) {
+        Ok(cell) => Ok(cell),
+        Err(fault) => Err(about_cell(alloc, fault, name, written)),
     }
 }
 
@@ -137,7 +163,7 @@ fn put_cell(
     name: &str,
     written: &WrittenCell,
     origin: String,
-) -> Result<()> {
+) -> Result<(), Fault> {
     if let Some(cell) = placed_cell(alloc, nets, name, written)? {
         push(&mut netlist.cells, cell)?;
         push(&mut netlist.origins, origin)?;
@@ -153,9 +179,9 @@ fn put_new_cell(
     names: &mut IndexSet<String>,
     name: &String,
     written: &WrittenCell,
-) -> Result<()> {
+) -> Result<(), Fault> {
     let origin = origin(alloc, name.as_str(), written)?;
-    note(names, name, origin.as_str())?;
+    note(alloc, names, name, origin.as_str())?;
     put_cell(alloc, nets, netlist, name.as_str(), written, origin)
 }
 
@@ -166,7 +192,7 @@ fn put_each_cell(
     netlist: &mut Netlist,
     names: &mut IndexSet<String>,
     written: &Members<WrittenCell>,
-) -> Result<()> {
+) -> Result<(), Fault> {
     for (name, written) in written.entries.iter() {
         put_new_cell(alloc, nets, netlist, names, name, written)?;
     }
@@ -179,7 +205,7 @@ fn put_cells(
     nets: &mut Nets,
     netlist: &mut Netlist,
     written: &Members<WrittenCell>,
-) -> Result<()> {
+) -> Result<(), Fault> {
     let mut names = IndexSet::new(alloc);
     put_each_cell(alloc, nets, netlist, &mut names, written)
 }
@@ -212,14 +238,19 @@ fn put_variables(
 }
 
 /// Adds the ports, cells and names of a module.
-fn put_parts(alloc: Global, nets: &mut Nets, netlist: &mut Netlist, module: &Module) -> Result<()> {
+fn put_parts(
+    alloc: Global,
+    nets: &mut Nets,
+    netlist: &mut Netlist,
+    module: &Module,
+) -> Result<(), Fault> {
     put_ports(alloc, nets, &mut netlist.ports, &module.ports)?;
     put_cells(alloc, nets, netlist, &module.cells)?;
     Ok(put_variables(alloc, nets, &mut netlist.variables, &module.netnames)?)
 }
 
 /// Adds all parts of a module.
-fn put_module(alloc: Global, netlist: &mut Netlist, module: &Module) -> Result<()> {
+fn put_module(alloc: Global, netlist: &mut Netlist, module: &Module) -> Result<(), Fault> {
     let mut nets = Nets::new(alloc);
     put_parts(alloc, &mut nets, netlist, module)?;
     netlist.nets = nets.nets;
@@ -227,7 +258,7 @@ fn put_module(alloc: Global, netlist: &mut Netlist, module: &Module) -> Result<(
 }
 
 /// Reads the netlist of a module.
-fn make_netlist(alloc: Global, name: &str, module: &Module) -> Result<Netlist> {
+fn make_netlist(alloc: Global, name: &str, module: &Module) -> Result<Netlist, Fault> {
     let name = String::from_str(alloc, name)?;
     let mut netlist = Netlist {
         name,
@@ -242,39 +273,41 @@ fn make_netlist(alloc: Global, name: &str, module: &Module) -> Result<Netlist> {
 }
 
 /// Reads the netlist of the requested module.
-fn wanted_netlist(alloc: Global, document: &Document, top: Option<&str>) -> Result<Netlist> {
-    let (name, module) = wanted(document, top)?;
+fn wanted_netlist(alloc: Global, document: &Document, top: Option<&str>) -> Result<Netlist, Fault> {
+    let (name, module) = wanted(alloc, document, top)?;
     make_netlist(alloc, name, module)
 }
 
 /// The refusal of a text that is not the JSON of a netlist.
-fn no_netlist(fault: serde_json::Error) -> anyhow::Error {
+fn no_netlist(alloc: Global, fault: serde_json::Error) -> Fault {
     if fault.is_memory() {
-        return anyhow::Error::from(AllocError);
+        return Fault::Memory;
     }
-    anyhow::Error::from(fault).context("no netlist that Yosys' write_json writes")
+    let mut text = Draft::of(alloc, "no netlist that Yosys' write_json writes: ");
+    text.push_shown(&fault);
+    Fault::of_draft(text)
 }
 
 /// Refuses a netlist that another program wrote.
-fn demand_creator(creator: &str) -> Result<()> {
+fn demand_creator(alloc: Global, creator: &str) -> Result<(), Fault> {
     if !creator.starts_with("Yosys ") {
-        bail!("its creator is '{creator}', not Yosys");
+        return Err(Fault::of(alloc, &["its creator is '", creator, "', not Yosys"]));
     }
     Ok(())
 }
 
 /// Reads the JSON.
-fn read_document(alloc: Global, text: &str) -> Result<Document> {
+fn read_document(alloc: Global, text: &str) -> Result<Document, Fault> {
     let document = match serde_json::from_str::<Document>(alloc, text) {
         Ok(document) => document,
-        Err(fault) => return Err(no_netlist(fault)),
+        Err(fault) => return Err(no_netlist(alloc, fault)),
     };
-    demand_creator(document.creator.as_str())?;
+    demand_creator(alloc, document.creator.as_str())?;
     Ok(document)
 }
 
 /// Reads the netlist of the module with this name, or of the one marked as the top.
-pub fn read_netlist(alloc: Global, text: &str, top: Option<&str>) -> Result<Netlist> {
+pub fn read_netlist(alloc: Global, text: &str, top: Option<&str>) -> Result<Netlist, Fault> {
     let document = read_document(alloc, text)?;
     wanted_netlist(alloc, &document, top)
 }

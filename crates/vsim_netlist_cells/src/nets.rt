@@ -1,7 +1,6 @@
 //! The nets of a netlist and their names in the source.
 
 use crate::document::{WrittenBit, WrittenName};
-use anyhow::Result;
 use indexmap::IndexSet;
 use std::alloc::{AllocError, Global};
 use vsim_netlist_design::{Bit, Level, Net, Variable, push};

@@ -2,6 +2,7 @@
 #![tactic(auto)]
 
 mod bits;
+mod fault;
 mod gates;
 mod level;
 mod lists;
@@ -12,6 +13,7 @@ mod times;
 mod writing;
 
 pub use bits::Bit;
+pub use fault::Fault;
 pub use gates::{Gate, GateCell};
 pub use level::Level;
 pub use lists::{empty_lists, push};

@@ -1,9 +1,8 @@
 //! The header of a VCD: its scopes and variables.
 
 use crate::times::{in_femtoseconds, number_and_unit};
-use anyhow::{Context, Result, anyhow};
 use std::alloc::{AllocError, Global};
-use vsim_netlist_design::{Draft, push};
+use vsim_netlist_design::{Draft, Fault, push};
 
 /// A variable: the index of its scope, its name, its number of bits, and its code.
 #[derive(Clone, Copy)]
@@ -64,15 +63,16 @@ fn scale(first: &str, second: &str) -> Option<u64> {
 }
 
 /// The width of a variable.
-fn read_width(text: &str) -> Result<usize> {
-    text.parse::<usize>()
-        .ok()
-        .context("a variable has no width")
+fn read_width(alloc: Global, text: &str) -> Result<usize, Fault> {
+    match text.parse::<usize>() {
+        Ok(width) => Ok(width),
+        Err(_) => Err(Fault::of(alloc, &["a variable has no width"])),
+    }
 }
 
 /// The refusal of a word outside sections.
-fn no_section(word: &str) -> anyhow::Error {
-    anyhow!("'{word}' begins no section of a VCD")
+fn no_section(alloc: Global, word: &str) -> Fault {
+    Fault::of(alloc, &["'", word, "' begins no section of a VCD"])
 }
 
 impl<'a> Header<'a> {
@@ -114,15 +114,15 @@ impl<'a> Header<'a> {
     }
 
     /// Enters a scope.
-    fn enter(&mut self, name: &str) -> Result<()> {
+    fn enter(&mut self, name: &str) -> Result<(), Fault> {
         let path = self.path(name)?;
         let depth = self.open.len();
         Ok(self.open(Scope { path, depth })?)
     }
 
     /// Takes a variable, if it is in a scope.
-    fn declare(&mut self, width: &str, code: &'a str, name: &'a str) -> Result<()> {
-        let width = read_width(width)?;
+    fn declare(&mut self, width: &str, code: &'a str, name: &'a str) -> Result<(), Fault> {
+        let width = read_width(self.alloc, width)?;
         let Some(scope) = self.open.last() else {
             return Ok(());
         };
@@ -149,13 +149,16 @@ impl<'a> Header<'a> {
     }
 
     /// Reads the time scale.
-    fn take_scale(&mut self, first: &str, second: &str) -> Result<()> {
-        self.scale = scale(first, second).context("the time scale is none")?;
+    fn take_scale(&mut self, first: &str, second: &str) -> Result<(), Fault> {
+        let Some(scale) = scale(first, second) else {
+            return Err(Fault::of(self.alloc, &["the time scale is none"]));
+        };
+        self.scale = scale;
         Ok(())
     }
 
     /// Reads a section.
-    fn close(&mut self) -> Result<()> {
+    fn close(&mut self) -> Result<(), Fault> {
         let (first, second, third) = (self.word(0), self.word(1), self.word(2));
         let (fourth, fifth) = (self.word(3), self.word(4));
         self.words.clear();
@@ -176,17 +179,17 @@ impl<'a> Header<'a> {
     }
 
     /// Adds a word to the section.
-    fn add(&mut self, word: &'a str) -> Result<()> {
+    fn add(&mut self, word: &'a str) -> Result<(), Fault> {
         Ok(push(&mut self.words, word)?)
     }
 
     /// Reads the next word.
-    pub(crate) fn take(&mut self, word: &'a str) -> Result<()> {
+    pub(crate) fn take(&mut self, word: &'a str) -> Result<(), Fault> {
         if word == "$end" {
             return self.close();
         }
         if self.words.is_empty() && !word.starts_with("$") {
-            return Err(no_section(word));
+            return Err(no_section(self.alloc, word));
         }
         self.add(word)
     }

@@ -2,9 +2,8 @@
 
 use crate::changes::{Bits, Input, find, no_changes, reach, set};
 use crate::times::read_time;
-use anyhow::{Context, Result, anyhow, bail};
 use std::alloc::{AllocError, Global};
-use vsim_netlist_design::{Draft, Stimuli};
+use vsim_netlist_design::{Draft, Fault, Stimuli};
 
 /// The stimuli of the lines read so far.
 struct Lines<'a> {
@@ -70,8 +69,19 @@ fn without_comment(line: &str) -> &str {
 }
 
 /// The refusal of a name.
-fn no_input(name: &str) -> anyhow::Error {
-    anyhow!("there is no input {name}")
+fn no_input(alloc: Global, name: &str) -> Fault {
+    Fault::of(alloc, &["there is no input ", name])
+}
+
+/// The same fault, after the number of the line that it is about.
+pub(crate) fn in_line(alloc: Global, number: usize, fault: Fault) -> Fault {
+    let mut place = Draft::of(alloc, "line ");
+    place.push_shown(&number);
+    if !place.is_whole() {
+        return Fault::Memory;
+    }
+    let text = place.as_str();
+    fault.about(alloc, &[text])
 }
 
 impl Drop for Lines<'_> {
@@ -87,10 +97,12 @@ impl Drop for Lines<'_> {
 
 impl Lines<'_> {
     /// Advances to a time.
-    fn go_to(&mut self, text: &str) -> Result<()> {
-        let time = read_time(text).context("the first word is no time, as 10ns is")?;
+    fn go_to(&mut self, text: &str) -> Result<(), Fault> {
+        let Some(time) = read_time(text) else {
+            return Err(Fault::of(self.alloc, &["the first word is no time, as 10ns is"]));
+        };
         if time < self.time {
-            bail!("the times fall");
+            return Err(Fault::of(self.alloc, &["the times fall"]));
         }
         self.time = time;
         reach(&mut self.stimuli, time);
@@ -98,24 +110,27 @@ impl Lines<'_> {
     }
 
     /// Gives a value to bits from now on.
-    fn set_bits(&mut self, bits: Bits, value: &[u8]) -> Result<()> {
+    fn set_bits(&mut self, bits: Bits, value: &[u8]) -> Result<(), Fault> {
         if value.is_empty() || !set(&mut self.stimuli, bits, self.time, value)? {
-            bail!("the value is neither bits nor a number as 0xA5");
+            return Err(Fault::of(
+                self.alloc,
+                &["the value is neither bits nor a number as 0xA5"],
+            ));
         }
         Ok(())
     }
 
     /// Gives a value to an input from now on.
-    fn set(&mut self, name: &str, value: &str) -> Result<()> {
+    fn set(&mut self, name: &str, value: &str) -> Result<(), Fault> {
         let Some((_, place)) = find(self.inputs, name) else {
-            return Err(no_input(name));
+            return Err(no_input(self.alloc, name));
         };
         let value = bits(self.alloc, value)?;
         self.set_bits(place, value.as_str().as_bytes())
     }
 
     /// Gives a value to an input from a time on.
-    fn set_at(&mut self, time: &str, name: &str, value: &str) -> Result<()> {
+    fn set_at(&mut self, time: &str, name: &str, value: &str) -> Result<(), Fault> {
         self.go_to(time)?;
         self.set(name, value)
     }
@@ -127,16 +142,16 @@ impl Lines<'_> {
         second: Option<&str>,
         third: Option<&str>,
         has_more: bool,
-    ) -> Result<()> {
+    ) -> Result<(), Fault> {
         match (second, third) {
             (Some(name), Some(value)) if !has_more => self.set_at(first, name, value),
             (Some(time), None) if first == "end" => self.go_to(time),
-            _ => Err(anyhow!("'TIME INPUT VALUE' or 'end TIME' is wanted")),
+            _ => Err(Fault::of(self.alloc, &["'TIME INPUT VALUE' or 'end TIME' is wanted"])),
         }
     }
 
     /// Reads a line.
-    fn take(&mut self, line: &str) -> Result<()> {
+    fn take(&mut self, line: &str) -> Result<(), Fault> {
         let mut words = without_comment(line).split_ascii_whitespace();
         let Some(first) = words.next() else {
             return Ok(());
@@ -146,13 +161,15 @@ impl Lines<'_> {
     }
 
     /// Reads the line at an index. An error names it.
-    fn take_at(&mut self, line: &str, index: usize) -> Result<()> {
-        let number = index.saturating_add(1);
-        self.take(line).context(format_args!("line {number}"))
+    fn take_at(&mut self, line: &str, index: usize) -> Result<(), Fault> {
+        match self.take(line) {
+            Ok(()) => Ok(()),
+            Err(fault) => Err(in_line(self.alloc, index.saturating_add(1), fault)),
+        }
     }
 
     /// Reads lines.
-    fn take_all(&mut self, text: &str) -> Result<()> {
+    fn take_all(&mut self, text: &str) -> Result<(), Fault> {
         for (index, line) in text.lines().enumerate() {
             self.take_at(line, index)?;
         }
@@ -172,7 +189,7 @@ impl Lines<'_> {
 }
 
 /// Reads lines of stimuli.
-pub(crate) fn read_lines(alloc: Global, text: &str, inputs: &[Input]) -> Result<Stimuli> {
+pub(crate) fn read_lines(alloc: Global, text: &str, inputs: &[Input]) -> Result<Stimuli, Fault> {
     let stimuli = no_changes(alloc, inputs)?;
     let mut lines = Lines {
         alloc,

@@ -2,9 +2,8 @@
 
 use crate::changes::{Bits, Input, find};
 use crate::header::{Header, Scope, Variable};
-use anyhow::{Context, Result, anyhow};
 use std::alloc::{AllocError, Global};
-use vsim_netlist_design::{empty_lists, push};
+use vsim_netlist_design::{Fault, empty_lists, push};
 
 /// An input that a variable of a VCD stands for: its index, its bits, and the code of the variable.
 #[derive(Clone, Copy)]
@@ -115,26 +114,31 @@ fn missing<'a>(inputs: &'a [Input], list: &[Match<'_>]) -> Option<&'a str> {
 }
 
 /// The index of the scope with a path, which has to be there.
-fn requested(scopes: &[Scope], path: &str) -> Result<usize> {
+fn requested(alloc: Global, scopes: &[Scope], path: &str) -> Result<usize, Fault> {
     match at_path(scopes, path) {
         Some(place) => Ok(place),
-        None => Err(anyhow!("there is no scope {path}")),
+        None => Err(Fault::of(alloc, &["there is no scope ", path])),
     }
 }
 
 /// The index of the requested scope, or of the deepest one that has all inputs.
 fn place(
+    alloc: Global,
     header: &Header<'_>,
     found: &[Vec<Match<'_>>],
     count: usize,
     path: Option<&str>,
-) -> Result<usize> {
+) -> Result<usize, Fault> {
     let scopes = header.scopes.as_slice();
-    match path {
-        Some(path) => requested(scopes, path),
-        None => deepest(scopes, found, count).context(
-            "no scope has all inputs, each with its width: --scope names one",
-        ),
+    if let Some(path) = path {
+        return requested(alloc, scopes, path);
+    }
+    match deepest(scopes, found, count) {
+        Some(place) => Ok(place),
+        None => Err(Fault::of(
+            alloc,
+            &["no scope has all inputs, each with its width: --scope names one"],
+        )),
     }
 }
 
@@ -144,12 +148,12 @@ fn chosen<'a>(
     found: &mut Vec<Vec<Match<'a>>>,
     place: usize,
     inputs: &[Input],
-) -> Result<Vec<Match<'a>>> {
+) -> Result<Vec<Match<'a>>, Fault> {
     let Some(list) = found.get_mut(place) else {
         return Ok(Vec::new(alloc));
     };
     match missing(inputs, list.as_slice()) {
-        Some(name) => Err(anyhow!("the scope has no {name} with its width")),
+        Some(name) => Err(Fault::of(alloc, &["the scope has no ", name, " with its width"])),
         None => Ok(std::mem::replace(list, Vec::new(alloc))),
     }
 }
@@ -160,8 +164,8 @@ pub(crate) fn choose<'a>(
     header: &Header<'a>,
     inputs: &[Input],
     path: Option<&str>,
-) -> Result<Vec<Match<'a>>> {
+) -> Result<Vec<Match<'a>>, Fault> {
     let mut found = matches(alloc, header, inputs)?;
-    let place = place(header, found.as_slice(), inputs.len(), path)?;
+    let place = place(alloc, header, found.as_slice(), inputs.len(), path)?;
     chosen(alloc, &mut found, place, inputs)
 }

@@ -3,13 +3,13 @@
 use crate::changes::{Bits, Input, no_changes, reach, set};
 use crate::scopes::Match;
 use crate::times::LATEST;
-use anyhow::{Context, Result, anyhow, bail};
 use indexmap::IndexSet;
 use std::alloc::{AllocError, Global};
-use vsim_netlist_design::{Level, Stimuli, empty_lists, push};
+use vsim_netlist_design::{Fault, Level, Stimuli, empty_lists, push};
 
 /// The values of a VCD, as far as it has been read.
 pub(crate) struct Values<'a> {
+    alloc: Global,
     /// The codes of variables that stand for inputs.
     codes: IndexSet<String>,
     /// The bits that each code stands for.
@@ -31,6 +31,7 @@ fn split_first(word: &str) -> (u8, &str) {
 impl Drop for Values<'_> {
     fn drop(self) {
         let Values {
+            alloc: _,
             codes: _codes,
             users: _users,
             scale: _,
@@ -43,8 +44,8 @@ impl Drop for Values<'_> {
 }
 
 /// The refusal of a word.
-fn no_value(word: &str) -> anyhow::Error {
-    anyhow!("'{word}' is no value of a VCD")
+fn no_value(alloc: Global, word: &str) -> Fault {
+    Fault::of(alloc, &["'", word, "' is no value of a VCD"])
 }
 
 /// The time that a number stands for, in femtoseconds.
@@ -77,6 +78,7 @@ pub(crate) fn make_values<'a>(
     let users = empty_lists(alloc, matches.len())?;
     let stimuli = no_changes(alloc, inputs)?;
     let mut values = Values {
+        alloc,
         codes: IndexSet::new(alloc),
         users,
         scale,
@@ -85,21 +87,21 @@ pub(crate) fn make_values<'a>(
         is_comment: false,
         stimuli,
     };
-    values.connect(alloc, matches)?;
+    values.connect(matches)?;
     Ok(values)
 }
 
 impl<'a> Values<'a> {
     /// The index of a code, which is added if it is new.
-    fn place(&mut self, alloc: Global, code: &str) -> Result<usize, AllocError> {
-        let code = String::from_str(alloc, code)?;
+    fn place(&mut self, code: &str) -> Result<usize, AllocError> {
+        let code = String::from_str(self.alloc, code)?;
         let (place, _) = self.codes.insert_full(code)?;
         Ok(place)
     }
 
     /// Adds bits to those of a code.
-    fn add(&mut self, alloc: Global, code: &str, bits: Bits) -> Result<(), AllocError> {
-        let place = self.place(alloc, code)?;
+    fn add(&mut self, code: &str, bits: Bits) -> Result<(), AllocError> {
+        let place = self.place(code)?;
         match self.users.get_mut(place) {
             Some(list) => push(list, bits),
             None => Ok(()),
@@ -107,9 +109,9 @@ impl<'a> Values<'a> {
     }
 
     /// Connects variables with the inputs that they stand for.
-    fn connect(&mut self, alloc: Global, matches: &[Match<'_>]) -> Result<(), AllocError> {
+    fn connect(&mut self, matches: &[Match<'_>]) -> Result<(), AllocError> {
         for each in matches {
-            self.add(alloc, each.code, each.bits)?;
+            self.add(each.code, each.bits)?;
         }
         Ok(())
     }
@@ -117,6 +119,7 @@ impl<'a> Values<'a> {
     /// The stimuli that have been read.
     pub(crate) fn into_stimuli(self) -> Stimuli {
         let Values {
+            alloc: _,
             codes: _codes,
             users: _users,
             scale: _,
@@ -140,18 +143,20 @@ impl<'a> Values<'a> {
     }
 
     /// Gives a value to the bits of a code from now on.
-    fn set(&mut self, code: &str, value: &str) -> Result<()> {
+    fn set(&mut self, code: &str, value: &str) -> Result<(), Fault> {
         if !self.try_set(code, value.as_bytes())? {
-            bail!("an input has a value that is none of bits");
+            return Err(Fault::of(self.alloc, &["an input has a value that is none of bits"]));
         }
         Ok(())
     }
 
     /// Advances to a time.
-    fn go_to(&mut self, text: &str) -> Result<()> {
-        let time = scaled(text, self.scale).context("a time is no number, or too late")?;
+    fn go_to(&mut self, text: &str) -> Result<(), Fault> {
+        let Some(time) = scaled(text, self.scale) else {
+            return Err(Fault::of(self.alloc, &["a time is no number, or too late"]));
+        };
         if time < self.time || LATEST < time {
-            bail!("the times fall, or are too late");
+            return Err(Fault::of(self.alloc, &["the times fall, or are too late"]));
         }
         self.time = time;
         reach(&mut self.stimuli, time);
@@ -159,7 +164,7 @@ impl<'a> Values<'a> {
     }
 
     /// Reads a word other than the code after a value.
-    fn begin(&mut self, word: &'a str) -> Result<()> {
+    fn begin(&mut self, word: &'a str) -> Result<(), Fault> {
         let (first, rest) = split_first(word);
         match first {
             b'#' => self.go_to(rest),
@@ -178,12 +183,12 @@ impl<'a> Values<'a> {
             _ if Level::from_byte(first).is_some() => {
                 self.set(rest, word.get(..1).unwrap_or("x"))
             }
-            _ => Err(no_value(word)),
+            _ => Err(no_value(self.alloc, word)),
         }
     }
 
     /// Reads the next word.
-    pub(crate) fn take(&mut self, word: &'a str) -> Result<()> {
+    pub(crate) fn take(&mut self, word: &'a str) -> Result<(), Fault> {
         if self.is_comment {
             self.is_comment = word != "$end";
             return Ok(());

@@ -2,24 +2,27 @@
 
 use crate::changes::Input;
 use crate::header::Header;
-use crate::lines::read_lines;
+use crate::lines::{in_line, read_lines};
 use crate::scopes::choose;
 use crate::values::{Values, make_values};
 use crate::words::{Words, words_of};
-use anyhow::{Context, Result, anyhow, bail};
 use std::alloc::Global;
-use vsim_netlist_design::{Change, Stimuli};
+use vsim_netlist_design::{Change, Fault, Stimuli};
 
 /// The refusal of a VCD that ends too early.
-fn cut_off() -> anyhow::Error {
-    anyhow!("the VCD is cut off")
+fn cut_off(alloc: Global) -> Fault {
+    Fault::of(alloc, &["the VCD is cut off"])
 }
 
 /// Reads words up to the end of a header.
-fn take_header<'a>(header: &mut Header<'a>, words: &mut Words<'a>) -> Result<()> {
+fn take_header<'a>(
+    alloc: Global,
+    header: &mut Header<'a>,
+    words: &mut Words<'a>,
+) -> Result<(), Fault> {
     for _ in 0..u64::MAX {
         let Some(word) = words.take() else {
-            return Err(cut_off());
+            return Err(cut_off(alloc));
         };
         header.take(word)?;
         if header.is_done {
@@ -30,14 +33,19 @@ fn take_header<'a>(header: &mut Header<'a>, words: &mut Words<'a>) -> Result<()>
 }
 
 /// The same. An error names the line.
-fn take_placed_header<'a>(header: &mut Header<'a>, words: &mut Words<'a>) -> Result<()> {
-    let taken = take_header(header, words);
-    let line = words.line();
-    taken.context(format_args!("line {line}"))
+fn take_placed_header<'a>(
+    alloc: Global,
+    header: &mut Header<'a>,
+    words: &mut Words<'a>,
+) -> Result<(), Fault> {
+    match take_header(alloc, header, words) {
+        Ok(()) => Ok(()),
+        Err(fault) => Err(in_line(alloc, words.line(), fault)),
+    }
 }
 
 /// Reads the values up to the end of a VCD.
-fn take_values<'a>(values: &mut Values<'a>, words: &mut Words<'a>) -> Result<()> {
+fn take_values<'a>(values: &mut Values<'a>, words: &mut Words<'a>) -> Result<(), Fault> {
     for _ in 0..u64::MAX {
         let Some(word) = words.take() else {
             break;
@@ -48,10 +56,15 @@ fn take_values<'a>(values: &mut Values<'a>, words: &mut Words<'a>) -> Result<()>
 }
 
 /// The same. An error names the line.
-fn take_placed_values<'a>(values: &mut Values<'a>, words: &mut Words<'a>) -> Result<()> {
-    let taken = take_values(values, words);
-    let line = words.line();
-    taken.context(format_args!("line {line}"))
+fn take_placed_values<'a>(
+    alloc: Global,
+    values: &mut Values<'a>,
+    words: &mut Words<'a>,
+) -> Result<(), Fault> {
+    match take_values(values, words) {
+        Ok(()) => Ok(()),
+        Err(fault) => Err(in_line(alloc, words.line(), fault)),
+    }
 }
 
 /// The values of a VCD with this header, of which none has been read.
@@ -60,7 +73,7 @@ fn no_values<'a>(
     header: &Header<'a>,
     inputs: &[Input],
     scope: Option<&str>,
-) -> Result<Values<'a>> {
+) -> Result<Values<'a>, Fault> {
     let matches = choose(alloc, header, inputs, scope)?;
     Ok(make_values(alloc, header.scale, inputs, matches.as_slice())?)
 }
@@ -71,41 +84,48 @@ fn begin_values<'a>(
     words: &mut Words<'a>,
     inputs: &[Input],
     scope: Option<&str>,
-) -> Result<Values<'a>> {
+) -> Result<Values<'a>, Fault> {
     let mut header = Header::new(alloc);
-    take_placed_header(&mut header, words)?;
+    take_placed_header(alloc, &mut header, words)?;
     no_values(alloc, &header, inputs, scope)
 }
 
 /// Reads a VCD: its header, then its values.
-fn read_vcd(alloc: Global, text: &str, inputs: &[Input], scope: Option<&str>) -> Result<Stimuli> {
+fn read_vcd(
+    alloc: Global,
+    text: &str,
+    inputs: &[Input],
+    scope: Option<&str>,
+) -> Result<Stimuli, Fault> {
     let mut words = words_of(text);
     let mut values = begin_values(alloc, &mut words, inputs, scope)?;
-    take_placed_values(&mut values, &mut words)?;
+    take_placed_values(alloc, &mut values, &mut words)?;
     if values.is_cut() || !text.ends_with("\n") {
-        return Err(cut_off());
+        return Err(cut_off(alloc));
     }
     Ok(values.into_stimuli())
 }
 
 /// Refuses an input without a value.
-fn demand_input(bits: &[Vec<Change>], input: &Input) -> Result<()> {
+fn demand_input(alloc: Global, bits: &[Vec<Change>], input: &Input) -> Result<(), Fault> {
     for changes in bits {
         if changes.is_empty() {
             let name = input.name.as_str();
-            bail!("input {name} has no value");
+            return Err(Fault::of(alloc, &["input ", name, " has no value"]));
         }
     }
     Ok(())
 }
 
 /// Refuses inputs without a value.
-fn demand_all(stimuli: &Stimuli, inputs: &[Input]) -> Result<()> {
+fn demand_all(alloc: Global, stimuli: &Stimuli, inputs: &[Input]) -> Result<(), Fault> {
     let mut start = 0usize;
     for input in inputs {
         let end = start.saturating_add(input.width);
-        let bits = stimuli.bits.get(start..end).context("the bits of inputs")?;
-        demand_input(bits, input)?;
+        let Some(bits) = stimuli.bits.get(start..end) else {
+            return Err(Fault::of(alloc, &["the bits of inputs"]));
+        };
+        demand_input(alloc, bits, input)?;
         start = end;
     }
     Ok(())
@@ -117,7 +137,7 @@ fn read_either(
     text: &str,
     inputs: &[Input],
     scope: Option<&str>,
-) -> Result<Stimuli> {
+) -> Result<Stimuli, Fault> {
     if text.trim_ascii_start().starts_with("$") {
         read_vcd(alloc, text, inputs, scope)
     } else {
@@ -131,8 +151,8 @@ pub fn read_stimuli(
     text: &str,
     inputs: &[Input],
     scope: Option<&str>,
-) -> Result<Stimuli> {
+) -> Result<Stimuli, Fault> {
     let stimuli = read_either(alloc, text, inputs, scope)?;
-    demand_all(&stimuli, inputs)?;
+    demand_all(alloc, &stimuli, inputs)?;
     Ok(stimuli)
 }

@@ -1,9 +1,8 @@
 //! Loops of wires, and clocks driven by gates.
 
 use crate::uses::Uses;
-use anyhow::{Result, anyhow};
 use std::alloc::{AllocError, Global};
-use vsim_netlist_design::{Bit, Cell, Gate, Netlist, Variable, push};
+use vsim_netlist_design::{Bit, Cell, Fault, Gate, Netlist, Variable, push};
 
 /// The net at the input of a buffer.
 fn source(netlist: &Netlist, uses: &Uses, place: usize) -> Option<usize> {
@@ -73,17 +72,17 @@ fn origin_of_driver<'a>(netlist: &'a Netlist, uses: &Uses, place: usize) -> &'a 
 }
 
 /// The refusal of a loop of wires.
-fn refusal(netlist: &Netlist, uses: &Uses, place: usize) -> anyhow::Error {
+fn refusal(alloc: Global, netlist: &Netlist, uses: &Uses, place: usize) -> Fault {
     let told = told(netlist, uses, place);
-    anyhow!("{told} is in a loop of wires")
+    Fault::of(alloc, &[told, " is in a loop of wires"])
 }
 
 /// Refuses a loop of wires.
-pub fn refuse_loops(alloc: Global, netlist: &Netlist, uses: &Uses) -> Result<()> {
+pub fn refuse_loops(alloc: Global, netlist: &Netlist, uses: &Uses) -> Result<(), Fault> {
     let mut marks = vec![in alloc; 0usize; uses.nets.len()]?;
     for place in 0..uses.nets.len() {
         if leads_back(netlist, uses, &mut marks, place) {
-            return Err(refusal(netlist, uses, place));
+            return Err(refusal(alloc, netlist, uses, place));
         }
     }
     Ok(())
