@@ -240,6 +240,8 @@ REFUSED = [
     ('{"modules": {}}', "", [], "no netlist that Yosys' write_json writes"),
     (GOOD.replace("Yosys 0.23", "nextpnr 0.4"), "", [], "its creator is 'nextpnr 0.4', not Yosys"),
     (GOOD, "", ["--top", "other"], "there is no module other"),
+    (GOOD, "", ["--top", "memory allocation failed"], "there is no module memory allocation failed"),
+    (netlist({"u" * 200: cell("$add", {})}), "", [], f"cell {'u' * 200} of type $add: run memory_map, techmap and simplemap"),
     (GOOD.replace('"cells": {', '"cells": {"u": {"type": "$_BUF_", "connections": {"A": [2], "Y": [4]}}, '), "", [],
      "the netlist: cell u is there twice"),
     (json.dumps(json.loads(GOOD)).replace('"u": {', '"u": {"type": "$_BUF_", "connections": {"A": [2], "Y": [4]}}, "u": {"attributes": '
@@ -319,6 +321,36 @@ def has_two_clocks(programs, folder):
     given, stimuli, words, wanted = stepped_beside()
     text = run([programs[1], *put_stimuli(folder, stimuli), *words], given.encode())[1].decode()
     demand(text.count("rising_edge") == 2 and " when " in text, f"no clock is added: {text}")
+    is_listed(programs, folder, given, stimuli, words, wanted)
+
+
+def changed_twice():
+    """Returns a row as in LISTED: a register whose input changes twice in each step of its own, the high bits once, after a hold time."""
+    chance, data, changes, wanted, last = random.Random(7), 0, [], ["0 U"], None
+    for step in range(48):
+        data = chance.getrandbits(16)
+        changes.append((13113 * step + 7013, data))
+        data = data & 0xff00 | chance.getrandbits(8)
+        changes.append((13113 * (step + 1), data))
+    for edge in range(5000, 645000, 10000):
+        bit = ([0] + [data & 1 for time, data in changes if time + 2 < edge])[-1]
+        if bit != last:
+            wanted.append(f"{edge * 1000} {bit}")
+        last = bit
+    events = sorted([*((5000 * it, f"c {it % 2}") for it in range(1, 129)), *((time, f"a {data:016b}") for time, data in changes)])
+    lines = ["0 c 0", "0 a 0", *(f"{time}ps {event}" for time, event in events)]
+    ports = {"c": {"direction": "input", "bits": [2]}, "a": {"direction": "input", "bits": list(range(4, 20))}}
+    ports["y"] = {"direction": "output", "bits": [3]}
+    given = netlist({"u": cell("$_DFF_P_", {"C": [2], "D": [4], "Q": [3]})}, **ports)
+    return given, "\n".join([*lines, ""]), ["--hold", "2ps"], ", ".join(wanted)
+
+
+def follows_late(programs, folder):
+    """Demands that inputs which change twice in a step take few bytes, and that the register takes what stood before its edge."""
+    given, stimuli, words, wanted = changed_twice()
+    text = run([programs[1], *put_stimuli(folder, stimuli), *words], given.encode())[1].decode()
+    demand(text.count(" xor ") > 8 and text.count("rising_edge") == 2, f"no signal is inverted late: {len(text)} bytes")
+    demand(len(text) < 9000, f"{len(text)} bytes")
     is_listed(programs, folder, given, stimuli, words, wanted)
 
 
@@ -486,6 +518,7 @@ def tests_of(programs, folder, mutated):
         yield f"y is {row[3]}", lambda row=row: is_listed(programs, folder, *row)
     yield "steps without a clock", lambda: is_listed(programs, folder, *stepped())
     yield "steps beside a clock", lambda: has_two_clocks(programs, folder)
+    yield "two changes in a step", lambda: follows_late(programs, folder)
     yield "clocks", lambda: is_one_statement(program, folder)
     for row in REFUSED:
         yield row[3], lambda row=row: is_refused(program, folder, *row)

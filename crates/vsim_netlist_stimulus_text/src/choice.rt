@@ -1,7 +1,8 @@
 //! Which inputs take fewer bytes in the table of a clock than as waveforms.
 
+use crate::clock::{Clock, edge_for, edges_in_direction, fits, is_any_late, later_changes};
 use crate::table::{assignment_of, edge_bytes, element_of};
-use crate::tables::{Clock, are_at, edge_number, edges_in_direction, later_changes};
+use crate::targets::LATE;
 use std::alloc::{AllocError, Global};
 use std::collections::HashMap;
 use vsim_netlist_design::{Change, push};
@@ -23,8 +24,8 @@ fn count(uses: &mut Uses, edge: usize) -> Result<(), AllocError> {
 /// Counts the changes of an input.
 fn count_changes(uses: &mut Uses, clock: &Clock, changes: &[Change]) -> Result<(), AllocError> {
     for change in later_changes(changes) {
-        if let Some(edge) = edge_number(clock, change.time) {
-            count(uses, edge)?;
+        if let Some(edge) = edge_for(clock, change.time) {
+            count(uses, edge.number)?;
         }
     }
     Ok(())
@@ -48,8 +49,8 @@ fn uses_of(
 
 /// Whether one input alone changes at the edge at a time.
 fn is_alone(uses: &Uses, clock: &Clock, time: u64) -> bool {
-    match edge_number(clock, time) {
-        Some(edge) => uses.get(&edge).copied() == Some(1),
+    match edge_for(clock, time) {
+        Some(edge) => uses.get(&edge.number).copied() == Some(1),
         None => false,
     }
 }
@@ -64,7 +65,7 @@ fn belongs(
     changes: &[Change],
 ) -> bool {
     let edge = edge_bytes(edges_in_direction(clock), uses.len());
-    let mut in_table = 0usize;
+    let mut in_table = if is_any_late(clock, changes) { LATE } else { 0 };
     let mut as_waveform = 0usize;
     for change in later_changes(changes) {
         if is_alone(uses, clock, change.time) {
@@ -95,7 +96,7 @@ fn leave(
     is_changed
 }
 
-/// The inputs that change only at the edges of a clock in one direction.
+/// The inputs that change only with the edges of a clock in one direction, or after them.
 fn at_edges(
     alloc: Global,
     clock: &Clock,
@@ -104,11 +105,7 @@ fn at_edges(
 ) -> Result<Vec<bool>, AllocError> {
     let mut chosen = Vec::new(alloc);
     for (_, changes) in inputs {
-        let changes = later_changes(changes);
-        push(
-            &mut chosen,
-            !changes.is_empty() && are_at(clock, changes, rises),
-        )?;
+        push(&mut chosen, fits(clock, changes, rises))?;
     }
     Ok(chosen)
 }

@@ -2,9 +2,11 @@
 #![tactic(auto)]
 
 mod choice;
+mod clock;
 mod steps;
 mod stimulus;
 mod table;
 mod tables;
+mod targets;
 
 pub use stimulus::{frequent_levels, put_stimuli};

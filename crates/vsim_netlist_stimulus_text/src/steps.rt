@@ -1,6 +1,6 @@
 //! The steps in which inputs change that no clock of the design is for.
 
-use crate::tables::{Clock, Edges, later_changes};
+use crate::clock::{Clock, Edges, edge_for, edges_in_direction, later_changes};
 use vsim_netlist_design::{Change, Level};
 
 /// The maximum number of steps of Euclid's algorithm for two numbers of 64 bits.
@@ -61,6 +61,7 @@ pub(crate) fn clock_of_steps(inputs: &[(usize, &[Change])]) -> Option<Clock> {
         first: Level::One,
         edges: Edges { start: half, half },
         end: last_time(inputs),
+        later: 0,
     })
 }
 
@@ -84,7 +85,7 @@ fn raster_of(changes: &[Change]) -> (u64, u64) {
 
 /// A clock, yet without a net, that rises at each time at which an input changes after time 0, and in
 /// the same steps up to the last change of all inputs; `None` if there is none.
-pub(crate) fn clock_of_input(inputs: &[(usize, &[Change])], changes: &[Change]) -> Option<Clock> {
+fn clock_of_raster(inputs: &[(usize, &[Change])], changes: &[Change]) -> Option<Clock> {
     let (start, step) = raster_of(changes);
     let half = step / 2;
     if half == 0 || step % 2 != 0 {
@@ -99,5 +100,60 @@ pub(crate) fn clock_of_input(inputs: &[(usize, &[Change])], changes: &[Change]) 
             half,
         },
         end: last_time(inputs),
+        later: 0,
+    })
+}
+
+/// How long after a rising edge of a clock an input first changes that does not always change with
+/// these edges; 0 if it does.
+fn first_late(clock: &Clock, changes: &[Change]) -> u64 {
+    for change in later_changes(changes) {
+        match edge_for(clock, change.time) {
+            Some(edge) if edge.rises => {}
+            _ => return since_rising(clock, change.time),
+        }
+    }
+    0
+}
+
+/// How long the last rising edge of a clock that is at first `'0'` is ago; 0 before the first one.
+fn since_rising(clock: &Clock, time: u64) -> u64 {
+    let period = clock.edges.half.saturating_mul(2);
+    let since = time.saturating_sub(clock.edges.start);
+    since.checked_rem(period).unwrap_or(0)
+}
+
+/// How long after the rising edges of a clock an input changes, the first for which that is not 0; 0
+/// if there is none.
+fn later_of(clock: &Clock, inputs: &[(usize, &[Change])]) -> u64 {
+    for (_, changes) in inputs {
+        let later = first_late(clock, changes);
+        if later != 0 {
+            return later;
+        }
+    }
+    0
+}
+
+/// The number of changes of inputs after time 0.
+fn change_count(inputs: &[(usize, &[Change])]) -> usize {
+    let mut count = 0usize;
+    for (_, changes) in inputs {
+        count = count.saturating_add(later_changes(changes).len());
+    }
+    count
+}
+
+/// A clock, yet without a net, that rises at each time at which an input changes after time 0, and in
+/// the same steps up to the last change of all inputs; `None` if there is none, or if more than half
+/// of its rising edges would be without a change. Other inputs may change a constant time later too.
+pub(crate) fn clock_of_input(inputs: &[(usize, &[Change])], changes: &[Change]) -> Option<Clock> {
+    let clock = clock_of_raster(inputs, changes)?;
+    if edges_in_direction(&clock) / 2 > change_count(inputs) {
+        return None;
+    }
+    Some(Clock {
+        later: later_of(&clock, inputs),
+        ..clock
     })
 }

@@ -2,8 +2,9 @@
 
 ghost use Rattle.std.specs.Prelude.{◌<◌, length, IfSome};
 
+use crate::clock::{Clock, Edges, inverted, is_multiple, later_changes};
 use crate::table::is_relayed;
-use crate::tables::{Clock, Edges, Tables, is_multiple, later_changes};
+use crate::tables::Tables;
 use std::alloc::{AllocError, Global};
 use std::slice::Iter;
 use vsim_netlist_design::{Bit, Change, Draft, Level, Netlist, Port, Stimuli, push, push_time};
@@ -243,14 +244,6 @@ fn push_inversion(text: &mut Draft, clock: &str, running: &str, half: u64) {
     push_time(text, half);
 }
 
-/// The level after the first edge of a clock.
-fn inverted(level: Level) -> Level {
-    match level {
-        Level::Zero => Level::One,
-        _ => Level::Zero,
-    }
-}
-
 /// Writes the signal that rises with the first edge of a clock.
 fn put_started(statements: &mut Statements, once: &mut Draft, start: u64) -> usize {
     let started = statements.signals.add(Some(Level::Zero));
@@ -311,13 +304,17 @@ fn put_copy(statements: &mut Statements, from: usize, place: usize) {
     statements.body.push(";\n");
 }
 
-/// The signal that a net follows one delta cycle later.
-fn put_relay(statements: &mut Statements, net: &Driven<'_>) -> usize {
-    let initial = match net.changes.first() {
+/// The level of a net at time 0, if it has one.
+fn initial(net: &Driven<'_>) -> Option<Level> {
+    match net.changes.first() {
         Some(first) if first.time == 0 => Some(first.level),
         _ => None,
-    };
-    let relay = statements.signals.add(initial);
+    }
+}
+
+/// The signal that a net follows one delta cycle later.
+fn put_relay(statements: &mut Statements, net: &Driven<'_>) -> usize {
+    let relay = statements.signals.add(initial(net));
     put_copy(statements, relay, net.place);
     relay
 }
@@ -354,6 +351,7 @@ fn first_clock(nets: &[Driven<'_>], end: u64) -> Option<Clock> {
                 first: first.level,
                 edges,
                 end,
+                later: 0,
             });
         }
     }
@@ -383,10 +381,11 @@ fn table_inputs<'a>(
     Ok(inputs)
 }
 
-/// Writes a clock that is added for tables, and stops at its last edge.
-fn put_added_clock(statements: &mut Statements, once: &mut Draft, tables: &mut Tables) {
+/// Writes a clock that is added for tables, delayed by the hold time, and stops at its last edge.
+fn put_added_clock(statements: &mut Statements, once: &mut Draft, tables: &mut Tables, hold: u64) {
     let clock = tables.clock();
-    let running = put_run(statements, once, clock.end);
+    let start = clock.edges.start.saturating_add(hold);
+    let running = put_run(statements, once, clock.end.saturating_add(hold));
     let net = statements.signals.add(Some(clock.first));
     tables.set_clock(net);
     statements.count();
@@ -397,8 +396,8 @@ fn put_added_clock(statements: &mut Statements, once: &mut Draft, tables: &mut T
         signals.text(running),
         clock.edges.half,
     );
-    if clock.edges.start != clock.edges.half {
-        put_start(statements, once, clock.first, clock.edges.start);
+    if start != clock.edges.half {
+        put_start(statements, once, clock.first, start);
     }
     statements.body.push(";\n");
 }
@@ -408,11 +407,12 @@ fn stepped_tables(
     statements: &mut Statements,
     once: &mut Draft,
     inputs: &[(usize, &[Change])],
+    hold: u64,
 ) -> Result<Option<Tables>, AllocError> {
     let (alloc, signals) = (statements.alloc, &statements.signals);
     let mut tables = Tables::of_steps(alloc, signals, inputs)?;
     if let Some(tables) = &mut tables {
-        put_added_clock(statements, once, tables);
+        put_added_clock(statements, once, tables, hold);
     }
     Ok(tables)
 }
@@ -444,7 +444,8 @@ fn place_with(tables: &[Tables], net: usize) -> Option<usize>
     None
 }
 
-/// The tables of the inputs that change with the first clock, one delta cycle after its edges.
+/// The tables of the inputs that change with the first clock, one delta cycle after its edges; none
+/// if there is a hold time.
 fn clocked_tables(
     statements: &Statements,
     nets: &[Driven<'_>],
@@ -453,6 +454,9 @@ fn clocked_tables(
 ) -> Result<Vec<Tables>, AllocError> {
     let alloc = statements.alloc;
     let mut found = Vec::new(alloc);
+    if manner.hold != 0 {
+        return Ok(found);
+    }
     if let Some(clock) = first_clock(nets, manner.end) {
         let tables = Tables::of(alloc, &statements.signals, clock, inputs)?;
         push(&mut found, tables)?;
@@ -461,19 +465,16 @@ fn clocked_tables(
 }
 
 /// The tables of the inputs that change with the first clock, and those of inputs that change in
-/// steps; none if inputs change later.
+/// steps.
 fn tables(
     statements: &mut Statements,
     once: &mut Draft,
     nets: &[Driven<'_>],
     manner: Manner<'_>,
 ) -> Result<Vec<Tables>, AllocError> {
-    if manner.hold != 0 {
-        return Ok(Vec::new(statements.alloc));
-    }
     let inputs = table_inputs(statements.alloc, nets, manner.clocks)?;
     let mut found = clocked_tables(statements, nets, manner, inputs.as_slice())?;
-    add_stepped(statements, once, inputs.as_slice(), &mut found)?;
+    add_stepped(statements, once, inputs.as_slice(), manner.hold, &mut found)?;
     Ok(found)
 }
 
@@ -482,13 +483,63 @@ fn add_stepped(
     statements: &mut Statements,
     once: &mut Draft,
     inputs: &[(usize, &[Change])],
+    hold: u64,
     found: &mut Vec<Tables>,
 ) -> Result<(), AllocError> {
     let others = inputs_beside(statements.alloc, inputs, found.as_slice())?;
-    match stepped_tables(statements, once, others.as_slice())? {
+    match stepped_tables(statements, once, others.as_slice(), hold)? {
         Some(tables) => push(found, tables),
         None => Ok(()),
     }
+}
+
+/// Adds that a signal follows another one after a time.
+fn push_delayed(text: &mut Draft, target: &str, from: &str, delay: u64) {
+    text.push_all(&[target, "<=", from, " after "]);
+    push_time(text, delay);
+    text.push(";\n");
+}
+
+/// Writes that a signal follows another one after a time.
+fn put_delayed(statements: &mut Statements, from: usize, place: usize, delay: u64) {
+    statements.count();
+    let (signals, text) = (&statements.signals, &mut statements.body);
+    push_delayed(text, signals.text(place), signals.text(from), delay);
+}
+
+/// Adds that a signal is the exclusive or of two others.
+fn push_exclusive_or(text: &mut Draft, target: &str, one: &str, other: &str) {
+    text.push_all(&[target, "<=", one, " xor ", other, ";\n"]);
+}
+
+/// Writes that a net is the exclusive or of two signals.
+fn put_exclusive_or(statements: &mut Statements, one: usize, other: usize, place: usize) {
+    statements.signals.ensure(place);
+    statements.count();
+    let (signals, text) = (&statements.signals, &mut statements.body);
+    push_exclusive_or(
+        text,
+        signals.text(place),
+        signals.text(one),
+        signals.text(other),
+    );
+}
+
+/// Prepares an input whose changes are with the edges of a clock and a constant time after them. One
+/// signal is inverted for the former, another one for the latter.
+fn put_late(
+    statements: &mut Statements,
+    tables: &mut Tables,
+    net: &Driven<'_>,
+) -> Result<(), AllocError> {
+    let own = statements.signals.add(initial(net));
+    let late = statements.signals.add(Some(Level::Zero));
+    let delayed = statements.signals.add(Some(Level::Zero));
+    statements.count_driver();
+    put_delayed(statements, late, delayed, tables.clock().later);
+    put_exclusive_or(statements, own, delayed, net.place);
+    tables.targets().set(net.place, own)?;
+    tables.targets().set_late(net.place, late)
 }
 
 /// Prepares an input whose changes are in a table.
@@ -499,9 +550,12 @@ fn put_in_table(
 ) -> Result<(), AllocError> {
     let changes = begin(statements, net).len();
     statements.count_driver();
+    if tables.targets().is_late(net.place) {
+        return put_late(statements, tables, net);
+    }
     if is_relayed(statements.signals.text(net.place).len(), changes) {
         let relay = put_relay(statements, net);
-        return tables.relay(net.place, relay);
+        return tables.targets().set(net.place, relay);
     }
     statements.signals.ensure(net.place);
     Ok(())

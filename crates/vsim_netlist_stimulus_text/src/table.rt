@@ -2,8 +2,9 @@
 
 ghost use Rattle.std.specs.Prelude.{◌≤◌, length};
 
+use crate::clock::Edge;
+use crate::targets::Targets;
 use std::alloc::{AllocError, Global};
-use std::collections::HashMap;
 use vsim_netlist_design::{Change, Draft, Level, push, push_time};
 use vsim_netlist_signals::{Names, Signals, Statements};
 
@@ -22,9 +23,6 @@ const SHORT: usize = 2;
 /// The bytes that a copy of a signal takes besides the name of the other one.
 const COPY: usize = 6;
 
-/// For the net of each input in a table, the signal that the process assigns.
-pub(crate) type Targets = HashMap<usize, usize>;
-
 /// Whether a signal with a short name, which the input follows, makes the text shorter, for an input
 /// with a name of this length that changes this many times.
 pub(crate) fn is_relayed(name: usize, changes: usize) -> bool {
@@ -32,13 +30,20 @@ pub(crate) fn is_relayed(name: usize, changes: usize) -> bool {
     saved > name.saturating_add(COPY)
 }
 
+/// A change of the input with a net, or of one of the signals of which it is the exclusive or.
+#[derive(Clone, Copy)]
+struct Assignment {
+    net: usize,
+    is_late: bool,
+    change: Change,
+}
+
 /// The changes of inputs at the edges of a clock in one direction, by the number of the edge, from
 /// 0.
 pub(crate) struct Table {
     /// For each change, the number of its edge and its index in `changes`.
     order: Vec<(usize, usize)>,
-    /// The index of the net that changes, and its change.
-    changes: Vec<(usize, Change)>,
+    changes: Vec<Assignment>,
 }
 
 impl Drop for Table {
@@ -66,15 +71,23 @@ impl Table {
         }
     }
 
-    /// Adds a change at the edge with a number.
+    /// Adds a change at an edge.
     pub(crate) fn push(
         &mut self,
-        edge: usize,
+        edge: Edge,
         net: usize,
         change: Change,
     ) -> Result<(), AllocError> {
-        push(&mut self.order, (edge, self.changes.len()))?;
-        push(&mut self.changes, (net, change))
+        push(&mut self.order, (edge.number, self.changes.len()))?;
+        let is_late = edge.is_late;
+        push(
+            &mut self.changes,
+            Assignment {
+                net,
+                is_late,
+                change,
+            },
+        )
     }
 
     /// Sorts the changes by their edges.
@@ -131,19 +144,19 @@ pub(crate) fn element_of(alloc: Global, time: u64) -> usize {
 }
 
 /// The bytes that assignments of the values of these changes take.
-fn assignment_bytes(signals: &Signals, changes: &[(usize, Change)]) -> usize {
+fn assignment_bytes(signals: &Signals, changes: &[Assignment]) -> usize {
     let mut bytes = 0usize;
-    for (net, change) in changes {
-        bytes = bytes.saturating_add(assignment_of(signals, *net, change.level));
+    for it in changes {
+        bytes = bytes.saturating_add(assignment_of(signals, it.net, it.change.level));
     }
     bytes
 }
 
 /// The bytes that elements of waveforms take for these changes.
-fn element_bytes(alloc: Global, changes: &[(usize, Change)]) -> usize {
+fn element_bytes(alloc: Global, changes: &[Assignment]) -> usize {
     let mut bytes = 0usize;
-    for (_, change) in changes {
-        bytes = bytes.saturating_add(element_of(alloc, change.time));
+    for it in changes {
+        bytes = bytes.saturating_add(element_of(alloc, it.change.time));
     }
     bytes
 }
@@ -270,9 +283,9 @@ fn push_assignment(text: &mut Draft, signals: &Signals, net: usize, level: Level
 
 /// Adds the assignment of the change at an index.
 fn push_change(text: &mut Draft, signals: &Signals, table: &Table, targets: &Targets, at: usize) {
-    if let Some((net, change)) = table.changes.get(at) {
-        let target = targets.get(net).copied().unwrap_or(*net);
-        push_assignment(text, signals, target, change.level);
+    if let Some(it) = table.changes.get(at) {
+        let target = targets.signal(it.net, it.is_late);
+        push_assignment(text, signals, target, it.change.level);
     }
 }
 

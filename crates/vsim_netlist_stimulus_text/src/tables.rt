@@ -1,11 +1,12 @@
 //! Which inputs are written as tables of their changes at the edges of a clock.
 
 use crate::choice::chosen;
+use crate::clock::{Clock, edge_for, edges_in_direction, is_any_late, later_changes};
 use crate::steps::{clock_of_input, clock_of_steps};
-use crate::table::{Table, Targets, put_table};
+use crate::table::{Table, put_table};
+use crate::targets::{Levels, Targets};
 use std::alloc::{AllocError, Global};
-use std::collections::HashMap;
-use vsim_netlist_design::{Change, Level};
+use vsim_netlist_design::Change;
 use vsim_netlist_signals::{Signals, Statements};
 
 /// The bytes that a process takes for the counter of edges, less those of the additional signals
@@ -17,22 +18,6 @@ const CLOCK: usize = 100;
 
 /// For how many inputs the steps in which they change are tried.
 const TRIES: usize = 8;
-
-/// The edges of a clock of constant period: the time of the first one, and half the period.
-#[derive(Clone, Copy)]
-pub(crate) struct Edges {
-    pub(crate) start: u64,
-    pub(crate) half: u64,
-}
-
-/// A clock: its net, its initial level, its edges, and the time of the last one.
-#[derive(Clone, Copy)]
-pub(crate) struct Clock {
-    pub(crate) net: usize,
-    pub(crate) first: Level,
-    pub(crate) edges: Edges,
-    pub(crate) end: u64,
-}
 
 /// The tables of a clock: the changes of inputs at its rising and its falling edges.
 pub(crate) struct Tables {
@@ -53,69 +38,6 @@ impl Drop for Tables {
     }
 }
 
-/// An edge of a clock: whether it rises, and its number among those in the same direction, from 0.
-#[derive(Clone, Copy)]
-struct Edge {
-    rises: bool,
-    number: usize,
-}
-
-/// Whether a time is a multiple of another one, by this number.
-pub(crate) fn is_multiple(time: u64, unit: u64, number: u64) -> bool {
-    match unit.checked_mul(number) {
-        Some(product) => product == time,
-        None => false,
-    }
-}
-
-/// The edge of a clock at a time, if there is one.
-fn edge_at(clock: &Clock, time: u64) -> Option<Edge> {
-    let since = time.checked_sub(clock.edges.start)?;
-    let before = since.checked_div(clock.edges.half)?;
-    if time > clock.end || !is_multiple(since, clock.edges.half, before) {
-        return None;
-    }
-    let is_even = before % 2 == 0;
-    Some(Edge {
-        rises: is_even == (clock.first == Level::Zero),
-        number: (before / 2) as usize,
-    })
-}
-
-/// The number of the edge of a clock at a time, if there is one.
-pub(crate) fn edge_number(clock: &Clock, time: u64) -> Option<usize> {
-    match edge_at(clock, time) {
-        Some(edge) => Some(edge.number),
-        None => None,
-    }
-}
-
-/// A bound of the number of edges of a clock in one direction, at most one too high.
-pub(crate) fn edges_in_direction(clock: &Clock) -> usize {
-    let since = clock.end.saturating_sub(clock.edges.start);
-    let after_first = since.checked_div(clock.edges.half).unwrap_or(0);
-    (after_first / 2).saturating_add(1) as usize
-}
-
-/// The changes after time 0.
-pub(crate) fn later_changes(changes: &[Change]) -> &[Change] {
-    match changes {
-        [first, rest @ ..] if first.time == 0 => rest,
-        _ => changes,
-    }
-}
-
-/// Whether all changes after time 0 are at edges of a clock in one direction.
-pub(crate) fn are_at(clock: &Clock, changes: &[Change], rises: bool) -> bool {
-    for change in changes {
-        match edge_at(clock, change.time) {
-            Some(edge) if edge.rises == rises => {}
-            _ => return false,
-        }
-    }
-    true
-}
-
 /// Adds a change of an input to a table.
 fn push_change(
     table: &mut Table,
@@ -123,10 +45,29 @@ fn push_change(
     net: usize,
     change: &Change,
 ) -> Result<(), AllocError> {
-    match edge_number(clock, change.time) {
+    match edge_for(clock, change.time) {
         Some(edge) => table.push(edge, net, *change),
         None => Ok(()),
     }
+}
+
+/// Adds the changes of an input to a table. Each inverts one of the signals of which the input is the
+/// exclusive or.
+fn push_inversions(
+    table: &mut Table,
+    clock: &Clock,
+    net: usize,
+    changes: &[Change],
+) -> Result<(), AllocError> {
+    let mut levels = Levels::of(changes);
+    for change in later_changes(changes) {
+        let Some(edge) = edge_for(clock, change.time) else {
+            continue;
+        };
+        let level = levels.invert(edge.is_late);
+        table.push(edge, net, Change { level, ..*change })?;
+    }
+    Ok(())
 }
 
 /// Adds the changes of an input to a table.
@@ -136,6 +77,9 @@ fn push_changes(
     net: usize,
     changes: &[Change],
 ) -> Result<(), AllocError> {
+    if is_any_late(clock, changes) {
+        return push_inversions(table, clock, net, changes);
+    }
     for change in later_changes(changes) {
         push_change(table, clock, net, change)?;
     }
@@ -160,12 +104,13 @@ fn push_inputs(
 /// Notes that the inputs that are chosen are assigned.
 fn note(
     targets: &mut Targets,
+    clock: &Clock,
     inputs: &[(usize, &[Change])],
     chosen: &[bool],
 ) -> Result<(), AllocError> {
-    for ((net, _), is_chosen) in inputs.iter().zip(chosen) {
+    for ((net, changes), is_chosen) in inputs.iter().zip(chosen) {
         if *is_chosen {
-            targets.insert(*net, *net)?;
+            targets.add(*net, is_any_late(clock, changes))?;
         }
     }
     Ok(())
@@ -187,7 +132,7 @@ fn table_of(
     if !table.pays(alloc, signals, edges_in_direction(clock), COUNTER) {
         return Ok(None);
     }
-    note(targets, inputs, chosen.as_slice())?;
+    note(targets, clock, inputs, chosen.as_slice())?;
     Ok(Some(table))
 }
 
@@ -214,7 +159,7 @@ impl Tables {
         clock: Clock,
         inputs: &[(usize, &[Change])],
     ) -> Result<Tables, AllocError> {
-        let mut targets = HashMap::new(alloc);
+        let mut targets = Targets::new(alloc);
         let rising = table_of(alloc, signals, &clock, inputs, true, &mut targets)?;
         let falling = table_of(alloc, signals, &clock, inputs, false, &mut targets)?;
         Ok(Tables {
@@ -290,7 +235,8 @@ impl Tables {
             Some(table) => {
                 let edges = edges_in_direction(&self.clock);
                 let is_dense = edges / 2 <= table.edges();
-                is_dense && table.pays(alloc, signals, edges, COUNTER + CLOCK)
+                let others = self.targets.late_bytes().saturating_add(COUNTER + CLOCK);
+                is_dense && table.pays(alloc, signals, edges, others)
             }
             None => false,
         }
@@ -306,15 +252,14 @@ impl Tables {
         self.clock.net = net;
     }
 
-    /// Whether a table has the changes of the input with a net.
-    pub(crate) fn has(&self, net: usize) -> bool {
-        self.targets.contains_key(&net)
+    /// The signals that the tables assign.
+    pub(crate) fn targets(&mut self) -> &mut Targets {
+        &mut self.targets
     }
 
-    /// Lets the input with a net follow a signal, which is assigned in its place.
-    pub(crate) fn relay(&mut self, net: usize, signal: usize) -> Result<(), AllocError> {
-        self.targets.insert(net, signal)?;
-        Ok(())
+    /// Whether a table has the changes of the input with a net.
+    pub(crate) fn has(&self, net: usize) -> bool {
+        self.targets.has(net)
     }
 
     /// Writes the processes of the tables.
