@@ -17,31 +17,37 @@ use sim_exec_code::SingleAssignment;
 use sim_wave::Driver;
 use std::alloc::AllocError;
 
-/// Carries out an assignment on the drivers of its process. Returns also the first pending time of
-/// its driver after that.
+/// Carries out an assignment on the drivers of its process, which is known to be without delay if
+/// `NOW`. Returns also the first pending time of its driver after that.
 #[inline(always)]
-fn assign_on<N: Nets>(
+fn assign_on<N: Nets, const NOW: bool>(
     nets: &N,
     now: u64,
     quick: &SingleAssignment,
     drivers: &mut [Driver],
 ) -> (Result<(), AllocError>, Option<u64>)
+    requires delay { NOW ≡ true → quick.now.is_now ≡ true }
     requires now { now ≤ largest_time }
     requires pending { All (λ d. RisesFrom now d.pending) drivers.old }
     ensures { spec.AreAssignedNext (N.look nets.now) now quick.now result.0 result.1 drivers.old drivers.new }
 {
-    quick.execute(nets, now, drivers)
+    if NOW {
+        quick.execute_now(nets, now, drivers)
+    } else {
+        quick.execute(nets, now, drivers)
+    }
 }
 
 /// The same, of a process whose drivers are between these bounds.
 #[inline(always)]
-fn assign_between<N: Nets>(
+fn assign_between<N: Nets, const NOW: bool>(
     nets: &N,
     now: u64,
     quick: &SingleAssignment,
     drivers: &mut [Driver],
     owned: (usize, usize),
 ) -> (Result<(), AllocError>, Option<u64>)
+    requires delay { NOW ≡ true → quick.now.is_now ≡ true }
     requires now { now ≤ largest_time }
     requires owned { (owned.0 ≤ owned.1) × (owned.1 ≤ length drivers.old) }
     requires pending { All (λ d. RisesFrom now d.pending) (slice_range drivers.old owned.0 owned.1) }
@@ -49,18 +55,19 @@ fn assign_between<N: Nets>(
     ensures assigned { spec.AreAssignedNext (N.look nets.now) now quick.now result.0 result.1 (slice_range drivers.old owned.0 owned.1)
         (slice_range drivers.new owned.0 owned.1) }
 {
-    assign_on(nets, now, quick, &mut drivers[owned.0..owned.1])
+    assign_on::<N, NOW>(nets, now, quick, &mut drivers[owned.0..owned.1])
 }
 
 /// The same, of a process whose drivers are at a place of lists.
 #[inline(always)]
-fn assign_in_rows<N: Nets>(
+fn assign_in_rows<N: Nets, const NOW: bool>(
     nets: &N,
     now: u64,
     quick: &SingleAssignment,
     place: usize,
     drivers: &mut RowArray<Driver>,
 ) -> (Result<(), AllocError>, Option<u64>)
+    requires delay { NOW ≡ true → quick.now.is_now ≡ true }
     requires now { now ≤ largest_time }
     requires drivers { place < length drivers.old }
     requires pending { All (λ d. RisesFrom now d.pending) (slice_index_or drivers.old place []) }
@@ -69,7 +76,7 @@ fn assign_in_rows<N: Nets>(
         (slice_index_or drivers.new place []) }
 {
     let owned = bounds(drivers.starts.as_slice(), place);
-    assign_between(nets, now, quick, drivers.flat.as_mut_slice(), owned)
+    assign_between::<N, NOW>(nets, now, quick, drivers.flat.as_mut_slice(), owned)
 }
 
 /// Carries out the assignment of the process with a number. The drivers of each process are at its
@@ -90,7 +97,7 @@ fn assign_in_parts<N: Nets>(
         (slice_index_or drivers.new number []) }
 {
     let owned = place_of(drivers.parts.as_slice(), drivers.each, number);
-    assign_in_rows(
+    assign_in_rows::<N, false>(
         nets,
         now,
         quick,
@@ -99,10 +106,10 @@ fn assign_in_parts<N: Nets>(
     )
 }
 
-/// Carries out the assignment of the process with a number, and puts the first pending time of its
-/// driver into the queue. Where the drivers of the process start is looked up once.
+/// Carries out the assignment of the process with a number, which is known to be without delay if
+/// `NOW`, and puts the first pending time of its driver into the queue. Where the drivers of the process start is looked up once.
 #[inline(always)]
-pub fn assign_and_tell<N: Nets>(
+pub fn assign_and_tell<N: Nets, const NOW: bool>(
     nets: &N,
     now: u64,
     quick: &SingleAssignment,
@@ -111,6 +118,7 @@ pub fn assign_and_tell<N: Nets>(
     queue: &mut TimeQueue,
     stale: &mut NumberSet,
 ) -> Result<(), AllocError>
+    requires delay { NOW ≡ true → quick.now.is_now ≡ true }
     requires now { now ≤ largest_time }
     requires at { number < length drivers.old }
     requires pending { All (λ d. RisesFrom now d.pending) (slice_index_or drivers.old number []) }
@@ -125,98 +133,9 @@ pub fn assign_and_tell<N: Nets>(
     if place >= end - start {
         return Ok(());
     }
-    let (done, next) = assign_in_rows(nets, now, quick, number, drivers);
+    let (done, next) = assign_in_rows::<N, NOW>(nets, now, quick, number, drivers);
     let own = start + place;
     tell(queue, stale, own, next);
-    done
-}
-
-/// Carries out an assignment without delay on the drivers of its process. Returns also the first
-/// pending time of its driver after that.
-#[inline(always)]
-fn assign_now_on<N: Nets>(
-    nets: &N,
-    now: u64,
-    quick: &SingleAssignment,
-    drivers: &mut [Driver],
-) -> (Result<(), AllocError>, Option<u64>)
-    requires delay { quick.now.is_now ≡ true }
-    requires now { now ≤ largest_time }
-    requires pending { All (λ d. RisesFrom now d.pending) drivers.old }
-    ensures { spec.AreAssignedNext (N.look nets.now) now quick.now result.0 result.1 drivers.old drivers.new }
-{
-    quick.execute_now(nets, now, drivers)
-}
-
-/// The same, of a process whose drivers are between these bounds.
-#[inline(always)]
-fn assign_now_between<N: Nets>(
-    nets: &N,
-    now: u64,
-    quick: &SingleAssignment,
-    drivers: &mut [Driver],
-    owned: (usize, usize),
-) -> (Result<(), AllocError>, Option<u64>)
-    requires delay { quick.now.is_now ≡ true }
-    requires now { now ≤ largest_time }
-    requires owned { (owned.0 ≤ owned.1) × (owned.1 ≤ length drivers.old) }
-    requires pending { All (λ d. RisesFrom now d.pending) (slice_range drivers.old owned.0 owned.1) }
-    ensures drivers { drivers.new ≡ take owned.0 drivers.old ++ slice_range drivers.new owned.0 owned.1 ++ drop owned.1 drivers.old }
-    ensures assigned { spec.AreAssignedNext (N.look nets.now) now quick.now result.0 result.1 (slice_range drivers.old owned.0 owned.1)
-        (slice_range drivers.new owned.0 owned.1) }
-{
-    assign_now_on(nets, now, quick, &mut drivers[owned.0..owned.1])
-}
-
-/// The same, of a process whose drivers are at a place of lists.
-#[inline(always)]
-fn assign_now_in_rows<N: Nets>(
-    nets: &N,
-    now: u64,
-    quick: &SingleAssignment,
-    place: usize,
-    drivers: &mut RowArray<Driver>,
-) -> (Result<(), AllocError>, Option<u64>)
-    requires delay { quick.now.is_now ≡ true }
-    requires now { now ≤ largest_time }
-    requires drivers { place < length drivers.old }
-    requires pending { All (λ d. RisesFrom now d.pending) (slice_index_or drivers.old place []) }
-    ensures drivers { drivers.new ≡ slice_set drivers.old place (slice_index_or drivers.new place []) }
-    ensures assigned { spec.AreAssignedNext (N.look nets.now) now quick.now result.0 result.1 (slice_index_or drivers.old place [])
-        (slice_index_or drivers.new place []) }
-{
-    let owned = bounds(drivers.starts.as_slice(), place);
-    assign_now_between(nets, now, quick, drivers.flat.as_mut_slice(), owned)
-}
-
-/// Carries out the assignment without delay of the process with a number, as `assign_and_tell` does.
-#[inline(always)]
-pub fn assign_now_and_tell<N: Nets>(
-    nets: &N,
-    now: u64,
-    quick: &SingleAssignment,
-    number: usize,
-    drivers: &mut RowArray<Driver>,
-    queue: &mut TimeQueue,
-    stale: &mut NumberSet,
-) -> Result<(), AllocError>
-    requires delay { quick.now.is_now ≡ true }
-    requires now { now ≤ largest_time }
-    requires at { number < length drivers.old }
-    requires pending { All (λ d. RisesFrom now d.pending) (slice_index_or drivers.old number []) }
-    requires times { AreTimes queue.old stale.old (joined drivers.old) }
-    ensures drivers { drivers.new ≡ slice_set drivers.old number (slice_index_or drivers.new number []) }
-    ensures assigned { spec.AreAssigned (N.look nets.now) now quick.now result (slice_index_or drivers.old number [])
-        (slice_index_or drivers.new number []) }
-    ensures times { AreTimes queue.new stale.new (joined drivers.new) }
-{
-    let (start, end) = drivers.row_bounds(number);
-    let place = quick.driver();
-    if place >= end - start {
-        return Ok(());
-    }
-    let (done, next) = assign_now_in_rows(nets, now, quick, number, drivers);
-    tell(queue, stale, start + place, next);
     done
 }
 

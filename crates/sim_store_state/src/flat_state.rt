@@ -581,9 +581,9 @@ impl FlatState {
     }
 
     /// Executes these processes in order, as long as the body of each is known to be a single
-    /// assignment or to lack the edge that guards it, and returns how many it has executed: none if
-    /// what processes own is in several parts. If allocation fails, an unknown number has been executed, and none must be executed
-    /// again. Only `codes` and `numbers` are read; `processes` are those of the design.
+    /// assignment or to lack the edge that guards it, and returns how many it has executed. If what
+    /// processes own is in several parts, these are at most the ones that lack an edge. If allocation
+    /// fails, an unknown number has been executed, and none must be executed again. Only `codes` and `numbers` are read; `processes` are those of the design.
     pub fn execute_single_assignments(
         &mut self,
         processes: &[Process],

@@ -14,7 +14,7 @@ ghost use Rattle.sim_store_state.specs.Changes.{AreTimes};
 ghost use Rattle.sim_store_state.specs.FlatState.{held, owned_lists, views_of};
 ghost use Rattle.sim_store_state.specs.InTurn.{AreDone, AreExecuted, AreKept, IsBodyAt, IsExecutable, IsOther, IsTurn};
 
-use crate::assignment::{assign_and_tell, assign_now_and_tell};
+use crate::assignment::assign_and_tell;
 use crate::nets::ByNumber;
 use sim_containers::{DividedRows, NumberSet, RowArray, TimeQueue};
 use sim_exec_code::{Codes, SingleAssignment};
@@ -37,10 +37,10 @@ fn count_idle(values: &[Logic], values_before: &[Logic], codes: &Codes, numbers:
     codes.count_idle(&nets, numbers)
 }
 
-/// Executes the process with a number, whose body is this assignment without delay. Its edge is not
-/// missing.
+/// Executes the process with a number, whose body is this assignment, which is known to be without
+/// delay if `NOW`. Its edge is not missing.
 #[inline(always)]
-fn execute_one_now(
+fn execute_one<const NOW: bool>(
     nets: &ByNumber,
     processes: &[Process],
     number: usize,
@@ -52,7 +52,7 @@ fn execute_one_now(
     queue: &mut TimeQueue,
     stale: &mut NumberSet,
 ) -> Result<(), AllocError>
-    requires delay { quick.now.is_now ≡ true }
+    requires delay { NOW ≡ true → quick.now.is_now ≡ true }
     requires edge { is_missing (net_at (views_of nets.now.values.now nets.now.values_before.now)) quick.now.edge ≡ false }
     requires body { IsBodyAt codes.now number quick.now }
     requires now { now ≤ largest_time }
@@ -64,7 +64,7 @@ fn execute_one_now(
     ensures kept { AreKept now variables.now (number ∷ []) drivers.old drivers.new }
     ensures times { AreTimes queue.new stale.new (joined drivers.new) }
 {
-    assign_now_and_tell(nets, now, quick, number, drivers, queue, stale)
+    assign_and_tell::<ByNumber, NOW>(nets, now, quick, number, drivers, queue, stale)
 }
 
 /// Executes those of these processes, from the first on, whose bodies are assignments without delay
@@ -104,7 +104,7 @@ fn execute_alike(
         let Some(quick) = codes.quick_alike(first, next) else {
             return Ok(place);
         };
-        execute_one_now(
+        execute_one::<true>(
             &nets, processes, next, now, codes, quick, drivers, variables, queue, stale,
         )?;
         place += 1;
@@ -181,34 +181,6 @@ fn execute_after(
     )
 }
 
-/// Executes the process with a number, whose body is this assignment. Its edge is not missing.
-#[inline(always)]
-fn execute_one(
-    nets: &ByNumber,
-    processes: &[Process],
-    number: usize,
-    now: u64,
-    codes: &Codes,
-    quick: &SingleAssignment,
-    drivers: &mut RowArray<Driver>,
-    variables: &DividedRows<Held>,
-    queue: &mut TimeQueue,
-    stale: &mut NumberSet,
-) -> Result<(), AllocError>
-    requires edge { is_missing (net_at (views_of nets.now.values.now nets.now.values_before.now)) quick.now.edge ≡ false }
-    requires body { IsBodyAt codes.now number quick.now }
-    requires now { now ≤ largest_time }
-    requires codes { code.AreCodesOf processes.now codes.now }
-    requires owned { length drivers.old ≡ length variables.now }
-    requires here { IsExecutable processes.now now (owned_lists drivers.old variables.now) number }
-    requires times { AreTimes queue.old stale.old (joined drivers.old) }
-    ensures done { OnOk result (AreDone processes.now now nets.now.values.now nets.now.values_before.now variables.now (number ∷ []) drivers.old drivers.new) }
-    ensures kept { AreKept now variables.now (number ∷ []) drivers.old drivers.new }
-    ensures times { AreTimes queue.new stale.new (joined drivers.new) }
-{
-    assign_and_tell(nets, now, quick, number, drivers, queue, stale)
-}
-
 /// Executes the first of these processes, whose body is this assignment under an edge, and those
 /// after it that wait for the same edge, as far as is known. Returns how many.
 #[inline(always)]
@@ -241,7 +213,7 @@ fn execute_under(
     if quick.is_idle(nets) {
         return Ok(1 + count_idle_after(nets, codes, number, others));
     }
-    execute_one(
+    execute_one::<false>(
         nets, processes, number, now, codes, quick, drivers, variables, queue, stale,
     )?;
     let count = execute_after(
@@ -322,7 +294,7 @@ fn execute_each(
         let number = numbers[place];
         if let Some(quick) = codes.quick(number) {
             if !quick.has_edge() {
-                execute_one(
+                execute_one::<false>(
                     nets, processes, number, now, codes, quick, drivers, variables, queue, stale,
                 )?;
                 place += 1;
@@ -348,7 +320,8 @@ fn execute_each(
     Ok(place)
 }
 
-/// The same, if drivers are in one part; else it executes none.
+/// The same, if drivers are in one part; else it executes as many as lack the edge that guards them
+/// all.
 pub fn execute_in_one_part(
     nets: &ByNumber,
     processes: &[Process],
@@ -377,7 +350,7 @@ pub fn execute_in_one_part(
     ensures times { AreTimes queue.new stale.new (joined drivers.new) }
 {
     if drivers.parts.len() != 1 {
-        return Ok(0);
+        return Ok(count_idle(nets.values, nets.values_before, codes, numbers));
     }
     execute_each(
         nets,

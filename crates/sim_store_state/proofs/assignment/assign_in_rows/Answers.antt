@@ -11,7 +11,7 @@ pub assign_between-requires : goal.assign_between-requires
 assign_between-requires g c =
     let q = places_read c.drivers.invariant c.drivers.view_is c.args.place _ _ _ _ c.requires.drivers c.as_slice.ensures.value c.as_mut_slice.ensures.value
     c.bounds-owned.ensures.start c.bounds-owned.ensures.end in
-    record { now = c.requires.now; owned = (q.order, q.within); pending = rw q.holds c.requires.pending }
+    record { delay = c.requires.delay; now = c.requires.now; owned = (q.order, q.within); pending = rw q.holds c.requires.pending }
 
 pub invariant_of-drivers : goal.invariant_of-drivers
 invariant_of-drivers g c =

@@ -1,6 +1,13 @@
 use Rattle.std.proofs.Common.{arith}
 use Rattle.std.proofs.lemmas.Grind.{common_steps}
+use Rattle.sim_store_state.proofs.InTurn.{turn-idle}
 use Rattle.sim_store_state.proofs.in_turn.execute_in_one_part.Goals as goal
+
+pub returns-then-len-ne1-clause-executed : goal.returns-then-len-ne1-clause-executed
+returns-then-len-ne1-clause-executed c sources =
+    (turn-idle c.args.processes.now c.args.now c.args.nets.now.values.now c.args.nets.now.values_before.now c.args.variables.now c.args.codes.now
+    c.args.numbers.now c.count_idle.result c.args.drivers.now c.requires.codes c.count_idle.ensures.within c.count_idle.ensures.idle
+    c.requires.each).done sources
 
 pub execute_each-requires-clause-owned : goal.execute_each-requires-clause-owned
 execute_each-requires-clause-owned c = grind (arith, common_steps)

@@ -4,15 +4,15 @@ use Rattle.sim_store_state.proofs.InTurn.{assigned-done, assigned-kept, executab
 use Rattle.sim_store_state.proofs.in_turn.execute_one.Goals as goal
 
 pub assign_and_tell-requires-clause-at : goal.assign_and_tell-requires-clause-at
-assign_and_tell-requires-clause-at c =
+assign_and_tell-requires-clause-at g c =
     executable-at c.args.processes.now c.args.now c.args.variables.now c.args.number c.args.drivers.now c.requires.owned c.requires.here
 
 pub assign_and_tell-requires-clause-pending : goal.assign_and_tell-requires-clause-pending
-assign_and_tell-requires-clause-pending c =
+assign_and_tell-requires-clause-pending g c =
     executable-pending c.args.processes.now c.args.now c.args.variables.now c.args.number c.args.drivers.now c.requires.owned c.requires.here
 
 pub returns : goal.returns
-returns c =
+returns g c =
     let n = c.args.number in
     let time = c.args.now in
     let q = c.args.quick.now in
