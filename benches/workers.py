@@ -7,6 +7,10 @@ The shapes are those of shapes.py; `wide`, a shift register of 60,000 flip-flops
 entity with a long process on one clock. For each shape and number of workers (1, 2, 3 and 4) the least wall seconds of N runs (3),
 and the processor seconds of that run. All listings of a shape must be the same, byte for byte. With --load this many processes that
 never wait run at the same time.
+
+The last column is how much more work the machine does by several processors: as many runs as the greatest number of workers, each by
+one worker, are made at once, and N times the seconds of one alone are divided by theirs. No number of threads can gain more than that
+there: processors may be threads of fewer cores, or others' too.
 """
 import argparse
 import hashlib
@@ -42,6 +46,21 @@ def once(program, workers, source, stop):
         return wall, used.ru_utime + used.ru_stime, hashlib.file_digest(listing, "sha256").hexdigest()
 
 
+def at_once(program, count, source, stop):
+    """Wall seconds of this many runs by one worker at the same time."""
+    words = [program, "--top", "t", "--stop", str(stop), "--limit", "1000000"]
+    with open(source, "rb") as file:
+        text = file.read()
+    start = time.monotonic()
+    children = [subprocess.Popen(words, stdin=subprocess.PIPE, stdout=subprocess.DEVNULL) for _ in range(count)]
+    for it in children:
+        it.stdin.write(text)
+        it.stdin.close()
+    if any(it.wait() for it in children):
+        sys.exit("workers: a run failed")
+    return time.monotonic() - start
+
+
 def main():
     given = argparse.ArgumentParser()
     given.add_argument("program")
@@ -60,8 +79,9 @@ def main():
 
 def measure(program, given):
     """Writes the table."""
-    print("| Shape |" + "".join(f" {count}: wall | {count}: processor |" for count in given.workers))
-    print("|---|" + "--:|--:|" * len(given.workers))
+    most = max(given.workers)
+    print("| Shape |" + "".join(f" {count}: wall | {count}: processor |" for count in given.workers) + f" {most}: most gain |")
+    print("|---|" + "--:|--:|" * len(given.workers) + "--:|")
     for name in given.shapes:
         text, stop = ALL[name]()
         with tempfile.NamedTemporaryFile("w", suffix=".vhd") as source:
@@ -69,10 +89,11 @@ def measure(program, given):
             source.flush()
             # in turn, so that other load on the machine affects all alike
             runs = [[once(program, count, source.name, stop) for count in given.workers] for _ in range(given.repeat)]
+            alone, together = (min(at_once(program, count, source.name, stop) for _ in range(given.repeat)) for count in (1, most))
         if len({run[2] for turn in runs for run in turn}) != 1:
             sys.exit(f"workers: {name}: the listings differ")
         cells = "".join(f" {wall:.2f} | {spent:.2f} |" for wall, spent, _ in (min(of) for of in zip(*runs)))
-        print(f"| {name} |{cells}", flush=True)
+        print(f"| {name} |{cells} {most * alone / together:.1f} |", flush=True)
 
 
 if __name__ == "__main__":
