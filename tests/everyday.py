@@ -157,8 +157,8 @@ def faults_of_shells(programs, prefix, is_installed):
         yield from faults_of_install(prefix)
     else:
         with contextlib.redirect_stdout(io.StringIO()):
-            for program in programs.values():
-                installer().install(program, prefix)
+            for name, program in programs.items():
+                installer().install(name, program, prefix)
     for name in NAMES:
         yield from faults_of_files(name, prefix)
     found = [os.path.basename(it) for it in glob.glob(f"{prefix}/**/*.new-*", recursive=True)]
