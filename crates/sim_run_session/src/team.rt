@@ -7,7 +7,7 @@ ghost use Rattle.sim_store_simulation.specs.Simulation as simulations;
 ghost use Rattle.sim_store.specs.WaveStore as store;
 ghost use Rattle.sim_store.specs.WaveStore.{IsSameRun};
 
-use sim_run_team::{Bell, Hints, Team, Work, pair};
+use sim_run_team::{Hints, Post, Team, Work};
 use sim_store::{Answer, DesignType, Order, WaveStore};
 use std::alloc::{AllocError, Global};
 use std::marker::{Brand, PhantomData};
@@ -52,7 +52,7 @@ fn execute_in_shares<D: DesignType, R: Wait>(
     rt: &R,
     alloc: Global,
     run: WaveStore,
-    team: &mut Team<'_, PhaseWork<D>>,
+    team: &Team<'_, PhaseWork<D>>,
 ) -> Option<WaveStore>
     requires design { run.simulation.design ≡ D.design }
     requires untouched { hands.IsUntouched run }
@@ -84,7 +84,7 @@ fn execute<D: DesignType, R: Wait>(
     rt: &R,
     alloc: Global,
     run: WaveStore,
-    team: &mut Team<'_, PhaseWork<D>>,
+    team: &Team<'_, PhaseWork<D>>,
     length: usize,
 ) -> Option<WaveStore>
     requires { run.simulation.design ≡ D.design }
@@ -102,7 +102,7 @@ fn go_on<D: DesignType, R: Wait>(
     rt: &R,
     alloc: Global,
     run: WaveStore,
-    team: &mut Team<'_, PhaseWork<D>>,
+    team: &Team<'_, PhaseWork<D>>,
     length: usize,
 ) -> Option<WaveStore>
     requires design { run.simulation.design ≡ D.design }
@@ -120,7 +120,7 @@ fn lead<D: DesignType, R: Wait>(
     rt: &R,
     alloc: Global,
     run: WaveStore,
-    team: &mut Team<'_, PhaseWork<D>>,
+    team: &Team<'_, PhaseWork<D>>,
 ) -> Option<WaveStore>
     requires { run.simulation.design ≡ D.design }
     ensures { IfSome result (λ r. IsSameRun run r × (r.ended ≢ None)) }
@@ -136,28 +136,24 @@ fn lead<D: DesignType, R: Wait>(
     None
 }
 
-/// Adds a worker to a team for each bell for which a thread can be started. `None` if memory runs
-/// out.
+/// Starts a thread for each post, as long as threads can be started. Returns the posts that have
+/// one.
 fn hire<'s, D: DesignType + Send + Sync + 's, R: Threads + Wait + Sync, E>(
     scope: &Scope<'s, E>,
     rt: &'s R,
     alloc: Global,
-    bells: &'s [Bell],
-    main: &'s Bell,
-    looks: u32,
-    team: &mut Team<'s, PhaseWork<D>>,
-) -> Option<()> {
-    for bell in bells {
-        let (channel, worker) = pair::<PhaseWork<D>>(alloc, bell, looks).ok()?;
+    posts: &'s [Post<PhaseWork<D>>],
+) -> &'s [Post<PhaseWork<D>>] {
+    for (number, post) in posts.iter().enumerate() {
         let thread = Builder::new().stack_size(STACK_SIZE);
         if thread
-            .spawn_scoped(scope, move || worker.work(rt, alloc, bell, main))
-            .is_ok()
+            .spawn_scoped(scope, move || post.work(rt, alloc))
+            .is_err()
         {
-            team.add(channel)?;
+            return &posts[..number];
         }
     }
-    Some(())
+    posts
 }
 
 /// Carries a run of the design that `D` names to its end. It starts up to `workers - 1` threads, as
@@ -172,10 +168,9 @@ fn run_by<D: DesignType + Send + Sync, R: Threads + Wait + Sync>(
     requires { run.simulation.design ≡ D.design }
     ensures { IfSome result (λ r. IsSameRun run r × (r.ended ≢ None)) }
 {
-    let main = Bell::new();
-    let main = &main;
-    let bells = Bell::several(alloc, workers.saturating_sub(1))?;
-    let bells = bells.as_slice();
+    let others = workers.saturating_sub(1);
+    let posts = Post::<PhaseWork<D>>::several(alloc, others, hints.looks_before_sleep)?;
+    let posts = posts.as_slice();
     thread::scope(
         thread::scope_env(),
         rt,
@@ -183,17 +178,8 @@ fn run_by<D: DesignType + Send + Sync, R: Threads + Wait + Sync>(
             requires { run.simulation.design ≡ D.design }
             ensures { IfSome result (λ r. IsSameRun run r × (r.ended ≢ None)) }
         {
-            let mut team: Team<'_, PhaseWork<D>> = Team::new(alloc, main, hints);
-            hire(
-                scope,
-                rt,
-                alloc,
-                bells,
-                main,
-                hints.looks_before_sleep,
-                &mut team,
-            )?;
-            lead(rt, alloc, run, &mut team)
+            let hired = hire(scope, rt, alloc, posts);
+            lead(rt, alloc, run, &Team::new(hired, hints))
         },
     )
 }
@@ -212,9 +198,9 @@ fn useful<R: Threads>(rt: &R, run: &WaveStore, workers: usize, hints: Hints) -> 
 
 /// Carries on a run from the present state of its store until it has ended, by at most `workers`
 /// threads. In each phase with enough work, by the hints, each thread gets a share of the processes
-/// that are due, by value. A caller cannot tell which thread executes which process. `None` if the
-/// team fails: one of its threads had no memory, or is gone. The store is then lost, and the run
-/// may begin again on the calling thread.
+/// that are due, by value; this thread also executes the shares that no other has begun. A caller
+/// cannot tell which thread executes which process. `None` if the team fails: one of its threads
+/// had no memory. The store is then lost, and the run may begin again on the calling thread.
 pub fn carry_to_end<R: Threads + Wait + Sync>(
     rt: &R,
     alloc: Global,

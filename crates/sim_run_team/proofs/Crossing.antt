@@ -10,35 +10,25 @@ use mir.Syntax.{Sym, Ty}
 use Rattle.std.proofs.Common.{ℕ, List, [], ◌∷◌}
 use Rattle.std.proofs.Crossing.{crosses}
 use Rattle.std.specs.contracts.alloc.Global as Global
-use Rattle.sim_run_team.specs.contracts.bell.Bell as Bell
-use Rattle.sim_run_team.specs.contracts.workers.Worker as Worker
-use Rattle.sim_run_team.proofs.bell.Bell.TheSendSync as bells
-use Rattle.sim_run_team.proofs.workers.Worker.TheSendSync as workers
+use Rattle.sim_run_team.specs.contracts.workers.Post as Post
+use Rattle.sim_run_team.proofs.workers.Post.TheSendSync as posts
 
--- the types of what a worker takes along: its ends, the handle, the allocator, its bell and that of the main thread
-abbrev pub baggage : RattleType → RattleType → NamedLft → NamedLft → NamedLft → List RattleType
-baggage W R ℓ ℓ₁ ℓ₂ =
-    W ∷ (shr_ref_field ℓ (param 1 R) tt).row ∷ Global.the_row ∷ (shr_ref_field ℓ₁ Bell.the_row tt).row
-    ∷ (shr_ref_field ℓ₂ Bell.the_row tt).row ∷ []
+-- threads may share a post if orders and answers can be sent
+pub post_sync : (W O A : RattleType) → IsSend O → IsSend A → IsSync (Post.the_row W O A)
+post_sync W O A o a = search (o, a, posts.the_sync, crosses, sendable) depth 30
 
-pub worker_send : (i : ℕ) (δ : Ty) (k : Kept) (ν : Sym) (W R : RattleType) (ℓ ℓ₁ ℓ₂ : NamedLft) → IsSend W → IsSync R
-    → IsSend (param i (arg δ k (TupleAt ν (baggage W R ℓ ℓ₁ ℓ₂))))
-worker_send i δ k ν W R ℓ ℓ₁ ℓ₂ w r =
-    let all : AllSend (baggage W R ℓ ℓ₁ ℓ₂) = (
-      w,
+-- the types of what a worker takes along: its post, the handle, the allocator
+abbrev pub baggage : RattleType → RattleType → RattleType → RattleType → NamedLft → NamedLft → List RattleType
+baggage W O A R ℓ ℓ₁ = (shr_ref_field ℓ (Post.the_row W O A) tt).row ∷ (shr_ref_field ℓ₁ (param 1 R) tt).row ∷ Global.the_row ∷ []
+
+pub worker_send : (i : ℕ) (δ : Ty) (k : Kept) (ν : Sym) (W O A R : RattleType) (ℓ ℓ₁ : NamedLft) → IsSend O → IsSend A → IsSync R
+    → IsSend (param i (arg δ k (TupleAt ν (baggage W O A R ℓ ℓ₁))))
+worker_send i δ k ν W O A R ℓ ℓ₁ o a r =
+    let all : AllSend (baggage W O A R ℓ ℓ₁) = (
+      shr_send _ _ (Post.the_row W O A) (post_sync W O A o a),
       (
         shr_send _ _ (param 1 R) (param_sync 1 R r),
-        (
-          search (crosses, sendable),
-          (
-            search (bells.the_sync, sendable) depth 20,
-            (search (bells.the_sync, sendable) depth 20, tt),
-          ),
-        ),
+        (search (crosses, sendable), tt),
       ),
     ) in
     search (all, param_send, arg_send, recorded_send, struct_send)
-
--- a worker's ends can be sent to another thread if orders and answers can
-pub ends_send : (W O A : RattleType) → IsSend O → IsSend A → IsSend (Worker.the_row W O A)
-ends_send W O A o a = search (o, a, workers.the_send, crosses, sendable) depth 30

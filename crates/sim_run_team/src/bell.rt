@@ -1,6 +1,5 @@
 //! Waiting for another thread.
 
-use std::alloc::Global;
 use std::sync::Wait;
 use std::sync::atomic::{AtomicU64, Ordering};
 
@@ -18,15 +17,6 @@ impl Bell {
         Bell {
             asleep: AtomicU64::new(0),
         }
-    }
-
-    /// As many bells; `None` if memory runs out.
-    pub fn several(alloc: Global, count: usize) -> Option<Vec<Bell>> {
-        let mut bells = Vec::with_capacity(alloc, count).ok()?;
-        for _bell in 0..count {
-            bells.push(Bell::new()).ok()?;
-        }
-        Some(bells)
     }
 
     /// Wakes the sleeping thread. If none sleeps, this costs one load.

@@ -26,7 +26,7 @@ pub struct Hints {
 
 impl Hints {
     /// Measured values: a phase takes some tens of microseconds, and so do sleeping and being woken;
-    /// so a thread looks for some thirty microseconds.
+    /// so a thread looks for as long.
     pub const fn measured() -> Hints {
         Hints {
             least_steps_of_a_process: 16,

@@ -4,9 +4,10 @@
 
 mod bell;
 mod hints;
-mod message;
+mod inbox;
+mod team;
 mod workers;
 
-pub use bell::Bell;
 pub use hints::Hints;
-pub use workers::{Team, Work, Worker, WorkerChannel, pair};
+pub use team::Team;
+pub use workers::{Post, Work};

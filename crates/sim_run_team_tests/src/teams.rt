@@ -2,8 +2,8 @@
 
 use crate::board::Board;
 use crate::visits::{Visit, Visits, orders};
-use sim_run_team::{Bell, Hints, Team, pair};
-use std::alloc::{AllocError, Global};
+use sim_run_team::{Hints, Post, Team};
+use std::alloc::Global;
 use std::sync::{Arc, Wait};
 use std::test::Fail;
 use std::thread::{self, Threads};
@@ -25,15 +25,6 @@ struct Given {
     silent: Option<usize>,
 }
 
-/// A bell for each worker.
-fn bells(alloc: Global, workers: usize) -> Result<Vec<Bell>, AllocError> {
-    let mut bells = Vec::new(alloc);
-    for _worker in 0..workers {
-        bells.push(Bell::new())?;
-    }
-    Ok(bells)
-}
-
 /// Hints by which everything is handed out and a waiting thread sleeps after `looks` looks.
 fn hints(looks: u32) -> Hints {
     let mut hints = Hints::all_handed_out();
@@ -41,39 +32,46 @@ fn hints(looks: u32) -> Hints {
     hints
 }
 
-/// The bells of the workers, the orders, and the board that all of them use.
-fn ready(alloc: Global, given: Given) -> Option<(Vec<Bell>, Vec<Visit>, Arc<Board, Global>)> {
-    let bells = bells(alloc, given.workers).ok()?;
+/// The posts of the workers, the orders, and the board that all of them use.
+fn ready(
+    alloc: Global,
+    given: Given,
+) -> Option<(Vec<Post<Visits>>, Vec<Visit>, Arc<Board, Global>)> {
+    let posts = Post::several(alloc, given.workers, given.looks)?;
     let board = Arc::new(alloc, Board::new()).ok()?;
     let orders = orders(alloc, given.orders, given.at_once, given.silent, &board).ok()?;
-    Some((bells, orders, board))
+    Some((posts, orders, board))
 }
 
 /// A team's answers to visits.
 fn answered<R: Threads + Wait + Sync>(rt: &R, alloc: Global, given: Given) -> Option<Vec<usize>> {
-    let main = &Bell::new();
-    let (bells, orders, board) = ready(alloc, given)?;
-    let bells = bells.as_slice();
+    let (posts, orders, board) = ready(alloc, given)?;
+    let posts = posts.as_slice();
     let board = &*board;
     let begins_after = given.begins_after;
     let looks = given.looks;
     thread::scope(thread::scope_env(), rt, |scope| -> Option<Vec<usize>> {
-        let mut team = Team::new(alloc, main, hints(looks));
-        for bell in bells {
-            let (channel, worker) = pair::<Visits>(alloc, bell, looks).ok()?;
+        for post in posts {
             let _started = scope.spawn(move || {
                 board.has(begins_after);
-                worker.work(rt, alloc, bell, main)
+                post.work(rt, alloc)
             });
-            team.add(channel)?;
         }
+        let team = Team::new(posts, hints(looks));
         team.carry_out(rt, alloc, orders)
     })
 }
 
-/// Whether a team answers all visits, in order.
-fn is_answered<R: Threads + Wait + Sync>(rt: &R, alloc: Global, given: Given) -> bool {
-    let Some(answers) = answered(rt, alloc, given) else {
+/// A team's answers to visits if no thread is at any post.
+fn answered_alone<R: Wait>(rt: &R, alloc: Global, given: Given) -> Option<Vec<usize>> {
+    let (posts, orders, _board) = ready(alloc, given)?;
+    let team = Team::new(posts.as_slice(), hints(given.looks));
+    team.carry_out(rt, alloc, orders)
+}
+
+/// Whether these are answers to as many orders, in order.
+fn are_all(answers: Option<Vec<usize>>, orders: usize) -> bool {
+    let Some(answers) = answers else {
         return false;
     };
     for (number, answer) in answers.iter().enumerate() {
@@ -81,13 +79,15 @@ fn is_answered<R: Threads + Wait + Sync>(rt: &R, alloc: Global, given: Given) ->
             return false;
         }
     }
-    answers.len() == given.orders
+    answers.len() == orders
 }
 
 /// The numbers of workers, of looks before a thread sleeps, of arrivals before the workers begin, of
-/// orders, and of orders at the same time. If the last two are equal, a thread that carries out two orders would leave all without an
-/// answer, as each waits for all. Workers that begin late have their orders before they first look.
-static ANSWERED: [(usize, u32, u64, usize, u64); 15] = [
+/// orders, and of orders at the same time. If the last two are equal, a thread that carries out two
+/// orders would leave all without an answer, as each waits for all. Workers that begin late have
+/// their orders before they first look; where they begin once all orders have arrived, the main
+/// thread has to take all of them back.
+static ANSWERED: [(usize, u32, u64, usize, u64); 19] = [
     (1, 100, 0, 2, 2),
     (2, 100, 0, 3, 3),
     (3, 0, 0, 4, 4),
@@ -97,6 +97,10 @@ static ANSWERED: [(usize, u32, u64, usize, u64); 15] = [
     (1, 0, 1, 2, 2),
     (3, 100, 1, 4, 4),
     (3, 1_000_000, 1, 4, 4),
+    (3, 1_000, 0, 4, 1),
+    (1, 100, 2, 2, 1),
+    (3, 0, 4, 4, 1),
+    (3, 100, 5, 5, 1),
     (0, 0, 0, 5, 1),
     (1, 100, 0, 5, 2),
     (3, 100, 0, 5, 4),
@@ -117,7 +121,7 @@ fn orders_are_carried_out_at_once_and_answered_in_order(rt: HostRuntime) -> Resu
             silent: None,
         };
         assert!(rt;
-            is_answered(&rt, rt.alloc(), given),
+            are_all(answered(&rt, rt.alloc(), given), given.orders),
             "{workers} workers, {looks} looks, {orders} orders"
         );
     }
@@ -140,27 +144,17 @@ fn a_team_fails_where_an_order_has_no_answer(rt: HostRuntime) -> Result<(), Fail
     Ok(())
 }
 
-/// A team's answers to visits when a worker is gone.
-fn answered_by_nobody<R: Wait>(rt: &R, alloc: Global, given: Given) -> Option<Vec<usize>> {
-    let (main, theirs) = (Bell::new(), Bell::new());
-    let (_bells, orders, _board) = ready(alloc, given)?;
-    let (channel, worker) = pair::<Visits>(alloc, &theirs, given.looks).ok()?;
-    drop(worker);
-    let mut team = Team::new(alloc, &main, hints(given.looks));
-    team.add(channel)?;
-    team.carry_out(rt, alloc, orders)
-}
-
 #[test]
-fn a_team_fails_where_a_worker_is_gone(rt: HostRuntime) -> Result<(), Fail> {
+fn orders_that_no_worker_begins_are_carried_out(rt: HostRuntime) -> Result<(), Fail> {
     let given = Given {
-        workers: 0,
+        workers: 2,
         looks: 100,
         begins_after: 0,
-        orders: 1,
-        at_once: 0,
+        orders: 3,
+        at_once: 1,
         silent: None,
     };
-    assert!(rt; answered_by_nobody(&rt, rt.alloc(), given).is_none());
+    let answers = answered_alone(&rt, rt.alloc(), given);
+    assert!(rt; are_all(answers, given.orders));
     Ok(())
 }

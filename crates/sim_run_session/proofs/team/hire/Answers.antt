@@ -7,8 +7,7 @@ use Rattle.sim_store.specs.contracts.order.Answer as Answer
 use Rattle.sim_store.specs.contracts.order.Order as Order
 use Rattle.sim_store.proofs.Crossing.{order_send}
 use Rattle.sim_store.proofs.order.Answer.TheSendSync as answers
-use Rattle.sim_run_team.specs.contracts.workers.Worker as Worker
-use Rattle.sim_run_team.proofs.Crossing.{ends_send, worker_send}
+use Rattle.sim_run_team.proofs.Crossing.{worker_send}
 use Rattle.sim_run_session.specs.contracts.team.PhaseWork as PhaseWork
 use Rattle.sim_run_session.specs.contracts.team.hire as hire
 use Rattle.sim_run_session.proofs.team.hire.Goals as goal
@@ -22,5 +21,5 @@ spawn_scoped-requires-send-F g c κs within =
     let o : IsSend (Order.the_row (param 0 g.row.D) g.D.DesignType) = order_send (param 0 g.row.D) g.D.DesignType n y in
     let a : IsSend (Answer.the_row (param 0 g.row.D) g.D.DesignType) = search (answers.the_send, crosses, sendable) depth 20 in
     let S = PhaseWork.the_row (param 0 g.row.D) in
-    worker_send 1 _ exit.no _ (Worker.the_row S (Order.the_row (param 0 g.row.D) g.D.DesignType) (Answer.the_row (param 0 g.row.D) g.D.DesignType))
-    g.row.R _ _ _ (ends_send _ _ _ o a) r
+    worker_send 1 _ exit.no _ S (Order.the_row (param 0 g.row.D) g.D.DesignType) (Answer.the_row (param 0 g.row.D) g.D.DesignType)
+    g.row.R _ _ o a r

@@ -1,5 +1,5 @@
 use Rattle.std.proofs.Common.{◌≡◌, length}
-use Rattle.sim_run_team.proofs.workers.Team.begin_all.Given as goal
+use Rattle.sim_run_team.proofs.team.Team.begin_all.Given as goal
 
 -- each order so far is begun
 abbrev pub invariant-loop-number : goal.invariant-loop-number

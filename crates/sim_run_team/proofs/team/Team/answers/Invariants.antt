@@ -1,5 +1,5 @@
 use Rattle.std.proofs.Common.{◌≡◌, ◌+◌, IfSome, length}
-use Rattle.sim_run_team.proofs.workers.Team.answers.Given as goal
+use Rattle.sim_run_team.proofs.team.Team.answers.Given as goal
 
 -- unless there was a fault, there is an answer for each
 abbrev pub invariant-loop-one : goal.invariant-loop-one
