@@ -7,6 +7,7 @@ ghost use Rattle.sim_store_simulation.specs.Simulation as simulations;
 ghost use Rattle.sim_store.specs.WaveStore as store;
 ghost use Rattle.sim_store.specs.WaveStore.{IsSameRun};
 
+use sim_exec_code::Frame;
 use sim_run_team::{Hints, Post, Team, Work};
 use sim_store::{Answer, DesignType, Order, WaveStore};
 use std::alloc::{AllocError, Global};
@@ -30,12 +31,19 @@ impl<D: DesignType> Work for PhaseWork<D> {
 
     type Answer = Answer<D>;
 
+    /// The frame on which bodies are executed.
+    type Kept = Option<Frame>;
+
+    fn at_first() -> Option<Frame> {
+        None
+    }
+
     fn is_large(order: &Order<D>, least: usize) -> bool {
         order.is_worthwhile(least)
     }
 
-    fn carry_out(alloc: Global, order: Order<D>) -> Option<Answer<D>> {
-        order.execute(alloc).ok()
+    fn carry_out(alloc: Global, order: Order<D>, kept: &mut Option<Frame>) -> Option<Answer<D>> {
+        order.execute(alloc, kept).ok()
     }
 }
 
@@ -52,7 +60,7 @@ fn execute_in_shares<D: DesignType, R: Wait>(
     rt: &R,
     alloc: Global,
     run: WaveStore,
-    team: &Team<'_, PhaseWork<D>>,
+    team: &mut Team<'_, PhaseWork<D>>,
 ) -> Option<WaveStore>
     requires design { run.simulation.design ≡ D.design }
     requires untouched { hands.IsUntouched run }
@@ -67,31 +75,20 @@ fn execute_in_shares<D: DesignType, R: Wait>(
     }
 }
 
-/// Whether the processes that are due have enough work for a team. Each takes about `length` steps,
-/// unless the edge is missing without which it does nothing.
-fn has_work_for<D: DesignType>(
-    run: &WaveStore,
-    team: &Team<'_, PhaseWork<D>>,
-    length: usize,
-) -> bool {
-    team.is_useful(run.due().len().saturating_mul(length))
-        && team.is_useful(run.count_busy().saturating_mul(length))
-}
-
-/// Executes all processes that are due, by the team if there is enough work. Each process takes
-/// about `length` steps. `None` if the team fails or memory runs out.
+/// Executes all processes that are due, by the team if at least so many of them have something to
+/// do. `None` if the team fails or memory runs out.
 fn execute<D: DesignType, R: Wait>(
     rt: &R,
     alloc: Global,
     run: WaveStore,
-    team: &Team<'_, PhaseWork<D>>,
-    length: usize,
+    team: &mut Team<'_, PhaseWork<D>>,
+    least: usize,
 ) -> Option<WaveStore>
     requires { run.simulation.design ≡ D.design }
     ensures same { IfSome result (λ s. s ≡ store.with_deposited run s.simulation.deposited) }
     ensures complete { IfSome result (λ s. simulations.IsComplete s.simulation) }
 {
-    if !run.is_untouched() || !has_work_for(&run, team, length) {
+    if !run.is_untouched() || !run.has_busy(least) {
         return execute_alone(alloc, run);
     }
     execute_in_shares(rt, alloc, run, team)
@@ -102,14 +99,14 @@ fn go_on<D: DesignType, R: Wait>(
     rt: &R,
     alloc: Global,
     run: WaveStore,
-    team: &Team<'_, PhaseWork<D>>,
-    length: usize,
+    team: &mut Team<'_, PhaseWork<D>>,
+    least: usize,
 ) -> Option<WaveStore>
     requires design { run.simulation.design ≡ D.design }
     requires open { store.IsOpen run }
     ensures { IfSome result (IsSameRun run) }
 {
-    let mut run = execute(rt, alloc, run, team, length)?;
+    let mut run = execute(rt, alloc, run, team, least)?;
     // All that are due were executed and the run has not ended, so an error means lack of memory.
     run.advance(alloc).ok()?;
     Some(run)
@@ -120,18 +117,18 @@ fn lead<D: DesignType, R: Wait>(
     rt: &R,
     alloc: Global,
     run: WaveStore,
-    team: &Team<'_, PhaseWork<D>>,
+    team: &mut Team<'_, PhaseWork<D>>,
 ) -> Option<WaveStore>
     requires { run.simulation.design ≡ D.design }
     ensures { IfSome result (λ r. IsSameRun run r × (r.ended ≢ None)) }
 {
-    let length = run.mean_length().saturating_add(1);
+    let least = team.least_processes(run.mean_length());
     let mut run = run;
     for _turn in rt.forever() {
         if run.ended().is_some() {
             return Some(run);
         }
-        run = go_on(rt, alloc, run, team, length)?;
+        run = go_on(rt, alloc, run, team, least)?;
     }
     None
 }
@@ -179,7 +176,7 @@ fn run_by<D: DesignType + Send + Sync, R: Threads + Wait + Sync>(
             ensures { IfSome result (λ r. IsSameRun run r × (r.ended ≢ None)) }
         {
             let hired = hire(scope, rt, alloc, posts);
-            lead(rt, alloc, run, &Team::new(hired, hints))
+            lead(rt, alloc, run, &mut Team::new(hired, hints))
         },
     )
 }

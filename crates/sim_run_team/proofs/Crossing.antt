@@ -14,18 +14,18 @@ use Rattle.sim_run_team.specs.contracts.workers.Post as Post
 use Rattle.sim_run_team.proofs.workers.Post.TheSendSync as posts
 
 -- threads may share a post if orders and answers can be sent
-pub post_sync : (W O A : RattleType) → IsSend O → IsSend A → IsSync (Post.the_row W O A)
-post_sync W O A o a = search (o, a, posts.the_sync, crosses, sendable) depth 30
+pub post_sync : (W O A K : RattleType) → IsSend O → IsSend A → IsSync (Post.the_row W O A K)
+post_sync W O A K o a = search (o, a, posts.the_sync, crosses, sendable) depth 30
 
 -- the types of what a worker takes along: its post, the handle, the allocator
-abbrev pub baggage : RattleType → RattleType → RattleType → RattleType → NamedLft → NamedLft → List RattleType
-baggage W O A R ℓ ℓ₁ = (shr_ref_field ℓ (Post.the_row W O A) tt).row ∷ (shr_ref_field ℓ₁ (param 1 R) tt).row ∷ Global.the_row ∷ []
+abbrev pub baggage : RattleType → RattleType → RattleType → RattleType → RattleType → NamedLft → NamedLft → List RattleType
+baggage W O A K R ℓ ℓ₁ = (shr_ref_field ℓ (Post.the_row W O A K) tt).row ∷ (shr_ref_field ℓ₁ (param 1 R) tt).row ∷ Global.the_row ∷ []
 
-pub worker_send : (i : ℕ) (δ : Ty) (k : Kept) (ν : Sym) (W O A R : RattleType) (ℓ ℓ₁ : NamedLft) → IsSend O → IsSend A → IsSync R
-    → IsSend (param i (arg δ k (TupleAt ν (baggage W O A R ℓ ℓ₁))))
-worker_send i δ k ν W O A R ℓ ℓ₁ o a r =
-    let all : AllSend (baggage W O A R ℓ ℓ₁) = (
-      shr_send _ _ (Post.the_row W O A) (post_sync W O A o a),
+pub worker_send : (i : ℕ) (δ : Ty) (k : Kept) (ν : Sym) (W O A K R : RattleType) (ℓ ℓ₁ : NamedLft) → IsSend O → IsSend A → IsSync R
+    → IsSend (param i (arg δ k (TupleAt ν (baggage W O A K R ℓ ℓ₁))))
+worker_send i δ k ν W O A K R ℓ ℓ₁ o a r =
+    let all : AllSend (baggage W O A K R ℓ ℓ₁) = (
+      shr_send _ _ (Post.the_row W O A K) (post_sync W O A K o a),
       (
         shr_send _ _ (param 1 R) (param_sync 1 R r),
         (search (crosses, sendable), tt),

@@ -18,11 +18,17 @@ enum Begun<'a, W: Work> {
 pub struct Team<'a, W: Work> {
     posts: &'a [Post<W>],
     hints: Hints,
+    kept: W::Kept,
 }
 
 impl<W: Work> Drop for Team<'_, W> {
     fn drop(self) {
-        let Team { posts, hints: _ } = self;
+        let Team {
+            posts,
+            hints: _,
+            kept,
+        } = self;
+        drop(kept);
         for post in posts {
             post.orders.close();
         }
@@ -32,19 +38,26 @@ impl<W: Work> Drop for Team<'_, W> {
 impl<'a, W: Work> Team<'a, W> {
     /// The team of the workers at these posts.
     pub fn new(posts: &'a [Post<W>], hints: Hints) -> Team<'a, W> {
-        Team { posts, hints }
+        Team {
+            posts,
+            hints,
+            kept: W::at_first(),
+        }
     }
 
-    /// Whether orders of this many steps in all are worth giving: there is enough work, and there
-    /// are workers.
-    pub fn is_useful(&self, steps: usize) -> bool {
-        steps >= self.hints.least_steps_of_a_phase && !self.posts.is_empty()
+    /// How many processes of a phase must have something to do for it to be worth giving away, if
+    /// each takes about `mean_length` steps. No phase has as many if there are no workers.
+    pub fn least_processes(&self, mean_length: usize) -> usize {
+        if self.posts.is_empty() {
+            return usize::MAX;
+        }
+        self.hints.least_steps_of_a_phase / mean_length.max(1)
     }
 
     /// Gives an order to the worker with a number, or carries it out here if it is small or there
     /// is no such worker.
     fn begin<R: Wait>(
-        &self,
+        &mut self,
         rt: &R,
         alloc: Global,
         order: W::Order,
@@ -52,19 +65,20 @@ impl<'a, W: Work> Team<'a, W> {
     ) -> Begun<'a, W> {
         let is_large = W::is_large(&order, self.hints.least_processes_of_an_order);
         if !is_large || number >= self.posts.len() {
-            return Begun::Done(W::carry_out(alloc, order));
+            return Begun::Done(W::carry_out(alloc, order, &mut self.kept));
         }
-        let post = &self.posts[number];
+        let posts = self.posts;
+        let post = &posts[number];
         match post.orders.put(rt, order) {
             Ok(()) => Begun::Given(post),
-            Err(order) => Begun::Done(W::carry_out(alloc, order)),
+            Err(order) => Begun::Done(W::carry_out(alloc, order, &mut self.kept)),
         }
     }
 
     /// Begins each order: it is given to the worker with the same number, so that a worker has the
     /// same share each time, or carried out here if there is none. `None` if memory runs out.
     fn begin_all<R: Wait>(
-        &self,
+        &mut self,
         rt: &R,
         alloc: Global,
         orders: Vec<W::Order>,
@@ -80,13 +94,13 @@ impl<'a, W: Work> Team<'a, W> {
     }
 
     /// Carries out here each order that its worker has not begun.
-    fn take_back<R: Wait>(&self, rt: &R, alloc: Global, begun: &mut [Begun<'a, W>])
+    fn take_back<R: Wait>(&mut self, rt: &R, alloc: Global, begun: &mut [Begun<'a, W>])
         ensures { length begun.new ≡ length begun.old }
     {
         for one in begun.iter_mut() {
             if let Begun::Given(post) = one {
                 if let Some(order) = post.orders.take(rt) {
-                    *one = Begun::Done(W::carry_out(alloc, order));
+                    *one = Begun::Done(W::carry_out(alloc, order, &mut self.kept));
                 }
             }
         }
@@ -129,7 +143,7 @@ impl<'a, W: Work> Team<'a, W> {
     /// team fails: this thread or a worker had no memory. The orders and all that they held are
     /// then lost.
     pub fn carry_out<R: Wait>(
-        &self,
+        &mut self,
         rt: &R,
         alloc: Global,
         orders: Vec<W::Order>,

@@ -13,11 +13,17 @@ pub trait Work {
     /// The result of an order.
     type Answer: Drop;
 
+    /// What a thread keeps from one order to the next.
+    type Kept: Drop;
+
+    /// What a thread has before its first order.
+    fn at_first() -> Self::Kept;
+
     /// Whether an order has at least this many processes to execute.
     fn is_large(order: &Self::Order, least: usize) -> bool;
 
     /// Carries out an order; `None` if memory runs out.
-    fn carry_out(alloc: Global, order: Self::Order) -> Option<Self::Answer>;
+    fn carry_out(alloc: Global, order: Self::Order, kept: &mut Self::Kept) -> Option<Self::Answer>;
 }
 
 /// The post of a worker: where its next order waits for it, and its answer for the main thread.
@@ -52,12 +58,13 @@ impl<W: Work> Post<W> {
 
     /// Carries out one order after another, until the team is gone.
     pub fn work<R: Wait>(&self, rt: &R, alloc: Global) {
+        let mut kept = W::at_first();
         for _ in rt.forever() {
             let Some(order) = self.orders.next(rt, self.looks) else {
                 return;
             };
             // There is room: the main thread has taken the answer before.
-            let _ = self.answers.put(rt, W::carry_out(alloc, order));
+            let _ = self.answers.put(rt, W::carry_out(alloc, order, &mut kept));
         }
     }
 }

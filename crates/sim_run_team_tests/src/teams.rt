@@ -57,7 +57,7 @@ fn answered<R: Threads + Wait + Sync>(rt: &R, alloc: Global, given: Given) -> Op
                 post.work(rt, alloc)
             });
         }
-        let team = Team::new(posts, hints(looks));
+        let mut team = Team::new(posts, hints(looks));
         team.carry_out(rt, alloc, orders)
     })
 }
@@ -65,7 +65,7 @@ fn answered<R: Threads + Wait + Sync>(rt: &R, alloc: Global, given: Given) -> Op
 /// A team's answers to visits if no thread is at any post.
 fn answered_alone<R: Wait>(rt: &R, alloc: Global, given: Given) -> Option<Vec<usize>> {
     let (posts, orders, _board) = ready(alloc, given)?;
-    let team = Team::new(posts.as_slice(), hints(given.looks));
+    let mut team = Team::new(posts.as_slice(), hints(given.looks));
     team.carry_out(rt, alloc, orders)
 }
 

@@ -22,11 +22,15 @@ impl Work for Visits {
 
     type Answer = usize;
 
+    type Kept = ();
+
+    fn at_first() {}
+
     fn is_large(order: &Visit, least: usize) -> bool {
         order.number >= least
     }
 
-    fn carry_out(_alloc: Global, order: Visit) -> Option<usize> {
+    fn carry_out(_alloc: Global, order: Visit, _kept: &mut ()) -> Option<usize> {
         order.board.arrive();
         if order.answers && order.board.has(order.awaited) {
             Some(order.number)

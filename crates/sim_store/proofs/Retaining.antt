@@ -118,8 +118,8 @@ module _ (d : Design) (f : PhaseInput) (k : RetainedContents) (is : IsRetained d
       k.waiting.waiting
   i = is.holds.state
 
-  sized-now : (marks : List Bool) → length marks ≡ length k.deposited → length marks ≡ length (retained_of d f k).deposited
-  sized-now marks sized = sized ∙ (is.holds.marks_sized ∙ sym i.sized)
+  sized-now : length f.due ≡ length (retained_of d f k).deposited
+  sized-now = i.due_sized ∙ sym i.sized
 
   -- no driver has another value
   same-values : (p : ℕ) → p < length (reached (retained_of d f k)).owned → (b : Bool) → is_due (retained_of d f k) p ≡ b
@@ -137,14 +137,13 @@ module _ (d : Design) (f : PhaseInput) (k : RetainedContents) (is : IsRetained d
           ∙ result-values (at_input d f) p i.processes (omega (arith, lt, reached-all i))
       go false t = ap (λ (w : Owned). driver_values w.drivers) (completed-other (at_input d f) p t)
 
-  pub whole-values : (marks : List Bool) → length marks ≡ length k.deposited → ((p : ℕ) → those_in marks p ≡ those_in f.due p)
-      → HaveValues marks owned' (reached (retained_of d f k)).owned
-  whole-values marks sized same = record {
+  pub whole-values : HaveValues f.due owned' (reached (retained_of d f k)).owned
+  whole-values = record {
     count = all ∙ sym (reached-all i);
-    sized = sized ∙ (is.holds.marks_sized ∙ sym (reached-all i));
+    sized = i.due_sized ∙ sym (reached-all i);
     others = λ p lt out.
         let z : 0 + p ≡ p = omega arith in
-        let is_out : is_due (at_input d f) p ≡ false = sym (i.due_are p (omega (arith, lt, reached-all i))) ∙ (sym (same p) ∙ out) in
+        let is_out : is_due (at_input d f) p ≡ false = sym (i.due_are p (omega (arith, lt, reached-all i))) ∙ out in
         range.owned_are p (omega (arith, lt, all, reached-all i)) ∙ (ap (owned_at (completed (at_input d f)).owned) z
         ∙ completed-other (at_input d f) p is_out);
     values = λ p lt. same-values p lt (is_due (retained_of d f k) p) refl;
@@ -159,25 +158,25 @@ module _ (d : Design) (f : PhaseInput) (k : RetainedContents) (is : IsRetained d
   pub whole-cycles : length k.log.records - 1 ≡ f.cycles
   whole-cycles = omega (arith, cycle-count i)
 
-  module _ (own : Design) (marks : List Bool) (eo : own ≡ d) (sized : length marks ≡ length k.deposited)
-      (same : (p : ℕ) → those_in marks p ≡ those_in f.due p) where
-    pub whole-same : simulation_by own k.log.records f.phase marks ≡ with_marks (retained_of d f k) marks
+  -- all due processes have been executed
+  module _ (own : Design) (eo : own ≡ d) where
+    pub whole-same : simulation_by own k.log.records f.phase f.due ≡ with_marks (retained_of d f k) f.due
     whole-same = rw (eo, whole-cycles) refl
 
-    pub whole-complete : IsComplete (simulation_by own k.log.records f.phase marks)
-    whole-complete = subst IsComplete (sym whole-same) (back-complete i is.fresh owned' marks range all (sized-now marks sized) same)
+    pub whole-complete : IsComplete (simulation_by own k.log.records f.phase f.due)
+    whole-complete = subst IsComplete (sym whole-same) (back-complete i is.fresh owned' f.due range all sized-now (λ p. refl))
 
     pub whole-holds : (state : FlatState) → state ≡ record { sources = k.update_lists.sources; nets = views_of f.values f.values_before; owned = owned' }
-        → IsSimulation (simulation_by own k.log.records f.phase marks) k.sensitive f.codes k.frame f.time k.delta state k.log.records f.due marks
+        → IsSimulation (simulation_by own k.log.records f.phase f.due) k.sensitive f.codes k.frame f.time k.delta state k.log.records f.due k.deposited
         k.waiting.postponed k.waiting.waiting k.totals.items
     whole-holds state es =
-        subst (λ (g : Simulation). IsSimulation g k.sensitive f.codes k.frame f.time k.delta state k.log.records f.due marks k.waiting.postponed
+        subst (λ (g : Simulation). IsSimulation g k.sensitive f.codes k.frame f.time k.delta state k.log.records f.due k.deposited k.waiting.postponed
         k.waiting.waiting k.totals.items) (sym whole-same)
-        (subst (λ (w : FlatState). IsSimulation (with_marks (retained_of d f k) marks) k.sensitive f.codes k.frame f.time k.delta w k.log.records f.due
-        marks k.waiting.postponed k.waiting.waiting k.totals.items) (sym es) (record {
+        (subst (λ (w : FlatState). IsSimulation (with_marks (retained_of d f k) f.due) k.sensitive f.codes k.frame f.time k.delta w k.log.records f.due
+        k.deposited k.waiting.postponed k.waiting.waiting k.totals.items) (sym es) (record {
           compiled = is.holds.compiled;
           marked = is.holds.marked;
-          state = back-keeps i is.fresh owned' marks range all (sized-now marks sized) same;
-          marks_sized = sized ∙ is.holds.marks_sized;
+          state = back-keeps i is.fresh owned' f.due range all sized-now (λ p. refl);
+          marks_sized = is.holds.marks_sized;
           counts = is.holds.counts;
         }))

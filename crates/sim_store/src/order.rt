@@ -94,20 +94,22 @@ fn execute_range<D: DesignType>(
     Ok(())
 }
 
-/// The same, on its own frame.
+/// The same, on a frame that was kept, or on a new one; it is kept after that.
 fn executed<D: DesignType>(
     alloc: Global,
     input: &PhaseInput<D>,
     from: usize,
     share: Share,
+    kept: &mut Option<Frame>,
 ) -> Result<Share, AllocError>
     requires range { spec.IsRange (spec.at_input D.design input.now) (reached (spec.at_input D.design input.now)).owned from share }
     ensures range { IfOk result (spec.IsRange (spec.at_input D.design input.now) (spec.completed (spec.at_input D.design input.now)).owned from) }
     ensures count { IfOk result (λ done. length done ≡ length share) }
 {
     let mut share = share;
-    let mut frame = input.frame(alloc)?;
+    let mut frame = input.frame(alloc, kept.take())?;
     execute_range(alloc, input, from, &mut frame, &mut share)?;
+    *kept = Some(frame);
     Ok(share)
 }
 
@@ -117,11 +119,12 @@ fn answered<D: DesignType>(
     input: &PhaseInput<D>,
     from: usize,
     share: Share,
+    kept: &mut Option<Frame>,
 ) -> Result<Answer<D>, AllocError>
     requires range { spec.IsRange (spec.at_input D.design input.now) (reached (spec.at_input D.design input.now)).owned from share }
     ensures { IfOk result (spec.IsAnswer (record { cycles = input.now.cycles; phase = input.now.phase; from = from; owned = share })) }
 {
-    let share = executed(alloc, input, from, share)?;
+    let share = executed(alloc, input, from, share, kept)?;
     Ok(Answer::new(input.cycles(), input.phase(), from, share))
 }
 
@@ -158,12 +161,13 @@ impl<D: DesignType> Order<D> {
         true
     }
 
-    /// Executes the due processes. If allocation fails, the share is lost.
-    pub fn execute(self, alloc: Global) -> Result<Answer<D>, AllocError>
+    /// Executes the due processes. A frame that is kept from one order to the next is not made
+    /// anew. If allocation fails, the share is lost.
+    pub fn execute(self, alloc: Global, kept: &mut Option<Frame>) -> Result<Answer<D>, AllocError>
         ensures { IfOk result (spec.IsAnswer self) }
     {
         let Order { from, share, input } = self;
-        answered(alloc, &input, from, share)
+        answered(alloc, &input, from, share, kept)
     }
 }
 

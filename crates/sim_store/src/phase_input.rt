@@ -86,11 +86,14 @@ impl<D: DesignType> PhaseInput<D> {
         self.fields.design.processes().len()
     }
 
-    /// A frame on which each process may be executed.
-    pub fn frame(&self, alloc: Global) -> Result<Frame, AllocError>
+    /// A frame on which each process may be executed: the one that was kept, if it is long enough.
+    pub fn frame(&self, alloc: Global, kept: Option<Frame>) -> Result<Frame, AllocError>
         ensures { IfOk result (FitsAll self.now.codes.codes) }
     {
-        self.fields.codes.frame(alloc)
+        match kept {
+            Some(frame) if self.fields.codes.fits(&frame) => Ok(frame),
+            _ => self.fields.codes.frame(alloc),
+        }
     }
 
     /// The place among the due processes of the first one from a number on. It is a hint for `next`,

@@ -115,15 +115,13 @@ pub fn join_contents<D: DesignType>(
         values_before,
         due,
     } = fields;
-    let mut deposited = retained.deposited;
-    due.copy_to(&mut deposited);
     let split = SplitState {
         values,
         values_before,
         shares,
         update_lists: retained.update_lists,
     };
-    let state = put_together(split, &deposited);
+    let state = put_together(split, due.list());
     let contents = Contents {
         time,
         delta: retained.delta,
@@ -137,8 +135,8 @@ pub fn join_contents<D: DesignType>(
         phase,
         due,
         waiting: retained.waiting,
-        deposited,
-        all_executed: false,
+        deposited: retained.deposited,
+        all_executed: true,
         totals: retained.totals,
     };
     (design, contents)

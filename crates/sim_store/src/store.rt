@@ -275,11 +275,11 @@ impl WaveStore {
         self.simulation.mean_length()
     }
 
-    /// About how many due processes have something to do: those not known to lack the edge without
-    /// which they do nothing. It is a hint for dividing work among threads, and nothing is promised
-    /// of it.
-    pub fn count_busy(&self) -> usize {
-        self.simulation.count_busy()
+    /// Whether at least so many due processes have something to do: those not known to lack the edge
+    /// without which they do nothing. It is a hint for dividing work among threads, and nothing is
+    /// promised of it.
+    pub fn has_busy(&self, least: usize) -> bool {
+        self.simulation.has_busy(least)
     }
 
     /// Hands out what the processes own, so that due ones can be executed elsewhere: all processes,

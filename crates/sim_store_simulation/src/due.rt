@@ -94,13 +94,11 @@ impl Due {
         self.list.next_beside(others, from)
     }
 
-    /// Makes the due processes the members of a set. It takes no memory.
-    pub fn copy_to(&self, set: &mut NumberSet)
-        requires { length self.now ≡ length set.old }
-        ensures sized { length set.new ≡ length set.old }
-        ensures same { (p : ℕ) → those_in set.new p ≡ those_in self.now p }
+    /// The due processes, as a list.
+    pub fn list(&self) -> &NumberList
+        ensures { result.now ≡ self.now }
     {
-        self.list.copy_to(set);
+        &self.list
     }
 
     /// The numbers of the due processes, rising.

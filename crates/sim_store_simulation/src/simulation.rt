@@ -730,11 +730,11 @@ impl Simulation {
         self.contents.compiled.codes.mean_length()
     }
 
-    /// About how many processes of this phase have something to do. Nothing is promised of it.
-    pub fn count_busy(&self) -> usize {
-        let contents = &*self.contents;
-        let due = contents.due.numbers();
-        contents.state.count_busy(due, &contents.compiled.codes)
+    /// Whether about so many due processes have something to do. Nothing is promised of it.
+    pub fn has_busy(&self, least: usize) -> bool {
+        let compiled = &self.contents.compiled;
+        let due = self.contents.due.numbers();
+        self.contents.state.has_busy(least, due, &compiled.codes)
     }
 
     /// The numbers of the processes that this phase executes, rising.

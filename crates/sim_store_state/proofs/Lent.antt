@@ -1,5 +1,5 @@
 -- A state from which what its processes own is taken away, and to which it is given back.
-use Rattle.std.proofs.Common.{ℕ, zero, suc, ◌-◌, ◌<◌, ◌≤◌, ◌≡◌, ◌++◌, Bool, true, false, List, []}
+use Rattle.std.proofs.Common.{ℕ, zero, suc, ◌-◌, ◌<◌, ◌≤◌, ◌≡◌, ◌⊎◌, inl, inr, ◌++◌, Bool, true, false, List, []}
 use Rattle.std.proofs.Common.{◌∷◌, length, get_or, take, refl, ap, sym, ◌∙◌, arith, Option}
 use Rattle.std.proofs.Math.Decide.{dec_lt}
 use Rattle.std.proofs.lemmas.List.{get_or-append_right, get_or-map, get_or_append_left, get_or_past, length-append, length-map, map-append}
@@ -11,7 +11,8 @@ use Rattle.sim_standard.specs.State.{Owned, driver_at, driver_values, owned_at}
 use Rattle.sim_standard.proofs.Names.{no_driver, nothing_owned}
 use Rattle.sim_containers.specs.Numbers.{is_in}
 use Rattle.sim_containers.specs.RowArray.{joined}
-use Rattle.sim_store_state.specs.Changes.{AreTimes, IsConsistent}
+use Rattle.sim_containers.specs.Times.{time_of}
+use Rattle.sim_store_state.specs.Changes.{AreTimes, IsConsistent, time_at}
 use Rattle.sim_store_state.specs.Tallies.{TallyLists}
 use Rattle.sim_store_state.specs.FlatState.{owned_lists}
 use Rattle.sim_store_state.specs.Lending.{HaveValues, IsOfRow, drivers_of, variables_of}
@@ -94,30 +95,36 @@ same-driver (ds ∷ dss) (es ∷ ess) (suc p) d l many lt same is =
     ∙ (same-driver dss ess p (d - length ds) (omega (arith, l)) (λ q k. many (suc q) (omega (arith, k))) (omega (arith, lt)) same rest
     ∙ (ap (driver_at (joined ess)) e ∙ sym (get_or-append_right es (joined ess) (length es) d no_driver refl (omega (arith, a, long)))))
 
--- the times of the others are right
-pub times-of-others : {times : List (Option ℕ)} {stale : List Bool} (ess : List (List DriverState)) → AreTimes times stale (joined ess)
-    → (dss : List (List DriverState)) (changed stale' : List Bool) → length dss ≡ length ess → length (joined dss) ≡ length (joined ess)
+-- once the times of the drivers of the processes that changed have been put, all are right
+pub times-of-all : {times : List (Option ℕ)} {stale : List Bool} (ess : List (List DriverState)) → AreTimes times stale (joined ess)
+    → (dss : List (List DriverState)) (changed : List Bool) (times' : List (Option ℕ)) (stale' : List Bool)
+    → length dss ≡ length ess → length (joined dss) ≡ length (joined ess)
     → ((q : ℕ) → q < length ess → length (get_or dss q []) ≡ length (get_or ess q []))
     → ((q : ℕ) → q < length ess → is_in changed q ≡ false → get_or dss q [] ≡ get_or ess q [])
-    → length stale' ≡ length stale → ((d : ℕ) → is_in stale' d ≡ false → is_in stale d ≡ false)
-    → ((p : ℕ) → is_in changed p ≡ true → (d : ℕ) → is_in stale' d ≡ false → IsOfRow dss p d → ⊥)
-    → AreTimes times stale' (joined dss)
-times-of-others {times} {stale} ess t dss changed stale' l count many same sized kept marked = record {
-  sized = t.sized ∙ sym count;
-  marked = sized ∙ (t.marked ∙ sym count);
-  current = λ d fresh. t.current d (kept d fresh) ∙ ap (λ (w : DriverState). next_time (w ∷ [])) (sym (at d fresh));
+    → length times' ≡ length times → length stale' ≡ length stale
+    → ((p : ℕ) → is_in changed p ≡ true → (d : ℕ) → IsOfRow dss p d → is_in stale' d ≡ false → time_of times' d ≡ time_at (joined dss) d)
+    → ((d : ℕ) → is_in stale' d ≡ false → (time_of times' d ≡ time_at (joined dss) d)
+    ⊎ ((is_in stale d ≡ false) × (time_of times' d ≡ time_of times d)))
+    → AreTimes times' stale' (joined dss)
+times-of-all {times} {stale} ess t dss changed times' stale' l count many same lq ls told others = record {
+  sized = lq ∙ (t.sized ∙ sym count);
+  marked = ls ∙ (t.marked ∙ sym count);
+  current = λ d fresh. elim (dec_lt d (length (joined dss))) [
+    | yes k ↦ (let w = located dss d k in inside d fresh w (is_in changed w.process) refl)
+    | no k ↦ still d fresh (get_or_past (joined dss) d no_driver (omega (arith, k)) ∙ sym (get_or_past (joined ess) d no_driver (omega (arith, k, count))))
+  ];
 }
   where
-    inside : (d : ℕ) → is_in stale' d ≡ false → (w : Located dss d) → (b : Bool) → is_in changed w.process ≡ b
-        → driver_at (joined dss) d ≡ driver_at (joined ess) d
-    inside d fresh w true e = absurd (marked w.process e d fresh w.inside)
-    inside d fresh w false e = same-driver dss ess w.process d l many w.among (same w.process (omega (arith, l, w.among)) e) w.inside
-
-    at : (d : ℕ) → is_in stale' d ≡ false → driver_at (joined dss) d ≡ driver_at (joined ess) d
-    at d fresh = elim (dec_lt d (length (joined dss))) [
-      | yes k ↦ (let w = located dss d k in inside d fresh w (is_in changed w.process) refl)
-      | no k ↦ get_or_past (joined dss) d no_driver (omega (arith, k)) ∙ sym (get_or_past (joined ess) d no_driver (omega (arith, k, count)))
+    still : (d : ℕ) → is_in stale' d ≡ false → driver_at (joined dss) d ≡ driver_at (joined ess) d → time_of times' d ≡ time_at (joined dss) d
+    still d fresh e = elim (others d fresh) [
+      | inl h ↦ h
+      | inr h ↦ h.1 ∙ (t.current d h.0 ∙ ap (λ (w : DriverState). next_time (w ∷ [])) (sym e))
     ]
+
+    inside : (d : ℕ) → is_in stale' d ≡ false → (w : Located dss d) → (b : Bool) → is_in changed w.process ≡ b
+        → time_of times' d ≡ time_at (joined dss) d
+    inside d fresh w true e = told w.process e d w.inside fresh
+    inside d fresh w false e = still d fresh (same-driver dss ess w.process d l many w.among (same w.process (omega (arith, l, w.among)) e) w.inside)
 
 -- the drivers of the lists of what the same processes own now have the values that they had
 module _ (owned : List Owned) (dss : List (List DriverState)) (vss : List (List Held)) (now : List Owned) (view : owned_lists dss vss ≡ now)
@@ -162,23 +169,25 @@ module _ (owned : List Owned) (dss : List (List DriverState)) (vss : List (List 
           get_or-map (λ (o : Owned). o.variables) owned p nothing_owned [] lt in
           ap length (sym mine) ∙ (have.variables p lt ∙ ap length (sym before))
 
-  pub back-times : {times : List (Option ℕ)} {stale : List Bool} → AreTimes times stale (joined (drivers_of owned)) → (stale' : List Bool)
-      → length stale' ≡ length stale → ((d : ℕ) → is_in stale' d ≡ false → is_in stale d ≡ false)
-      → ((p : ℕ) → is_in changed p ≡ true → (d : ℕ) → is_in stale' d ≡ false → IsOfRow dss p d → ⊥)
-      → AreTimes times stale' (joined dss)
-  back-times t stale' sized kept marked =
-      times-of-others (drivers_of owned) t dss changed stale' (back-rows ∙ sym was) back-count
+  pub back-times : {times : List (Option ℕ)} {stale : List Bool} → AreTimes times stale (joined (drivers_of owned))
+      → (times' : List (Option ℕ)) (stale' : List Bool) → length times' ≡ length times → length stale' ≡ length stale
+      → ((p : ℕ) → is_in changed p ≡ true → (d : ℕ) → IsOfRow dss p d → is_in stale' d ≡ false → time_of times' d ≡ time_at (joined dss) d)
+      → ((d : ℕ) → is_in stale' d ≡ false → (time_of times' d ≡ time_at (joined dss) d)
+      ⊎ ((is_in stale d ≡ false) × (time_of times' d ≡ time_of times d)))
+      → AreTimes times' stale' (joined dss)
+  back-times t times' stale' lq ls told others =
+      times-of-all (drivers_of owned) t dss changed times' stale' (back-rows ∙ sym was) back-count
       (λ q lt. values-count (get_or dss q []) (get_or (drivers_of owned) q []) (back-row q (omega (arith, lt, was))))
-      (λ q lt out. back-still q (omega (arith, lt, was)) out) sized kept marked
+      (λ q lt out. back-still q (omega (arith, lt, was)) out) lq ls told others
 
 -- Other lists hold the state in which the same processes own something else, their drivers having the values that they had.
 pub back-held : {values values_before driving : List Logic} (owned : List Owned) {sources : List (List Source)} {fan_out : List (List ℕ)}
     {times : List (Option ℕ)} {stale touched : List Bool} {tallies : TallyLists}
     → IsConsistent values values_before driving (drivers_of owned) (variables_of owned) sources fan_out times stale touched tallies
-    → (dss : List (List DriverState)) (vss : List (List Held)) (stale' : List Bool) → length dss ≡ length vss
-    → driver_values (joined dss) ≡ driver_values (joined (drivers_of owned)) → AreTimes times stale' (joined dss)
-    → IsConsistent values values_before driving dss vss sources fan_out times stale' touched tallies
-back-held {values} {values_before} {driving} owned {sources} i dss vss stale' long same timed =
+    → (dss : List (List DriverState)) (vss : List (List Held)) (times' : List (Option ℕ)) (stale' : List Bool) → length dss ≡ length vss
+    → driver_values (joined dss) ≡ driver_values (joined (drivers_of owned)) → AreTimes times' stale' (joined dss)
+    → IsConsistent values values_before driving dss vss sources fan_out times' stale' touched tallies
+back-held {values} {values_before} {driving} owned {sources} i dss vss times' stale' long same timed =
     let count : length (joined dss) ≡ length (joined (drivers_of owned)) = values-count (joined dss) (joined (drivers_of owned)) same in
     record {
       lists = record { nets = i.lists.nets; owned = long };

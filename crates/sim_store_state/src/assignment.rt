@@ -107,7 +107,8 @@ fn assign_in_parts<N: Nets>(
 }
 
 /// Carries out the assignment of the process with a number, which is known to be without delay if
-/// `NOW`, and puts the first pending time of its driver into the queue. Where the drivers of the process start is looked up once.
+/// `NOW`, and puts the first pending time of its driver into the queue. Where the drivers of the
+/// process start is looked up once.
 #[inline(always)]
 pub fn assign_and_tell<N: Nets, const NOW: bool>(
     nets: &N,

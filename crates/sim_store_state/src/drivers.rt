@@ -1,6 +1,7 @@
 //! Drivers, one after another (IEEE 1076-2008, 14.7.2).
 
-ghost use Rattle.std.specs.Prelude.{ℕ, List, ◌≡◌, ◌≢◌, ◌<◌, ◌≤◌, ◌⊎◌, [], ◌∷◌, true, false, None, Some, length, map, slice_index_or, slice_set, IfOk, OnOk};
+ghost use Rattle.std.specs.Prelude.{ℕ, List, ◌≡◌, ◌≢◌, ◌<◌, ◌≤◌, ◌+◌, ◌-◌, ◌⊎◌, [], ◌∷◌, true, false, None, Some};
+ghost use Rattle.std.specs.Prelude.{length, map, slice_index_or, slice_set, IfOk, OnOk};
 ghost use Rattle.std.specs.Bool.{Decides};
 ghost use Rattle.sim_standard.specs.Drivers.{DriverState, taken};
 ghost use Rattle.sim_containers.specs.RowArray.{joined};
@@ -9,6 +10,7 @@ ghost use Rattle.sim_standard.specs.State.{driver_at, driver_values};
 ghost use Rattle.sim_containers.specs.Times.{cleared, those_at, time_of};
 ghost use Rattle.sim_containers.specs.Words.{IsOnly};
 ghost use Rattle.sim_store_state.specs.Changes.{AreReached, AreTaken, AreTallied, AreTimes, AreTold, first_times, time_at, value_at};
+ghost use Rattle.sim_store_state.specs.Lending.{IsOfRow};
 ghost use Rattle.sim_flat_design.specs.declared.design.Source.{Source};
 ghost use Rattle.sim_standard.specs.Drivers as spec;
 
@@ -83,34 +85,33 @@ pub fn tell(queue: &mut TimeQueue, stale: &mut NumberSet, number: usize, time: O
     }
 }
 
-/// Puts the first pending times of a range of drivers into the queue. Those for which allocation
-/// fails are stale.
+/// Puts the first pending times of these drivers into the queue, which are those from a number to
+/// another. Those for which allocation fails are stale.
 fn tell_range(
     queue: &mut TimeQueue,
     stale: &mut NumberSet,
-    drivers: &DividedRows<Driver>,
+    drivers: &[Driver],
     start: usize,
     end: usize,
 )
-    requires order { start ≤ end }
-    requires within { end ≤ length (joined drivers.now) }
-    requires queue { length queue.old ≡ length (joined drivers.now) }
-    requires stale { length stale.old ≡ length (joined drivers.now) }
+    requires range { end ≡ start + length drivers.now }
+    requires queue { end ≤ length queue.old }
+    requires stale { end ≤ length stale.old }
     ensures queue { length queue.new ≡ length queue.old }
     ensures stale { length stale.new ≡ length stale.old }
-    ensures here { (d : ℕ) → start ≤ d → d < end → is_in stale.new d ≡ false → time_of queue.new d ≡ time_at (joined drivers.now) d }
+    ensures here { (d : ℕ) → start ≤ d → d < end → is_in stale.new d ≡ false → time_of queue.new d ≡ time_at drivers.now (d - start) }
     ensures others { (d : ℕ) → (d < start) ⊎ (end ≤ d)
         → (time_of queue.new d ≡ time_of queue.old d) × (is_in stale.new d ≡ is_in stale.old d) }
 {
     for number in start..end {
-        tell(queue, stale, number, first_time(drivers.item(number)));
+        tell(queue, stale, number, first_time(&drivers[number - start]));
     }
 }
 
 /// Puts the first pending times of the drivers of the process with a number into the queue, in case
 /// they have changed. The times of other drivers stay as they were. A driver whose time is already
 /// equal costs one comparison.
-fn tell_row(
+pub fn tell_row(
     queue: &mut TimeQueue,
     stale: &mut NumberSet,
     drivers: &DividedRows<Driver>,
@@ -119,11 +120,14 @@ fn tell_row(
     requires at { number < length drivers.now }
     requires queue { length queue.old ≡ length (joined drivers.now) }
     requires stale { length stale.old ≡ length (joined drivers.now) }
-    ensures { (row : List DriverState) → length row ≡ length (slice_index_or drivers.now number [])
-        → AreTimes queue.old stale.old (joined (slice_set drivers.now number row)) → AreTimes queue.new stale.new (joined drivers.now) }
+    ensures queue { length queue.new ≡ length queue.old }
+    ensures stale { length stale.new ≡ length stale.old }
+    ensures here { (d : ℕ) → IsOfRow drivers.now number d → is_in stale.new d ≡ false → time_of queue.new d ≡ time_at (joined drivers.now) d }
+    ensures others { (d : ℕ) → (IsOfRow drivers.now number d → ⊥)
+        → (time_of queue.new d ≡ time_of queue.old d) × (is_in stale.new d ≡ is_in stale.old d) }
 {
     let (start, end) = drivers.row_bounds(number);
-    tell_range(queue, stale, drivers, start, end);
+    tell_range(queue, stale, drivers.row(number), start, end);
 }
 
 /// The same, unless nothing changed.

@@ -32,7 +32,7 @@ ghost use Rattle.sim_wave.specs.Rising.{RisesFrom};
 use crate::assignment::assign_in_parts_and_tell;
 use crate::drivers::{are_same, bring_up_to_date, copied, mark_stale, tell_changed};
 use crate::execution::{as_done, execute_in_parts, may_have_changed};
-use crate::in_turn::execute_in_one_part;
+use crate::in_turn::execute_in_turn;
 use crate::log::Log;
 use crate::nets::{ByNumber, Seen, SeenBy, are_views, end_events, resolve_touched, views_at};
 use crate::start::{connections, first_contents, nothing_pending};
@@ -564,26 +564,33 @@ impl FlatState {
         self.execute(alloc, number, process, time, codes, frame)
     }
 
-    /// The number of these processes that are not known to lack the edge without which they do
-    /// nothing. It is a hint for dividing work among threads, and nothing is promised of it.
-    pub fn count_busy(&self, numbers: &[usize], codes: &Codes) -> usize {
+    /// Whether at least so many of these processes are not known to lack the edge without which they
+    /// do nothing. It looks at no more of them than it needs to. It is a hint for dividing work among
+    /// threads, and nothing is promised of it.
+    pub fn has_busy(&self, least: usize, numbers: &[usize], codes: &Codes) -> bool {
         let seen = ByNumber {
             values: self.values.as_slice(),
             values_before: self.values_before.as_slice(),
         };
-        let mut busy: usize = 0;
-        for number in numbers {
-            if !codes.is_idle(&seen, *number) {
-                busy = busy.saturating_add(1);
+        let mut missing = least;
+        let mut place = 0;
+        while missing > 0 && place < numbers.len() {
+            match codes.count_idle(&seen, &numbers[place..]) {
+                0 => {
+                    missing -= 1;
+                    place += 1;
+                }
+                idle => place += idle,
             }
         }
-        busy
+        missing == 0
     }
 
     /// Executes these processes in order, as long as the body of each is known to be a single
     /// assignment or to lack the edge that guards it, and returns how many it has executed. If what
     /// processes own is in several parts, these are at most the ones that lack an edge. If allocation
-    /// fails, an unknown number has been executed, and none must be executed again. Only `codes` and `numbers` are read; `processes` are those of the design.
+    /// fails, an unknown number has been executed, and none must be executed again. Only `codes` and
+    /// `numbers` are read; `processes` are those of the design.
     pub fn execute_single_assignments(
         &mut self,
         processes: &[Process],
@@ -604,7 +611,7 @@ impl FlatState {
             values: self.values.as_slice(),
             values_before: self.values_before.as_slice(),
         };
-        execute_in_one_part(
+        execute_in_turn(
             &seen,
             processes,
             numbers,

@@ -322,7 +322,7 @@ fn execute_each(
 
 /// The same, if drivers are in one part; else it executes as many as lack the edge that guards them
 /// all.
-pub fn execute_in_one_part(
+pub fn execute_in_turn(
     nets: &ByNumber,
     processes: &[Process],
     numbers: &[usize],

@@ -1,19 +1,21 @@
 //! A state from which what its processes own is taken away, and to which it is given back.
 
-ghost use Rattle.std.specs.Prelude.{ℕ, ◌≡◌, ◌<◌, ◌^◌, List, true, false, length, IfOk};
+ghost use Rattle.std.specs.Prelude.{ℕ, ◌≡◌, ◌<◌, ◌^◌, ◌⊎◌, List, true, false, length, IfOk};
 ghost use Rattle.sim_standard.specs.State.{Owned};
 ghost use Rattle.sim_containers.specs.Numbers.{is_in};
 ghost use Rattle.sim_containers.specs.RowArray.{joined};
+ghost use Rattle.sim_containers.specs.Times.{time_of};
+ghost use Rattle.sim_store_state.specs.Changes.{time_at};
 ghost use Rattle.sim_store_state.specs.SplitState.{IsSplit};
 ghost use Rattle.sim_store_state.specs.FlatState.{views_of};
 ghost use Rattle.sim_store_state.specs.Lending.{AreShares, HaveValues, IsOfRow, counts};
 
+use crate::drivers::tell_row;
 use crate::flat_state::{FlatState, Lists};
-use crate::sets::insert_range;
 use crate::shares::Shares;
 use crate::tallies::Tallies;
 use crate::touched::Touched;
-use sim_containers::{DividedRows, NumberSet, RowArray, TimeQueue};
+use sim_containers::{DividedRows, NumberList, NumberSet, RowArray, TimeQueue};
 use sim_flat_design::Source;
 use sim_logic::Logic;
 use sim_wave::Driver;
@@ -43,31 +45,29 @@ pub struct SplitState {
     pub update_lists: UpdateLists,
 }
 
-/// Makes the drivers of the process with a number stale.
-fn mark_row(stale: &mut NumberSet, drivers: &DividedRows<Driver>, number: usize)
-    requires at { number < length drivers.now }
-    requires stale { length stale.old ≡ length (joined drivers.now) }
-    ensures sized { length stale.new ≡ length stale.old }
-    ensures kept { (d : ℕ) → is_in stale.new d ≡ false → is_in stale.old d ≡ false }
-    ensures marked { (d : ℕ) → is_in stale.new d ≡ false → IsOfRow drivers.now number d → ⊥ }
-{
-    let (start, end) = drivers.row_bounds(number);
-    insert_range(stale, start, end);
-}
-
-/// Makes the drivers of each of these processes stale.
-fn mark_rows(stale: &mut NumberSet, drivers: &DividedRows<Driver>, processes: &NumberSet)
+/// Puts the first pending times of the drivers of each of these processes into the queue. Those for
+/// which allocation fails are stale.
+fn tell_rows(
+    queue: &mut TimeQueue,
+    stale: &mut NumberSet,
+    drivers: &DividedRows<Driver>,
+    processes: &NumberList,
+)
     requires processes { length processes.now ≡ length drivers.now }
+    requires queue { length queue.old ≡ length (joined drivers.now) }
     requires stale { length stale.old ≡ length (joined drivers.now) }
-    ensures sized { length stale.new ≡ length stale.old }
-    ensures kept { (d : ℕ) → is_in stale.new d ≡ false → is_in stale.old d ≡ false }
-    ensures marked { (p : ℕ) → is_in processes.now p ≡ true → (d : ℕ) → is_in stale.new d ≡ false → IsOfRow drivers.now p d → ⊥ }
+    ensures queue { length queue.new ≡ length queue.old }
+    ensures stale { length stale.new ≡ length stale.old }
+    ensures told { (p : ℕ) → is_in processes.now p ≡ true → (d : ℕ) → IsOfRow drivers.now p d → is_in stale.new d ≡ false
+        → time_of queue.new d ≡ time_at (joined drivers.now) d }
+    ensures others { (d : ℕ) → is_in stale.new d ≡ false → (time_of queue.new d ≡ time_at (joined drivers.now) d)
+        ⊎ ((is_in stale.old d ≡ false) × (time_of queue.new d ≡ time_of queue.old d)) }
 {
     let _count = processes.len();
     let mut place = 0;
     let mut from = 0;
     while let Some(number) = processes.next_at(place, from) {
-        mark_row(stale, drivers, number);
+        tell_row(queue, stale, drivers, number);
         place = place.wrapping_add(1);
         from = number + 1;
     }
@@ -115,10 +115,9 @@ pub fn take_apart(alloc: Global, state: FlatState) -> Result<SplitState, AllocEr
     })
 }
 
-/// Puts a state together again, with its processes in the shares that they were in. Those of a set
-/// may own something else now, except that their drivers have the values that they had. The drivers
-/// of that set are stale.
-pub fn put_together(split: SplitState, changed: &NumberSet) -> FlatState
+/// Puts a state together again, with its processes in the shares that they were in. Those of a list
+/// may own something else now, except that their drivers have the values that they had.
+pub fn put_together(split: SplitState, changed: &NumberList) -> FlatState
     requires shares { AreShares split.update_lists.each (counts split.shares) }
     requires owned { (before : List Owned) × IsSplit split.values.items split.values_before.items before split.update_lists
         × HaveValues changed.now (joined split.shares) before }
@@ -147,8 +146,9 @@ pub fn put_together(split: SplitState, changed: &NumberSet) -> FlatState
     let (drivers, variables) = shares.into_parts();
     let drivers = DividedRows::of_parts(drivers, each);
     let variables = DividedRows::of_parts(variables, each);
+    let mut queue = queue;
     let mut stale = stale;
-    mark_rows(&mut stale, &drivers, changed);
+    tell_rows(&mut queue, &mut stale, &drivers, changed);
     FlatState::of_lists(Lists {
         values,
         values_before,

@@ -69,8 +69,9 @@ fn answers_to<D: DesignType>(
     orders: Vec<Order<D>>,
 ) -> Result<Vec<Answer<D>>, AllocError> {
     let mut answers = Vec::new(alloc);
+    let mut frame = None;
     for order in orders {
-        let answer = order.execute(alloc)?;
+        let answer = order.execute(alloc, &mut frame)?;
         answers.push(answer)?;
     }
     Ok(answers)

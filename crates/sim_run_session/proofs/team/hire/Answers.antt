@@ -22,4 +22,4 @@ spawn_scoped-requires-send-F g c κs within =
     let a : IsSend (Answer.the_row (param 0 g.row.D) g.D.DesignType) = search (answers.the_send, crosses, sendable) depth 20 in
     let S = PhaseWork.the_row (param 0 g.row.D) in
     worker_send 1 _ exit.no _ S (Order.the_row (param 0 g.row.D) g.D.DesignType) (Answer.the_row (param 0 g.row.D) g.D.DesignType)
-    g.row.R _ _ o a r
+    _ g.row.R _ _ o a r

@@ -1,5 +1,6 @@
-use Rattle.std.proofs.Common.{ap, sym, ◌∙◌, subst}
+use Rattle.std.proofs.Common.{Bool, List, ap, sym, ◌∙◌, subst}
 use Rattle.sim_containers.specs.RowArray.{joined}
+use Rattle.sim_store_state.specs.Lending.{HaveValues}
 use Rattle.sim_store.specs.Handing.{PhaseInput, IsRange, completed, at_input}
 use Rattle.sim_store.specs.Retained.{IsRetained, retained_of}
 use Rattle.sim_store_simulation.specs.Simulation.{reached, with_marks}
@@ -25,8 +26,8 @@ put_together-state-requires-clause-owned g c =
     subst (λ (w : PhaseInput). IsRange (at_input d w) (completed (at_input d w)).owned 0 (joined c.args.shares)) (sym c.input.view_is) c.requires.range in (
       (reached (retained_of d f k)).owned,
       is.split,
-      whole-values d f k is (joined c.args.shares) range c.requires.all c.copy_to.new.set c.copy_to.ensures.sized
-          c.copy_to.ensures.same,
+      subst (λ (changed : List Bool). HaveValues changed (joined c.args.shares) (reached (retained_of d f k)).owned) (sym c.list.ensures)
+          (whole-values d f k is (joined c.args.shares) range c.requires.all),
     )
 
 pub returns-clause-of : goal.returns-clause-of
@@ -46,8 +47,8 @@ returns-clause-of g c =
     let is : IsRetained d f k = subst (λ (w : PhaseInput). IsRetained d w k) (sym c.input.view_is) c.requires.retained in
     let range : IsRange (at_input d f) (completed (at_input d f)).owned 0 (joined c.args.shares) =
     subst (λ (w : PhaseInput). IsRange (at_input d w) (completed (at_input d w)).owned 0 (joined c.args.shares)) (sym c.input.view_is) c.requires.range in
-    whole-holds d f k is (joined c.args.shares) range c.requires.all s.design c.copy_to.new.set c.input.invariant.design_is c.copy_to.ensures.sized
-    c.copy_to.ensures.same c.put_together-state.result c.put_together-state.ensures
+    whole-holds d f k is (joined c.args.shares) range c.requires.all s.design c.input.invariant.design_is c.put_together-state.result
+    c.put_together-state.ensures
 
 pub returns-clause-same : goal.returns-clause-same
 returns-clause-same g c =
@@ -66,9 +67,8 @@ returns-clause-same g c =
     let is : IsRetained d f k = subst (λ (w : PhaseInput). IsRetained d w k) (sym c.input.view_is) c.requires.retained in
     let range : IsRange (at_input d f) (completed (at_input d f)).owned 0 (joined c.args.shares) =
     subst (λ (w : PhaseInput). IsRange (at_input d w) (completed (at_input d w)).owned 0 (joined c.args.shares)) (sym c.input.view_is) c.requires.range in
-    whole-same d f k is (joined c.args.shares) range c.requires.all s.design c.copy_to.new.set c.input.invariant.design_is c.copy_to.ensures.sized
-    c.copy_to.ensures.same
-    ∙ ap (λ (w : PhaseInput). with_marks (retained_of d w k) c.copy_to.new.set) c.input.view_is
+    whole-same d f k is (joined c.args.shares) range c.requires.all s.design c.input.invariant.design_is
+    ∙ ap (λ (w : PhaseInput). with_marks (retained_of d w k) s.due) c.input.view_is
 
 pub returns-clause-complete : goal.returns-clause-complete
 returns-clause-complete g c =
@@ -87,5 +87,4 @@ returns-clause-complete g c =
     let is : IsRetained d f k = subst (λ (w : PhaseInput). IsRetained d w k) (sym c.input.view_is) c.requires.retained in
     let range : IsRange (at_input d f) (completed (at_input d f)).owned 0 (joined c.args.shares) =
     subst (λ (w : PhaseInput). IsRange (at_input d w) (completed (at_input d w)).owned 0 (joined c.args.shares)) (sym c.input.view_is) c.requires.range in
-    whole-complete d f k is (joined c.args.shares) range c.requires.all s.design c.copy_to.new.set c.input.invariant.design_is c.copy_to.ensures.sized
-    c.copy_to.ensures.same
+    whole-complete d f k is (joined c.args.shares) range c.requires.all s.design c.input.invariant.design_is

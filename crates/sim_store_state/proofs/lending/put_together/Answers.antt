@@ -32,8 +32,8 @@ of_parts-variables-requires c =
       o.1.few_variables,
     ))
 
-pub mark_rows-requires-clause-processes : goal.mark_rows-requires-clause-processes
-mark_rows-requires-clause-processes c =
+pub tell_rows-requires-clause-processes : goal.tell_rows-requires-clause-processes
+tell_rows-requires-clause-processes c =
     let ds = c.of_parts-drivers.result in
     let vs = c.of_parts-variables.result in
     let o = c.requires.owned in
@@ -42,8 +42,8 @@ mark_rows-requires-clause-processes c =
     let long : length ds ≡ length vs = rw (c.of_parts-drivers.ensures, c.of_parts-variables.ensures) c.into_parts-drivers.ensures.long in
     o.2.sized ∙ sym (back-rows o.0 ds vs (joined c.args.split.shares) view long c.args.changed.now o.2)
 
-pub mark_rows-requires-clause-stale : goal.mark_rows-requires-clause-stale
-mark_rows-requires-clause-stale c =
+pub tell_rows-requires-clause-stale : goal.tell_rows-requires-clause-stale
+tell_rows-requires-clause-stale c =
     let ds = c.of_parts-drivers.result in
     let vs = c.of_parts-variables.result in
     let o = c.requires.owned in
@@ -51,6 +51,16 @@ mark_rows-requires-clause-stale c =
     rw (c.of_parts-drivers.ensures, c.of_parts-variables.ensures) c.into_parts-drivers.ensures.lists in
     let long : length ds ≡ length vs = rw (c.of_parts-drivers.ensures, c.of_parts-variables.ensures) c.into_parts-drivers.ensures.long in
     o.1.held.timed.marked ∙ sym (back-count o.0 ds vs (joined c.args.split.shares) view long c.args.changed.now o.2)
+
+pub tell_rows-requires-clause-queue : goal.tell_rows-requires-clause-queue
+tell_rows-requires-clause-queue c =
+    let ds = c.of_parts-drivers.result in
+    let vs = c.of_parts-variables.result in
+    let o = c.requires.owned in
+    let view : owned_lists ds vs ≡ joined c.args.split.shares =
+    rw (c.of_parts-drivers.ensures, c.of_parts-variables.ensures) c.into_parts-drivers.ensures.lists in
+    let long : length ds ≡ length vs = rw (c.of_parts-drivers.ensures, c.of_parts-variables.ensures) c.into_parts-drivers.ensures.long in
+    o.1.held.timed.sized ∙ sym (back-count o.0 ds vs (joined c.args.split.shares) view long c.args.changed.now o.2)
 
 pub of_lists-requires : goal.of_lists-requires
 of_lists-requires c =
@@ -60,6 +70,8 @@ of_lists-requires c =
     let view : owned_lists ds vs ≡ joined c.args.split.shares =
     rw (c.of_parts-drivers.ensures, c.of_parts-variables.ensures) c.into_parts-drivers.ensures.lists in
     let long : length ds ≡ length vs = rw (c.of_parts-drivers.ensures, c.of_parts-variables.ensures) c.into_parts-drivers.ensures.long in
-    let e = c.mark_rows.ensures in
-    back-held o.0 o.1.held ds vs c.mark_rows.new.stale long (back-values o.0 ds vs (joined c.args.split.shares) view long c.args.changed.now o.2)
-    (back-times o.0 ds vs (joined c.args.split.shares) view long c.args.changed.now o.2 o.1.held.timed c.mark_rows.new.stale e.sized e.kept e.marked)
+    let e = c.tell_rows.ensures in
+    back-held o.0 o.1.held ds vs c.tell_rows.new.queue c.tell_rows.new.stale long
+    (back-values o.0 ds vs (joined c.args.split.shares) view long c.args.changed.now o.2)
+    (back-times o.0 ds vs (joined c.args.split.shares) view long c.args.changed.now o.2 o.1.held.timed c.tell_rows.new.queue c.tell_rows.new.stale
+    e.queue e.stale e.told e.others)

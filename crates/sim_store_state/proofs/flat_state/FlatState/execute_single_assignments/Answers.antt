@@ -8,8 +8,8 @@ use Rattle.sim_store_state.proofs.InTurn.{executed-as}
 use Rattle.sim_store_state.proofs.Putting.{drivers-keep}
 use Rattle.sim_store_state.proofs.flat_state.FlatState.execute_single_assignments.Goals as goal
 
-pub execute_in_one_part-requires : goal.execute_in_one_part-requires
-execute_in_one_part-requires c = record {
+pub execute_in_turn-requires : goal.execute_in_turn-requires
+execute_in_turn-requires c = record {
   now = c.requires.time;
   codes = c.requires.codes;
   owned = c.self.invariant.lists.owned;
@@ -20,13 +20,13 @@ execute_in_one_part-requires c = record {
 
 pub invariant_of-self : goal.invariant_of-self
 invariant_of-self c =
-    let t = c.execute_in_one_part in
+    let t = c.execute_in_turn in
     drivers-keep c.self.invariant t.new.drivers t.new.queue t.new.stale t.ensures.sized t.ensures.values t.ensures.times
 
 pub returns : goal.returns
 returns c =
     let s = c.self.inside in
-    let t = c.execute_in_one_part in
+    let t = c.execute_in_turn in
     let now : List Owned = owned_lists t.new.drivers s.variables in
     record {
       within = t.ensures.within;

@@ -1,7 +1,7 @@
 use Rattle.std.proofs.Common.{arith}
 use Rattle.std.proofs.lemmas.Grind.{common_steps}
 use Rattle.sim_store_state.proofs.InTurn.{turn-idle}
-use Rattle.sim_store_state.proofs.in_turn.execute_in_one_part.Goals as goal
+use Rattle.sim_store_state.proofs.in_turn.execute_in_turn.Goals as goal
 
 pub returns-then-len-ne1-clause-executed : goal.returns-then-len-ne1-clause-executed
 returns-then-len-ne1-clause-executed c sources =
