@@ -3,6 +3,8 @@ use denote.Param.{param}
 use denote.Param.Send.{IsSend, IsSync, sendable}
 use Rattle.std.proofs.Common.{rules}
 use Rattle.std.proofs.Crossing.{crosses}
+use Rattle.std.specs.contracts.option.Option as Option
+use Rattle.sim_exec_code.specs.contracts.frame.Frame as Frame
 use Rattle.sim_store.specs.contracts.order.Answer as Answer
 use Rattle.sim_store.specs.contracts.order.Order as Order
 use Rattle.sim_store.proofs.Crossing.{order_send}
@@ -22,4 +24,4 @@ spawn_scoped-requires-send-F g c κs within =
     let a : IsSend (Answer.the_row (param 0 g.row.D) g.D.DesignType) = search (answers.the_send, crosses, sendable) depth 20 in
     let S = PhaseWork.the_row (param 0 g.row.D) in
     worker_send 1 _ exit.no _ S (Order.the_row (param 0 g.row.D) g.D.DesignType) (Answer.the_row (param 0 g.row.D) g.D.DesignType)
-    _ g.row.R _ _ o a r
+    (Option.the_row Frame.the_row) g.row.R _ _ o a r
