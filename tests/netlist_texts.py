@@ -213,8 +213,20 @@ GOOD = netlist({"u": cell("$_NOT_", {"A": [2], "Y": [3]})})
 WIRES = {"u": cell("$_BUF_", {"A": [3], "Y": [4]}, attributes={"src": "uart.v:7.5"}), "v": cell("$_BUF_", {"A": [4], "Y": [3]})}
 PLAIN = {"y": {"direction": "output", "bits": [5]}}
 HEAD = "$timescale 1ns $end $scope module tb $end $var wire 1 ! a $end $upscope $end $enddefinitions $end\n"
+# three inputs
+THREE = {"a": {"direction": "input", "bits": [2]}, "b": {"direction": "input", "bits": [4]}, "c": {"direction": "input", "bits": [5]},
+            "y": {"direction": "output", "bits": [3]}}
+# the units of a scale of time, in femtoseconds
+SCALES = {"fs": 1, "ps": 10**3, "ns": 10**6, "us": 10**9, "ms": 10**12, "s": 10**15}
 # the latest time of vsim, in femtoseconds
 LATEST = 2**62 - 1
+
+
+def scopes(more):
+    """Returns a VCD whose scope tb has an a that rises at 5 ns, and after this text another one that falls at 7 ns."""
+    return HEAD.replace("$upscope", f"{more} $upscope") + "#0 0! 1\" #5 1! #7 0\"\n"
+
+
 # a netlist, stimuli, words, and what the listing says of y: pairs of a time and a value
 LISTED = [
     (netlist({"u": cell("$_NOT_", {"A": ["0"], "Y": [3]})}), "", ["--delays", "not=10ps/20ps"], "0 U, 20000 1"),
@@ -230,6 +242,41 @@ LISTED = [
      "0 U, 0 1, 3000000 0, 8000000 1, 13000000 0, 18000000 1, 23000000 0"),
     (GOOD, "0 a 1\n7ns a 0\n8ns a 1\n9ns a 0\n10ns a 1\n11ns a 0\n12ns a 1\n", [],
      "0 U, 0 0, 7000000 1, 8000000 0, 9000000 1, 10000000 0, 11000000 1, 12000000 0"),
+    # a register that is reset to 0, takes '1' at its edge, and is reset again; one that is reset to 1 and takes '0'; and a latch
+    (netlist({"u": cell("$_DFF_PP0_", {"C": [4], "R": [5], "D": [2], "Q": [3]})}, **THREE), "0 a 1\n0 b 0\n0 c 1\n5ns c 0\n10ns b 1\n20ns c 1\n",
+     ["--delays", "dff=10ps/30ps"], "0 U, 30000 0, 10010000 1, 20030000 0"),
+    (netlist({"u": cell("$_DFF_PP1_", {"C": [4], "R": [5], "D": [2], "Q": [3]})}, **THREE), "0 a 0\n0 b 0\n0 c 1\n5ns c 0\n10ns b 1\n20ns c 1\n",
+     ["--delays", "dff=10ps/30ps"], "0 U, 10000 1, 10030000 0, 20010000 1"),
+    (netlist({"u": cell("$_DLATCH_P_", {"E": [4], "D": [2], "Q": [3]})}, **THREE), "0 a 1\n0 b 0\n0 c 0\n10ns b 1\n20ns a 0\n30ns b 0\n40ns a 1\n",
+     ["--delays", "latch=20ps/40ps,dff=10ps"], "0 U, 10020000 1, 20040000 0"),
+    # a three-state buffer takes the longer time
+    (netlist({"u": cell("$_TBUF_", {"A": [2], "E": [4], "Y": [3]})}, **THREE), "0 a 0\n0 b 0\n0 c 0\n10ns b 1\n20ns a 1\n30ns b 0\n",
+     ["--delays", "tbuf=10ps/30ps"], "0 U, 30000 Z, 10030000 0, 20030000 1, 30030000 Z"),
+    # a reset goes before a set
+    (netlist({"u": cell("$_DFFSR_PPP_", {"C": ["0"], "S": [4], "R": [5], "D": ["1"], "Q": [3]})}, **THREE),
+     "0 a 0\n0 b 1\n0 c 1\n10ns c 0\n20ns c 1\n", [], "0 U, 0 0, 10000000 1, 20000000 0"),
+    (netlist({"u": cell("$_SR_PP_", {"S": [4], "R": [5], "Q": [3]})}, **THREE), "0 a 0\n0 b 1\n0 c 1\n10ns c 0\n20ns b 0\n30ns c 1\n", [],
+     "0 U, 0 0, 10000000 1, 30000000 0"),
+    # of two clocks one ends half a period before the other
+    (netlist({"u": cell("$_NOT_", {"A": [2], "Y": [3]})}, **THREE),
+     "0 c 0\n" + "".join(f"{time}ns {name} {time // 5 % 2}\n" for time in range(0, 55, 5) for name in ("ab" if time < 50 else "b")), [],
+     "0 U, 0 1, 5000000 0, 10000000 1, 15000000 0, 20000000 1, 25000000 0, 30000000 1, 35000000 0, 40000000 1, 45000000 0"),
+    # a gated clock whose enable ends with a rising edge and begins with a falling one
+    (netlist({"u": cell("$_AND_", {"A": [2], "B": [4], "Y": [6]}), "v": cell("$_DFF_P_", {"C": [6], "D": ["1"], "Q": [3]})}, **THREE),
+     "0 a 0\n0 b 1\n0 c 0\n" + "".join(f"{time}ns a {time // 10 % 2}\n" + {10: "10ns b 0\n", 40: "40ns b 1\n"}.get(time, "")
+                                     for time in range(10, 80, 10)), [], "0 U, 50000000 1"),
+    # a port that is an input and an output
+    (netlist({"u": cell("$_NOT_", {"A": [2], "Y": [3]})}, a={"direction": "inout", "bits": [2]}, y={"direction": "output", "bits": [3]}),
+     "0 a 0\n10ns a 1\n", [], "0 U, 0 1, 10000000 0"),
+    # each unit of time
+    (GOOD, "0 a 0\n1fs a 1\n1ps a 0\n1ns a 1\n1us a 0\n1ms a 1\n1s a 0\n2sec a 1\n", [],
+     f"0 U, 0 1, 1 0, 1000 1, 1000000 0, {10**9} 1, {10**12} 0, {10**15} 1, {2 * 10**15} 0"),
+    # of two scopes with the input the deeper one counts, and of two as deep the first
+    (GOOD, scopes("$scope module dut $end $var wire 1 \" a $end $upscope $end"), [], "0 U, 0 0, 7000000 1"),
+    (GOOD, scopes("$upscope $end $scope module other $end $var wire 1 \" a $end"), [], "0 U, 0 1, 5000000 0"),
+    # each scale of time
+    *((GOOD, HEAD.replace("1ns", f"{count}{space}{unit}") + "#0 0! #5 1!\n", [], f"0 U, 0 1, {5 * count * scale} 0")
+      for unit, scale in SCALES.items() for count, space in ((1, ""), (10, " "), (100, ""))),
 ]
 # a netlist, stimuli, words, and what is told
 REFUSED = [
@@ -352,6 +399,55 @@ def follows_late(programs, folder):
     demand(text.count(" xor ") > 8 and text.count("rising_edge") == 2, f"no signal is inverted late: {len(text)} bytes")
     demand(len(text) < 9000, f"{len(text)} bytes")
     is_listed(programs, folder, given, stimuli, words, wanted)
+
+
+def wide_input(stimuli, words, wanted, **ports):
+    """Returns a row as in LISTED: the lowest of 16 bits of an input, inverted."""
+    ports["a"] = {"direction": "input", "bits": list(range(4, 20))}
+    ports["y"] = {"direction": "output", "bits": [3]}
+    return netlist({"u": cell("$_NOT_", {"A": [4], "Y": [3]})}, **ports), "\n".join([*stimuli, ""]), words, ", ".join(wanted)
+
+
+def changed(changes, later):
+    """Returns what the listing says of a bit that is inverted, given what its input is at each time in nanoseconds, `later` femtoseconds earlier."""
+    wanted, last = ["0 U"], None
+    for time, data in changes:
+        if data & 1 != last:
+            wanted.append(f"{time * 10**6 + (later if time else 0)} {1 - (data & 1)}")
+        last = data & 1
+    return wanted
+
+
+def held():
+    """Returns a row as in LISTED: an input that changes in steps, after a hold time."""
+    chance = random.Random(11)
+    changes = [(0, 0), *((10 * step, chance.getrandbits(16)) for step in range(1, 100))]
+    return wide_input([f"{time}ns a {data:016b}" for time, data in changes], ["--hold", "500ps"], changed(changes, 500_000))
+
+
+def falling_at_first():
+    """Returns a row as in LISTED: an input that changes with the rising edges of a clock whose first edge falls."""
+    chance = random.Random(13)
+    changes = [(0, 0), *((10 * step, chance.getrandbits(16)) for step in range(1, 100))]
+    events = sorted([*((5 * it, f"c {1 - it % 2}") for it in range(200)), *((time, f"a {data:016b}") for time, data in changes)])
+    return wide_input([f"{time}ns {event}" for time, event in events], [], changed(changes, 0), c={"direction": "input", "bits": [2]})
+
+
+def is_counted(programs, folder, row):
+    """Demands that a process counts the edges of a clock at which inputs change, and that these do so when they should."""
+    given, stimuli, words, wanted = row
+    text = run([programs[1], *put_stimuli(folder, stimuli), *words], given.encode())[1].decode()
+    demand(text.count("rising_edge") + text.count("falling_edge") == 1, f"no process counts edges: {text}")
+    is_listed(programs, folder, given, stimuli, words, wanted)
+
+
+def are_bits_named(programs):
+    """Demands that the bits of a port are named by their numbers, from 0."""
+    bits = {"a": {"direction": "input", "bits": [2, 3]}, "y": {"direction": "output", "bits": [4, 5]}}
+    cells = {"u": cell("$_NOT_", {"A": [2], "Y": [4]}), "v": cell("$_BUF_", {"A": [3], "Y": [5]})}
+    text = run([programs[1]], netlist(cells, **bits).encode())[1]
+    names = [line.split()[2] for line in run([programs[0], "--top", "top"], text)[1].decode().splitlines()[:-1]]
+    demand(sorted(set(names)) == ["a_0", "a_1", "y_0", "y_1"], f"the names are {names}")
 
 
 def put_stimuli(folder, stimuli):
@@ -519,6 +615,9 @@ def tests_of(programs, folder, mutated):
     yield "steps without a clock", lambda: is_listed(programs, folder, *stepped())
     yield "steps beside a clock", lambda: has_two_clocks(programs, folder)
     yield "two changes in a step", lambda: follows_late(programs, folder)
+    yield "steps after a hold time", lambda: is_counted(programs, folder, held())
+    yield "steps with a clock that falls at first", lambda: is_counted(programs, folder, falling_at_first())
+    yield "names of bits", lambda: are_bits_named(programs)
     yield "clocks", lambda: is_one_statement(program, folder)
     for row in REFUSED:
         yield row[3], lambda row=row: is_refused(program, folder, *row)
