@@ -9,7 +9,8 @@ without `--deltas`, and read by a reader that knows only the rules of a VCD. The
 - the times are those of the listing; with `--deltas` one for each delta cycle, always later than the one before it;
 - at each time each net has the value that the listing gives it by then.
 
-Faulty listings and maps and wrong words are refused with a line on standard error.
+By a map a variable has the bits that the map names, constants among them, and the last time is that of the end of the stimuli. Faulty
+listings and maps and wrong words are refused with a line on standard error.
 
 Differences are printed, and the last line is `N passed, M failed`.
 """
@@ -19,6 +20,8 @@ import random
 import subprocess
 import sys
 import tempfile
+
+import netlist_texts
 
 TOP = os.path.dirname(os.path.dirname(os.path.realpath(__file__)))
 VALUES = "UX01ZWLH-"
@@ -53,6 +56,12 @@ MAPS = [
     ("vsim_netlist map 1\nend soon\n", "line 2: the end is no number"),
     ("vsim_netlist map 1\nend 5\nvar s 0\n", "line 3: a variable is cut off"),
     ("vsim_netlist map 1\nnet s\n", "line 2: it is no line of a map"),
+]
+# a listing, the lines of a map behind its first, what the bits of v are from each time on, and the last time
+MAPPED = [
+    ("0 0 s 0\n5 0 s 1\ndone 1 1\n", "end 9\ntop m\nvar v 0 downto s 'Z' '0' '1' 'X' -\n", [(0, "xx10z0"), (5, "xx10z1")], 9),
+    ("0 0 s 0\n5 0 s 1\ndone 1 1\n", "end 5\ntop m\nvar v 0 downto s s\n", [(0, "00"), (5, "11")], 5),
+    ("0 0 s U\ndone 0 0\n", "end 7\ntop m\nvar v 0 downto 'Z' 'Z'\n", [(0, "zz")], 7),
 ]
 
 
@@ -198,6 +207,21 @@ def check_map(program, text, told):
     demand(err.startswith("vsim_waves: ") and err.endswith(f"/map: {told}\n"), f"it says {err}")
 
 
+def check_mapped(program, listing, lines, values, end):
+    with tempfile.TemporaryDirectory() as folder:
+        with open(f"{folder}/map", "w", encoding="utf-8") as file:
+            file.write(f"vsim_netlist map 1\n{lines}")
+        status, out, err = run(program, ["--map", f"{folder}/map"], listing.encode())
+    demand(status == 0 and not err, f"status {status}: {err}")
+    waves = netlist_texts.Waves(out, "m")
+    code, width = waves.variables["v"]
+    demand(width == len(values[0][1]), f"v has {width} bits")
+    for (time, wanted), found in zip(values, waves.at([time for time, _ in values])):
+        demand(netlist_texts.wide(found[code], width) == wanted, f"v is {found[code]} at {time}")
+    times = [line[1:] for line in out.decode().splitlines() if line.startswith("#")]
+    demand(times == [str(time) for time in dict.fromkeys([*(time for time, _ in values), end])], f"the times are {times}")
+
+
 def check_words(program, words):
     status, out, err = run(program, words, b"done 0 0\n")
     demand(status == 2 and not out and err.startswith("usage: vsim_waves "), f"status {status}: {err}")
@@ -249,6 +273,8 @@ def checks(vsim, program):
         yield f"refusal of {text!r}", lambda: check_refusal(program, text, line)
     for text, told in MAPS:
         yield f"a map of which is told: {told}", lambda: check_map(program, text, told)
+    for row in MAPPED:
+        yield f"a map with {row[1]!r}", lambda: check_mapped(program, *row)
     for words in (["--delta"], ["--deltas", "--deltas"], ["FILE.vcd"], [""]):
         yield f"the words {words}", lambda: check_words(program, words)
 

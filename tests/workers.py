@@ -9,6 +9,8 @@ CASES is sim_run_cases, which with the word --handed-out is vsim, except that ea
 - 600 processes of twenty statements run in VSIM itself with three workers: the listing follows the rules, and each of three threads (of
   two on two processors) takes processor time. A thread without an order sleeps, so this shows that work is handed out. It is tried at most
   five times, since under other load a thread may find no processor.
+- In that run the main thread has less than a third of the processor time of a run by one worker while it is the only thread. So the run is
+  not made by one thread, nor given up by several and made again, which no answer shows. This too is tried five times.
 - With sixteen workers no more threads are started than there are processors.
 
 Each run has a minute. A run that has not ended by then is reported as such, one with another answer as that. The last line is
@@ -93,21 +95,24 @@ def spent(process):
 
 
 def watched(words, text):
-    """The answer of a run, and the processor time of each of its threads; None if it does not end."""
+    """The answer of a run, None if it does not end, the processor time of each of its threads, and that of the first while it was alone."""
     with tempfile.TemporaryFile() as source, tempfile.TemporaryFile() as out:
         source.write(text)
         source.seek(0)
-        process, taken, begun = subprocess.Popen(words, stdin=source, stdout=out), {}, time.monotonic()
+        process, taken, begun, alone = subprocess.Popen(words, stdin=source, stdout=out), {}, time.monotonic(), 0
         while process.poll() is None:
             if time.monotonic() - begun > LONGEST:
                 process.kill()
                 process.wait()
-                return None, taken
-            for thread, count in spent(process.pid).items():
+                return None, taken, alone
+            found = spent(process.pid)
+            for thread, count in found.items():
+                if len(found) == 1:
+                    alone += max(0, count - taken.get(thread, 0))
                 taken[thread] = max(count, taken.get(thread, 0))
-            time.sleep(0.005)
+            time.sleep(0.002)
         out.seek(0)
-        return (process.returncode, out.read()), taken
+        return (process.returncode, out.read()), taken, alone
 
 
 def handed_out(vsim):
@@ -115,18 +120,19 @@ def handed_out(vsim):
     text, stop, listing = large()
     processors = len(os.sched_getaffinity(0))
     words = [vsim, "--top", "t", "--limit", "1000000", "--stop", stop, "--workers"]
-    found = answer([*words, "1"], text)
-    yield told(f"{PROCESSES} processes by 1", found), found == (listing, b"", 0)
-    found, taken = watched([*words, "16"], text)
+    found, _, whole = watched([*words, "1"], text)
+    yield told(f"{PROCESSES} processes by 1", found), found == (0, listing)
+    found, taken, _ = watched([*words, "16"], text)
     yield told(f"{PROCESSES} processes by 16", found), found == (0, listing)
     yield f"{len(taken)} threads on {processors} processors", len(taken) <= processors
     several = min(3, processors)
     for turn in range(TRIES):
-        found, taken = watched([*words, "3"], text)
+        found, taken, alone = watched([*words, "3"], text)
         busy = sum(count > BUSY for count in taken.values())
-        if found != (0, listing) or busy == several or turn == TRIES - 1:
+        if found != (0, listing) or busy == several and alone < whole / 3 or turn == TRIES - 1:
             yield told(f"{PROCESSES} processes by 3", found), found == (0, listing)
             yield f"{several} threads take part, and not {busy}", busy == several
+            yield f"the first thread is alone for {alone / whole:.2f} of a run by one", several == 1 or alone < whole / 3
             return
 
 
