@@ -1,5 +1,5 @@
 -- Jobs and their results.
--- Implementation only: what `simulate` promises does not rest on this file.
+-- `simulate` does not rest on this file; what a store shows under a lock does.
 use Rattle.std.specs.Prelude.{ℕ, suc, ◌≡◌, ◌≤◌, List, [], ◌∷◌, Bool, true, false, Option, MatchOption, map, length}
 use Rattle.std.specs.List.{All}
 use Rattle.sim_logic.specs.Time.{largest_time}

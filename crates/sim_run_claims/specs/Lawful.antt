@@ -1,5 +1,5 @@
 -- What all seats together have drawn, and how it agrees with the word.
--- Implementation only: what `simulate` promises does not rest on this file.
+-- `simulate` does not rest on this file; what claims promise does.
 use Rattle.std.specs.Prelude.{◌≡◌, ℕ, ◌+◌, ◌<◌, ◌≤◌, List, [], ◌∷◌, length, ◌==◌, nat_lt, cond}
 use mathlib.Core.Option.{some}
 use lib.ListN.{get_elem?}

@@ -1,5 +1,5 @@
 -- The rule of the table, which holds between any two steps of any threads, and what a step says to its thread.
--- Implementation only: what `simulate` promises does not rest on this file.
+-- `simulate` does not rest on this file; what claims promise does.
 use Rattle.std.specs.Prelude.{◌≡◌, ℕ, ◌<◌, ◌≤◌, [], ◌∷◌}
 use Rattle.atomic_table.specs.Table.{State, Me, Step}
 use Rattle.sim_run_claims.specs.declared.view.SeatView.{SeatView}

@@ -1,5 +1,5 @@
 -- What callers may know about claims and their seats.
--- Implementation only: what `simulate` promises does not rest on this file.
+-- `simulate` does not rest on this file; what claims promise does.
 use Rattle.std.specs.Prelude.{◌≡◌, ℕ, ◌+◌}
 use Rattle.sim_run_claims.specs.declared.view.SeatView.{SeatView}
 use Rattle.sim_run_claims.specs.declared.drawing.Claims.{Claims}

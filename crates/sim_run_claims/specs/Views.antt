@@ -1,5 +1,5 @@
 -- The view of a seat: what it has drawn, and how a draw, a split and a join change that.
--- Implementation only: what `simulate` promises does not rest on this file.
+-- `simulate` does not rest on this file; what claims promise does.
 use Rattle.std.specs.Prelude.{◌≡◌, ℕ, ◌+◌, ◌-◌, ◌/◌, ◌<◌, List, [], ◌∷◌, ◌++◌, Option, MatchOption}
 use Rattle.sim_run_claims.specs.declared.view.SeatView.{SeatView}
 

@@ -1,5 +1,5 @@
 -- The cut that a store uses: after the update of a cycle, before its executions (IEEE 1076-2008, 14.7.5.3 d). By law, carried on it is the end of the cycle.
--- Implementation only: what `simulate` promises does not rest on this file.
+-- `simulate` does not rest on this file; what a store shows under a lock does.
 use Rattle.std.specs.Prelude.{ℕ, zero, suc, Option, Some}
 use Rattle.sim_flat_design.specs.Designs.{Design}
 use Rattle.sim_standard.specs.State.{State}

@@ -1,5 +1,5 @@
 -- The store of a run: a simulation, how far it may go, and how it ended (IEEE 1076-2008, 14.7.5.1).
--- Implementation only: what `simulate` promises does not rest on this file.
+-- `simulate` does not rest on this file; what a store shows under a lock does.
 use Rattle.std.specs.Prelude.{ℕ, suc, [], ◌≡◌, ◌≢◌, ◌<◌, ◌≤◌, List, Bool, true, false, Option, None, Some, IsSomeAnd, MatchOption, length, replicate, slice_set}
 use Rattle.sim_flat_design.specs.Designs.{Design}
 use Rattle.sim_logic.specs.Time.{largest_time}

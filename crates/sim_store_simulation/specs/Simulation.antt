@@ -1,5 +1,5 @@
 -- How far a simulation has come (IEEE 1076-2008, 14.7.5).
--- Implementation only: what `simulate` promises does not rest on this file.
+-- `simulate` does not rest on this file; what a store shows under a lock does.
 use Rattle.std.specs.Prelude.{ℕ, suc, ◌≡◌, ◌≢◌, ◌<◌, ◌≤◌, ◌&&◌, ◌||◌, not, List, [], Bool, true, false, if◌then◌else◌, Option, None, Some, map, length}
 use Rattle.std.specs.Prelude.{filter, replicate, slice_index_or, slice_set}
 use Rattle.std.specs.List.{All, range_with_len}

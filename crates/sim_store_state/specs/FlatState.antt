@@ -1,5 +1,5 @@
 -- A state in flat lists.
--- Implementation only: what `simulate` promises does not rest on this file.
+-- `simulate` does not rest on this file; what a store shows under a lock does.
 use Rattle.std.specs.Prelude.{◌≡◌, not, List, [], ◌∷◌, map, length}
 use Rattle.sim_logic.specs.declared.logic.Logic.{Logic}
 use Rattle.sim_logic.specs.Logic.{is_same}

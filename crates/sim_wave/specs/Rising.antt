@@ -1,5 +1,5 @@
 -- Transactions whose times rise strictly, and what an assignment requires of them (IEEE 1076-2008, 10.5.2, 14.7.2).
--- Implementation only: what `simulate` promises does not rest on this file.
+-- `simulate` does not rest on this file; what a store shows under a lock does.
 use Rattle.std.specs.Prelude.{ℕ, suc, ◌+◌, ◌≤◌, List, [], ◌∷◌, ⊤, Option, None, Some, map}
 use Rattle.sim_standard.specs.declared.delay.Delay.{Delay}
 use Rattle.sim_standard.specs.declared.delay.Delay.TheVariants.{Transport, Inertial}
