@@ -4,7 +4,7 @@
     everyday.py VSIM VSIM_EXPLAIN VSIM_WAVES VSIM_NETLIST [--install]
 
 For each program: `--version` and `-V` print a line that begins with its name, `--help` and `-h` print the help, both on standard output
-with status 0; words that are refused go to standard error with status 2; and a line of usage has the program's own name. Its man page
+with status 0; words that are refused, or are no text, go to standard error with status 2; and a line of usage has the program's own name. Its man page
 and its completions, made by the functions of the script install in a temporary prefix, are where they should be, name each option,
 and are scripts of their shells (of those that are there). VSIM_WAVES is silent if what reads a long VCD goes away. The script vsim, in
 a temporary tree that notes VSIM as built, answers a folder on standard input as the program does.
@@ -61,6 +61,8 @@ def faults_of_program(name, program):
     for word in ("--help", "-h"):
         yield fault_of_words(name, program, word, 0, rf"Usage: {name} ")
     yield fault_of_words(name, program, "--no-such-option", 2, rf"[Uu]sage: {name} ")
+    if name != "vsim_waves":
+        yield fault_of_words(name, program, b"--top=\xff", 2, r"\Aerror: invalid UTF-8 ")
 
 
 def installer():
