@@ -115,8 +115,10 @@ def step_of_other(shared, thread, steps):
 
 
 def step_of_waiting(shared, thread, program):
-    """Returns what is shared and the waiting thread after its next step; its place is a number of a step, `asleep` or `end`."""
+    """Returns what is shared and the waiting thread after its next step; its place is the number of a step, or `withdraw`, `asleep` or `end`."""
     (message, asleep, closed), (place, kept, read) = shared, thread
+    if place == "withdraw":
+        return (message, 0, closed), (0, None, (*read, kept) if kept is not None else read)
     step = program[place][0]
     if step == "end if closed" and closed:
         return shared, ("end", None, read)
@@ -127,11 +129,10 @@ def step_of_waiting(shared, thread, program):
     elif step == "look again":
         message, kept = None, message
     elif step == "leave if closed" and (kept is not None or closed):
-        # the announcement is withdrawn
-        return (message, 0, closed), (0, None, (*read, kept) if kept is not None else read)
+        return shared, ("withdraw", kept, read)
     elif step == "sleep":
         if kept is not None:
-            return (message, 0, closed), (0, None, (*read, kept))
+            return shared, ("withdraw", kept, read)
         return shared, ("asleep" if asleep else 0, None, read)
     return (message, asleep, closed), (place + 1, kept, read)
 

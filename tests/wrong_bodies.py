@@ -28,22 +28,22 @@ BODIES = [
         ("        if job.cycle() != self.simulation.cycles() {", "        if job.cycle() > self.simulation.cycles() {")]),
     Body("a second result of a process is taken", STORE, "store.rt", "store::check", "", 2, [
         ("    if simulation.is_deposited(number) {", "    if simulation.is_deposited(number) && !simulation.is_due(number) {")]),
-    Body("a result is dropped", STORE, "store.rt", "store::WaveStore::deposit", "ok", 2, [
+    Body("a result is dropped", STORE, "store.rt", "store::WaveStore::deposit", "ok", 1, [
         ("                self.simulation.deposit(done);", "                let _dropped = done;")]),
     Body("a cycle without an event is passed over", STORE, "store.rt", "store::WaveStore::go_to", "ok", 1, [
         ("        self.simulation.go_on(time)?;",
          "        let events = self.simulation.events();\n"
          "        self.simulation.go_on(time)?;\n"
          "        if self.simulation.events() == events {\n"
-         "            let _next = self.go_on()?;\n"
+         "            self.simulation.go_on(time)?;\n"
          "        }")]),
     Body("a run has one cycle more than its limit", STORE, "store.rt", "store::WaveStore::go_to", "ok", 2, [
         ("        if self.simulation.cycles() == self.limit as usize {", "        if self.simulation.cycles() > self.limit as usize {")]),
-    Body("a run that finishes in its last cycle is over the limit", STORE, "store.rt", "store::WaveStore::go_on", "ok", 3, [
+    Body("a run that finishes in its last cycle is over the limit", STORE, "store.rt", "store::WaveStore::go_on", "ok", 1, [
         ("            _ => Ok(self.end(Step::Finished)),",
          "            _ if self.simulation.cycles() == self.limit as usize => Ok(self.end(Step::LimitReached)),\n"
          "            _ => Ok(self.end(Step::Finished)),")]),
-    Body("the run begins again", STORE, "store.rt", "store::WaveStore::advance", "ok", 4, [
+    Body("the run begins again", STORE, "store.rt", "store::WaveStore::advance", "ok", 1, [
         ("        self.go_on()\n    }",
          "        let design = self.simulation.design().try_copy()?;\n"
          "        let Ok(begun) = Simulation::begin(_alloc, design) else {\n"
@@ -71,7 +71,7 @@ BODIES = [
     Body("a delta cycle of a postponed process is carried out", SIMULATION, "simulation.rt", "simulation::upcoming", "", 1, [
         ("        (Phase::Postponed, _) if is_delta => Upcoming::PostponedDelta,",
          "        (Phase::Postponed, _) if is_delta && !is_waited => Upcoming::PostponedDelta,")]),
-    Body("the next cycle is of another design", SIMULATION, "simulation.rt", "simulation::Simulation::go_on", "ok", 2, [
+    Body("the next cycle is of another design", SIMULATION, "simulation.rt", "simulation::Simulation::go_on", "ok", 1, [
         ("        begin_phase(contents, Phase::NonPostponed);\n        Ok(())",
          "        begin_phase(contents, Phase::NonPostponed);\n"
          "        let alloc = *self.contents.totals.allocator();\n"
