@@ -58,7 +58,7 @@ BODIES = [
          "        if let Some(record) = last.pop() {\n"
          "            found.push(record)?;\n"
          "        }")]),
-    Body("a result updates the nets", SIMULATION, "simulation.rt", "simulation::Simulation::deposit", "one", 1, [
+    Body("a result updates the nets", SIMULATION, "simulation.rt", "simulation::Simulation::deposit", "invariant", 1, [
         ("        put_results(&mut contents.state, number, results);",
          "        put_results(&mut contents.state, number, results);\n"
          "        let _updated = contents.state.update(contents.time);")]),
@@ -145,9 +145,11 @@ def open_goals(said, body):
 
 
 def is_of(goal, clause):
-    """Returns whether a goal is that a clause holds on return, or of `loop` that the invariant of a loop holds, by which the only clause is proved."""
+    """Returns whether a goal is that a clause holds on return; of `invariant` that of the type; of `loop` that of a loop, by which the clause is proved."""
     if clause == "loop":
         return goal.startswith("loop-") and "preserved" in goal
+    if clause == "invariant":
+        return goal.startswith("invariant_of-")
     return goal.startswith("returns") and (goal.endswith(f"-clause-{clause}") if clause else "-clause-" not in goal)
 
 
