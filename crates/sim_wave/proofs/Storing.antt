@@ -75,13 +75,6 @@ pub rises-drop_one : (xs : List Transaction) → RisesFrom 0 xs → RisesFrom 0 
 rises-drop_one [] r = tt
 rises-drop_one (x ∷ xs) r = RisesFrom-earlier 0 (suc x.0) xs (omega arith) r.1
 
--- a list of two
-pub two_of : (xs : List Transaction) → length xs ≡ 2 → xs ≡ transaction_at xs 0 ∷ (transaction_at xs 1 ∷ [])
-two_of [] e = absurd (omega arith)
-two_of (x ∷ []) e = absurd (omega arith)
-two_of (x ∷ (y ∷ [])) e = refl
-two_of (x ∷ (y ∷ (z ∷ zs))) e = absurd (omega arith)
-
 pub length-scheduled : (now : ℕ) (es : List Transaction) → length (scheduled now es) ≡ length es
 length-scheduled now [] = refl
 length-scheduled now (e ∷ es) = ap suc (length-scheduled now es)

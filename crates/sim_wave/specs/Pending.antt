@@ -1,13 +1,12 @@
 -- The pending transactions of a driver, wherever they are stored.
 -- Implementation only: what `simulate` promises does not rest on this file.
 use Rattle.std.specs.Prelude.{List, [], ◌∷◌}
-use Rattle.sim_standard.specs.Drivers.{Transaction, transaction_at}
+use Rattle.sim_standard.specs.Drivers.{Transaction}
 use Rattle.sim_wave.specs.declared.pending.Pending.{Pending}
-use Rattle.sim_wave.specs.declared.pending.Pending.TheVariants.{Nothing, One, Two, Many}
+use Rattle.sim_wave.specs.declared.pending.Pending.TheVariants.{Nothing, One, Many}
 
 -- the transactions, earliest first
 abbrev pub transactions_of : Pending → List Transaction
 transactions_of Nothing = []
 transactions_of (One only) = only ∷ []
-transactions_of (Two both) = transaction_at both 0 ∷ (transaction_at both 1 ∷ [])
-transactions_of (Many stored) = stored.value
+transactions_of (Many stored) = stored

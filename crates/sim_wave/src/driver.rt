@@ -9,6 +9,7 @@ ghost use Rattle.sim_wave.specs.Rising.{next_of, RisesFrom, IsWithin};
 
 use crate::edit::keeps;
 use crate::pending::Pending;
+use crate::stored::Stored;
 use sim_logic::Logic;
 use sim_standard::Delay;
 use std::alloc::{AllocError, Global};
@@ -177,7 +178,7 @@ impl Driver {
         ensures err { OnErr result (self.new ≡ self.old) }
         ensures later { RisesFrom now self.new.pending }
     {
-        if let Pending::Many(_) = &self.pending {
+        if self.pending.is_allocated() {
             return self.edit(now, Delay::Inertial { reject: 0 }, &[(0, value)]);
         }
         self.pending = Pending::One((now, value));
@@ -215,7 +216,7 @@ impl Driver {
                 }
                 Pending::One(old) => {
                     if keeps(*old, delay, new) {
-                        self.pending = Pending::Two([*old, new]);
+                        self.pending = Pending::Many(Stored::of_two(self.alloc, *old, new));
                         return Ok(());
                     }
                     self.pending = Pending::One(new);

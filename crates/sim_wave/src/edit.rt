@@ -1,6 +1,6 @@
 //! The editing of a projected output waveform by a signal assignment (IEEE 1076-2008, 10.5.2.2).
 
-ghost use Rattle.std.specs.Prelude.{ℕ, ◌≡◌, ◌≢◌, ◌+◌, ◌-◌, ◌<◌, ◌≤◌, ◌++◌, ◌↔◌, [], ◌∷◌, length, take, All, IsTrue, vec_len, vec_capacity};
+ghost use Rattle.std.specs.Prelude.{ℕ, ◌≡◌, ◌≢◌, ◌+◌, ◌-◌, ◌<◌, ◌≤◌, ◌++◌, ◌↔◌, [], ◌∷◌, length, take, All, IsTrue};
 ghost use Rattle.std.specs.List.{remove_range};
 ghost use Rattle.sim_logic.specs.declared.logic.Logic as logic;
 ghost use Rattle.sim_standard.specs.Drivers.{Transaction as transaction, transaction_at};
@@ -8,13 +8,15 @@ ghost use Rattle.sim_standard.specs.Editing.{before, kept_of};
 ghost use Rattle.sim_wave.specs.Rising.{RisesFrom, scheduled, IsWithin};
 ghost use Rattle.sim_wave.specs.Run.{IsRun};
 ghost use Rattle.sim_logic.specs.Time.{largest_time};
+ghost use Rattle.smallvec.specs.SmallVec.{small_vec_len};
 
-use crate::driver::Transaction;
+use crate::driver::{IN_PLACE, Transaction};
 use sim_logic::Logic;
 use sim_standard::Delay;
+use smallvec::SmallVec;
 
 /// A list of transactions, earliest first.
-pub(crate) type Transactions = Vec<Transaction>;
+pub(crate) type Transactions = SmallVec<Transaction, IN_PLACE>;
 
 /// A run of transactions of equal value in a list: those from `start` up to `end`.
 #[derive(Clone, Copy)]
@@ -171,24 +173,24 @@ pub(crate) fn kept_by(
 /// Removes the transactions from `front` up to `back`.
 pub(crate) fn close_gap(list: &mut Transactions, front: usize, back: usize)
     requires order { front ≤ back }
-    requires within { back ≤ vec_len list.old }
+    requires within { back ≤ small_vec_len list.old }
     ensures items { list.new.items ≡ remove_range list.old.items front back }
-    ensures capacity { vec_capacity list.new ≡ vec_capacity list.old }
+    ensures capacity { list.new.capacity ≡ list.old.capacity }
 {
     if front < back {
         let len = list.len();
-        list.copy_within(back.., front);
+        list.as_mut_slice().copy_within(back.., front);
         list.truncate(len - (back - front));
     }
 }
 
 /// Appends the elements, each at `now` plus its delay.
 fn append(list: &mut Transactions, now: u64, elements: &[Transaction])
-    requires room { vec_len list.old + length elements.now ≤ vec_capacity list.old }
+    requires room { small_vec_len list.old + length elements.now ≤ list.old.capacity }
     requires now { now ≤ largest_time }
     requires delays { All (λ (element : transaction). element.0 ≤ largest_time) elements.now }
     ensures items { list.new.items ≡ list.old.items ++ scheduled now elements.now }
-    ensures capacity { vec_capacity list.new ≡ vec_capacity list.old }
+    ensures capacity { list.new.capacity ≡ list.old.capacity }
 {
     for (delay, value) in elements {
         list.push_reserved((now + *delay, *value));
@@ -202,15 +204,15 @@ pub(crate) fn rewrite(
     now: u64,
     elements: &[Transaction],
 )
-    requires within { kept.end ≤ vec_len list.old }
+    requires within { kept.end ≤ small_vec_len list.old }
     requires room { kept.front + (kept.end - kept.back) + length elements.now
-        ≤ vec_capacity list.old }
+        ≤ list.old.capacity }
     requires now { now ≤ largest_time }
     requires delays { All (λ (element : transaction). element.0 ≤ largest_time) elements.now }
     ensures items { list.new.items
         ≡ remove_range (take kept.end list.old.items) kept.front kept.back
         ++ scheduled now elements.now }
-    ensures capacity { vec_capacity list.new ≡ vec_capacity list.old }
+    ensures capacity { list.new.capacity ≡ list.old.capacity }
 {
     list.truncate(kept.end);
     close_gap(list, kept.front, kept.back);

@@ -1,33 +1,24 @@
 //! The pending transactions of a driver. Up to two need no allocation.
 
-ghost use Rattle.std.specs.Prelude.{◌≡◌, ◌+◌, ◌-◌, ◌<◌, ◌≤◌, [], ◌∷◌, ◌++◌, length, take, drop, All, IfOk, IsOk, OnOk, OnErr};
+ghost use Rattle.std.specs.Prelude.{◌≡◌, ◌<◌, ◌≤◌, [], ◌∷◌, length, drop, All, IfOk, IsOk, OnOk, OnErr};
 ghost use Rattle.sim_standard.specs.Drivers.{Transaction as transaction, transaction_at};
-ghost use Rattle.std.specs.List.{remove_range};
 ghost use Rattle.sim_standard.specs.Editing.{edited};
-ghost use Rattle.sim_wave.specs.Rising.{RisesFrom, scheduled, IsWithin};
+ghost use Rattle.sim_wave.specs.Rising.{RisesFrom, IsWithin};
 ghost use Rattle.sim_wave.specs.Pending.{transactions_of};
 ghost use Rattle.sim_logic.specs.Time.{largest_time};
 
 use crate::driver::{IN_PLACE, Transaction};
-use crate::edit::{KeptTransactions, Run, kept_by};
 use crate::stored::Stored;
 use sim_standard::Delay;
 use std::alloc::{AllocError, Global};
 
-/// Pending transactions, earliest first. A driver that has once had more than two keeps that room.
+/// Pending transactions, earliest first. `Many` holds up to two in the driver itself and more in an
+/// allocation. A driver that has once had more than two keeps that room.
 #[derive(Drop)]
 pub(crate) enum Pending {
     Nothing,
     One(Transaction),
-    Two([Transaction; 2]),
-    Many(Box<Stored>),
-}
-
-/// An array of two transactions as a slice.
-fn two_of(both: &[Transaction; 2]) -> &[Transaction]
-    ensures { result.now ≡ transaction_at both.now 0 ∷ (transaction_at both.now 1 ∷ []) }
-{
-    both.as_slice()
+    Many(Stored),
 }
 
 impl Pending {
@@ -38,20 +29,16 @@ impl Pending {
         match self {
             Pending::Nothing => &[],
             Pending::One(only) => std::slice::from_ref(only),
-            Pending::Two(both) => two_of(both),
             Pending::Many(stored) => stored.as_slice(),
         }
     }
 
-    /// Up to two transactions, without an allocation.
-    fn of_few(transactions: &[Transaction]) -> Pending
-        requires { length transactions.now ≤ IN_PLACE }
-        ensures { transactions_of result ≡ transactions.now }
-    {
-        match transactions {
-            [first, second, ..] => Pending::Two([*first, *second]),
-            [only] => Pending::One(*only),
-            [] => Pending::Nothing,
+    /// Returns true if there is room for more than two transactions, which is to be kept. Speed alone
+    /// depends on it.
+    pub(crate) fn is_allocated(&self) -> bool {
+        match self {
+            Pending::Nothing | Pending::One(_) => false,
+            Pending::Many(stored) => stored.is_allocated(),
         }
     }
 
@@ -63,39 +50,11 @@ impl Pending {
         ensures ok { IfOk result (λ pending. transactions_of pending ≡ transactions.now) }
         ensures in_place { length transactions.now ≤ IN_PLACE → IsOk result }
     {
-        if transactions.len() <= IN_PLACE {
-            return Ok(Pending::of_few(transactions));
+        match transactions {
+            [] => Ok(Pending::Nothing),
+            [only] => Ok(Pending::One(*only)),
+            _ => Ok(Pending::Many(Stored::copy_of(alloc, transactions)?)),
         }
-        let stored = Stored::copy_of(alloc, transactions, transactions.len())?;
-        Ok(Pending::Many(Box::new(alloc, stored)?))
-    }
-
-    /// The transactions that are kept, followed by the elements: at most two in all.
-    fn of_kept(
-        few: &[Transaction],
-        kept: KeptTransactions,
-        now: u64,
-        elements: &[Transaction],
-    ) -> Pending
-        requires some { 0 < length elements.now }
-        requires within { kept.end ≤ length few.now }
-        requires two { kept.front + (kept.end - kept.back) + length elements.now ≤ 2 }
-        requires now { now ≤ largest_time }
-        requires delays { All (λ (element : transaction). element.0 ≤ largest_time) elements.now }
-        ensures { transactions_of result
-            ≡ remove_range (take kept.end few.now) kept.front kept.back ++ scheduled now elements.now }
-    {
-        let first = (now + elements[0].0, elements[0].1);
-        if elements.len() == 2 {
-            return Pending::Two([first, (now + elements[1].0, elements[1].1)]);
-        }
-        if kept.front == 1 {
-            return Pending::Two([few[0], first]);
-        }
-        if kept.back < kept.end {
-            return Pending::Two([few[kept.back], first]);
-        }
-        Pending::One(first)
     }
 
     /// Removes the first transaction.
@@ -105,8 +64,16 @@ impl Pending {
     {
         match self {
             Pending::Nothing | Pending::One(_) => *self = Pending::Nothing,
-            Pending::Two(both) => *self = Pending::One(both[1]),
-            Pending::Many(stored) => stored.remove_first(),
+            Pending::Many(stored) => {
+                stored.remove_first();
+                if !stored.is_allocated() {
+                    match stored.as_slice() {
+                        [] => *self = Pending::Nothing,
+                        [only] => *self = Pending::One(*only),
+                        _ => {}
+                    }
+                }
+            }
         }
     }
 
@@ -131,19 +98,13 @@ impl Pending {
         ensures in_place { length (edited (transactions_of self.old) now delay elements.now)
             ≤ IN_PLACE → IsOk result }
     {
-        if let Pending::Many(stored) = self {
-            return stored.edit(now, delay, elements);
-        }
-        let few = self.as_slice();
-        let (delay_of_first, value) = elements[0];
-        let kept = kept_by(few, Run::none(), delay, (now + delay_of_first, value));
-        if kept.len() + elements.len() <= IN_PLACE {
-            *self = Pending::of_kept(few, kept, now, elements);
-            return Ok(());
-        }
-        let mut stored = Stored::copy_of(alloc, few, kept.len() + elements.len())?;
+        let mut stored = match self {
+            Pending::Nothing => Stored::none(alloc),
+            Pending::One(only) => Stored::of_one(alloc, *only),
+            Pending::Many(stored) => return stored.edit(now, delay, elements),
+        };
         stored.edit(now, delay, elements)?;
-        *self = Pending::Many(Box::new(alloc, stored)?);
+        *self = Pending::Many(stored);
         Ok(())
     }
 }

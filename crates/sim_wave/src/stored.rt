@@ -1,6 +1,6 @@
 //! Any number of pending transactions.
 
-ghost use Rattle.std.specs.Prelude.{◌≡◌, ◌+◌, ◌-◌, ◌<◌, ◌≤◌, length, drop, All, IfOk, IsOk, OnOk, OnErr};
+ghost use Rattle.std.specs.Prelude.{◌≡◌, ◌+◌, ◌-◌, ◌<◌, ◌≤◌, [], ◌∷◌, length, drop, All, IfOk, IsOk, OnOk, OnErr};
 ghost use Rattle.sim_logic.specs.declared.logic.Logic as logic;
 ghost use Rattle.sim_standard.specs.Drivers.{Transaction as transaction, transaction_at};
 ghost use Rattle.sim_standard.specs.Editing.{edited};
@@ -10,6 +10,7 @@ ghost use Rattle.sim_logic.specs.Time.{largest_time};
 use crate::driver::{IN_PLACE, Transaction};
 use crate::edit::{Run, Transactions, close_gap, kept_by, rewrite};
 use sim_standard::Delay;
+use smallvec::SmallVec;
 use std::alloc::{AllocError, Global};
 use std::marker::Model;
 
@@ -25,7 +26,7 @@ pub(crate) struct Stored {
 }
 
 impl Model for Stored {
-    ghost use Rattle.std.specs.Prelude.{List, ◌+◌, ◌≤◌, drop, vec_len, vec_capacity};
+    ghost use Rattle.std.specs.Prelude.{List, ◌+◌, ◌≤◌, drop, length};
     ghost use Rattle.sim_standard.specs.Drivers.{Transaction};
     ghost use Rattle.sim_wave.specs.Run.{IsRun};
     ghost use Rattle.sim_wave.specs.declared.driver.TheConstants.{IN_PLACE};
@@ -34,29 +35,64 @@ impl Model for Stored {
 
     ghost view = { λ stored. drop stored.head stored.list.items };
 
-    ghost invariant = { λ stored. (stored.head ≤ vec_len stored.list)
-        × (stored.head + IN_PLACE ≤ vec_capacity stored.list)
+    ghost invariant = { λ stored. (stored.head ≤ length stored.list.items)
+        × (stored.head + IN_PLACE ≤ stored.list.capacity)
         × IsRun stored.list.items stored.run.start stored.run.end stored.run.value };
 }
 
 impl Stored {
-    /// A copy of the transactions, with room for at least `room`.
-    pub(crate) fn copy_of(
-        alloc: Global,
-        transactions: &[Transaction],
-        room: usize,
-    ) -> Result<Stored, AllocError>
-        requires { IN_PLACE ≤ room }
-        ensures { IfOk result (λ stored. stored ≡ transactions.now) }
+    /// Two transactions, without an allocation.
+    pub(crate) fn of_two(alloc: Global, first: Transaction, second: Transaction) -> Stored
+        ensures { result ≡ first ∷ (second ∷ []) }
     {
-        let mut list = Vec::new(alloc);
-        list.reserve(room)?;
+        Stored {
+            list: SmallVec::from_buf(alloc, [first, second]),
+            head: 0,
+            run: Run::none(),
+        }
+    }
+
+    /// No transaction.
+    pub(crate) fn none(alloc: Global) -> Stored
+        ensures { result ≡ [] }
+    {
+        Stored {
+            list: SmallVec::new(alloc),
+            head: 0,
+            run: Run::none(),
+        }
+    }
+
+    /// One transaction, without an allocation.
+    pub(crate) fn of_one(alloc: Global, only: Transaction) -> Stored
+        ensures { result ≡ only ∷ [] }
+    {
+        let mut list = SmallVec::new(alloc);
+        list.push_reserved(only);
+        Stored {
+            list,
+            head: 0,
+            run: Run::none(),
+        }
+    }
+
+    /// A copy of the transactions.
+    pub(crate) fn copy_of(alloc: Global, transactions: &[Transaction]) -> Result<Stored, AllocError>
+        ensures ok { IfOk result (λ stored. stored ≡ transactions.now) }
+        ensures in_place { length transactions.now ≤ IN_PLACE → IsOk result }
+    {
+        let mut list = SmallVec::with_capacity(alloc, transactions.len())?;
         list.extend_from_slice(transactions)?;
         Ok(Stored {
             list,
             head: 0,
             run: Run::none(),
         })
+    }
+
+    /// Returns true if the transactions stand in an allocation. Speed alone depends on it.
+    pub(crate) fn is_allocated(&self) -> bool {
+        self.list.spilled()
     }
 
     /// The transactions, earliest first.

@@ -1,5 +1,6 @@
-use Rattle.std.proofs.Common.{◌≡◌, ◌+◌, ◌-◌, ◌≤◌, ◌++◌, ◌∙◌, sym, ap, subst, List, length, take, drop, rules, arith, length-drop, vec_len, vec_capacity}
+use Rattle.std.proofs.Common.{◌≡◌, ◌+◌, ◌-◌, ◌≤◌, ◌++◌, ◌∙◌, sym, ap, subst, List, length, take, drop, rules, arith, length-drop}
 use Rattle.std.specs.List.{remove_range}
+use Rattle.smallvec.specs.SmallVec.{small_vec_len}
 use Rattle.sim_standard.specs.Drivers.{Transaction, transaction_at}
 use Rattle.sim_standard.specs.Editing.{edited}
 use Rattle.sim_wave.specs.Rising.{scheduled}
@@ -21,7 +22,7 @@ returns-in_err-reserve-clause-in_place c few =
     ap (λ (w : List Transaction). length w) (sym (gives ∙ same)) ∙ left in
     let beyond : length old ≡ length c.self.inside.list.items - c.self.inside.head =
     ap (λ (w : List Transaction). length w) is ∙ length-drop c.self.inside.head c.self.inside.list.items in
-    let room : vec_len c.self.inside.list + c.saturating_sub.result ≤ vec_capacity c.self.inside.list = omega arith in
+    let room : small_vec_len c.self.inside.list + c.saturating_sub.result ≤ c.self.inside.list.capacity = omega arith in
     let bad = rw c.in_err-reserve.was at (c.reserve.ensures.succeeds room) in
     cc
 
