@@ -1,13 +1,15 @@
 //! The pending transactions of a driver. Up to two need no allocation.
 
-ghost use Rattle.std.specs.Prelude.{◌≡◌, ◌<◌, ◌≤◌, [], ◌∷◌, length, drop, All, IfOk, IsOk, OnOk, OnErr};
+ghost use Rattle.std.specs.Prelude.{◌≡◌, ◌+◌, ◌-◌, ◌<◌, ◌≤◌, [], ◌∷◌, ◌++◌, length, take, drop, All, IfOk, IsOk, OnOk, OnErr};
 ghost use Rattle.sim_standard.specs.Drivers.{Transaction as transaction, transaction_at};
+ghost use Rattle.std.specs.List.{remove_range};
 ghost use Rattle.sim_standard.specs.Editing.{edited};
-ghost use Rattle.sim_wave.specs.Rising.{RisesFrom, IsWithin};
+ghost use Rattle.sim_wave.specs.Rising.{RisesFrom, scheduled, IsWithin};
 ghost use Rattle.sim_wave.specs.Pending.{transactions_of};
 ghost use Rattle.sim_logic.specs.Time.{largest_time};
 
 use crate::driver::{IN_PLACE, Transaction};
+use crate::edit::{KeptTransactions, Run, kept_by};
 use crate::stored::Stored;
 use sim_standard::Delay;
 use std::alloc::{AllocError, Global};
@@ -57,6 +59,36 @@ impl Pending {
         }
     }
 
+    /// The transactions that are kept, followed by the elements: at most two in all.
+    fn of_kept(
+        alloc: Global,
+        few: &[Transaction],
+        kept: KeptTransactions,
+        now: u64,
+        elements: &[Transaction],
+    ) -> Pending
+        requires some { 0 < length elements.now }
+        requires within { kept.end ≤ length few.now }
+        requires two { kept.front + (kept.end - kept.back) + length elements.now ≤ 2 }
+        requires now { now ≤ largest_time }
+        requires delays { All (λ (element : transaction). element.0 ≤ largest_time) elements.now }
+        ensures { transactions_of result
+            ≡ remove_range (take kept.end few.now) kept.front kept.back ++ scheduled now elements.now }
+    {
+        let first = (now + elements[0].0, elements[0].1);
+        if elements.len() == 2 {
+            let second = (now + elements[1].0, elements[1].1);
+            return Pending::Many(Stored::of_two(alloc, first, second));
+        }
+        if kept.front == 1 {
+            return Pending::Many(Stored::of_two(alloc, few[0], first));
+        }
+        if kept.back < kept.end {
+            return Pending::Many(Stored::of_two(alloc, few[kept.back], first));
+        }
+        Pending::One(first)
+    }
+
     /// Removes the first transaction.
     pub(crate) fn remove_first(&mut self)
         requires { 0 < length (transactions_of self.old) }
@@ -98,11 +130,19 @@ impl Pending {
         ensures in_place { length (edited (transactions_of self.old) now delay elements.now)
             ≤ IN_PLACE → IsOk result }
     {
-        let mut stored = match self {
-            Pending::Nothing => Stored::none(alloc),
-            Pending::One(only) => Stored::of_one(alloc, *only),
-            Pending::Many(stored) => return stored.edit(now, delay, elements),
-        };
+        if let Pending::Many(stored) = self {
+            if stored.is_allocated() {
+                return stored.edit(now, delay, elements);
+            }
+        }
+        let few = self.as_slice();
+        let (delay_of_first, value) = elements[0];
+        let kept = kept_by(few, Run::none(), delay, (now + delay_of_first, value));
+        if kept.len() + elements.len() <= IN_PLACE {
+            *self = Pending::of_kept(alloc, few, kept, now, elements);
+            return Ok(());
+        }
+        let mut stored = Stored::copy_of(alloc, few)?;
         stored.edit(now, delay, elements)?;
         *self = Pending::Many(stored);
         Ok(())

@@ -52,30 +52,6 @@ impl Stored {
         }
     }
 
-    /// No transaction.
-    pub(crate) fn none(alloc: Global) -> Stored
-        ensures { result ≡ [] }
-    {
-        Stored {
-            list: SmallVec::new(alloc),
-            head: 0,
-            run: Run::none(),
-        }
-    }
-
-    /// One transaction, without an allocation.
-    pub(crate) fn of_one(alloc: Global, only: Transaction) -> Stored
-        ensures { result ≡ only ∷ [] }
-    {
-        let mut list = SmallVec::new(alloc);
-        list.push_reserved(only);
-        Stored {
-            list,
-            head: 0,
-            run: Run::none(),
-        }
-    }
-
     /// A copy of the transactions.
     pub(crate) fn copy_of(alloc: Global, transactions: &[Transaction]) -> Result<Stored, AllocError>
         ensures ok { IfOk result (λ stored. stored ≡ transactions.now) }
