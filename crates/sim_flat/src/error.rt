@@ -6,104 +6,76 @@ ghost use Rattle.sim_flat.specs.Refusals.{refusal_of};
 
 use sim_flat_scope::{Fault, Kind};
 use std::alloc::{AllocError, AllocFailed};
-use std::error::Error;
-use std::fmt;
-use std::fmt::{Debug, Display};
+use thiserror::Error;
 
 /// A refusal of `flatten`. Positions are offsets of the first byte of a token, from 0; `Display`
 /// writes the text of the program's line on standard error.
-#[derive(Clone, Copy, PartialEq, Eq)]
+#[derive(Clone, Copy, Debug, PartialEq, Eq, Error)]
 pub enum FlatError {
     /// An allocation failed.
+    #[error("Memory")]
     Memory,
     /// No entity has the name of the top.
+    #[error("NoTop")]
     NoTop,
     /// A name is declared twice (12.3).
+    #[error("Duplicate at {at}")]
     Duplicate { at: usize },
     /// A predefined name is declared.
+    #[error("Predefined at {at}")]
     Predefined { at: usize },
     /// No such name is declared (12.3).
+    #[error("Unknown at {at}")]
     Unknown { at: usize },
     /// A name has a meaning that is not allowed at its place.
+    #[error("WrongKind at {at}")]
     WrongKind { at: usize },
     /// Two operands, or a value and its target, have different types (9.2, 10.5, 10.6).
+    #[error("TypeClash at {at}")]
     TypeClash { at: usize },
     /// The operands of `=` or `/=`, the operand of `??`, or a condition are of type std_ulogic and
     /// contain no name (9.2.9, 12.5).
+    #[error("Ambiguous at {at}")]
     Ambiguous { at: usize },
     /// A port of mode out is read. The rule is our own: the standard has allowed this since 2008.
+    #[error("ReadOut at {at}")]
     ReadOut { at: usize },
     /// A port of mode in is assigned (6.5.2).
+    #[error("WriteIn at {at}")]
     WriteIn { at: usize },
     /// A port of mode in without a default expression is left open or unassociated (6.5.6.3).
+    #[error("PortMissing at {at}")]
     PortMissing { at: usize },
     /// A port is associated twice (6.5.7).
+    #[error("PortTwice at {at}")]
     PortTwice { at: usize },
     /// The mode of a port does not allow its actual. The rule is stricter than the standard's
     /// (6.5.6.3).
+    #[error("ModeClash at {at}")]
     ModeClash { at: usize },
     /// The ports of a component differ from those of its entity (7.3.3).
+    #[error("ComponentDiffers at {at}")]
     ComponentDiffers { at: usize },
     /// An entity has no architecture, or not the named one (7.3.3).
+    #[error("NoArchitecture at {at}")]
     NoArchitecture { at: usize },
     /// An architecture contains itself, through instances.
+    #[error("Recursive at {at}")]
     Recursive { at: usize },
     /// A signal or port of type std_ulogic has more than one source (6.4.2.3).
+    #[error("ManySources at {at}")]
     ManySources { at: usize },
     /// The delays of a waveform do not ascend (10.5.2.2).
+    #[error("NotAscending at {at}")]
     NotAscending { at: usize },
     /// A rejection limit is larger than the first delay of its waveform (10.5.2.1).
+    #[error("RejectTooLong at {at}")]
     RejectTooLong { at: usize },
     /// There are too many elements, nets, processes, drivers or instances, or instances are nested
     /// too deeply.
+    #[error("TooMany at {at}")]
     TooMany { at: usize },
 }
-
-impl FlatError {
-    /// Its name, and its position if it has one.
-    fn word(self) -> (&'static str, Option<usize>) {
-        match self {
-            FlatError::Memory => ("Memory", None),
-            FlatError::NoTop => ("NoTop", None),
-            FlatError::Duplicate { at } => ("Duplicate", Some(at)),
-            FlatError::Predefined { at } => ("Predefined", Some(at)),
-            FlatError::Unknown { at } => ("Unknown", Some(at)),
-            FlatError::WrongKind { at } => ("WrongKind", Some(at)),
-            FlatError::TypeClash { at } => ("TypeClash", Some(at)),
-            FlatError::Ambiguous { at } => ("Ambiguous", Some(at)),
-            FlatError::ReadOut { at } => ("ReadOut", Some(at)),
-            FlatError::WriteIn { at } => ("WriteIn", Some(at)),
-            FlatError::PortMissing { at } => ("PortMissing", Some(at)),
-            FlatError::PortTwice { at } => ("PortTwice", Some(at)),
-            FlatError::ModeClash { at } => ("ModeClash", Some(at)),
-            FlatError::ComponentDiffers { at } => ("ComponentDiffers", Some(at)),
-            FlatError::NoArchitecture { at } => ("NoArchitecture", Some(at)),
-            FlatError::Recursive { at } => ("Recursive", Some(at)),
-            FlatError::ManySources { at } => ("ManySources", Some(at)),
-            FlatError::NotAscending { at } => ("NotAscending", Some(at)),
-            FlatError::RejectTooLong { at } => ("RejectTooLong", Some(at)),
-            FlatError::TooMany { at } => ("TooMany", Some(at)),
-        }
-    }
-}
-
-// (written by hand: the proof of a derived one takes three times as long)
-impl Display for FlatError {
-    fn fmt<W: fmt::Write>(&self, f: &mut fmt::Formatter<W>) -> fmt::Result {
-        match self.word() {
-            (word, None) => f.write_str(word),
-            (word, Some(at)) => write!(f, "{word} at {at}"),
-        }
-    }
-}
-
-impl Debug for FlatError {
-    fn fmt<W: fmt::Write>(&self, f: &mut fmt::Formatter<W>) -> fmt::Result {
-        Display::fmt(self, f)
-    }
-}
-
-impl Error for FlatError {}
 
 impl From<AllocError> for FlatError {
     ghost from_gives = { λ _ e. e ≡ fault.Memory };
