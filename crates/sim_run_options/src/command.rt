@@ -114,8 +114,7 @@ fn workers_argument<'a>(alloc: Global) -> Arg<'a>
     ensures rule { rule_of result ≡ workers_rule }
     ensures local { result.global ≡ false }
 {
-    let help =
-        "The number of threads, 1 to 16; four halve the time of a run with long process bodies";
+    let help = "The most threads, 1 to 16; several can shorten a run with long process bodies";
     number_argument(alloc, "workers", "N", value_parser!(usize), "1", help)
 }
 

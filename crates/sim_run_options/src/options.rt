@@ -19,7 +19,7 @@ pub struct Options {
     pub stop: u64,
     /// The most cycles after the initialization: 1 to 1,000,000.
     pub limit: u32,
-    /// The number of threads that execute processes: 1 to 16.
+    /// The most threads that execute processes: 1 to 16.
     pub workers: usize,
 }
 
