@@ -2,7 +2,7 @@
 use Rattle.std.proofs.Common.{◌≡◌, ◌<◌, ℕ, List, Bool, true, length, get_or, map, sym, ap, ◌∙◌}
 use Rattle.std.proofs.lemmas.List.{get_or-map}
 use Rattle.sim_flat_design.specs.declared.held.Held.{Held}
-use Rattle.sim_exec.specs.Jobs.{holds_bit}
+use Rattle.sim_exec_statements.specs.Ready.{holds_bit}
 
 -- variables that are alike are alike at each index
 pub alike_at : (xs ys : List Held) (i : ℕ) (x y : Held) → i < length xs → i < length ys → map holds_bit xs ≡ map holds_bit ys

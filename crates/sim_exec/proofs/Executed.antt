@@ -10,7 +10,8 @@ use Rattle.sim_flat_design.specs.declared.held.Held.{Held}
 use Rattle.sim_flat_design.specs.declared.statement.Statement.{Statement}
 use Rattle.sim_standard.specs.Statements.{own_steps, statement_done, in_turn, executed}
 use Rattle.sim_standard.specs.Processes.{object_net, place_in}
-use Rattle.sim_exec.specs.Jobs.{Job, IsJob, IsReady, IsDone, result_of}
+use Rattle.sim_exec_statements.specs.Ready.{IsReady}
+use Rattle.sim_exec.specs.Jobs.{Job, IsJob, IsDone, result_of}
 use Rattle.sim_standard.proofs.Owning.{owned_after_is}
 use Rattle.sim_wave.specs.Rising.{RisesFrom}
 

@@ -1,17 +1,12 @@
 -- Jobs and their results.
 -- `simulate` does not rest on this file; what a store shows under a lock does.
-use Rattle.std.specs.Prelude.{ℕ, suc, ◌≡◌, ◌≤◌, List, [], ◌∷◌, Bool, true, false, Option, MatchOption, map, length}
-use Rattle.std.specs.List.{All}
+use Rattle.std.specs.Prelude.{ℕ, suc, ◌≡◌, ◌≤◌, List, [], ◌∷◌, Option, MatchOption, length}
 use Rattle.sim_logic.specs.Time.{largest_time}
-use Rattle.sim_flat_design.specs.declared.held.Held.{Held}
-use Rattle.sim_flat_design.specs.declared.held.Held.TheVariants as held
-use Rattle.sim_flat_design.specs.Bodies.{Body}
 use Rattle.sim_flat_design.specs.Processes.{Process}
-use Rattle.sim_standard.specs.Drivers.{DriverState}
 use Rattle.sim_standard.specs.declared.net_view.NetView.{NetView}
 use Rattle.sim_standard.specs.State.{State, Owned}
 use Rattle.sim_standard.specs.Processes.{owned_after}
-use Rattle.sim_wave.specs.Rising.{RisesFrom}
+use Rattle.sim_exec_statements.specs.Ready.{IsReady}
 
 -- A process to be executed: the number of cycles completed, its number, the time, its views of the nets it reads, and what it owns.
 pub record Job : Type 0 where
@@ -21,17 +16,6 @@ pub record Job : Type 0 where
   pub process : Process
   pub views : List NetView
   pub owned : Owned
-
--- whether a variable is of type std_ulogic
-abbrev pub holds_bit : Held → Bool
-holds_bit (held.Bit value) = true
-holds_bit (held.Truth value) = false
-
--- What a process owns fits its body: its drivers, and its variables, each of its type. Nothing is pending before a time.
-pub record IsReady (body : Body) (from : ℕ) (own : Owned) : Type 0 where
-  pub drivers : length own.drivers ≡ body.drivers
-  pub variables : map holds_bit own.variables ≡ map holds_bit body.variables
-  pub pending : All (λ (d : DriverState). RisesFrom from d.pending) own.drivers
 
 -- There is a view of each net that the process reads, and what it owns fits it. All pending transactions are after the time.
 pub record IsJob (time : ℕ) (process : Process) (views : List NetView) (own : Owned) : Type 0 where

@@ -6,10 +6,9 @@ ghost use Rattle.sim_flat_design.specs.Processes.{rising};
 ghost use Rattle.sim_standard.specs.State.{net_at};
 ghost use Rattle.sim_standard.specs.Processes.{object_net, place_in};
 
-use crate::execution::execute;
 use crate::idle::assign_nothing;
 use crate::job::Job;
-use crate::view::Nets;
+use sim_exec_statements::{Nets, execute};
 use sim_flat_design::{Held, Process};
 use sim_logic::Logic;
 use sim_standard::NetView;
@@ -151,7 +150,8 @@ fn executed(alloc: Global, job: &Job) -> Result<Option<Results>, AllocError>
 impl Done {
     ghost use Rattle.std.specs.Prelude.{◌≡◌, MatchResult};
     ghost use Rattle.std.specs.Option.{MatchOption};
-    ghost use Rattle.sim_exec.specs.Jobs.{result_of, IsReady};
+    ghost use Rattle.sim_exec_statements.specs.Ready.{IsReady};
+    ghost use Rattle.sim_exec.specs.Jobs.{result_of};
 
     /// Executes a job once, from the first statement of its process to the last. If allocation
     /// fails, the job is returned unchanged.

@@ -3,10 +3,9 @@
 ghost use Rattle.std.specs.Prelude.{ℕ, ◌≡◌, IsTrue, map, not};
 ghost use Rattle.sim_standard.specs.State.{Owned};
 ghost use Rattle.sim_standard.specs.Statements.{own_steps, statement_done, branch_done, if_taken, in_turn};
-ghost use Rattle.sim_exec.specs.Branches.{one_holds};
+ghost use Rattle.sim_exec_statements.specs.Branches.{one_holds};
 
-use crate::values::boolean_value;
-use crate::view::Nets;
+use sim_exec_statements::{Nets, boolean_value};
 use sim_flat_design::Held;
 use sim_flat_design::statement::{Branch, Statement};
 
@@ -53,7 +52,7 @@ fn assigns_nothing<N: Nets>(nets: &N, variables: &[Held], statement: &Statement)
 }
 
 /// Returns true if no condition of these branches holds.
-#[tactic(auto, using(sim_standard::proofs::Rules::branch_is), unfolding(sim_standard::specs::Statements::if_taken, crate::specs::Branches::one_holds))]
+#[tactic(auto, using(sim_standard::proofs::Rules::branch_is), unfolding(sim_exec_statements::specs::Branches::one_holds))]
 fn none_is_taken<N: Nets>(nets: &N, variables: &[Held], branches: &[Branch]) -> bool
     ensures none { IsTrue result → (now : ℕ) (otherwise : Owned → Owned) (own : Owned) → own.variables ≡ variables.now
         → if_taken (map (branch_done (own_steps (N.look nets.now) now)) branches.now) otherwise own ≡ otherwise own }

@@ -3,7 +3,7 @@
 ghost use Rattle.std.specs.Prelude.{◌≡◌, ◌↔◌, suc, map, IsTrue};
 ghost use Rattle.std.specs.List.{All};
 ghost use Rattle.sim_wave.specs.Rising.{RisesFrom};
-ghost use Rattle.sim_exec.specs.Jobs.{holds_bit};
+ghost use Rattle.sim_exec_statements.specs.Ready.{holds_bit};
 
 use sim_flat_design::{Held, Process};
 use sim_logic::LATEST;

@@ -3,7 +3,7 @@ use Rattle.sim_flat_design.specs.Bodies.{Body}
 use Rattle.sim_flat_design.specs.Processes.{Process}
 use Rattle.sim_standard.specs.State.{Owned}
 use Rattle.sim_standard.specs.Statements.{executed}
-use Rattle.sim_exec.specs.Jobs.{IsReady}
+use Rattle.sim_exec_statements.specs.Ready.{IsReady}
 use Rattle.sim_exec.proofs.Executed.{sight, ready_now, done_unchanged, done_changed, shown, done_written}
 use Rattle.sim_exec.proofs.done.executed.Goals as goal
 

@@ -1,4 +1,4 @@
-use Rattle.sim_exec.proofs.Places.{searched_ok, searched_err}
+use Rattle.sim_exec_statements.proofs.Places.{searched_ok, searched_err}
 use Rattle.sim_exec.proofs.done.place_in.Goals as goal
 
 pub returns-in-Ok : goal.returns-in-Ok

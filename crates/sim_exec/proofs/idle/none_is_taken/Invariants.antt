@@ -1,7 +1,7 @@
 use Rattle.std.proofs.Common.{ℕ, ◌≡◌, map, drop}
 use Rattle.sim_standard.specs.State.{Owned}
 use Rattle.sim_standard.specs.Statements.{own_steps, branch_done, if_taken}
-use Rattle.sim_exec.specs.Branches.{one_holds}
+use Rattle.sim_exec_statements.specs.Branches.{one_holds}
 use Rattle.sim_exec.proofs.idle.none_is_taken.Given as goal
 
 -- no branch so far is taken, nor does the condition of one hold

@@ -1,5 +1,5 @@
 use Rattle.std.proofs.Common.{◌≡◌, map, take}
-use Rattle.sim_exec.specs.Jobs.{holds_bit}
+use Rattle.sim_exec_statements.specs.Ready.{holds_bit}
 use Rattle.sim_exec.proofs.job.are_alike.Given as goal
 
 -- the variables so far are alike

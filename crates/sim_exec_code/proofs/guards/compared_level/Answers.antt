@@ -2,7 +2,7 @@ use Rattle.std.proofs.Common.{◌≡◌, ap, ◌∙◌}
 use Rattle.sim_logic.specs.declared.logic.Logic.{Logic}
 use Rattle.sim_logic.specs.Logic.{is_same}
 use Rattle.sim_logic.specs.declared.operator_symbol.Relational.{Relational}
-use Rattle.sim_exec.proofs.ValueRules.{logic_literal, logic_object, logics_compared}
+use Rattle.sim_exec_statements.proofs.ValueRules.{logic_literal, logic_object, logics_compared}
 use Rattle.sim_standard.specs.Expressions.{relation, logic_value}
 use Rattle.sim_exec_code.proofs.guards.compared_level.Goals as goal
 

@@ -1,5 +1,5 @@
 use Rattle.std.proofs.Common.{ℕ, ◌&&◌, Bool, ap, ◌∙◌}
-use Rattle.sim_exec.proofs.ValueRules.{boolean_event}
+use Rattle.sim_exec_statements.proofs.ValueRules.{boolean_event}
 use Rattle.sim_standard.specs.Expressions.{boolean_value}
 use Rattle.sim_exec_code.specs.Guards.{is_among}
 use Rattle.sim_exec_code.proofs.guards.event_to.Goals as goal

@@ -1,5 +1,5 @@
 use Rattle.std.proofs.Common.{ap, ◌∙◌}
-use Rattle.sim_exec.proofs.ValueRules.{logic_object, condition_taken}
+use Rattle.sim_exec_statements.proofs.ValueRules.{logic_object, condition_taken}
 use Rattle.sim_standard.specs.Expressions.{condition, logic_value}
 use Rattle.sim_exec_code.proofs.guards.level_of_condition.Goals as goal
 

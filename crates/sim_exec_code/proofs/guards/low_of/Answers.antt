@@ -1,7 +1,7 @@
 use Rattle.std.proofs.Common.{ap, ◌∙◌}
 use Rattle.sim_flat_design.specs.declared.expression.LogicExpression.TheVariants as l
 use Rattle.sim_logic.specs.Tables.{not_table}
-use Rattle.sim_exec.proofs.ValueRules.{logic_not, logic_object, condition_taken}
+use Rattle.sim_exec_statements.proofs.ValueRules.{logic_not, logic_object, condition_taken}
 use Rattle.sim_standard.specs.Expressions.{condition, logic_value}
 use Rattle.sim_exec_code.proofs.guards.low_of.Goals as goal
 

@@ -1,5 +1,5 @@
 use Rattle.std.proofs.Common.{sym, ap, ◌∙◌}
-use Rattle.sim_exec.proofs.ValueRules.{boolean_edge}
+use Rattle.sim_exec_statements.proofs.ValueRules.{boolean_edge}
 use Rattle.sim_standard.specs.Expressions.{boolean_value}
 use Rattle.sim_exec_code.proofs.guards.tested_edge.Goals as goal
 

@@ -1,0 +1,2 @@
+pub mod Branches
+pub mod Ready
