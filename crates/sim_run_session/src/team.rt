@@ -7,7 +7,7 @@ ghost use Rattle.sim_store_simulation.specs.Simulation as simulations;
 ghost use Rattle.sim_store.specs.WaveStore as store;
 ghost use Rattle.sim_store.specs.WaveStore.{IsSameRun};
 
-use sim_exec_code::Frame;
+use sim_exec::Frame;
 use sim_run_team::{Hints, Post, Team, Work};
 use sim_store::{Answer, DesignType, Order, WaveStore};
 use std::alloc::{AllocError, Global};

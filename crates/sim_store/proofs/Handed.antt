@@ -8,7 +8,7 @@ use Rattle.std.proofs.lemmas.List.Elements.{All-get_or}
 use Rattle.sim_flat_design.specs.Designs.{Design}
 use Rattle.sim_flat_design.specs.Processes.{Process, IsProcess}
 use Rattle.sim_containers.specs.Words.{IsNext, NoneFrom}
-use Rattle.sim_exec.specs.Jobs.{IsReady}
+use Rattle.sim_exec_statements.specs.Ready.{IsReady}
 use Rattle.sim_standard.specs.declared.net_view.NetView.{NetView}
 use Rattle.sim_standard.specs.State.{Owned, net_at, owned_at}
 use Rattle.sim_standard.specs.Statements.{executed}

@@ -9,7 +9,7 @@ use Rattle.sim_flat_design.specs.declared.design.Source.{Source}
 use Rattle.sim_flat_design.specs.Bodies.{Body}
 use Rattle.sim_flat_design.specs.Designs.{Design}
 use Rattle.sim_flat_design.specs.Processes.{IsProcess}
-use Rattle.sim_exec.specs.Jobs.{IsReady, holds_bit}
+use Rattle.sim_exec_statements.specs.Ready.{IsReady, holds_bit}
 use Rattle.sim_exec_code.specs.Codes.{Coded, AreCodesOf}
 use Rattle.sim_standard.specs.declared.net_view.NetView.{NetView}
 use Rattle.sim_standard.specs.State.{Owned, driver_values, net_at, owned_at}
@@ -18,7 +18,8 @@ use Rattle.sim_standard.proofs.Frame.{same_owned_after}
 use Rattle.sim_standard.proofs.ValuesKept.{values_kept}
 use Rattle.sim_standard.specs.declared.record.Record.{Record}
 use Rattle.sim_standard.proofs.Names.{no_process}
-use Rattle.sim_store_state.specs.FlatState.{FlatState, views_of}
+use Rattle.sim_store_nets.specs.Nets.{views_of}
+use Rattle.sim_store_state.specs.FlatState.{FlatState}
 use Rattle.sim_store_state.specs.Lending.{HaveValues}
 use Rattle.sim_store_simulation.specs.Simulation.{Simulation, IsComplete, IsSimulation, IsStateOf, is_due}
 use Rattle.sim_store_simulation.specs.Simulation.{reached, those_in, with_marks}

@@ -5,7 +5,7 @@ use Rattle.std.proofs.Math.Decide.{dec_lt}
 use Rattle.std.proofs.lemmas.List.{ext_get_or, get_or_append_left, get_or-append_right, length-append}
 use Rattle.sim_logic.specs.declared.logic.Logic.{Logic}
 use Rattle.sim_flat_design.specs.Designs.{Design}
-use Rattle.sim_exec.specs.Jobs.{IsReady}
+use Rattle.sim_exec_statements.specs.Ready.{IsReady}
 use Rattle.sim_exec_code.specs.Codes.{Coded, AreCodesOf}
 use Rattle.sim_standard.specs.State.{Owned, owned_at}
 use Rattle.sim_standard.specs.Processes.{process_at}
@@ -13,8 +13,9 @@ use Rattle.sim_standard.specs.declared.record.Record.{Record}
 use Rattle.sim_standard.proofs.Names.{nothing_owned}
 use Rattle.sim_standard.proofs.Together.{length-merged, merged-none}
 use Rattle.sim_standard.proofs.Parallel.{merged-below}
-use Rattle.sim_store_state.specs.FlatState.{FlatState, views_of}
-use Rattle.sim_store_state.proofs.Walks.{member_within}
+use Rattle.sim_store_nets.specs.Nets.{views_of}
+use Rattle.sim_store_state.specs.FlatState.{FlatState}
+use Rattle.sim_store_nets.proofs.Walks.{member_within}
 use Rattle.sim_store_simulation.specs.Simulation.{Simulation, IsComplete, IsStateOf, is_before, is_due}
 use Rattle.sim_store_simulation.specs.Simulation.{reached, those_in, updated_last, with_marks}
 use Rattle.sim_store_simulation.specs.declared.phase.Phase.{Phase}

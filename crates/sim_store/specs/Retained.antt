@@ -3,7 +3,7 @@
 use Rattle.std.specs.Prelude.{ℕ, ◌≡◌, false}
 use Rattle.sim_flat_design.specs.Designs.{Design}
 use Rattle.sim_store_state.specs.SplitState.{IsSplit}
-use Rattle.sim_store_state.specs.FlatState.{views_of}
+use Rattle.sim_store_nets.specs.Nets.{views_of}
 use Rattle.sim_store.specs.declared.retained.RetainedContents.{RetainedContents}
 use Rattle.sim_store.specs.Handing.{PhaseInput}
 use Rattle.sim_store_simulation.specs.Contents.{executed_of}

@@ -8,7 +8,7 @@ ghost use Rattle.sim_store_simulation.specs.Simulation.{reached};
 
 use crate::design_type::DesignType;
 use crate::phase_input::PhaseInput;
-use sim_exec_code::Frame;
+use sim_exec::Frame;
 use sim_store_simulation::Phase;
 use sim_store_state::Share;
 use std::alloc::{AllocError, Global};

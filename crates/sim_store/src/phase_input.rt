@@ -1,7 +1,7 @@
 //! The input that all threads read while the processes of a phase are executed.
 
 ghost use Rattle.std.specs.Prelude.{ℕ, ◌≡◌, ◌<◌, ◌≤◌, length, slice_set, MatchOption, IfOk, OnOk};
-ghost use Rattle.sim_exec.specs.Jobs.{IsReady};
+ghost use Rattle.sim_exec_statements.specs.Ready.{IsReady};
 ghost use Rattle.sim_exec_code.specs.Codes.{FitsAll};
 ghost use Rattle.sim_standard.specs.Processes.{process_at};
 ghost use Rattle.sim_standard.specs.State.{owned_at};
@@ -9,7 +9,7 @@ ghost use Rattle.sim_store.specs.Handing as spec;
 ghost use Rattle.sim_store_simulation.specs.Simulation.{is_due, reached};
 
 use crate::design_type::DesignType;
-use sim_exec_code::{Codes, Frame};
+use sim_exec::{Codes, Frame};
 use sim_flat_design::Design;
 use sim_logic::Logic;
 use sim_store_simulation::{Due, Phase};

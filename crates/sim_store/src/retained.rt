@@ -11,7 +11,7 @@ ghost use Rattle.sim_store_state.specs.Lending.{AreShares, counts};
 use crate::design_type::DesignType;
 use crate::phase_input::{PhaseFields, PhaseInput};
 use sim_containers::{NumberSet, RisingRows};
-use sim_exec_code::Frame;
+use sim_exec::Frame;
 use sim_flat_design::Design;
 use sim_store_simulation::{Compiled, Contents, Waiting};
 use sim_store_state::{Log, Shares, SplitState, UpdateLists, put_together, take_apart};

@@ -4,7 +4,7 @@ use Rattle.std.proofs.Common.{add-one, refl, ap, sym, ◌∙◌, subst, arith}
 use Rattle.std.proofs.lemmas.List.Elements.{All-cons, All-nil}
 use Rattle.std.specs.List.{All}
 use Rattle.sim_flat_design.specs.Designs.{Design}
-use Rattle.sim_exec.specs.Jobs.{IsReady}
+use Rattle.sim_exec_statements.specs.Ready.{IsReady}
 use Rattle.sim_standard.proofs.Numbers.{counted}
 use Rattle.sim_standard.specs.Processes.{process_at}
 use Rattle.sim_standard.specs.State.{owned_at}

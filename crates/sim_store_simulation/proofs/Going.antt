@@ -22,7 +22,8 @@ use Rattle.sim_standard.specs.Processes.{object_net, part, owned_after, process_
 use Rattle.sim_standard.proofs.Frame.{same_owned_after}
 use Rattle.sim_standard.proofs.ValuesKept.{values_kept}
 use Rattle.sim_logic.specs.Time.{largest_time}
-use Rattle.sim_exec.specs.Jobs.{IsJob, IsReady, Job, holds_bit, job_state, result_of}
+use Rattle.sim_exec_statements.specs.Ready.{IsReady, holds_bit}
+use Rattle.sim_exec.specs.Jobs.{IsJob, Job, job_state, result_of}
 use Rattle.sim_standard.specs.declared.record.Record.{Record}
 use Rattle.sim_standard.specs.Cycle.{is_at_once, is_resumed, is_waiting, updated}
 use Rattle.sim_standard.specs.Cycle.{Following, CycleAt, PostponedDelta, following, has_postponed_delta}
@@ -30,7 +31,8 @@ use Rattle.sim_standard.specs.Orders.{is_among}
 use Rattle.sim_standard.specs.Initialization.{first_owned, first_state}
 use Rattle.sim_standard.proofs.Names.{no_process, nothing_owned, own_taken}
 use Rattle.sim_flat_design.specs.declared.design.Source.{Source}
-use Rattle.sim_store_state.specs.FlatState.{FlatState, flat_state_of, sources_of}
+use Rattle.sim_store_nets.specs.Nets.{sources_of}
+use Rattle.sim_store_state.specs.FlatState.{FlatState, flat_state_of}
 use Rattle.sim_store_state.specs.Sensitive.{has_event_in}
 use Rattle.sim_standard.specs.Records.{changes_from, records_to, values_of}
 use Rattle.sim_standard.specs.Together.{merged, cycle_end_together}

@@ -10,7 +10,7 @@ use Rattle.sim_wave.specs.Rising.{RisesFrom}
 use Rattle.sim_store_state.specs.Times.{pending_times, IsNext}
 use Rattle.sim_flat_design.specs.Bodies.{Body}
 use Rattle.sim_standard.specs.State.{Owned, owned_at, all_drivers}
-use Rattle.sim_exec.specs.Jobs.{IsReady}
+use Rattle.sim_exec_statements.specs.Ready.{IsReady}
 use Rattle.sim_standard.proofs.Names.{own_taken}
 use Rattle.sim_store_state.proofs.Times.{next_is_least}
 

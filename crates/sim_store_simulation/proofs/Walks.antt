@@ -8,7 +8,7 @@ use Rattle.sim_containers.specs.Numbers.{is_beside}
 use Rattle.sim_containers.specs.Words.{IsNext, NoneFrom}
 use Rattle.sim_standard.specs.declared.record.Record.{Record}
 use Rattle.sim_store_state.specs.FlatState.{FlatState}
-use Rattle.sim_store_state.proofs.Walks.{member_within, not_both}
+use Rattle.sim_store_nets.proofs.Walks.{member_within, not_both}
 use Rattle.sim_store_simulation.specs.Simulation.{Simulation, IsStateOf, IsComplete, IsLeastMissing, IsMissing, those_in, with_one}
 use Rattle.sim_store_simulation.proofs.Going.{complete-where-none}
 

@@ -8,10 +8,12 @@ use Rattle.sim_flat_design.specs.Processes.{IsProcess}
 use Rattle.sim_standard.specs.State.{State, Owned, owned_at}
 use Rattle.sim_standard.specs.Processes.{part, owned_after, process_at}
 use Rattle.sim_logic.specs.Time.{largest_time}
-use Rattle.sim_exec.specs.Jobs.{IsReady, Job, job_state}
+use Rattle.sim_exec_statements.specs.Ready.{IsReady}
+use Rattle.sim_exec.specs.Jobs.{Job, job_state}
 use Rattle.sim_exec_code.specs.Codes.{Coded, AreCodesOf, FitsAll}
 use Rattle.sim_standard.specs.declared.record.Record.{Record}
-use Rattle.sim_store_state.specs.FlatState.{FlatState, flat_state_of, sources_of}
+use Rattle.sim_store_nets.specs.Nets.{sources_of}
+use Rattle.sim_store_state.specs.FlatState.{FlatState, flat_state_of}
 use Rattle.sim_store_state.specs.Sensitive.{AreSensitive}
 use Rattle.sim_standard.specs.Cycle.{is_at_once, is_waiting, first_executed, is_delta_next, processes_where}
 use Rattle.sim_standard.specs.Cycle.{Following, CycleAt, NothingPending, PostponedDelta, next_in}

@@ -12,7 +12,7 @@ use Rattle.sim_standard.proofs.Names.{no_driver}
 use Rattle.sim_store_state.specs.Changes.{AreReached, AreTimes, first_times, time_at}
 use Rattle.sim_store_state.proofs.Due.{due-cleared, first-count, others-keep, times-taken}
 use Rattle.sim_store_state.proofs.Taking.{all-same}
-use Rattle.sim_store_state.proofs.Walks.{member_within, not_both}
+use Rattle.sim_store_nets.proofs.Walks.{member_within, not_both}
 
 -- only the driver with a number is due
 abbrev pub IsAloneAt : ℕ → List DriverState → ℕ → Type 0

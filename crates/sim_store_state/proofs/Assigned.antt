@@ -1,22 +1,23 @@
 -- A body that is a single assignment, and what is known of its driver after it.
 use Rattle.std.proofs.Common.{ℕ, zero, suc, ◌+◌, ◌<◌, ◌≤◌, ◌≡◌, ◌≢◌, eqb, Bool, true, false, List, [], ◌∷◌, length, get_or, set, take, map}
-use Rattle.std.proofs.Common.{if◌then◌else◌, Option, refl, ap, sym, ◌∙◌, subst, arith}
+use Rattle.std.proofs.Common.{if◌then◌else◌, Option, None, refl, ap, sym, ◌∙◌, subst, arith}
 use Rattle.std.specs.List.{All}
 use Rattle.std.specs.Prelude.{Result, Ok, Err, OnOk}
-use Rattle.std.proofs.Math.Seq.{set_out}
+use Rattle.std.proofs.Math.Seq.{map-set_same, set_out}
 use Rattle.std.proofs.lemmas.Bool.Decides.{nat_tests}
-use Rattle.std.proofs.lemmas.List.{get_or-set_other, set-get_or}
+use Rattle.std.proofs.lemmas.List.{get_or-set_other, get_or-set_same, get_or_default, get_or_past, set-get_or}
+use Rattle.std.proofs.lemmas.List.Elements.{All-set}
 use Rattle.std.proofs.lemmas.Result.{on_ok_weaker}
 use Rattle.sim_flat_design.specs.Bodies.{Body}
-use Rattle.sim_exec.specs.Jobs.{IsReady}
+use Rattle.sim_exec_statements.specs.Ready.{IsReady}
 use Rattle.sim_standard.specs.Drivers.{DriverState, next_time}
 use Rattle.sim_standard.specs.State.{Owned, driver_at}
 use Rattle.sim_standard.specs.declared.net_view.NetView.{NetView}
 use Rattle.sim_standard.proofs.Names.{no_driver}
-use Rattle.sim_wave.specs.Rising.{RisesFrom}
+use Rattle.sim_wave.specs.Rising.{RisesFrom, next_of}
 use Rattle.sim_exec_code.specs.declared.quick.SingleAssignment.{SingleAssignment}
 use Rattle.sim_exec_code.specs.Guards.{is_missing}
-use Rattle.sim_exec_code.specs.Quick.{driven, quick_executed}
+use Rattle.sim_exec_code.specs.Quick.{driven, driver_after, quick_executed}
 use Rattle.sim_exec_code.proofs.Executions.{ready_after}
 use Rattle.sim_containers.specs.RowArray.{joined}
 use Rattle.sim_containers.specs.Numbers.{is_in}
@@ -24,6 +25,7 @@ use Rattle.sim_containers.specs.Times.{time_of}
 use Rattle.sim_containers.proofs.Divided.{at-set}
 use Rattle.sim_store_state.specs.Assignments.{AreAssigned, AreAssignedNext}
 use Rattle.sim_store_state.specs.Changes.{AreTimes, time_at}
+use Rattle.sim_store_state.proofs.Times.{only_next}
 use Rattle.sim_store_state.proofs.Telling.{IsAlone, put-back}
 
 -- it leaves the same of the same drivers
@@ -97,6 +99,34 @@ none_assigned net now q done ds le rises = record {
     on_ok : {E : Type 0} {P : Type 0} (r : Result Unit E) → P → OnOk r P
     on_ok (Ok x) p = p
     on_ok (Err e) p = tt
+
+-- if there is one, only that is another
+pub one_assigned : {E : Type 0} (net : ℕ → NetView) (now : ℕ) (q : SingleAssignment) (done : Result Unit E) (next : Option ℕ) (ds : List DriverState) (k : ℕ)
+    (d e : DriverState) → k ≡ q.driver → k < length ds → OnOk done (e ≡ driver_after net now q (get_or ds k d)) → next ≡ next_of e.pending
+    → RisesFrom now e.pending → e.value ≡ (get_or ds k d).value → All (λ (w : DriverState). RisesFrom now w.pending) ds
+    → AreAssignedNext net now q done next ds (set ds k e)
+one_assigned net now q done next ds k d e at lt ok nexts rises value all =
+    let there : driver_at (set ds k e) q.driver ≡ e = ap (λ (m : ℕ). driver_at (set ds k e) m) (sym at) ∙ get_or-set_same ds k e no_driver lt in
+    record {
+      assigned = record {
+        ok = on_ok_weaker done (λ (is : e ≡ driver_after net now q (get_or ds k d)).
+            ap (set ds k) (is ∙ ap (driver_after net now q) (get_or_default ds k d no_driver lt))
+            ∙ ap (λ (m : ℕ). set ds m (driver_after net now q (driver_at ds m))) at) ok;
+        pending = All-set (λ (w : DriverState). RisesFrom now w.pending) ds k e rises all;
+        values = map-set_same (λ (w : DriverState). w.value) ds k e d value;
+        alone = ap (λ (m : ℕ). set ds m e) at ∙ ap (set ds q.driver) (sym there);
+      };
+      next_is = nexts ∙ (sym (only_next now e e.pending refl rises) ∙ ap (λ (w : DriverState). next_time (w ∷ [])) (sym there));
+    }
+
+-- if there is none, it has no time
+pub none_next : {E : Type 0} (net : ℕ → NetView) (now : ℕ) (q : SingleAssignment) (done : Result Unit E) (ds : List DriverState) (k : ℕ) → k ≡ q.driver
+    → length ds ≤ k → All (λ (w : DriverState). RisesFrom now w.pending) ds → AreAssignedNext net now q done None ds ds
+none_next net now q done ds k at le all = record {
+  assigned = none_assigned net now q done ds (subst (λ (m : ℕ). length ds ≤ m) at le) all;
+  next_is = sym (ap (λ (w : DriverState). next_time (w ∷ [])) (get_or_past ds q.driver no_driver (subst (λ (m : ℕ). length ds ≤ m) at le))
+      ∙ only_next now no_driver [] refl tt);
+}
 
 -- ---- the process
 

@@ -13,9 +13,9 @@ use Rattle.sim_standard.specs.State.{State, Owned, net_at, all_drivers}
 use Rattle.sim_standard.specs.Nets.{net_value}
 use Rattle.sim_standard.specs.Cycle.{updated}
 use Rattle.sim_standard.proofs.Names.{nothing_owned, nets_updated, own_taken}
-use Rattle.sim_store_state.specs.FlatState.{FlatState, flat_state_of, held, views_of, owned_lists, AreLists, sources_of, changed_to}
-use Rattle.sim_store_state.specs.Changes.{row_value}
-use Rattle.sim_store_state.proofs.Views.{length-views_of}
+use Rattle.sim_store_nets.specs.Nets.{views_of, sources_of, changed_to, row_value}
+use Rattle.sim_store_state.specs.FlatState.{FlatState, flat_state_of, held, owned_lists, AreLists}
+use Rattle.sim_store_nets.proofs.Views.{length-views_of}
 
 abbrev pub as_owned : List DriverState → List Held → Owned
 as_owned ds vs = record { drivers = ds; variables = vs }

@@ -14,7 +14,7 @@ use Rattle.sim_containers.specs.Times.{time_of, is_at, earliest, those_at, clear
 use Rattle.sim_store_state.specs.Changes.{AreTimes, first_times, time_at}
 use Rattle.sim_store_state.proofs.Times.{none_next, next_append, least_bound, times}
 use Rattle.sim_containers.specs.Words.{IsNext}
-use Rattle.sim_store_state.proofs.Walks.{Walked, not_both, walk_more}
+use Rattle.sim_store_nets.proofs.Walks.{Walked, not_both, walk_more}
 
 -- ---- the times of all drivers
 

@@ -12,7 +12,7 @@ use Rattle.sim_logic.specs.declared.logic.Logic.{Logic}
 use Rattle.sim_flat_design.specs.declared.design.Source.{Source}
 use Rattle.sim_flat_design.specs.Bodies.{Body}
 use Rattle.sim_flat_design.specs.Processes.{Process}
-use Rattle.sim_exec.specs.Jobs.{IsReady}
+use Rattle.sim_exec_statements.specs.Ready.{IsReady}
 use Rattle.sim_exec_code.specs.Codes.{Coded, AreCodesOf, DoesNothing}
 use Rattle.sim_exec_code.specs.Guards.{is_missing}
 use Rattle.sim_exec_code.specs.Quick.{quick_executed}
@@ -26,7 +26,8 @@ use Rattle.sim_standard.specs.declared.net_view.NetView.{NetView}
 use Rattle.sim_standard.proofs.Names.{nothing_owned}
 use Rattle.sim_wave.specs.Rising.{RisesFrom}
 use Rattle.sim_store_state.specs.Assignments.{AreAssigned}
-use Rattle.sim_store_state.specs.FlatState.{FlatState, held, owned_lists, views_of}
+use Rattle.sim_store_nets.specs.Nets.{views_of}
+use Rattle.sim_store_state.specs.FlatState.{FlatState, held, owned_lists}
 use Rattle.sim_store_state.specs.InTurn.{after_one, AreDone, AreExecuted, AreKept, IsBodyAt, IsExecutable, IsOther, IsTurn}
 use Rattle.sim_store_state.proofs.Assigned.{assigned_left, assigned_ready, idle_left}
 use Rattle.sim_store_state.proofs.Contents.{as_owned, length-owned, owned-at, owned-set, seen}

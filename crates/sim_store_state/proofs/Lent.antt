@@ -13,12 +13,12 @@ use Rattle.sim_containers.specs.Numbers.{is_in}
 use Rattle.sim_containers.specs.RowArray.{joined}
 use Rattle.sim_containers.specs.Times.{time_of}
 use Rattle.sim_store_state.specs.Changes.{AreTimes, IsConsistent, time_at}
-use Rattle.sim_store_state.specs.Tallies.{TallyLists}
+use Rattle.sim_store_nets.specs.Tallies.{TallyLists}
 use Rattle.sim_store_state.specs.FlatState.{owned_lists}
 use Rattle.sim_store_state.specs.Lending.{HaveValues, IsOfRow, drivers_of, variables_of}
 use Rattle.sim_store_state.proofs.Contents.{length-owned, owned-at}
 use Rattle.sim_store_state.proofs.Putting.{values-count, values-each}
-use Rattle.sim_store_state.proofs.Reaching.{same_rows}
+use Rattle.sim_store_nets.proofs.Reaching.{same_rows}
 use Rattle.sim_store_state.proofs.Sharing.{rows-joined}
 
 pub drivers-of : (dss : List (List DriverState)) (vss : List (List Held)) → length dss ≡ length vss → drivers_of (owned_lists dss vss) ≡ dss

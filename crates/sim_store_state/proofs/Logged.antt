@@ -9,7 +9,7 @@ use Rattle.std.proofs.lemmas.List.FromFn.{length-enumerate_from}
 use Rattle.std.proofs.lemmas.List.Sums.{count_by-le-length, length-filter}
 use Rattle.sim_logic.specs.declared.logic.Logic.{Logic}
 use Rattle.std.specs.List.{enumerate_from}
-use Rattle.sim_store_state.specs.FlatState.{views_of}
+use Rattle.sim_store_nets.specs.Nets.{views_of}
 use Rattle.sim_standard.proofs.Names.{numbered_value}
 use Rattle.sim_standard.specs.declared.net_view.NetView.{NetView}
 use Rattle.sim_standard.specs.declared.record.Record.{Record}

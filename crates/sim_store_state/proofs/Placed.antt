@@ -2,7 +2,7 @@
 use Rattle.std.proofs.Common.{ℕ, ◌<◌, ◌≡◌, ◌++◌, Bool, List, [], length, get_or, set, take, drop, map, refl, ap, ◌∙◌, sym, arith}
 use Rattle.std.proofs.lemmas.List.{get_or_default, length-map}
 use Rattle.sim_flat_design.specs.declared.held.Held.{Held}
-use Rattle.sim_exec.specs.Jobs.{holds_bit}
+use Rattle.sim_exec_statements.specs.Ready.{holds_bit}
 use Rattle.sim_containers.specs.RowArray.{joined}
 use Rattle.sim_containers.specs.DividedRows.{IsAt, AreParts}
 use Rattle.sim_containers.proofs.Divided.{put-back, read-at}

@@ -10,10 +10,11 @@ use Rattle.sim_containers.specs.RowArray.{joined}
 use Rattle.sim_containers.proofs.Flat.{cut, cut-set}
 use Rattle.sim_containers.specs.Numbers.{is_in}
 use Rattle.sim_standard.specs.State.{driver_at, driver_values}
-use Rattle.sim_store_state.specs.Changes.{AreTimes, IsConsistent, value_at}
-use Rattle.sim_store_state.specs.Tallies.{TallyLists}
-use Rattle.sim_store_state.proofs.Reaching.{same_rows}
-use Rattle.sim_store_state.proofs.Values.{value-of}
+use Rattle.sim_store_nets.specs.Nets.{value_at}
+use Rattle.sim_store_state.specs.Changes.{AreTimes, IsConsistent}
+use Rattle.sim_store_nets.specs.Tallies.{TallyLists}
+use Rattle.sim_store_nets.proofs.Reaching.{same_rows}
+use Rattle.sim_store_nets.proofs.SourceValues.{value-of}
 
 same-behind : (r s after : List DriverState) (d : ℕ) → length r ≡ length s → length r ≤ d → driver_at (r ++ after) d ≡ driver_at (s ++ after) d
 same-behind [] [] after d l le = refl

@@ -14,69 +14,8 @@ use Rattle.sim_containers.specs.Numbers as contained
 use Rattle.sim_store_state.specs.declared.log.Entry.{Entry}
 use Rattle.sim_store_state.specs.Log.{changes_of}
 use Rattle.sim_store_state.proofs.Logged.{changes-more}
-
--- ---- truth values
-
-or_true : (a b : Bool) → (a || b) ≡ true → (a ≡ true) ⊎ (b ≡ true)
-or_true true b e = inl refl
-or_true false b e = inr e
-
-pub or_left : (a b : Bool) → a ≡ true → (a || b) ≡ true
-or_left a b e = rw e refl
-
-pub or_right : (a b : Bool) → b ≡ true → (a || b) ≡ true
-or_right true b e = refl
-or_right false b e = e
-
-and_left : (a b : Bool) → (a && b) ≡ true → a ≡ true
-and_left true b e = refl
-and_left false b e = absurd cc
-
-and_right : (a b : Bool) → (a && b) ≡ true → b ≡ true
-and_right true b e = e
-and_right false b e = absurd cc
-
-both_true : (a b : Bool) → a ≡ true → b ≡ true → (a && b) ≡ true
-both_true a b e f = rw (e, f) refl
-
-same_bools : (a b : Bool) → (a ≡ true → b ≡ true) → (b ≡ true → a ≡ true) → a ≡ b
-same_bools true b f g = sym (f refl)
-same_bools false true f g = g refl
-same_bools false false f g = refl
-
-pub or_false : (b : Bool) → (b || false) ≡ b
-or_false true = refl
-or_false false = refl
-
-pub or-assoc : (a b c : Bool) → ((a || b) || c) ≡ (a || (b || c))
-or-assoc true b c = refl
-or-assoc false b c = refl
-
-pub or-turn : (a b c : Bool) → (a || (b || c)) ≡ ((b || a) || c)
-or-turn true true c = refl
-or-turn true false c = refl
-or-turn false true c = refl
-or-turn false false c = refl
-
-pub and-or : (a b c : Bool) → ((a && c) || (b && c)) ≡ ((a || b) && c)
-and-or true true true = refl
-and-or true true false = refl
-and-or true false true = refl
-and-or true false false = refl
-and-or false true true = refl
-and-or false true false = refl
-and-or false false c = refl
-
--- ---- numbers in a list
-
-pub among-append : (xs ys : List ℕ) (n : ℕ) → is_among (xs ++ ys) n ≡ (is_among xs n || is_among ys n)
-among-append [] ys n = refl
-among-append (x ∷ xs) ys n = ap (λ b. (x == n) || b) (among-append xs ys n) ∙ sym (or-assoc (x == n) (is_among xs n) (is_among ys n))
-
-pub among-more : (xs : List ℕ) (i n : ℕ) → i < length xs → is_among (take (i + 1) xs) n ≡ (is_among (take i xs) n || (get_or xs i 0 == n))
-among-more xs i n lt =
-    ap (λ w. is_among w n) (take_more xs i 0 lt) ∙ (among-append (take i xs) (get_or xs i 0 ∷ []) n ∙ ap (λ b. is_among (take i xs) n || b)
-    (or_false (get_or xs i 0 == n)))
+use Rattle.sim_store_nets.proofs.Booleans.{or_true, or_left, or_right, and_left, and_right, both_true, same_bools, or_false}
+use Rattle.sim_store_nets.proofs.Booleans.{or-assoc, or-turn, and-or, among-more, at_same, at_other, eqb-suc}
 
 -- ---- processes sensitive to a net with an event
 
@@ -152,14 +91,6 @@ sensitive-event nets sensitive processes p same w = same_bools _ _
 
 -- ---- resuming
 
--- one more is resumed, after those before it in the list
-pub resumed-more : (numbers : List ℕ) (i p n : ℕ) (was now new : Bool) → i < length numbers → n ≡ get_or numbers i 0 → now ≡
-    (is_among (take i numbers) p || was)
-    → new ≡ ((n == p) || now) → new ≡ (is_among (take (i + 1) numbers) p || was)
-resumed-more numbers i p n was now new lt is e f =
-    f ∙ (ap (λ b. (n == p) || b) e ∙ (or-turn (n == p) (is_among (take i numbers) p) was
-    ∙ ap (λ b. b || was) (ap (λ m. is_among (take i numbers) p || (m == p)) is ∙ sym (among-more numbers i p lt))))
-
 resumed-by-append : (sensitive : List (List ℕ)) (xs ys : List (ℕ × Logic)) (p : ℕ)
     → is_resumed_by sensitive (xs ++ ys) p ≡ (is_resumed_by sensitive xs p || is_resumed_by sensitive ys p)
 resumed-by-append sensitive [] ys p = refl
@@ -182,30 +113,6 @@ resumed-by-entry sensitive entries i p d was now new lt en ew =
 
 -- ---- processes sensitive to nets
 
--- one more process at one net
-pub added : (sensitive : List (List ℕ)) (net number n p : ℕ) → n < length sensitive
-    → is_among (get_or (set sensitive net (get_or sensitive net [] ++ number ∷ [])) n []) p
-    ≡ (is_among (get_or sensitive n []) p || ((net == n) && (number == p)))
-added sensitive net number n p lt = go (eqb net n) refl
-  where
-    go : (b : Bool) → eqb net n ≡ b → is_among (get_or (set sensitive net (get_or sensitive net [] ++ number ∷ [])) n []) p ≡
-        (is_among (get_or sensitive n []) p || (b && (number == p)))
-    go true e =
-        let at : net ≡ n = grind (arith, nat_tests) in
-        rw at (ap (λ w. is_among w p) (get_or-set_same sensitive n (get_or sensitive n [] ++ number ∷ []) [] lt)
-        ∙ (among-append (get_or sensitive n []) (number ∷ []) p ∙ ap (λ b. is_among (get_or sensitive n []) p || b) (or_false (number == p))))
-    go false e =
-        let apart : n ≢ net = grind (arith, nat_tests) in
-        ap (λ w. is_among w p) (get_or-set_other sensitive net n (get_or sensitive net [] ++ number ∷ []) [] apart)
-        ∙ sym (or_false (is_among (get_or sensitive n []) p))
-
-pub past-added : (sensitive : List (List ℕ)) (net number n p : ℕ) → n < length sensitive → length sensitive ≤ net
-    → is_among (get_or sensitive n []) p ≡ (is_among (get_or sensitive n []) p || ((net == n) && (number == p)))
-past-added sensitive net number n p lt le = let apart : eqb net n ≡ false = grind (
-  arith,
-  nat_tests,
-) in rw apart (sym (or_false (is_among (get_or sensitive n []) p)))
-
 -- one more net of a sensitivity
 pub sensitivity-more : (sensitivity : List ℕ) (i n net : ℕ) (is_it was now new : Bool) → i < length sensitivity → net ≡ get_or sensitivity i 0
     → now ≡ (was || (is_among (take i sensitivity) n && is_it)) → new ≡ (now || ((net == n) && is_it)) → new ≡
@@ -214,28 +121,6 @@ sensitivity-more sensitivity i n net is_it was now new lt is e f =
     let front = is_among (take i sensitivity) n in
     f ∙ (ap (λ b. b || ((net == n) && is_it)) e ∙ (or-assoc was (front && is_it) ((net == n) && is_it)
     ∙ ap (λ b. was || b) (and-or front (net == n) is_it ∙ ap (λ b. b && is_it) (ap (λ m. front || (m == n)) is ∙ sym (among-more sensitivity i n lt)))))
-
-and_true : (b : Bool) → (b && true) ≡ b
-and_true true = refl
-and_true false = refl
-
-and_false : (b : Bool) → (b && false) ≡ false
-and_false true = refl
-and_false false = refl
-
--- an equality of places that is known
-pub at_same : (a : Bool) (i p : ℕ) → i ≡ p → (a && (i == p)) ≡ a
-at_same a i p e = let t : eqb i p ≡ true = grind (arith, nat_tests) in rw t (and_true a)
-
-pub at_other : (a : Bool) (i p : ℕ) → i ≢ p → (a && (i == p)) ≡ false
-at_other a i p e = let t : eqb i p ≡ false = grind (arith, nat_tests) in rw t (and_false a)
-
-pub eqb-suc : (i p : ℕ) → (suc i == suc p) ≡ (i == p)
-eqb-suc i p = go (eqb i p) refl
-  where
-    go : (b : Bool) → eqb i p ≡ b → (suc i == suc p) ≡ b
-    go true e = let t : i ≡ p = grind (arith, nat_tests) in let u : eqb (suc i) (suc p) ≡ true = grind (arith, nat_tests) in u
-    go false e = let t : i ≢ p = grind (arith, nat_tests) in let u : eqb (suc i) (suc p) ≡ false = grind (arith, nat_tests) in u
 
 -- one more process
 process-step : (processes : List Process) (i p n : ℕ) (q : Process) → i < length processes → q ≡ get_or processes i q

@@ -11,13 +11,12 @@ use Rattle.sim_standard.specs.State.{net_at}
 use Rattle.sim_logic.proofs.SameValues.{same_from_is_same, is_same_from_same}
 use Rattle.sim_containers.specs.Numbers.{is_in}
 use Rattle.sim_containers.specs.Words.{IsNext, NoneFrom}
-use Rattle.sim_store_state.specs.Changes.{AreTouched, value_at}
-use Rattle.sim_store_state.specs.FlatState.{views_of, changed_to}
+use Rattle.sim_store_nets.specs.Nets.{AreTouched, value_at, views_of, changed_to}
 use Rattle.sim_standard.specs.Records.{changes_from}
 use Rattle.sim_standard.specs.Orders.{is_among}
 use Rattle.sim_store_state.specs.Sensitive.{is_sensitive, is_resumed_by}
-use Rattle.sim_store_state.proofs.Walks.{not_both}
-use Rattle.sim_store_state.proofs.Views.{length-views_of, past_values, view_here}
+use Rattle.sim_store_nets.proofs.Walks.{not_both}
+use Rattle.sim_store_nets.proofs.Views.{length-views_of, past_values, view_here}
 
 -- a net that is not touched has no event
 pub quiet : {values values_before : List Logic} {touched : List Bool} → AreTouched values values_before touched → length values ≡ length values_before → (n : ℕ)

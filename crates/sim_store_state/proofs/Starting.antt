@@ -18,14 +18,15 @@ use Rattle.sim_flat_design.specs.declared.design.Source.{Source}
 use Rattle.sim_standard.specs.Drivers.{Transaction, DriverState, next_time}
 use Rattle.sim_standard.specs.State.{Owned, driver_at, driver_values, all_drivers}
 use Rattle.sim_containers.specs.Times.{time_of}
-use Rattle.sim_store_state.specs.Changes.{AreFanOut, AreTallied, IsConsistent, row_from, row_value, value_at}
-use Rattle.sim_store_state.specs.Tallies.{TallyLists}
-use Rattle.sim_store_state.proofs.Values.{rows-from}
+use Rattle.sim_store_nets.specs.Nets.{AreFanOut, AreTallied, row_from, row_value, value_at, views_of, sources_of}
+use Rattle.sim_store_state.specs.Changes.{IsConsistent}
+use Rattle.sim_store_nets.specs.Tallies.{TallyLists}
+use Rattle.sim_store_nets.proofs.SourceValues.{rows-from}
 use Rattle.sim_containers.specs.RowArray.{joined}
 use Rattle.sim_standard.specs.Nets.{net_value}
 use Rattle.sim_standard.specs.Initialization.{first_owned, first_state}
 use Rattle.sim_standard.proofs.Names.{net_started}
-use Rattle.sim_store_state.specs.FlatState.{flat_state_of, held, views_of, owned_lists, sources_of}
+use Rattle.sim_store_state.specs.FlatState.{flat_state_of, held, owned_lists}
 
 -- ---- names for what the first state writes out
 

@@ -15,8 +15,8 @@ use Rattle.sim_standard.specs.State.{driver_at}
 use Rattle.sim_standard.specs.Orders.{is_among}
 use Rattle.sim_standard.proofs.Names.{no_driver}
 use Rattle.sim_store_state.specs.Changes.{AreReached, AreTimes, AreTold, time_at}
-use Rattle.sim_store_state.proofs.Sensitivity.{or_left, or_right}
-use Rattle.sim_store_state.proofs.Walks.{Walked, not_both, walk_start, walk_more}
+use Rattle.sim_store_nets.proofs.Booleans.{or_left, or_right}
+use Rattle.sim_store_nets.proofs.Walks.{Walked, not_both, walk_start, walk_more}
 use Rattle.sim_store_state.proofs.Due.{driver-taken}
 
 -- A driver took its transaction of a time, and its nets are touched if it has another value.

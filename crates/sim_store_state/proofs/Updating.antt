@@ -12,11 +12,12 @@ use Rattle.sim_containers.proofs.Flat.{joined-map}
 use Rattle.sim_containers.specs.Numbers.{is_in}
 use Rattle.sim_standard.specs.State.{driver_at, driver_values}
 use Rattle.sim_standard.proofs.Names.{no_driver}
-use Rattle.sim_store_state.specs.Changes.{AreFanOut, AreReached, AreTallied, AreTimes, IsConsistent, is_source, row_from, row_value, value_at}
-use Rattle.sim_store_state.specs.Tallies.{TallyLists}
+use Rattle.sim_store_nets.specs.Nets.{AreFanOut, AreTallied, is_source, row_from, row_value, value_at}
+use Rattle.sim_store_state.specs.Changes.{AreReached, AreTimes, IsConsistent}
+use Rattle.sim_store_nets.specs.Tallies.{TallyLists}
 use Rattle.sim_store_state.proofs.Due.{driver-taken}
-use Rattle.sim_store_state.proofs.Reaching.{fan_out-there, same_row}
-use Rattle.sim_store_state.proofs.Values.{rows-from, value-here}
+use Rattle.sim_store_nets.proofs.Reaching.{fan_out-there, same_row}
+use Rattle.sim_store_nets.proofs.SourceValues.{rows-from, value-here}
 
 -- the nets of each driver that has another value are touched
 abbrev pub AllReached : List Bool → List (List ℕ) → List DriverState → ℕ → Type 0

@@ -6,7 +6,7 @@ use Rattle.sim_flat_design.specs.Bodies.{Body}
 use Rattle.sim_flat_design.specs.Processes.{Process}
 use Rattle.sim_standard.specs.declared.net_view.NetView.{NetView}
 use Rattle.sim_standard.specs.State.{Owned, owned_at}
-use Rattle.sim_exec.specs.Jobs.{IsReady}
+use Rattle.sim_exec_statements.specs.Ready.{IsReady}
 use Rattle.sim_exec_code.specs.Codes.{Coded, IsCodeOf, ArePlaced, code_at, gathered_nets, objects_of, slots_of}
 
 -- A process can be executed now, by the code with its number, on a frame with this many slots: what it owns is at a place of a list, the time is in range,

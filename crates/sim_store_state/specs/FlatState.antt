@@ -1,18 +1,14 @@
 -- A state in flat lists.
 -- `simulate` does not rest on this file; what a store shows under a lock does.
-use Rattle.std.specs.Prelude.{◌≡◌, not, List, [], ◌∷◌, map, length}
+use Rattle.std.specs.Prelude.{◌≡◌, List, [], ◌∷◌, length}
 use Rattle.sim_logic.specs.declared.logic.Logic.{Logic}
-use Rattle.sim_logic.specs.Logic.{is_same}
 use Rattle.sim_flat_design.specs.declared.held.Held.{Held}
 use Rattle.sim_flat_design.specs.declared.design.Source.{Source}
-use Rattle.sim_flat_design.specs.Designs.{Design, Net}
+use Rattle.sim_flat_design.specs.Designs.{Design}
 use Rattle.sim_standard.specs.Drivers.{DriverState}
 use Rattle.sim_standard.specs.declared.net_view.NetView.{NetView}
 use Rattle.sim_standard.specs.State.{State, Owned}
-
--- the sources of each net
-abbrev pub sources_of : List Net → List (List Source)
-sources_of nets = map (λ (n : Net). n.sources) nets
+use Rattle.sim_store_nets.specs.Nets.{sources_of, views_of}
 
 -- what is held of a state of a design: the sources of its nets, and the state without its time, delta number and waiting processes
 pub record FlatState : Type 0 where
@@ -22,16 +18,6 @@ pub record FlatState : Type 0 where
 
 abbrev pub flat_state_of : Design → State → FlatState
 flat_state_of design s = record { sources = sources_of design.nets; nets = s.nets; owned = s.owned }
-
--- a net with this value, and this value before the cycle: there is an event if they differ (14.7.3.4)
-abbrev pub changed_to : Logic → Logic → NetView
-changed_to value before = record { value = value; event = not (is_same before value); before = before }
-
--- each net, by its value and the one before the cycle
-abbrev pub views_of : List Logic → List Logic → List NetView
-views_of [] values_before = []
-views_of (value ∷ values) [] = []
-views_of (value ∷ values) (before ∷ values_before) = changed_to value before ∷ views_of values values_before
 
 -- what each process owns, by its drivers and its variables
 abbrev pub owned_lists : List (List DriverState) → List (List Held) → List Owned

@@ -6,7 +6,7 @@ use Rattle.sim_flat_design.specs.Bodies.{Body}
 use Rattle.sim_flat_design.specs.Processes.{Process}
 use Rattle.sim_flat_design.specs.declared.design.Source.{Source}
 use Rattle.sim_flat_design.specs.declared.held.Held.{Held}
-use Rattle.sim_exec.specs.Jobs.{IsReady}
+use Rattle.sim_exec_statements.specs.Ready.{IsReady}
 use Rattle.sim_exec_code.specs.Codes.{Coded, code_at}
 use Rattle.sim_exec_code.specs.Quick.{DoesAs}
 use Rattle.sim_exec_code.specs.declared.quick.SingleAssignment.{SingleAssignment}

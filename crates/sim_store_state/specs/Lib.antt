@@ -3,7 +3,6 @@ pub mod Assignments
 pub mod Times
 pub mod FlatState
 pub mod Sensitive
-pub mod Tallies
 pub mod Changes
 pub mod Log
 pub mod Lending

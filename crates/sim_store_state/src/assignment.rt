@@ -1,24 +1,47 @@
 //! Executes a body that is a single assignment, in place, on its driver in flat lists.
 
-ghost use Rattle.std.specs.Prelude.{ℕ, ◌≡◌, ◌<◌, ◌≤◌, ◌++◌, ◌∷◌, [], true, List, Option, length, take, drop, slice_range, slice_index_or, slice_set};
+ghost use Rattle.std.specs.Prelude.{ℕ, ◌≡◌, ◌<◌, ◌≤◌, ◌++◌, ◌∷◌, [], true, List, Option, length, take, drop, slice_range, slice_index_or, slice_set, OnOk};
 ghost use Rattle.std.specs.List.{All};
 ghost use Rattle.sim_logic.specs.Time.{largest_time};
 ghost use Rattle.sim_standard.specs.Drivers.{next_time};
 ghost use Rattle.sim_standard.specs.State.{driver_at};
-ghost use Rattle.sim_wave.specs.Rising.{RisesFrom};
+ghost use Rattle.sim_wave.specs.Rising.{RisesFrom, next_of};
+ghost use Rattle.sim_exec_code.specs.Quick.{driver_after};
 ghost use Rattle.sim_containers.specs.RowArray.{joined};
 ghost use Rattle.sim_store_state.specs.Changes.{AreTimes};
 ghost use Rattle.sim_store_state.specs.Assignments as spec;
 
 use crate::drivers::tell;
 use sim_containers::{DividedRows, NumberSet, RowArray, TimeQueue, bounds, place_of};
-use sim_exec::Nets;
-use sim_exec_code::SingleAssignment;
+use sim_exec::{Nets, SingleAssignment};
 use sim_wave::Driver;
 use std::alloc::AllocError;
 
-/// Carries out an assignment on the drivers of its process, which is known to be without delay if
-/// `NOW`. Returns also the first pending time of its driver after that.
+/// Carries out an assignment on its driver, which is known to be without delay if `NOW`. Returns also
+/// the first pending time of the driver after that.
+#[inline(always)]
+fn assign<N: Nets, const NOW: bool>(
+    nets: &N,
+    now: u64,
+    quick: &SingleAssignment,
+    driver: &mut Driver,
+) -> (Result<(), AllocError>, Option<u64>)
+    requires delay { NOW ≡ true → quick.now.is_now ≡ true }
+    requires now { now ≤ largest_time }
+    requires pending { RisesFrom now driver.old.pending }
+    ensures ok { OnOk result.0 (driver.new ≡ driver_after (N.look nets.now) now quick.now driver.old) }
+    ensures next { result.1 ≡ next_of driver.new.pending }
+    ensures pending { RisesFrom now driver.new.pending }
+    ensures value { driver.new.value ≡ driver.old.value }
+{
+    if NOW {
+        quick.execute_now(nets, now, driver)
+    } else {
+        quick.execute(nets, now, driver)
+    }
+}
+
+/// The same, on the drivers of its process.
 #[inline(always)]
 fn assign_on<N: Nets, const NOW: bool>(
     nets: &N,
@@ -31,11 +54,11 @@ fn assign_on<N: Nets, const NOW: bool>(
     requires pending { All (λ d. RisesFrom now d.pending) drivers.old }
     ensures { spec.AreAssignedNext (N.look nets.now) now quick.now result.0 result.1 drivers.old drivers.new }
 {
-    if NOW {
-        quick.execute_now(nets, now, drivers)
-    } else {
-        quick.execute(nets, now, drivers)
+    let place = quick.driver();
+    if place >= drivers.len() {
+        return (Ok(()), None);
     }
+    assign::<N, NOW>(nets, now, quick, &mut drivers[place])
 }
 
 /// The same, of a process whose drivers are between these bounds.

@@ -9,15 +9,15 @@ ghost use Rattle.sim_containers.specs.Numbers.{is_in, members};
 ghost use Rattle.sim_standard.specs.State.{driver_at, driver_values};
 ghost use Rattle.sim_containers.specs.Times.{cleared, those_at, time_of};
 ghost use Rattle.sim_containers.specs.Words.{IsOnly};
-ghost use Rattle.sim_store_state.specs.Changes.{AreReached, AreTaken, AreTallied, AreTimes, AreTold, first_times, time_at, value_at};
+ghost use Rattle.sim_store_nets.specs.Nets.{AreTallied, value_at};
+ghost use Rattle.sim_store_state.specs.Changes.{AreReached, AreTaken, AreTimes, AreTold, first_times, time_at};
 ghost use Rattle.sim_store_state.specs.Lending.{IsOfRow};
 ghost use Rattle.sim_flat_design.specs.declared.design.Source.{Source};
 ghost use Rattle.sim_standard.specs.Drivers as spec;
 
-use crate::sets::{insert_each, insert_range, replace_by};
-use crate::tallies::Tallies;
 use sim_containers::{DividedRows, NumberList, NumberSet, RowArray, TimeQueue, item_place};
 use sim_logic::Logic;
+use sim_store_nets::{Tallies, insert_each, insert_range, replace_by};
 use sim_wave::Driver;
 use std::alloc::{AllocError, Global};
 

@@ -2,13 +2,12 @@
 
 ghost use Rattle.std.specs.Prelude.{◌≡◌, ◌<◌, ◌≤◌, ◌++◌, [], length, take, drop, slice_range, slice_index_or, slice_set, false, Ok, IfOk, OnOk};
 ghost use Rattle.sim_store_state.specs.Executions as spec;
-ghost use Rattle.sim_exec.specs.Jobs.{IsReady};
+ghost use Rattle.sim_exec_statements.specs.Ready.{IsReady};
 ghost use Rattle.sim_standard.specs.State.{driver_values};
 ghost use Rattle.sim_standard.specs.Statements.{executed};
 
 use sim_containers::{DividedRows, RowArray, bounds, place_of};
-use sim_exec::Nets;
-use sim_exec_code::{Codes, Frame};
+use sim_exec::{Codes, Frame, Nets};
 use sim_flat_design::{Body, Held};
 use sim_wave::Driver;
 use std::alloc::{AllocError, Global};

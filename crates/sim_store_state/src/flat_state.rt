@@ -9,7 +9,7 @@ ghost use Rattle.sim_flat_design.specs.Bodies.{Body as body_value};
 ghost use Rattle.sim_flat_design.specs.Designs.{Design as design_value};
 ghost use Rattle.sim_flat_design.specs.Processes.{Process as process_value};
 ghost use Rattle.sim_containers.specs.Numbers.{is_in};
-ghost use Rattle.sim_exec.specs.Jobs.{IsReady};
+ghost use Rattle.sim_exec_statements.specs.Ready.{IsReady};
 ghost use Rattle.sim_exec_code.specs.Codes as code;
 ghost use Rattle.sim_exec_code.specs.Quick.{quick_executed};
 ghost use Rattle.sim_standard.specs.Processes.{object_net, process_at};
@@ -34,15 +34,15 @@ use crate::drivers::{are_same, bring_up_to_date, copied, mark_stale, tell_change
 use crate::execution::{as_done, execute_in_parts, may_have_changed};
 use crate::in_turn::execute_in_turn;
 use crate::log::Log;
-use crate::nets::{ByNumber, Seen, SeenBy, are_views, end_events, resolve_touched, views_at};
-use crate::start::{connections, first_contents, nothing_pending};
-use crate::tallies::Tallies;
+use crate::start::{first_contents, nothing_pending};
 use crate::touched::Touched;
 use sim_containers::{DividedRows, NumberSet, RowArray, TimeQueue};
-use sim_exec::NetView;
-use sim_exec_code::{Codes, Frame, SingleAssignment};
+use sim_exec::{Codes, Frame, NetView, SingleAssignment};
 use sim_flat_design::{Design, Held, Process, Source};
 use sim_logic::Logic;
+use sim_store_nets::{
+    ByNumber, Seen, SeenBy, Tallies, are_views, connections, end_events, resolve_touched, views_at,
+};
 use sim_wave::Driver;
 use std::alloc::{AllocError, Global};
 use std::marker::Model;
@@ -392,7 +392,7 @@ impl FlatState {
         end_events(
             self.values_before.as_mut_slice(),
             self.values.as_slice(),
-            &self.touched,
+            self.touched.list(),
         );
         // c) Each active driver takes its transaction.
         self.touched.take_active(
@@ -407,7 +407,7 @@ impl FlatState {
         // d) Nets of changed drivers take the values of their sources.
         resolve_touched(
             self.values.as_mut_slice(),
-            &self.touched,
+            self.touched.list(),
             &self.sources,
             self.driving.as_slice(),
             &self.tallies,

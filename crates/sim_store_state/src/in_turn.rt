@@ -5,21 +5,22 @@ ghost use Rattle.std.specs.List.{All};
 ghost use Rattle.sim_logic.specs.Time.{largest_time};
 ghost use Rattle.sim_flat_design.specs.Bodies.{Body as body_value};
 ghost use Rattle.sim_flat_design.specs.declared.design.Source.{Source};
-ghost use Rattle.sim_exec.specs.Jobs.{IsReady};
+ghost use Rattle.sim_exec_statements.specs.Ready.{IsReady};
 ghost use Rattle.sim_exec_code.specs.Codes as code;
 ghost use Rattle.sim_exec_code.specs.Guards.{is_missing};
 ghost use Rattle.sim_standard.specs.State.{driver_values, net_at, owned_at};
 ghost use Rattle.sim_containers.specs.RowArray.{joined};
 ghost use Rattle.sim_store_state.specs.Changes.{AreTimes};
-ghost use Rattle.sim_store_state.specs.FlatState.{held, owned_lists, views_of};
+ghost use Rattle.sim_store_nets.specs.Nets.{views_of};
+ghost use Rattle.sim_store_state.specs.FlatState.{held, owned_lists};
 ghost use Rattle.sim_store_state.specs.InTurn.{AreDone, AreExecuted, AreKept, IsBodyAt, IsExecutable, IsOther, IsTurn};
 
 use crate::assignment::assign_and_tell;
-use crate::nets::ByNumber;
 use sim_containers::{DividedRows, NumberSet, RowArray, TimeQueue};
-use sim_exec_code::{Codes, SingleAssignment};
+use sim_exec::{Codes, SingleAssignment};
 use sim_flat_design::{Held, Process};
 use sim_logic::Logic;
+use sim_store_nets::ByNumber;
 use sim_wave::Driver;
 use std::alloc::AllocError;
 

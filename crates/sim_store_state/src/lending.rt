@@ -7,17 +7,17 @@ ghost use Rattle.sim_containers.specs.RowArray.{joined};
 ghost use Rattle.sim_containers.specs.Times.{time_of};
 ghost use Rattle.sim_store_state.specs.Changes.{time_at};
 ghost use Rattle.sim_store_state.specs.SplitState.{IsSplit};
-ghost use Rattle.sim_store_state.specs.FlatState.{views_of};
+ghost use Rattle.sim_store_nets.specs.Nets.{views_of};
 ghost use Rattle.sim_store_state.specs.Lending.{AreShares, HaveValues, IsOfRow, counts};
 
 use crate::drivers::tell_row;
 use crate::flat_state::{FlatState, Lists};
 use crate::shares::Shares;
-use crate::tallies::Tallies;
 use crate::touched::Touched;
 use sim_containers::{DividedRows, NumberList, NumberSet, RowArray, TimeQueue};
 use sim_flat_design::Source;
 use sim_logic::Logic;
+use sim_store_nets::Tallies;
 use sim_wave::Driver;
 use std::alloc::{AllocError, Global};
 

@@ -2,23 +2,17 @@
 #![tactic(auto)]
 
 mod assignment;
-mod counting;
 mod drivers;
 mod execution;
 mod flat_state;
 mod in_turn;
 pub mod laws;
 mod lending;
-mod lists;
 mod log;
-mod nets;
 mod resumption;
-mod sets;
 mod share;
 mod shares;
 mod start;
-mod tallies;
-mod tally;
 mod touched;
 
 pub use flat_state::{FlatState, Lists, Part};

@@ -3,8 +3,7 @@
 ghost use Rattle.std.specs.Prelude.{ℕ, suc, ◌≡◌, ◌≢◌, ◌≤◌, ◌<◌, ◌+◌, ◌-◌, ◌^◌, ◌==◌, List, [], ◌∷◌, ◌++◌, length, map, drop};
 ghost use Rattle.std.specs.Prelude.{Bool, true, false, if◌then◌else◌, MatchOption, OnOk, vec_len, vec_capacity};
 ghost use Rattle.std.specs.List.{enumerate_from};
-ghost use Rattle.sim_store_state.specs.Changes.{AreTouched};
-ghost use Rattle.sim_store_state.specs.FlatState.{views_of};
+ghost use Rattle.sim_store_nets.specs.Nets.{AreTouched, views_of};
 ghost use Rattle.sim_standard.specs.Records.{all_changes, changes_from};
 ghost use Rattle.sim_store_state.specs.Log.{changed, changes_before, changes_of, count_times, last_record, recorded, records_in, IsNext};
 ghost use Rattle.sim_store_state.specs.Log as spec;

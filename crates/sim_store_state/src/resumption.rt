@@ -10,11 +10,10 @@ ghost use Rattle.sim_store_state.specs.Log.{changes_of};
 ghost use Rattle.sim_store_state.specs.Sensitive.{AreSensitive, is_resumed_by, has_event_in};
 ghost use Rattle.sim_standard.specs.Orders.{is_among};
 
-use crate::lists::{add, empty_lists, in_rows};
 use crate::log::Entry;
-use crate::sets::insert_each;
 use sim_containers::{NumberList, NumberSet, RisingRows, RowArray};
 use sim_flat_design::{Design, Process};
+use sim_store_nets::{add, empty_lists, in_rows, insert_each};
 use sqlite_items::Items;
 use std::alloc::{AllocError, Global};
 

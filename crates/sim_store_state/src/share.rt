@@ -1,19 +1,20 @@
 //! The drivers and variables of a range of processes, apart from the rest of a state.
 
 ghost use Rattle.std.specs.Prelude.{◌≡◌, length, slice_set, OnOk};
-ghost use Rattle.sim_exec.specs.Jobs.{IsReady};
+ghost use Rattle.sim_exec_statements.specs.Ready.{IsReady};
 ghost use Rattle.sim_standard.specs.Processes.{object_net};
 ghost use Rattle.sim_standard.specs.State.{net_at, owned_at};
 ghost use Rattle.sim_standard.specs.Statements.{executed};
 ghost use Rattle.sim_store_state.specs.Executions.{IsReadyToExecute};
-ghost use Rattle.sim_store_state.specs.FlatState.{owned_lists, views_of};
+ghost use Rattle.sim_store_nets.specs.Nets.{views_of};
+ghost use Rattle.sim_store_state.specs.FlatState.{owned_lists};
 
 use crate::execution::{as_done, execute_at};
-use crate::nets::{ByNumber, Seen, SeenBy};
 use sim_containers::RowArray;
-use sim_exec_code::{Codes, Frame};
+use sim_exec::{Codes, Frame};
 use sim_flat_design::{Held, Process};
 use sim_logic::Logic;
+use sim_store_nets::{ByNumber, Seen, SeenBy};
 use sim_wave::Driver;
 use std::alloc::{AllocError, Global};
 use std::marker::Model;

@@ -10,9 +10,9 @@ ghost use Rattle.sim_standard.specs.State.{driver_at, driver_values};
 ghost use Rattle.sim_store_state.specs.Changes.{AreTaken, AreTimes, first_times};
 
 use crate::drivers::{take_all, take_alone};
-use crate::tallies::Tallies;
 use sim_containers::{DividedRows, NumberList, NumberSet, RowArray, TimeQueue};
 use sim_logic::Logic;
+use sim_store_nets::Tallies;
 use sim_wave::Driver;
 use std::alloc::{AllocError, Global};
 use std::marker::Model;
@@ -51,6 +51,14 @@ impl Touched {
         let list = NumberList::new(alloc, nets)?;
         let set = NumberSet::new(alloc, nets)?;
         Ok(Touched { list, set })
+    }
+
+    /// The nets, as a set.
+    #[inline(always)]
+    pub fn list(&self) -> &NumberList
+        ensures { result.now ≡ self.now }
+    {
+        &self.list
     }
 
     /// The numbers of the nets, rising.

@@ -1,7 +1,7 @@
 //! The codes of processes.
 
 use crate::texts::{CHOICE, EXCHANGE, PULSES, REGISTERS, TOGGLE, flat};
-use sim_exec_code::{Code, Codes};
+use sim_exec::{Code, Codes};
 use sim_flat_design::{Design, Process};
 use std::alloc::Global;
 

@@ -2,8 +2,7 @@
 //! back.
 
 use anyhow::{Result, bail};
-use sim_exec::{Done, Job};
-use sim_exec_code::Code;
+use sim_exec::{Code, Done, Job};
 use sim_flat_design::Process;
 use sim_run::{Design, Finished, Options, Record, RunError, WaveStore};
 use sim_store::{Step, StoreError};

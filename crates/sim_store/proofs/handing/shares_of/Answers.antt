@@ -5,7 +5,7 @@ use Rattle.sim_standard.specs.State.{Owned}
 use Rattle.sim_containers.specs.RowArray.{joined}
 use Rattle.sim_containers.proofs.Flat.{joined-push}
 use Rattle.sim_store_state.specs.Lending.{counts}
-use Rattle.sim_store_state.proofs.Walks.{not_both}
+use Rattle.sim_store_nets.proofs.Walks.{not_both}
 use Rattle.sim_store.specs.Handing.{AreInOrder, IsRange, Range, completed, at_input, lengths}
 use Rattle.sim_store.proofs.Orders.{AreLeft, first-left, none-left, range-none, taken-more}
 use Rattle.sim_store.proofs.Returning.{range-both, range-of}

@@ -1,7 +1,7 @@
 use Rattle.std.proofs.Common.{◌≡◌, List, length, ap, sym, ◌∙◌, subst, arith}
 use Rattle.std.proofs.lemmas.List.{get_or_default}
 use Rattle.sim_flat_design.specs.Processes.{Process}
-use Rattle.sim_exec.specs.Jobs.{IsReady}
+use Rattle.sim_exec_statements.specs.Ready.{IsReady}
 use Rattle.sim_exec_code.specs.Codes.{IsCodeOf, code_at, gathered_nets}
 use Rattle.sim_standard.specs.State.{owned_at}
 use Rattle.sim_standard.specs.Processes.{process_at}

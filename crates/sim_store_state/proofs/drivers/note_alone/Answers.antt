@@ -1,7 +1,7 @@
 use Rattle.std.proofs.Common.{set, subst, sym}
-use Rattle.sim_store_state.specs.Changes.{AreTallied}
-use Rattle.sim_store_state.specs.Tallies.{TallyLists}
-use Rattle.sim_store_state.proofs.Noting.{tallied-noted}
+use Rattle.sim_store_nets.specs.Nets.{AreTallied}
+use Rattle.sim_store_nets.specs.Tallies.{TallyLists}
+use Rattle.sim_store_nets.proofs.Noting.{tallied-noted}
 use Rattle.sim_store_state.proofs.drivers.note_alone.Goals as goal
 
 pub returns-clause-tallied : goal.returns-clause-tallied

@@ -1,8 +1,8 @@
 use Rattle.std.proofs.Common.{set, subst, sym, arith}
 use Rattle.std.proofs.lemmas.Grind.{common_steps}
-use Rattle.sim_store_state.specs.Changes.{AreTallied}
-use Rattle.sim_store_state.specs.Tallies.{TallyLists}
-use Rattle.sim_store_state.proofs.Noting.{tallied-noted}
+use Rattle.sim_store_nets.specs.Nets.{AreTallied}
+use Rattle.sim_store_nets.specs.Tallies.{TallyLists}
+use Rattle.sim_store_nets.proofs.Noting.{tallied-noted}
 use Rattle.sim_store_state.proofs.drivers.note_value.Goals as goal
 
 pub returns-then-ne-clause-tallied : goal.returns-then-ne-clause-tallied

@@ -6,7 +6,7 @@ use Rattle.sim_containers.specs.RowArray.{joined}
 use Rattle.sim_containers.specs.Times.{time_of}
 use Rattle.sim_standard.specs.State.{driver_at}
 use Rattle.sim_standard.proofs.Names.{no_driver}
-use Rattle.sim_store_state.proofs.Walks.{member_within, walk_start, walk_done, walk_others}
+use Rattle.sim_store_nets.proofs.Walks.{member_within, walk_start, walk_done, walk_others}
 use Rattle.sim_store_state.proofs.Due.{all-times, times-more}
 use Rattle.sim_store_state.proofs.drivers.put_first_times.Goals as goal
 

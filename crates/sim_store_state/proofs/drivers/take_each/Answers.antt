@@ -4,7 +4,7 @@ use Rattle.std.proofs.lemmas.Grind.{common_steps}
 use Rattle.sim_standard.specs.Drivers.{taken}
 use Rattle.sim_standard.specs.State.{driver_at}
 use Rattle.sim_containers.specs.RowArray.{joined}
-use Rattle.sim_store_state.proofs.Walks.{member_within, walk_done}
+use Rattle.sim_store_nets.proofs.Walks.{member_within, walk_done}
 use Rattle.sim_store_state.proofs.Taking.{all-told, none-taken, none-told, taken-more, told-more, rest-more, all-same}
 use Rattle.sim_store_state.proofs.Items.{each-item}
 use Rattle.sim_store_state.proofs.drivers.take_each.Goals as goal

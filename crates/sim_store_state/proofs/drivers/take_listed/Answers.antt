@@ -5,7 +5,7 @@ use Rattle.sim_standard.specs.State.{driver_at}
 use Rattle.sim_containers.specs.RowArray.{joined}
 use Rattle.sim_containers.specs.Times.{time_of}
 use Rattle.sim_containers.proofs.Ranges.{member_small}
-use Rattle.sim_store_state.proofs.Walks.{bound_at, listed_step, none_listed, walk_listed, walk_on}
+use Rattle.sim_store_nets.proofs.Walks.{bound_at, listed_step, none_listed, walk_listed, walk_on}
 use Rattle.sim_store_state.proofs.Taking.{all-told, none-taken, none-told, taken-more, told-more, rest-more, unset-more, all-same, IsTold}
 use Rattle.sim_store_state.proofs.Items.{each-item}
 use Rattle.sim_store_state.proofs.drivers.take_listed.Goals as goal

@@ -1,10 +1,10 @@
 use Rattle.std.proofs.Common.{ℕ, ◌≡◌, ◌≤◌, List, length, map}
 use Rattle.sim_flat_design.specs.declared.design.Source.{Source}
-use Rattle.sim_store_state.specs.Changes.{AreTallied}
+use Rattle.sim_store_nets.specs.Nets.{AreTallied}
 use Rattle.sim_containers.specs.RowArray.{joined}
 use Rattle.sim_containers.specs.Times.{time_of}
 use Rattle.sim_standard.specs.State.{driver_at, driver_values}
-use Rattle.sim_store_state.proofs.Walks.{Walked, bound_at}
+use Rattle.sim_store_nets.proofs.Walks.{Walked, bound_at}
 use Rattle.sim_store_state.proofs.Taking.{IsTaken, IsTold}
 use Rattle.sim_store_state.proofs.drivers.take_listed.Given as goal
 

@@ -6,7 +6,7 @@ use Rattle.sim_standard.specs.Drivers.{DriverState, next_time, taken}
 use Rattle.sim_standard.specs.State.{driver_at, driver_values}
 use Rattle.sim_standard.proofs.Names.{no_driver}
 use Rattle.sim_containers.specs.RowArray.{joined}
-use Rattle.sim_store_state.proofs.Values.{values-set}
+use Rattle.sim_store_nets.proofs.SourceValues.{values-set}
 use Rattle.sim_store_state.proofs.drivers.take_one_alone.Goals as goal
 
 pub returns-clause-driving : goal.returns-clause-driving

@@ -2,7 +2,7 @@ use Rattle.std.proofs.Common.{None, true, false, ap, refl, length, ◌∙◌}
 use Rattle.std.proofs.lemmas.List.{get_or-set_same, get_or-set_other, length-set}
 use Rattle.sim_containers.specs.Numbers.{is_in}
 use Rattle.sim_containers.specs.Times.{time_of}
-use Rattle.sim_store_state.proofs.Walks.{not_both}
+use Rattle.sim_store_nets.proofs.Walks.{not_both}
 use Rattle.sim_store_state.proofs.drivers.tell.Goals as goal
 
 pub returns-in-Ok : goal.returns-in-Ok

@@ -4,7 +4,7 @@ use Rattle.sim_standard.specs.Drivers.{DriverState, next_time}
 use Rattle.sim_standard.specs.State.{driver_at}
 use Rattle.sim_standard.proofs.Names.{no_driver}
 use Rattle.sim_store_state.specs.Changes.{time_at}
-use Rattle.sim_store_state.proofs.Ranges.{range-end}
+use Rattle.sim_store_nets.proofs.Ranges.{range-end}
 use Rattle.sim_store_state.proofs.Telling.{told-more, others-kept}
 use Rattle.sim_store_state.proofs.drivers.tell_range.Goals as goal
 

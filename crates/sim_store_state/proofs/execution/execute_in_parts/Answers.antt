@@ -2,7 +2,7 @@ use Rattle.std.proofs.Common.{[], ◌≡◌, false, ap, sym, ◌∙◌, subst, l
 use Rattle.std.proofs.lemmas.Grind.{common_steps}
 use Rattle.std.specs.Prelude.{OnOk}
 use Rattle.std.proofs.lemmas.Result.{IfOk-weaker}
-use Rattle.sim_exec.specs.Jobs.{IsReady, holds_bit}
+use Rattle.sim_exec_statements.specs.Ready.{IsReady, holds_bit}
 use Rattle.sim_standard.specs.State.{Owned, driver_values}
 use Rattle.sim_standard.specs.Statements.{executed}
 use Rattle.sim_store_state.specs.Executions.{IsBodyReadyToExecute}

@@ -1,7 +1,7 @@
 use Rattle.std.proofs.Common.{[], ◌≡◌, false, ap, sym, ◌∙◌, subst, length, arith, get_or}
 use Rattle.std.specs.Prelude.{slice_range, OnOk}
 use Rattle.std.proofs.lemmas.Result.{IfOk-weaker}
-use Rattle.sim_exec.specs.Jobs.{IsReady}
+use Rattle.sim_exec_statements.specs.Ready.{IsReady}
 use Rattle.sim_standard.specs.State.{Owned, driver_values}
 use Rattle.sim_standard.specs.Statements.{executed}
 use Rattle.sim_containers.proofs.Flat.{count, places_read, lent_back, viewed_again, put_there, put_alone}

@@ -1,7 +1,7 @@
 use Rattle.std.proofs.Common.{◌<◌, length, ap, ◌∙◌, arith}
 use Rattle.sim_exec_code.specs.Guards.{is_missing}
 use Rattle.sim_standard.specs.State.{net_at}
-use Rattle.sim_store_state.specs.FlatState.{views_of}
+use Rattle.sim_store_nets.specs.Nets.{views_of}
 use Rattle.sim_store_state.proofs.InTurn.{executable-still, kept-next, turn-next}
 use Rattle.sim_store_state.proofs.in_turn.execute_alike.Goals as goal
 

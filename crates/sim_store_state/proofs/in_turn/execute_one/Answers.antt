@@ -1,4 +1,4 @@
-use Rattle.sim_store_state.specs.FlatState.{views_of}
+use Rattle.sim_store_nets.specs.Nets.{views_of}
 use Rattle.sim_standard.specs.State.{net_at}
 use Rattle.sim_store_state.proofs.InTurn.{assigned-done, assigned-kept, executable-at, executable-pending}
 use Rattle.sim_store_state.proofs.in_turn.execute_one.Goals as goal

@@ -2,7 +2,7 @@ use Rattle.std.proofs.Common.{length, get_or, ap, sym, ◌∙◌, arith}
 use Rattle.std.proofs.lemmas.Slice.{between_to_end}
 use Rattle.sim_exec_code.specs.Guards.{is_missing}
 use Rattle.sim_standard.specs.State.{net_at}
-use Rattle.sim_store_state.specs.FlatState.{views_of}
+use Rattle.sim_store_nets.specs.Nets.{views_of}
 use Rattle.sim_store_state.proofs.InTurn.{executable-rest, idle-done, kept-first, kept-rest, kept-same, turn-first, turn-idle, turn-rest}
 use Rattle.sim_store_state.proofs.in_turn.execute_under.Goals as goal
 

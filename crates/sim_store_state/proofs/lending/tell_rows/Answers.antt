@@ -1,7 +1,7 @@
 use Rattle.std.proofs.Common.{inr, arith, ◌∙◌, refl}
 use Rattle.std.proofs.lemmas.Grind.{common_steps}
 use Rattle.sim_store_state.proofs.Telling.{kept-or-told, told-still}
-use Rattle.sim_store_state.proofs.Walks.{member_within, not_both, walk_done, walk_more, walk_start}
+use Rattle.sim_store_nets.proofs.Walks.{member_within, not_both, walk_done, walk_more, walk_start}
 use Rattle.sim_store_state.proofs.lending.tell_rows.Goals as goal
 
 pub loop-number-init : goal.loop-number-init

@@ -4,7 +4,7 @@ use Rattle.sim_containers.specs.RowArray.{joined}
 use Rattle.sim_containers.specs.Times.{time_of}
 use Rattle.sim_store_state.specs.Changes.{time_at}
 use Rattle.sim_store_state.specs.Lending.{IsOfRow}
-use Rattle.sim_store_state.proofs.Walks.{Walked}
+use Rattle.sim_store_nets.proofs.Walks.{Walked}
 use Rattle.sim_store_state.proofs.lending.tell_rows.Given as goal
 
 -- the queue has the times of all drivers of the processes that the walk has passed

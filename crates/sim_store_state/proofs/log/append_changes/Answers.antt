@@ -1,10 +1,10 @@
 use Rattle.std.proofs.Common.{ℕ, ◌≡◌, ◌+◌, ◌-◌, ◌≤◌, ◌++◌, length, map, drop, vec_capacity, vec_len, add-one, refl, sym, subst, arith, ◌∙◌}
 use Rattle.sim_containers.proofs.Ranges.{member_small}
-use Rattle.sim_store_state.specs.FlatState.{views_of}
+use Rattle.sim_store_nets.specs.Nets.{views_of}
 use Rattle.sim_standard.specs.Records.{changes_from}
 use Rattle.sim_store_state.specs.Log.{changed}
 use Rattle.sim_store_state.proofs.Skips.{entries-step, entries-end}
-use Rattle.sim_store_state.proofs.Walks.{bound_at, listed_step, none_else, none_listed, only_step}
+use Rattle.sim_store_nets.proofs.Walks.{bound_at, listed_step, none_else, none_listed, only_step}
 use Rattle.sim_store_state.proofs.log.append_changes.Goals as goal
 
 pub bounds-values-only : goal.bounds-values-only

@@ -1,8 +1,8 @@
 use Rattle.std.proofs.Common.{◌≡◌, ◌≤◌, ◌+◌, ◌-◌, ◌++◌, length, map, drop, vec_len, vec_capacity}
-use Rattle.sim_store_state.specs.FlatState.{views_of}
+use Rattle.sim_store_nets.specs.Nets.{views_of}
 use Rattle.sim_standard.specs.Records.{changes_from}
 use Rattle.sim_store_state.specs.Log.{changed}
-use Rattle.sim_store_state.proofs.Walks.{bound_at}
+use Rattle.sim_store_nets.proofs.Walks.{bound_at}
 use Rattle.sim_store_state.proofs.log.append_changes.Given as goal
 
 -- what is appended by now, and what nets still to be looked at will add

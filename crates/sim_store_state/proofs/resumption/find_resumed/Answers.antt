@@ -4,7 +4,8 @@ use Rattle.sim_logic.specs.declared.logic.Logic.{Logic}
 use Rattle.sim_containers.specs.Numbers.{is_in}
 use Rattle.sim_store_state.specs.Log.{changes_of}
 use Rattle.sim_store_state.specs.Sensitive.{is_resumed_by}
-use Rattle.sim_store_state.proofs.Sensitivity.{or_false, sensitive-event}
+use Rattle.sim_store_nets.proofs.Booleans.{or_false}
+use Rattle.sim_store_state.proofs.Sensitivity.{sensitive-event}
 use Rattle.sim_store_state.proofs.Skips.{resumed-by-changes}
 use Rattle.sim_store_state.proofs.resumption.find_resumed.Goals as goal
 

@@ -1,6 +1,5 @@
 use Rattle.std.proofs.Common.{◌≡◌, take, map}
-use Rattle.sim_store_state.specs.Changes.{row_from}
-use Rattle.sim_store_state.specs.FlatState.{sources_of}
+use Rattle.sim_store_nets.specs.Nets.{row_from, sources_of}
 use Rattle.sim_store_state.proofs.start.values.Given as goal
 
 abbrev pub invariant-loop-net : goal.invariant-loop-net

@@ -9,7 +9,7 @@ use Rattle.sim_flat_design.specs.Processes.{Process}
 use Rattle.sim_standard.specs.State.{owned_at}
 use Rattle.sim_standard.specs.Processes.{process_at}
 use Rattle.sim_standard.proofs.Names.{no_process}
-use Rattle.sim_store_state.specs.FlatState.{views_of}
+use Rattle.sim_store_nets.specs.Nets.{views_of}
 use Rattle.sim_store.specs.Handing.{PhaseInput, IsPhaseInput, at_input}
 use Rattle.sim_store.proofs.Handed.{executed-is}
 use Rattle.sim_store.proofs.phase_input.PhaseInput.execute.Goals as goal

@@ -5,7 +5,8 @@ use Rattle.sim_standard.specs.Drivers.{DriverState}
 use Rattle.sim_standard.specs.State.{Owned, net_at}
 use Rattle.sim_wave.specs.Rising.{RisesFrom}
 use Rattle.sim_logic.specs.declared.logic.Logic.{Logic}
-use Rattle.sim_store_state.specs.FlatState.{FlatState, views_of}
+use Rattle.sim_store_nets.specs.Nets.{views_of}
+use Rattle.sim_store_state.specs.FlatState.{FlatState}
 use Rattle.sim_store_state.proofs.Assigned.{assigned_as}
 use Rattle.sim_store_state.proofs.Contents.{owned-by, owned-count, owned-now, held-set}
 use Rattle.sim_store_state.proofs.Putting.{own-keeps}

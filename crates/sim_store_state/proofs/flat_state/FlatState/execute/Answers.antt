@@ -4,12 +4,13 @@ use Rattle.std.specs.Prelude.{Result, Ok, Err, IfOk, OnOk}
 use Rattle.std.proofs.lemmas.Result.{on_ok_weaker}
 use Rattle.sim_flat_design.specs.Bodies.{Body}
 use Rattle.sim_standard.specs.declared.net_view.NetView.{NetView}
-use Rattle.sim_exec.specs.Jobs.{IsReady}
+use Rattle.sim_exec_statements.specs.Ready.{IsReady}
 use Rattle.sim_exec_code.specs.Codes.{IsCodeOf, code_at}
 use Rattle.sim_standard.specs.State.{Owned}
 use Rattle.sim_standard.specs.Statements.{executed}
 use Rattle.sim_store_state.specs.Executions.{without_value}
-use Rattle.sim_store_state.specs.FlatState.{FlatState, views_of, owned_lists}
+use Rattle.sim_store_nets.specs.Nets.{views_of}
+use Rattle.sim_store_state.specs.FlatState.{FlatState, owned_lists}
 use Rattle.sim_store_state.proofs.Contents.{as_owned, gathered_placed, owned-by, owned-count, owned-now, held-set, seen, sees}
 use Rattle.sim_standard.specs.Drivers.{DriverState}
 use Rattle.sim_standard.proofs.Names.{nothing_owned}

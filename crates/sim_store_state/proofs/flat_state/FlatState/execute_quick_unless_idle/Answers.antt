@@ -3,7 +3,8 @@ use Rattle.std.proofs.lemmas.List.{set-get_or}
 use Rattle.sim_logic.specs.declared.logic.Logic.{Logic}
 use Rattle.sim_standard.specs.State.{Owned, net_at}
 use Rattle.sim_standard.proofs.Names.{nothing_owned}
-use Rattle.sim_store_state.specs.FlatState.{FlatState, views_of}
+use Rattle.sim_store_nets.specs.Nets.{views_of}
+use Rattle.sim_store_state.specs.FlatState.{FlatState}
 use Rattle.sim_store_state.proofs.Assigned.{idle_left, assigned_left, assigned_ready}
 use Rattle.sim_store_state.proofs.flat_state.FlatState.execute_quick_unless_idle.Goals as goal
 

@@ -1,6 +1,6 @@
 use Rattle.std.proofs.Common.{List, ap, sym, ◌∙◌, subst}
 use Rattle.std.specs.List.{All}
-use Rattle.sim_exec.specs.Jobs.{IsReady}
+use Rattle.sim_exec_statements.specs.Ready.{IsReady}
 use Rattle.sim_standard.specs.State.{Owned, owned_at}
 use Rattle.sim_store_state.specs.FlatState.{FlatState, owned_lists}
 use Rattle.sim_store_state.specs.InTurn.{IsExecutable}

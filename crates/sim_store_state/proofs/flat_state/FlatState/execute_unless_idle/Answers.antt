@@ -6,7 +6,8 @@ use Rattle.sim_standard.specs.declared.net_view.NetView.{NetView}
 use Rattle.sim_standard.specs.State.{Owned, net_at}
 use Rattle.sim_standard.specs.Statements.{executed}
 use Rattle.sim_standard.proofs.Names.{nothing_owned}
-use Rattle.sim_store_state.specs.FlatState.{FlatState, views_of}
+use Rattle.sim_store_nets.specs.Nets.{views_of}
+use Rattle.sim_store_state.specs.FlatState.{FlatState}
 use Rattle.sim_store_state.proofs.Contents.{seen, sees}
 use Rattle.sim_store_state.proofs.flat_state.FlatState.execute_unless_idle.Goals as goal
 

@@ -1,6 +1,6 @@
 use Rattle.std.proofs.Common.{List, length, ap, subst, arith}
 use Rattle.sim_logic.specs.declared.logic.Logic.{Logic}
-use Rattle.sim_store_state.specs.Changes.{AreTallied}
+use Rattle.sim_store_nets.specs.Nets.{AreTallied}
 use Rattle.sim_containers.specs.RowArray.{joined}
 use Rattle.sim_store_state.proofs.Starting.{first-held, first-kept, first-values, count-values}
 use Rattle.sim_store_state.proofs.flat_state.FlatState.first.Goals as goal

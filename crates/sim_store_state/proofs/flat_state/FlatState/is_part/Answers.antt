@@ -3,7 +3,7 @@ use Rattle.std.specs.Bool.{Decides}
 use Rattle.sim_flat_design.specs.declared.held.Held.{Held}
 use Rattle.sim_standard.specs.declared.net_view.NetView.{NetView}
 use Rattle.sim_standard.specs.State.{net_at}
-use Rattle.sim_store_state.specs.FlatState.{views_of}
+use Rattle.sim_store_nets.specs.Nets.{views_of}
 use Rattle.sim_store_state.proofs.Contents.{owned-by, owned-count}
 use Rattle.sim_store_state.proofs.Parts.{part_differs, part_is}
 use Rattle.sim_store_state.proofs.flat_state.FlatState.is_part.Goals as goal

@@ -1,15 +1,16 @@
-use Rattle.std.proofs.Common.{◌≡◌, List, [], get_or, length, map, refl, ap, sym, subst, arith, ◌∙◌}
+use Rattle.std.proofs.Common.{◌≡◌, Bool, false, List, [], get_or, length, map, refl, ap, sym, subst, arith, ◌∙◌}
 use Rattle.sim_logic.specs.declared.logic.Logic.{Logic}
 use Rattle.sim_standard.specs.State.{driver_values}
 use Rattle.std.proofs.lemmas.List.{length-map}
 use Rattle.sim_standard.specs.Drivers.{taken, next_time}
+use Rattle.sim_containers.specs.Numbers.{is_in}
 use Rattle.sim_containers.specs.RowArray.{joined}
 use Rattle.sim_containers.proofs.Flat.{joined-map, written_back}
-use Rattle.sim_store_state.specs.Changes.{AreTallied, row_from, row_value, value_at}
+use Rattle.sim_store_nets.specs.Nets.{AreTallied, row_from, row_value, value_at}
 use Rattle.sim_store_state.proofs.Contents.{drivers-by, held-updated}
 use Rattle.sim_store_state.proofs.Putting.{times-keep}
 use Rattle.sim_store_state.proofs.Updating.{unreached, update-keeps}
-use Rattle.sim_store_state.proofs.Values.{row-from, rows-from, value-here}
+use Rattle.sim_store_nets.proofs.SourceValues.{row-from, rows-from, value-here}
 use Rattle.sim_store_state.proofs.flat_state.FlatState.update.Goals as goal
 
 pub invariant_of-self : goal.invariant_of-self
@@ -18,7 +19,7 @@ invariant_of-self c = times-keep c.self.invariant c.bring_up_to_date.new.queue c
 pub end_events-requires : goal.end_events-requires
 end_events-requires c = record {
   sized = ap length c.as_mut_slice.ensures.value ∙ (sym c.self.invariant.lists.nets ∙ sym (ap length c.as_slice.ensures.value));
-  touched = rw (c.as_slice.ensures.value, c.as_mut_slice.ensures.value) c.self.invariant.touching;
+  touched = rw (c.list.ensures, c.as_slice.ensures.value, c.as_mut_slice.ensures.value) c.self.invariant.touching;
 }
 
 pub take_active-requires : goal.take_active-requires
@@ -47,11 +48,12 @@ resolve_touched-requires c =
       tallied = subst (λ (w : List Logic). AreTallied s.sources w c.take_active.new.tallies) (sym (c.as_slice-2.ensures.value ∙ written))
           (c.take_active.ensures.taken.tallied s.sources (subst (λ (w : List Logic). AreTallied s.sources w s.tallies) (sym c.as_mut_slice-2.ensures.value)
           i.tallied));
-      touched = long ∙ sym back;
+      touched = ap length c.list-2.ensures ∙ (long ∙ sym back);
       sources = sym nets ∙ sym back;
       others = λ n other lt. ap (λ w. value_at w n) c.as_mut_slice-3.ensures.value ∙ (value-here s.values.items s.sources (row_value ds) n i.resolving
           (omega (arith, lt, back)) ∙ (sym (unreached s.sources s.fan_out ds now c.take_active.new.self c.args.time n i.fanned
-          i.fan_out_count (long ∙ nets) es c.take_active.ensures.taken.reached other) ∙ (sym (row-from now (get_or s.sources n []))
+          i.fan_out_count (long ∙ nets) es c.take_active.ensures.taken.reached (subst (λ (b : List Bool). is_in b n ≡ false) c.list-2.ensures other))
+          ∙ (sym (row-from now (get_or s.sources n []))
           ∙ ap (λ ws. row_from ws (get_or s.sources n [])) (sym driving))));
     }
 

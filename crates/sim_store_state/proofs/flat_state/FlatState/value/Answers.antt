@@ -4,7 +4,7 @@ use Rattle.sim_standard.specs.declared.net_view.NetView.{NetView}
 use Rattle.sim_standard.specs.State.{net_at}
 use Rattle.sim_store_state.specs.FlatState.{FlatState}
 use Rattle.sim_store_state.proofs.Contents.{net-count}
-use Rattle.sim_store_state.proofs.Views.{view_here}
+use Rattle.sim_store_nets.proofs.Views.{view_here}
 use Rattle.sim_store_state.proofs.flat_state.FlatState.value.Goals as goal
 
 pub returns-then-net-len : goal.returns-then-net-len

@@ -1,7 +1,7 @@
 use Rattle.std.proofs.Common.{arith, ap, sym, ◌∙◌}
-use Rattle.sim_store_state.specs.FlatState.{views_of}
+use Rattle.sim_store_nets.specs.Nets.{views_of}
 use Rattle.sim_standard.specs.Records.{changes_from}
-use Rattle.sim_store_state.proofs.Views.{length-views_of}
+use Rattle.sim_store_nets.proofs.Views.{length-views_of}
 use Rattle.sim_store_state.specs.Log.{Logged}
 use Rattle.sim_store_state.proofs.Logged.{changes-few, log-appended, room-after}
 use Rattle.sim_store_state.proofs.log.Log.append.Goals as goal

@@ -2,12 +2,13 @@ use Rattle.std.proofs.Common.{[], ◌≡◌, ap, sym, ◌∙◌, subst, arith, g
 use Rattle.std.specs.Prelude.{OnOk}
 use Rattle.std.proofs.lemmas.Result.{on_ok_weaker}
 use Rattle.sim_flat_design.specs.Bodies.{Body}
-use Rattle.sim_exec.specs.Jobs.{IsReady}
+use Rattle.sim_exec_statements.specs.Ready.{IsReady}
 use Rattle.sim_exec_code.specs.Codes.{IsCodeOf, code_at}
 use Rattle.sim_standard.specs.State.{Owned}
 use Rattle.sim_standard.specs.Statements.{executed}
 use Rattle.sim_standard.proofs.Names.{nothing_owned}
-use Rattle.sim_store_state.specs.FlatState.{views_of, owned_lists}
+use Rattle.sim_store_nets.specs.Nets.{views_of}
+use Rattle.sim_store_state.specs.FlatState.{owned_lists}
 use Rattle.sim_store_state.proofs.Contents.{as_owned, gathered_placed, seen}
 use Rattle.sim_store_state.proofs.Sharing.{share-at, share-count, share-long, share-now, share-set}
 use Rattle.sim_store_state.proofs.WithoutValue.{on_ok_without_value}

@@ -3,7 +3,7 @@ use Rattle.std.proofs.lemmas.List.{set-get_or}
 use Rattle.std.proofs.lemmas.Grind.{common_steps}
 use Rattle.sim_standard.specs.Statements.{executed}
 use Rattle.sim_standard.proofs.Names.{nothing_owned}
-use Rattle.sim_store_state.specs.FlatState.{views_of}
+use Rattle.sim_store_nets.specs.Nets.{views_of}
 use Rattle.sim_store_state.proofs.Contents.{seen}
 use Rattle.sim_store_state.proofs.share.Share.execute_unless_idle.Goals as goal
 

@@ -1,0 +1,11 @@
+pub mod Booleans
+pub mod Walks
+pub mod Ranges
+pub mod Views
+pub mod SourceValues
+pub mod Resolving
+pub mod Counts
+pub mod Counted
+pub mod Noting
+pub mod Reaching
+pub mod Noted

@@ -1,8 +1,0 @@
-use Rattle.std.proofs.Common.{ℕ, ◌≡◌, ◌<◌, ◌||◌, [], length, get_or, take}
-use Rattle.sim_store_state.specs.Changes.{is_source}
-use Rattle.sim_standard.specs.Orders.{is_among}
-use Rattle.sim_store_state.proofs.start.add_nets.Given as goal
-
-abbrev pub invariant-loop-net : goal.invariant-loop-net
-invariant-loop-net l = (n d : ℕ) → d < length l.fan_out
-    → is_among (get_or l.fan_out d []) n ≡ (is_among (get_or l.initial.fan_out d []) n || is_source (get_or (take l.net l.sources) n []) d)
