@@ -6,8 +6,9 @@
 For each program: `--version` and `-V` print a line that begins with its name, `--help` and `-h` print the help, both on standard output
 with status 0; words that are refused, or are no text, go to standard error with status 2; and a line of usage has the program's own name. Its man page
 and its completions, made by the functions of the script install in a temporary prefix, are where they should be, name each option,
-and are scripts of their shells (of those that are there). VSIM_WAVES is silent if what reads a long VCD goes away. The script vsim, in
-a temporary tree that notes VSIM as built, answers a folder on standard input as the program does.
+and are scripts of their shells (of those that are there); a program without proofs is installed only if that is asked for, and
+`./install --remove` leaves nothing. VSIM_WAVES is silent if what reads a long VCD goes away. The script vsim, in a temporary tree that
+notes VSIM as built, answers a folder on standard input as the program does, and says before it what is noted of a program without proofs.
 
 With --install the script install itself is called with a temporary prefix, so the programs are built first; these must know what they
 were built from, and the script vsim itself is given the folder. The last line is `N passed, M failed`.
@@ -117,30 +118,30 @@ def fault_of_waves(waves, room):
     return None if out.count("\n") == 1 and not errors else f"vsim_waves | head: {out}{errors}"
 
 
-def tree(vsim, room):
-    """Makes a tree with the script vsim, which notes this program as built; returns the script."""
+def tree(vsim, room, said):
+    """Makes a tree with the script vsim, which notes this program as built, and what is to be said of it; returns the script."""
     rt = shutil.which("rt") or ""
     made = os.path.realpath(rt) if rt else ""
     for it in ("tools", "crates", "out"):
-        os.makedirs(f"{room}/tree/{it}")
+        os.makedirs(f"{room}/{it}")
     for it in ("vsim", "tools/run"):
-        shutil.copy(f"{TOP}/{it}", f"{room}/tree/{it}")
-    for it, text in (("crates.txt", ""), ("out/vsim.kept", f"{vsim}\n{rt}\n{made}\n{made}\n")):
-        with open(f"{room}/tree/{it}", "w", encoding="utf-8") as file:
+        shutil.copy(f"{TOP}/{it}", f"{room}/{it}")
+    for it, text in (("crates.txt", ""), ("out/vsim.kept", f"{vsim}\n{rt}\n{made}\n{made}\n{said}\n")):
+        with open(f"{room}/{it}", "w", encoding="utf-8") as file:
             file.write(text)
-    latest = os.stat(f"{room}/tree/out/vsim.kept").st_ctime + 1
-    os.utime(f"{room}/tree/out/vsim.kept", (latest, latest))
-    return f"{room}/tree/vsim"
+    latest = os.stat(f"{room}/out/vsim.kept").st_ctime + 1
+    os.utime(f"{room}/out/vsim.kept", (latest, latest))
+    return f"{room}/vsim"
 
 
-def fault_of_folder(command):
-    """Returns what is wrong with the answer to a folder on standard input, if anything."""
+def fault_of_folder(command, said=""):
+    """Returns what is wrong with the answer to a folder on standard input, if anything; a line may be said before it."""
     folder = os.open("/", os.O_RDONLY)
     try:
         got = answer([command, "--top", "t"], stdin=folder)
     finally:
         os.close(folder)
-    return None if got == (4, "", "vsim: Read\n") else f"{command} --top t < /: {got}"
+    return None if got == (4, "", f"{said}vsim: Read\n") else f"{command} --top t < /: {got}"
 
 
 def faults_of_install(prefix):
@@ -153,6 +154,28 @@ def faults_of_install(prefix):
     yield fault_of_folder(f"{TOP}/vsim")
 
 
+def fault_of_unproved(prefix):
+    """Returns what is wrong, if anything, when a program that says that it is not proved is installed without a word for that."""
+    os.makedirs(prefix)
+    with open(f"{prefix}/program", "w", encoding="utf-8") as file:
+        file.write("#!/bin/sh\necho vsim 1.0.0, sources 0, toolchain 0, not proved\n")
+    os.chmod(f"{prefix}/program", 0o755)
+    try:
+        installer().install("vsim", f"{prefix}/program", prefix)
+    except SystemExit as refused:
+        return None if "not proved" in str(refused) and os.listdir(prefix) == ["program"] else f"./install refuses it by {refused}"
+    return "./install takes a program without proofs"
+
+
+def faults_of_removing(prefix):
+    """Yields what is wrong, if anything, with the help of the script install, and with what it leaves when it removes all."""
+    status, out, errors = answer([f"{TOP}/install", "--help"])
+    yield None if status == 0 and "--remove" in out and not errors else f"./install --help: {status} {out}{errors}"
+    status, _, errors = answer([f"{TOP}/install", "--remove", prefix])
+    left = [it for it in glob.glob(f"{prefix}/**", recursive=True) if os.path.isfile(it)]
+    yield f"./install --remove leaves {left}: {errors}" if status or errors or left else None
+
+
 def faults_of_shells(programs, prefix, is_installed):
     """Fills a prefix; yields what is wrong, if anything, with what a shell finds there."""
     if is_installed:
@@ -160,11 +183,13 @@ def faults_of_shells(programs, prefix, is_installed):
     else:
         with contextlib.redirect_stdout(io.StringIO()):
             for name, program in programs.items():
-                installer().install(name, program, prefix)
+                installer().install(name, program, prefix, may_be_unproved=True)
     for name in NAMES:
         yield from faults_of_files(name, prefix)
     found = [os.path.basename(it) for it in glob.glob(f"{prefix}/**/*.new-*", recursive=True)]
     yield f"{', '.join(found)} are left over" if found else None
+    yield fault_of_unproved(f"{prefix}-of-unproved")
+    yield from faults_of_removing(prefix)
 
 
 def faults(programs, room, is_installed):
@@ -174,7 +199,8 @@ def faults(programs, room, is_installed):
     yield from faults_of_shells(programs, f"{room}/prefix", is_installed)
     yield fault_of_waves(programs["vsim_waves"], room)
     yield fault_of_folder(programs["vsim"])
-    yield fault_of_folder(tree(programs["vsim"], room))
+    yield fault_of_folder(tree(programs["vsim"], f"{room}/tree", ""))
+    yield fault_of_folder(tree(programs["vsim"], f"{room}/other", "built without its proofs"), "vsim: built without its proofs\n")
 
 
 def main():
