@@ -9,6 +9,7 @@ and its completions, made by the functions of the script install in a temporary 
 and are scripts of their shells (of those that are there); a program without proofs is installed only if that is asked for, and
 `./install --remove` leaves nothing. VSIM_WAVES is silent if what reads a long VCD goes away. The script vsim, in a temporary tree that
 notes VSIM as built, answers a folder on standard input as the program does, and says before it what is noted of a program without proofs.
+The time that the script build expects to need is as worked out by hand.
 
 With --install the script install itself is called with a temporary prefix, so the programs are built first; these must know what they
 were built from, and the script vsim itself is given the folder. The last line is `N passed, M failed`.
@@ -66,10 +67,10 @@ def faults_of_program(name, program):
         yield fault_of_words(name, program, b"--top=\xff", 2, r"\Aerror: invalid UTF-8 ")
 
 
-def installer():
-    """Returns the script install as a module."""
-    loader = importlib.machinery.SourceFileLoader("install", f"{TOP}/install")
-    module = importlib.util.module_from_spec(importlib.util.spec_from_loader("install", loader))
+def script(name):
+    """Returns a script of the top as a module."""
+    loader = importlib.machinery.SourceFileLoader(name, f"{TOP}/{name}")
+    module = importlib.util.module_from_spec(importlib.util.spec_from_loader(name, loader))
     loader.exec_module(module)
     return module
 
@@ -154,6 +155,22 @@ def faults_of_install(prefix):
     yield fault_of_folder(f"{TOP}/vsim")
 
 
+def faults_of_estimates():
+    """Yields what is wrong, if anything, with the time that the script build expects to need, worked out by hand."""
+    minutes = script("build").minutes
+    # `high` stands on `low` and has a work of 60, and `low` one of 40; beside them stand three of 100
+    longest = {"low": 100, "high": 60, "one": 100, "two": 100, "three": 100}
+    found = {"low": set(), "high": {"low"}, "one": set(), "two": set(), "three": set()}
+    for ended, left, took, wanted in (
+        ({"low": 80}, ["high"], 80, "2 minutes"),
+        ({"low": 10}, ["high"], 10, "1 minute"),
+        ({"one": 100, "two": 100}, ["low", "high", "three"], 100, "2 minutes"),
+        ({"one": 800, "two": 800}, ["low", "high"], 400, "7 minutes"),
+    ):
+        got = minutes(longest, found, ended, left, took)
+        yield None if got == wanted else f"./build expects {got} for {left}, not {wanted}"
+
+
 def fault_of_unproved(prefix):
     """Returns what is wrong, if anything, when a program that says that it is not proved is installed without a word for that."""
     os.makedirs(prefix)
@@ -161,7 +178,7 @@ def fault_of_unproved(prefix):
         file.write("#!/bin/sh\necho vsim 1.0.0, sources 0, toolchain 0, not proved\n")
     os.chmod(f"{prefix}/program", 0o755)
     try:
-        installer().install("vsim", f"{prefix}/program", prefix)
+        script("install").install("vsim", f"{prefix}/program", prefix)
     except SystemExit as refused:
         return None if "not proved" in str(refused) and os.listdir(prefix) == ["program"] else f"./install refuses it by {refused}"
     return "./install takes a program without proofs"
@@ -183,7 +200,7 @@ def faults_of_shells(programs, prefix, is_installed):
     else:
         with contextlib.redirect_stdout(io.StringIO()):
             for name, program in programs.items():
-                installer().install(name, program, prefix, may_be_unproved=True)
+                script("install").install(name, program, prefix, may_be_unproved=True)
     for name in NAMES:
         yield from faults_of_files(name, prefix)
     found = [os.path.basename(it) for it in glob.glob(f"{prefix}/**/*.new-*", recursive=True)]
@@ -197,6 +214,7 @@ def faults(programs, room, is_installed):
     for name, program in programs.items():
         yield from faults_of_program(name, program)
     yield from faults_of_shells(programs, f"{room}/prefix", is_installed)
+    yield from faults_of_estimates()
     yield fault_of_waves(programs["vsim_waves"], room)
     yield fault_of_folder(programs["vsim"])
     yield fault_of_folder(tree(programs["vsim"], f"{room}/tree", ""))
