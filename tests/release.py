@@ -5,7 +5,7 @@
 
 The tarball and the package, made twice, a second later and by one who lets nobody else read files, are the same byte for byte. From each the program answers examples/bus.vhd with its listing, BUILT
 has what each program says of itself and the checksum of its file, and each has its man page. After `dpkg -r` no file of it is left.
-Where there is no dpkg, only the tarball is tried. Programs that say that they are not proved must be refused, and then that is all. The last line is `N passed, M failed`.
+Where there is no dpkg-deb, only the tarball is tried, and who is not root unpacks the package without installing it. Programs that say that they are not proved must be refused, and then that is all. The last line is `N passed, M failed`.
 """
 import glob
 import hashlib
@@ -81,8 +81,12 @@ def faults(programs, room):
     status, said = answer(["tar", "-xzf", archive, "-C", f"{room}/prefix", "--strip-components=1"])
     yield f"tar: {said.decode()}" if status else None
     yield from faults_of_prefix(f"{room}/prefix", programs)
-    if package and shutil.which("dpkg"):
+    if package and shutil.which("dpkg") and os.geteuid() == 0:
         yield from faults_of_package(package[0], programs, f"{room}/root")
+    elif package:
+        status, said = answer(["dpkg-deb", "-x", package[0], f"{room}/root"])
+        yield f"dpkg-deb -x: {said.decode()}" if status else None
+        yield from faults_of_prefix(f"{room}/root/usr", programs)
 
 
 def fault_of_unproved(programs, room):
