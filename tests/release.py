@@ -3,9 +3,11 @@
 
     release.py VSIM VSIM_EXPLAIN VSIM_WAVES VSIM_NETLIST
 
-The tarball and the package, made twice, a second later and by one who lets nobody else read files, are the same byte for byte. From each the program answers examples/bus.vhd with its listing, BUILT
-has what each program says of itself and the checksum of its file, and each has its man page. After `dpkg -r` no file of it is left.
-Where there is no dpkg-deb, only the tarball is tried, and who is not root unpacks the package without installing it. Programs that say that they are not proved must be refused, and then that is all. The last line is `N passed, M failed`.
+The tarball and the package, made twice, a second later and by one who lets nobody else read files, are the same byte for byte. From each
+the program answers examples/bus.vhd with its listing, BUILT has what each program says of itself and the checksum of its file, and each
+program has its man page. After `dpkg -r` no file of it is left. Where there is no dpkg-deb, only the tarball is tried, and who is not root
+unpacks the package without installing it. Programs that say that they are not proved must be refused, and then that is all. The last line
+is `N passed, M failed`.
 """
 import glob
 import hashlib
