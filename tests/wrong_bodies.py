@@ -61,11 +61,14 @@ BODIES = [
     Body("a result updates the nets", SIMULATION, "simulation.rt", "simulation::Simulation::deposit", "invariant", 1, [
         ("        put_results(&mut contents.state, number, results);",
          "        put_results(&mut contents.state, number, results);\n"
-         "        let _updated = contents.state.update(contents.time);")]),
+         "        contents.state.update(contents.time);")]),
     Body("a process that is executed in place updates the nets", SIMULATION, "simulation.rt", "simulation::execute", "step", 1, [
-        ("        &compiled.codes,\n        frame,\n    )?;",
-         "        &compiled.codes,\n        frame,\n    )?;\n"
-         "    let _updated = contents.state.update(contents.time);")]),
+        ("        &mut compiled.frame,\n    )\n}",
+         "        &mut compiled.frame,\n    )?;\n"
+         "    contents.state.update(contents.time);\n"
+         "    Ok(())\n}")]),
+    Body("a process that is due is left out", "sim_store_share", "execution.rt", "share::Share::execute", "loop", 1, [
+        ("            place += 1;\n            if quick.is_idle(&nets) {", "            place += 2;\n            if quick.is_idle(&nets) {")]),
     Body("a waiting process is forgotten over a delta cycle", SIMULATION, "simulation.rt", "simulation::leave", "left", 1, [
         ("        Phase::NonPostponed => {}", "        Phase::NonPostponed => waiting.clear(),")]),
     Body("a delta cycle of a postponed process is carried out", SIMULATION, "simulation.rt", "simulation::upcoming", "", 1, [

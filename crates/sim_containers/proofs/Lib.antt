@@ -8,5 +8,6 @@ pub mod Taking
 pub mod Least
 pub mod Queues
 pub mod Flat
-pub mod Divided
+pub mod Placed
+pub mod Split
 pub mod Lists

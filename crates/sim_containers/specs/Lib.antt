@@ -3,4 +3,3 @@ pub mod Numbers
 pub mod Times
 pub mod Entries
 pub mod RowArray
-pub mod DividedRows

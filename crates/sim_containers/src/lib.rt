@@ -2,7 +2,6 @@
 #![tactic(auto)]
 
 mod bit_set;
-mod divided_rows;
 mod entries;
 mod number_list;
 mod numbers;
@@ -12,7 +11,6 @@ mod stamps;
 mod times;
 mod words;
 
-pub use divided_rows::{DividedRows, item_place, place_of};
 pub use number_list::NumberList;
 pub use numbers::NumberSet;
 pub use rising_rows::RisingRows;

@@ -1,4 +1,4 @@
-use sim_containers::{DividedRows, RowArray};
+use sim_containers::RowArray;
 use std::alloc::{AllocError, Global};
 use std::test::Fail;
 
@@ -11,45 +11,42 @@ fn numbers(alloc: Global, lists: usize) -> Result<RowArray<usize>, AllocError> {
     Ok(rows)
 }
 
-/// The same lists, in about this many parts.
-fn divided(alloc: Global, lists: usize, parts: usize) -> Result<DividedRows<usize>, AllocError> {
-    let whole = DividedRows::of(alloc, numbers(alloc, lists)?)?;
-    whole.divide(alloc, parts)
-}
-
-/// The number of lists, the number of parts requested, the number of parts made, and the number of
-/// lists in the first.
-static PARTS: [(usize, usize, usize, usize); 6] = [
-    (0, 4, 1, 0),
-    (1, 4, 1, 1),
-    (8, 0, 1, 8),
-    (8, 2, 2, 4),
-    (10, 4, 4, 3),
-    (3, 8, 3, 1),
+/// A number of lists, the place at which they are split, and the numbers in front of it and behind it.
+static SPLITS: [(usize, usize, &[usize], &[usize]); 5] = [
+    (0, 0, &[], &[]),
+    (1, 0, &[], &[0]),
+    (1, 1, &[0], &[]),
+    (5, 2, &[0, 1], &[2, 3, 4]),
+    (5, 5, &[0, 1, 2, 3, 4], &[]),
 ];
 
-/// Whether there are this many parts, and this many lists in the first.
-fn are_so_many(parts: &[RowArray<usize>], count: usize, lists: usize) -> bool {
-    match parts.first() {
-        Some(first) => parts.len() == count && first.len() == lists,
-        None => false,
+/// Whether these lists have these numbers, one in each.
+fn have(rows: &RowArray<usize>, numbers: &[usize]) -> bool {
+    if rows.len() != numbers.len() || rows.flat() != numbers {
+        return false;
     }
+    for place in 0..rows.len() {
+        if rows.row(place).first() != Some(&numbers[place]) {
+            return false;
+        }
+    }
+    true
 }
 
-/// Whether a row of the table is divided like this, and can be put together again.
-fn is_divided(alloc: Global, row: &(usize, usize, usize, usize)) -> Result<bool, AllocError> {
-    let (parts, each) = divided(alloc, row.0, row.1)?.into_parts();
-    if !are_so_many(parts.as_slice(), row.2, row.3) {
+/// Whether the lists of a row of the table are split like this.
+fn are_split(alloc: Global, row: &(usize, usize, &[usize], &[usize])) -> Result<bool, AllocError> {
+    let mut front = numbers(alloc, row.0)?;
+    if row.1 > front.len() {
         return Ok(false);
     }
-    let (parts, _each) = DividedRows::of_parts(parts, each).into_parts();
-    Ok(are_so_many(parts.as_slice(), row.2, row.3))
+    let back = front.split_off(alloc, row.1)?;
+    Ok(have(&front, row.2) && have(&back, row.3))
 }
 
 /// Whether this is true of each row of the table.
-fn is_each_divided(alloc: Global) -> Result<bool, AllocError> {
-    for row in PARTS.iter() {
-        if !is_divided(alloc, row)? {
+fn is_each_split(alloc: Global) -> Result<bool, AllocError> {
+    for row in SPLITS.iter() {
+        if !are_split(alloc, row)? {
             return Ok(false);
         }
     }
@@ -57,7 +54,7 @@ fn is_each_divided(alloc: Global) -> Result<bool, AllocError> {
 }
 
 #[test]
-fn lists_are_divided_and_put_together(rt: HostRuntime) -> Result<(), Fail> {
-    assert!(rt; is_each_divided(rt.alloc())?);
+fn lists_are_split(rt: HostRuntime) -> Result<(), Fail> {
+    assert!(rt; is_each_split(rt.alloc())?);
     Ok(())
 }

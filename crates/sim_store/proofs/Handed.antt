@@ -1,13 +1,12 @@
 -- The processes of a range, executed one after another.
 use Rattle.std.proofs.Common.{ℕ, zero, suc, ◌+◌, ◌-◌, ◌<◌, ◌≤◌, ◌≡◌, ◌≢◌, Bool, true, false, List}
-use Rattle.std.proofs.Common.{[], ◌∷◌, length, set, ap, sym, ◌∙◌, subst, arith}
+use Rattle.std.proofs.Common.{[], ◌∷◌, length, set, refl, ap, sym, ◌∙◌, subst, arith}
 use Rattle.std.proofs.Math.Decide.{dec_lt}
 use Rattle.std.specs.List.{All}
 use Rattle.std.proofs.lemmas.List.{get_or-set_same, get_or-set_other, length-set}
 use Rattle.std.proofs.lemmas.List.Elements.{All-get_or}
 use Rattle.sim_flat_design.specs.Designs.{Design}
 use Rattle.sim_flat_design.specs.Processes.{Process, IsProcess}
-use Rattle.sim_containers.specs.Words.{IsNext, NoneFrom}
 use Rattle.sim_exec_statements.specs.Ready.{IsReady}
 use Rattle.sim_standard.specs.declared.net_view.NetView.{NetView}
 use Rattle.sim_standard.specs.State.{Owned, net_at, owned_at}
@@ -17,8 +16,13 @@ use Rattle.sim_standard.specs.Together.{merged}
 use Rattle.sim_standard.proofs.Names.{no_process, nothing_owned}
 use Rattle.sim_standard.proofs.Frame.{same_owned_after}
 use Rattle.sim_standard.proofs.Together.{merged-out}
-use Rattle.sim_store_simulation.specs.Simulation.{Simulation, is_due, reached, those_in}
-use Rattle.sim_store.specs.Handing.{PhaseInput, IsPhaseInput, IsNextBelow, IsRange, NoneBetween, completed, at_input, result_in}
+use Rattle.sim_standard.proofs.Numbers.{counted, ranged}
+use Rattle.sim_store_share.specs.InTurn.{AreExecuted, IsExecutable, after_one, left_by, nets_in, process_in}
+use Rattle.sim_store_share.specs.declared.reading.Reading.{Reading}
+use Rattle.sim_store_simulation.specs.Simulation.{Simulation, is_due, reached}
+use Rattle.sim_store_simulation.proofs.Along.{first-of, none-of}
+use Rattle.sim_store.specs.Handing.{PhaseInput, IsPhaseInput, IsRange, completed, at_input, due_from, result_in}
+use Rattle.sim_store.proofs.Places.{counted-within}
 
 -- a process of the set owns its result
 pub merged-in : (f : ℕ → Bool) (r : ℕ → Owned) (i p n : ℕ) (os : List Owned) → n ≡ i + p → f n ≡ true → p < length os
@@ -30,6 +34,17 @@ merged-in f r i zero n (o ∷ os) q is lt =
     let e : f i ≡ true = ap f at ∙ is in
     rw e (ap r at)
 merged-in f r i (suc p) n (o ∷ os) q is lt = merged-in f r (suc i) p n os (omega arith) is (omega (arith, lt))
+
+-- No number from one on and below another passes the test.
+abbrev pub NoneBetween : (ℕ → Bool) → ℕ → ℕ → Type 0
+NoneBetween test from to = (p : ℕ) → from ≤ p → p < to → test p ≡ false
+
+-- It is the first number from one on and below another that passes the test.
+pub record IsNextBelow (test : ℕ → Bool) (from to n : ℕ) : Type 0 where
+  pub further : from ≤ n
+  pub below : n < to
+  pub passes : test n ≡ true
+  pub first : (p : ℕ) → from ≤ p → p < n → test p ≡ false
 
 -- A due process owns its result once all have been executed, the others what they owned.
 pub completed-due : (h : Simulation) (p : ℕ) → is_due h p ≡ true → p < length (reached h).owned → owned_at (completed h).owned p ≡ result_in h p
@@ -152,21 +167,72 @@ pub executed-is : (h : Simulation) (n time : ℕ) (own : Owned) (nets : List Net
     → executed (λ object. net_at nets (object_net q object)) time q.body.statements own ≡ result_in h n
 executed-is h n time own nets q all lt et eo en eq = rw (en, eq) (result-executed h n time own all lt et eo)
 
--- ---- due processes
+-- ---- the due processes of a range
 
-module _ {design own : Design} {f : PhaseInput} (i : IsPhaseInput design own f) where
-  pub none-between : (from to : ℕ) → to ≤ length design.processes → NoneFrom (those_in f.due) from → NoneBetween (is_due (at_input design f)) from to
-  none-between from to le none p ge lt = sym (i.due_are p (omega (arith, le, lt))) ∙ none p ge
+module _ {design own : Design} {f : PhaseInput} (i : IsPhaseInput design own f) (r : Reading) (ep : r.processes.now ≡ design.processes)
+    (en : nets_in r ≡ (reached (at_input design f)).nets) (et : r.time ≡ f.time) where
+  same-process : (n : ℕ) → process_in r n ≡ process_at design.processes n
+  same-process n = ap (λ (ps : List Process). process_at ps n) ep
 
-  pub none-beyond : (from to n : ℕ) → to ≤ length design.processes → IsNext (those_in f.due) from n → to ≤ n
-      → NoneBetween (is_due (at_input design f)) from to
-  none-beyond from to n le next beyond p ge lt = sym (i.due_are p (omega (arith, le, lt))) ∙ next.first p ge (omega (arith, lt, beyond))
+  same-time : r.time ≡ (reached (at_input design f)).time
+  same-time = et ∙ i.time_is
 
-  pub next-below : (from to n : ℕ) → to ≤ length design.processes → IsNext (those_in f.due) from n → n < to
-      → IsNextBelow (is_due (at_input design f)) from to n
-  next-below from to n le next lt = record {
-    further = next.further;
-    below = lt;
-    passes = sym (i.due_are n (omega (arith, le, lt))) ∙ next.passes;
-    first = λ p ge before. sym (i.due_are p (omega (arith, le, lt, before))) ∙ next.first p ge before;
-  }
+  -- those of a range can be executed
+  pub range-executable : (numbers : List ℕ) (owned : List Owned) → numbers ≡ due_from (at_input design f) r.first (length owned)
+      → IsRange (at_input design f) (reached (at_input design f)).owned r.first owned → All (IsExecutable r owned) numbers
+  range-executable numbers owned is w =
+      let h = at_input design f in
+      subst (λ (ns : List ℕ). All (IsExecutable r owned) ns) (sym (is ∙ ranged (is_due h) r.first (length owned)))
+      (counted-within (is_due h) r.first (length owned) (IsExecutable r owned) (λ n ge lt.
+      let at : r.first + (n - r.first) ≡ n = omega (arith, ge) in
+      let inside : n - r.first < length owned = omega (arith, ge, lt) in
+      let ready = w.ready (n - r.first) inside in
+      record {
+        from = ge;
+        number = omega (arith, lt, w.within, ap length ep);
+        owns = inside;
+        ready = subst (λ (q : Process). IsReady q.body r.time (owned_at owned (n - r.first))) (sym (same-process n))
+            (subst (λ (t : ℕ). IsReady (process_at design.processes n).body t (owned_at owned (n - r.first))) (sym same-time)
+            (subst (λ (k : ℕ). IsReady (process_at design.processes k).body (reached h).time (owned_at owned (n - r.first))) at ready));
+      }))
+
+  -- those from a number on have been executed, and those before it were
+  rest-executed : (numbers : List ℕ) (next count : ℕ) (old new : List Owned) → IsPartly (at_input design f) r.first next old
+      → next + count ≡ r.first + length old → numbers ≡ counted (is_due (at_input design f)) next count → AreExecuted r numbers old new
+      → IsRange (at_input design f) (completed (at_input design f)).owned r.first new
+  rest-executed [] next count old new w end is e =
+      let h = at_input design f in
+      subst (λ (os : List Owned). IsRange h (completed h).owned r.first os) (sym e)
+      (partly-last next (r.first + length old) refl w (λ p ge lt. none-of (is_due h) next count (sym is) p ge (omega (arith, lt, end))))
+  rest-executed (n ∷ ns) next count old new w end is e =
+      let h = at_input design f in
+      let g = first-of (is_due h) next count n ns (sym is) in
+      let begun : next ≤ n = g.next.further in
+      let first : r.first ≤ next = w.begun in
+      let place = n - r.first in
+      let inside : place < length old = omega (arith, g.below, end, begun, first) in
+      let at : r.first + place ≡ n = omega (arith, begun, first) in
+      let owns : owned_at old place ≡ owned_at (reached h).owned n =
+      w.left place inside (omega (arith, begun, at)) ∙ ap (owned_at (reached h).owned) at in
+      let lt : n < length design.processes = omega (arith, inside, at, w.within) in
+      let left : left_by r n (owned_at old place) ≡ result_in h n =
+      executed-is h n r.time (owned_at old place) (nets_in r) (process_in r n) i.processes lt same-time owns en (same-process n) in
+      let after = after_one r old n in
+      let ready : IsReady (process_at design.processes n).body (reached h).time (owned_at after place) =
+      subst (λ (t : ℕ). IsReady (process_at design.processes n).body t (owned_at after place)) same-time
+      (subst (λ (q : Process). IsReady q.body r.time (owned_at after place)) (same-process n) e.0) in
+      let more : IsPartly h r.first (n + 1) after = partly-more next (r.first + length old) n after refl w (record {
+        further = begun;
+        below = omega (arith, g.below, end);
+        passes = g.next.passes;
+        first = g.next.first;
+      }) i.all_own (ap (set old place) left) ready in
+      let long : length after ≡ length old = length-set old place (left_by r n (owned_at old place)) in
+      rest-executed ns (n + 1) (next + count - (n + 1)) after new more (omega (arith, g.below, end, long)) g.rest_is e.1
+
+  pub range-executed : (numbers : List ℕ) (old new : List Owned) → numbers ≡ due_from (at_input design f) r.first (length old)
+      → IsRange (at_input design f) (reached (at_input design f)).owned r.first old → AreExecuted r numbers old new
+      → IsRange (at_input design f) (completed (at_input design f)).owned r.first new
+  range-executed numbers old new is w e =
+      let h = at_input design f in
+      rest-executed numbers r.first (length old) old new (partly-first w) refl (is ∙ ranged (is_due h) r.first (length old)) e

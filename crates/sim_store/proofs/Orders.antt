@@ -2,17 +2,19 @@
 use Rattle.std.proofs.Common.{ℕ, suc, ◌+◌, ◌<◌, ◌≤◌, ◌≡◌, ◌++◌, List, [], ◌∷◌, length, drop, take, get_or, refl, ap, sym, ◌∙◌, subst, arith, append_assoc, sum}
 use Rattle.std.proofs.Math.Decide.{dec_lt}
 use Rattle.std.proofs.Math.Seq.{take-suc}
-use Rattle.std.proofs.lemmas.List.{drop_all, drop_more, length-append}
+use Rattle.std.proofs.lemmas.List.{drop_all, drop_more, length-append, map-append}
 use Rattle.std.proofs.lemmas.List.Sums.{sum_by-cons}
 use Rattle.sim_standard.specs.State.{Owned}
 use Rattle.sim_containers.specs.RowArray.{joined}
-use Rattle.sim_store_state.specs.Lending.{counts}
-use Rattle.sim_store_state.proofs.Sharing.{counts-more}
+use Rattle.sim_store_state.specs.FlatState.{counts}
 use Rattle.sim_store_simulation.specs.declared.phase.Phase.{Phase}
 use Rattle.sim_store_simulation.specs.Simulation.{Simulation}
 use Rattle.sim_store.specs.Handing.{IsRange, Range, AreInOrder, AreParts, lengths}
 
 -- ---- handed out from the last one on
+
+counts-more : (ss : List (List Owned)) (s : List Owned) → counts (ss ++ s ∷ []) ≡ counts ss ++ length s ∷ []
+counts-more ss s = map-append (λ (xs : List Owned). length xs) ss (s ∷ [])
 
 -- one more
 pub more-handed : (ss : List (List Owned)) (s : List Owned) (o : Range) (os : List Range) (ns : List ℕ) → length o.owned ≡ length s

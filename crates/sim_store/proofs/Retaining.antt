@@ -1,26 +1,26 @@
 -- A simulation is taken apart, and put together again.
-use Rattle.std.proofs.Common.{ℕ, ◌+◌, ◌-◌, ◌<◌, ◌≡◌, Bool, true, false, List}
+use Rattle.std.proofs.Common.{ℕ, zero, suc, ◌+◌, ◌-◌, ◌<◌, ◌≡◌, ◌++◌, Bool, true, false, List, [], ◌∷◌}
 use Rattle.std.proofs.Common.{length, refl, ap, sym, ◌∙◌, subst, arith}
 use Rattle.std.specs.List.{All}
-use Rattle.std.proofs.lemmas.List.{length-map}
+use Rattle.std.proofs.lemmas.List.{map-append}
 use Rattle.std.proofs.lemmas.List.Elements.{All-get_or}
 use Rattle.sim_logic.specs.declared.logic.Logic.{Logic}
 use Rattle.sim_flat_design.specs.declared.design.Source.{Source}
-use Rattle.sim_flat_design.specs.Bodies.{Body}
 use Rattle.sim_flat_design.specs.Designs.{Design}
 use Rattle.sim_flat_design.specs.Processes.{IsProcess}
-use Rattle.sim_exec_statements.specs.Ready.{IsReady, holds_bit}
 use Rattle.sim_exec_code.specs.Codes.{Coded, AreCodesOf}
+use Rattle.sim_standard.specs.Drivers.{DriverState}
 use Rattle.sim_standard.specs.declared.net_view.NetView.{NetView}
-use Rattle.sim_standard.specs.State.{Owned, driver_values, net_at, owned_at}
+use Rattle.sim_standard.specs.State.{Owned, all_drivers, driver_values, net_at, owned_at}
 use Rattle.sim_standard.specs.Processes.{object_net, process_at}
 use Rattle.sim_standard.proofs.Frame.{same_owned_after}
 use Rattle.sim_standard.proofs.ValuesKept.{values_kept}
 use Rattle.sim_standard.specs.declared.record.Record.{Record}
 use Rattle.sim_standard.proofs.Names.{no_process}
+use Rattle.sim_store_nets.specs.Lists.{NetValues}
 use Rattle.sim_store_nets.specs.Nets.{views_of}
-use Rattle.sim_store_state.specs.FlatState.{FlatState}
-use Rattle.sim_store_state.specs.Lending.{HaveValues}
+use Rattle.sim_containers.specs.RowArray.{joined}
+use Rattle.sim_store_state.specs.FlatState.{AreShares, FlatState, IsConsistent, counts}
 use Rattle.sim_store_simulation.specs.Simulation.{Simulation, IsComplete, IsSimulation, IsStateOf, is_due}
 use Rattle.sim_store_simulation.specs.Simulation.{reached, those_in, with_marks}
 use Rattle.sim_store_simulation.specs.declared.phase.Phase.{Phase}
@@ -36,25 +36,23 @@ use Rattle.sim_store.proofs.Returning.{back-complete, back-keeps, fresh-input, f
 module _ {h : Simulation} {time delta : ℕ} {held : FlatState} {records : List Record} {due waiting : List Bool}
     (i : IsStateOf h time delta held records due waiting) (fresh : (p : ℕ) → those_in h.deposited p ≡ false) where
   -- what is read is that of the phase, of the design that is named
-  pub first-input : (d : Design) (n : ℕ) → h.design ≡ d → n ≡ h.cycles → (codes : Coded) (values values_before : List Logic)
-      → AreCodesOf h.design.processes codes → views_of values values_before ≡ held.nets
+  pub first-input : (d : Design) (n : ℕ) → h.design ≡ d → n ≡ h.cycles → (codes : Coded) (values : NetValues)
+      → AreCodesOf h.design.processes codes → views_of values.present values.before ≡ held.nets
       → IsPhaseInput d h.design (record {
         cycles = n;
         phase = h.phase;
         time = time;
         codes = codes;
         values = values;
-        values_before = values_before;
         due = due;
       })
-  first-input d n ed en codes values values_before are nets =
+  first-input d n ed en codes values are nets =
       subst (λ (k : ℕ). IsPhaseInput d h.design (record {
         cycles = k;
         phase = h.phase;
         time = time;
         codes = codes;
         values = values;
-        values_before = values_before;
         due = due;
       })) (sym en)
       (subst (λ (e : Design). IsPhaseInput e h.design (record {
@@ -63,9 +61,8 @@ module _ {h : Simulation} {time delta : ℕ} {held : FlatState} {records : List 
         time = time;
         codes = codes;
         values = values;
-        values_before = values_before;
         due = due;
-      })) ed (fresh-input i fresh codes values values_before are nets))
+      })) ed (fresh-input i fresh codes values are nets))
 
   -- and all that is owned is a range of that
   pub first-range : (d : Design) (n : ℕ) → h.design ≡ d → n ≡ h.cycles → (owned : List Owned) → owned ≡ held.owned
@@ -98,9 +95,18 @@ simulation_by design records phase marks = record { design = design; cycles = le
 
 -- ---- put together again
 
--- what fits a body has as many variables
-ready-long : {body : Body} {time : ℕ} {own : Owned} → IsReady body time own → length own.variables ≡ length body.variables
-ready-long {body} {time} {own} r = sym (length-map own.variables holds_bit) ∙ (ap length r.variables ∙ length-map body.variables holds_bit)
+-- the values of all drivers, if those of each process have the same
+all-values : (os os' : List Owned) → length os' ≡ length os
+    → ((p : ℕ) → p < length os → driver_values (owned_at os' p).drivers ≡ driver_values (owned_at os p).drivers)
+    → driver_values (all_drivers os') ≡ driver_values (all_drivers os)
+all-values [] [] e same = refl
+all-values [] (o' ∷ os') e same = absurd (omega (arith, e))
+all-values (o ∷ os) [] e same = absurd (omega (arith, e))
+all-values (o ∷ os) (o' ∷ os') e same =
+    let value : DriverState → Logic = λ d. d.value in
+    let rest = all-values os os' (omega (arith, e)) (λ p lt. same (suc p) (omega (arith, lt))) in
+    map-append value o'.drivers (all_drivers os') ∙ (ap (λ (ws : List Logic). ws ++ driver_values (all_drivers os')) (same zero (omega arith))
+    ∙ (ap (λ (ws : List Logic). driver_values o.drivers ++ ws) rest ∙ sym (map-append value o.drivers (all_drivers os))))
 
 -- an execution leaves the values of drivers
 result-values : (h : Simulation) (p : ℕ) → All IsProcess h.design.processes → p < length h.design.processes
@@ -115,7 +121,7 @@ result-values h p all lt =
 module _ (d : Design) (f : PhaseInput) (k : RetainedContents) (is : IsRetained d f k) (owned' : List Owned)
     (range : IsRange (at_input d f) (completed (at_input d f)).owned 0 owned') (all : length owned' ≡ length d.processes) where
   i : IsStateOf (retained_of d f k) f.time k.delta
-      (record { sources = k.update_lists.sources; nets = views_of f.values f.values_before; owned = (reached (retained_of d f k)).owned }) k.log.records f.due
+      (record { sources = k.lists.sources; nets = views_of f.values.present f.values.before; owned = (reached (retained_of d f k)).owned }) k.log.records f.due
       k.waiting.waiting
   i = is.holds.state
 
@@ -138,21 +144,17 @@ module _ (d : Design) (f : PhaseInput) (k : RetainedContents) (is : IsRetained d
           ∙ result-values (at_input d f) p i.processes (omega (arith, lt, reached-all i))
       go false t = ap (λ (w : Owned). driver_values w.drivers) (completed-other (at_input d f) p t)
 
-  pub whole-values : HaveValues f.due owned' (reached (retained_of d f k)).owned
-  whole-values = record {
-    count = all ∙ sym (reached-all i);
-    sized = i.due_sized ∙ sym (reached-all i);
-    others = λ p lt out.
-        let z : 0 + p ≡ p = omega arith in
-        let is_out : is_due (at_input d f) p ≡ false = sym (i.due_are p (omega (arith, lt, reached-all i))) ∙ out in
-        range.owned_are p (omega (arith, lt, all, reached-all i)) ∙ (ap (owned_at (completed (at_input d f)).owned) z
-        ∙ completed-other (at_input d f) p is_out);
-    values = λ p lt. same-values p lt (is_due (retained_of d f k) p) refl;
-    variables = λ p lt.
-        let z : 0 + p ≡ p = omega arith in
-        let now = ready-long (range.ready p (omega (arith, lt, all, reached-all i))) in
-        let before = ready-long (i.ready p (omega (arith, lt, reached-all i))) in
-        now ∙ (ap (λ (n : ℕ). length (process_at d.processes n).body.variables) z ∙ sym before);
+  -- so the state that the shares make is consistent
+  pub whole-consistent : (shares : List (List Owned)) → joined shares ≡ owned' → AreShares (counts shares) → IsConsistent f.values shares k.lists
+  whole-consistent shares eo sizes = record {
+    shared = sizes;
+    nets = is.split.nets;
+    valued = is.split.valued
+        ∙ (sym (all-values (reached (retained_of d f k)).owned owned' (all ∙ sym (reached-all i))
+        (λ p lt. same-values p lt (is_due (retained_of d f k) p) refl))
+        ∙ ap (λ (os : List Owned). driver_values (all_drivers os)) (sym eo));
+    resolving = is.split.resolving;
+    touching = is.split.touching;
   }
 
   -- the number of cycles, by the records
@@ -167,7 +169,7 @@ module _ (d : Design) (f : PhaseInput) (k : RetainedContents) (is : IsRetained d
     pub whole-complete : IsComplete (simulation_by own k.log.records f.phase f.due)
     whole-complete = subst IsComplete (sym whole-same) (back-complete i is.fresh owned' f.due range all sized-now (λ p. refl))
 
-    pub whole-holds : (state : FlatState) → state ≡ record { sources = k.update_lists.sources; nets = views_of f.values f.values_before; owned = owned' }
+    pub whole-holds : (state : FlatState) → state ≡ record { sources = k.lists.sources; nets = views_of f.values.present f.values.before; owned = owned' }
         → IsSimulation (simulation_by own k.log.records f.phase f.due) k.sensitive f.codes k.frame f.time k.delta state k.log.records f.due k.deposited
         k.waiting.postponed k.waiting.waiting k.totals.items
     whole-holds state es =

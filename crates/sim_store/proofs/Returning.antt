@@ -1,9 +1,8 @@
--- What comes back of a phase that was handed out is what the simulation holds once all due processes have been executed.
+-- A phase that was handed out comes back as the contents of the simulation once all due processes have been executed.
 use Rattle.std.proofs.Common.{ℕ, suc, ◌+◌, ◌-◌, ◌<◌, ◌≡◌, ◌++◌, ◌||◌, Bool, true, false, if◌then◌else◌, List}
 use Rattle.std.proofs.Common.{length, refl, ap, sym, ◌∙◌, subst, arith}
 use Rattle.std.proofs.Math.Decide.{dec_lt}
 use Rattle.std.proofs.lemmas.List.{ext_get_or, get_or_append_left, get_or-append_right, length-append}
-use Rattle.sim_logic.specs.declared.logic.Logic.{Logic}
 use Rattle.sim_flat_design.specs.Designs.{Design}
 use Rattle.sim_exec_statements.specs.Ready.{IsReady}
 use Rattle.sim_exec_code.specs.Codes.{Coded, AreCodesOf}
@@ -13,6 +12,7 @@ use Rattle.sim_standard.specs.declared.record.Record.{Record}
 use Rattle.sim_standard.proofs.Names.{nothing_owned}
 use Rattle.sim_standard.proofs.Together.{length-merged, merged-none}
 use Rattle.sim_standard.proofs.Parallel.{merged-below}
+use Rattle.sim_store_nets.specs.Lists.{NetValues}
 use Rattle.sim_store_nets.specs.Nets.{views_of}
 use Rattle.sim_store_state.specs.FlatState.{FlatState}
 use Rattle.sim_store_nets.proofs.Walks.{member_within}
@@ -103,17 +103,16 @@ module _ {h : Simulation} {time delta : ℕ} {held : FlatState} {records : List 
   }
 
   -- what is read is that of the phase
-  pub fresh-input : (codes : Coded) (values values_before : List Logic) → AreCodesOf h.design.processes codes → views_of values values_before ≡ held.nets
+  pub fresh-input : (codes : Coded) (values : NetValues) → AreCodesOf h.design.processes codes → views_of values.present values.before ≡ held.nets
       → IsPhaseInput h.design h.design (record {
         cycles = h.cycles;
         phase = h.phase;
         time = time;
         codes = codes;
         values = values;
-        values_before = values_before;
         due = due;
       })
-  fresh-input codes values values_before are nets = record {
+  fresh-input codes values are nets = record {
     design_is = refl;
     processes = i.processes;
     all_own = reached-all i;

@@ -1,8 +1,7 @@
--- The processes of a phase, handed out in ranges to be executed, and what comes back.
+-- The processes of a phase, handed out in ranges to be executed, and the answers.
 -- Implementation only: what `simulate` promises does not rest on this file.
-use Rattle.std.specs.Prelude.{ℕ, ◌≡◌, ◌+◌, ◌<◌, ◌≤◌, List, [], ◌∷◌, Bool, true, false, map, length}
-use Rattle.std.specs.List.{All}
-use Rattle.sim_logic.specs.declared.logic.Logic.{Logic}
+use Rattle.std.specs.Prelude.{ℕ, ◌≡◌, ◌+◌, ◌<◌, ◌≤◌, List, [], ◌∷◌, Bool, false, map, length}
+use Rattle.std.specs.List.{All, filter, range_with_len}
 use Rattle.sim_logic.specs.Time.{largest_time}
 use Rattle.sim_flat_design.specs.Designs.{Design}
 use Rattle.sim_flat_design.specs.Processes.{IsProcess}
@@ -11,6 +10,7 @@ use Rattle.sim_standard.specs.Processes.{owned_after, part, process_at}
 use Rattle.sim_standard.specs.Together.{together}
 use Rattle.sim_exec_statements.specs.Ready.{IsReady}
 use Rattle.sim_exec_code.specs.Codes.{Coded, AreCodesOf}
+use Rattle.sim_store_nets.specs.Lists.{NetValues}
 use Rattle.sim_store_nets.specs.Nets.{views_of}
 use Rattle.sim_store_simulation.specs.declared.phase.Phase.{Phase}
 use Rattle.sim_store_simulation.specs.Simulation.{Simulation, is_due, reached, those_in}
@@ -28,14 +28,13 @@ completed h = together h.design.processes (is_due h) (reached h)
 abbrev pub result_in : Simulation → ℕ → Owned
 result_in h p = owned_after (process_at h.design.processes p) (part (process_at h.design.processes p) p (reached h))
 
--- What is read during a phase: the codes, the values of nets and those before the cycle, the due processes, and the time.
+-- The input during a phase: the codes, the values of nets, the due processes, and the time.
 pub record PhaseInput : Type 0 where
   pub cycles : ℕ
   pub phase : Phase
   pub time : ℕ
   pub codes : Coded
-  pub values : List Logic
-  pub values_before : List Logic
+  pub values : NetValues
   pub due : List Bool
 
 -- the simulation that it belongs to
@@ -48,7 +47,7 @@ pub record IsPhaseInput (design own : Design) (f : PhaseInput) : Type 0 where
   pub processes : All IsProcess design.processes
   pub all_own : length (reached (at_input design f)).owned ≡ length design.processes
   pub codes_are : AreCodesOf design.processes f.codes
-  pub nets_are : views_of f.values f.values_before ≡ (reached (at_input design f)).nets
+  pub nets_are : views_of f.values.present f.values.before ≡ (reached (at_input design f)).nets
   pub time_is : f.time ≡ (reached (at_input design f)).time
   pub early : f.time ≤ largest_time
   pub due_sized : length f.due ≡ length design.processes
@@ -60,16 +59,9 @@ pub record IsRange (h : Simulation) (all : List Owned) (from : ℕ) (owned : Lis
   pub owned_are : (i : ℕ) → i < length owned → owned_at owned i ≡ owned_at all (from + i)
   pub ready : (i : ℕ) → i < length owned → IsReady (process_at h.design.processes (from + i)).body (reached h).time (owned_at owned i)
 
--- No number from one on and below another passes the test.
-abbrev pub NoneBetween : (ℕ → Bool) → ℕ → ℕ → Type 0
-NoneBetween test from to = (p : ℕ) → from ≤ p → p < to → test p ≡ false
-
--- It is the first number from one on and below another that passes the test.
-pub record IsNextBelow (test : ℕ → Bool) (from to n : ℕ) : Type 0 where
-  pub further : from ≤ n
-  pub below : n < to
-  pub passes : test n ≡ true
-  pub first : (p : ℕ) → from ≤ p → p < n → test p ≡ false
+-- the processes of a phase among `count` from a number on, rising
+abbrev pub due_from : Simulation → ℕ → ℕ → List ℕ
+due_from h from count = filter (is_due h) (range_with_len from count)
 
 -- An order or the answer to it: its cycle and phase, and what the processes from a number on own then.
 pub record Range : Type 0 where
@@ -100,7 +92,7 @@ pub record AreParts (cycles : ℕ) (phase : Phase) (parts : List ℕ) (ranges : 
   pub counts_are : lengths ranges ≡ parts
   pub in_order : AreInOrder cycles phase 0 ranges
 
--- What stays of a store while a phase is handed out in parts of this many processes each.
+-- The rest of a store while a phase is handed out in parts of this many processes each.
 pub record HandedOutStore : Type 0 where
   pub store : WaveStore
   pub parts : List ℕ

@@ -8,7 +8,7 @@ ghost use Rattle.sim_store_simulation.specs.Simulation as simulations;
 ghost use Rattle.sim_store.specs.WaveStore as store;
 ghost use Rattle.sim_store.specs.declared.error.HandOutError.TheVariants as reason;
 ghost use Rattle.sim_containers.specs.RowArray.{joined};
-ghost use Rattle.sim_store_state.specs.Lending.{AreShares, counts};
+ghost use Rattle.sim_store_state.specs.FlatState.{AreShares, counts};
 
 use crate::design_type::DesignType;
 use crate::error::HandOutError;
@@ -17,8 +17,8 @@ use crate::order::{Answer, Order};
 use crate::phase_input::PhaseInput;
 use crate::retained::{RetainedContents, join_contents, split_contents};
 use crate::store::WaveStore;
+use sim_store_share::Share;
 use sim_store_simulation::Simulation;
-use sim_store_state::Shares;
 use std::alloc::{AllocError, Global};
 use std::marker::Model;
 use std::sync::Arc;
@@ -59,7 +59,7 @@ impl<D: DesignType> Model for HandedOutStore<D> {
     ghost use Rattle.sim_store.specs.Handing.{HandedOutStore};
     ghost use Rattle.sim_store.specs.Retained.{IsRetained, retained_of};
     ghost use Rattle.sim_store.specs.WaveStore.{IsStore};
-    ghost use Rattle.sim_store_state.specs.Lending.{AreShares};
+    ghost use Rattle.sim_store_state.specs.FlatState.{AreShares};
 
     ghost Value = { HandedOutStore };
 
@@ -72,20 +72,20 @@ impl<D: DesignType> Model for HandedOutStore<D> {
 
     ghost invariant = { λ r. IsRetained D.design (arc_value r.input) r.retained
         × IsStore (record { simulation = retained_of D.design (arc_value r.input) r.retained; stop = r.stop; limit = r.limit; ended = None })
-        × AreShares r.retained.update_lists.each r.parts.items × (sum r.parts.items ≡ length D.design.processes) };
+        × AreShares r.parts.items × (sum r.parts.items ≡ length D.design.processes) };
 }
 
 /// The orders for all processes, and the number of processes of each.
 fn orders_and_lengths<D: DesignType>(
     alloc: Global,
-    shares: Shares,
+    shares: Vec<Share>,
     input: &Arc<PhaseInput<D>, Global>,
 ) -> Result<(Vec<Order<D>>, Vec<usize>), AllocError>
     requires range { spec.IsRange (spec.at_input D.design (arc_value input.now))
-        (simulations.reached (spec.at_input D.design (arc_value input.now))).owned 0 (joined shares) }
-    requires all { length (joined shares) ≡ length D.design.processes }
+        (simulations.reached (spec.at_input D.design (arc_value input.now))).owned 0 (joined shares.items) }
+    requires all { length (joined shares.items) ≡ length D.design.processes }
     ensures orders { IfOk result (λ r. spec.AreParts (arc_value input.now).cycles (arc_value input.now).phase r.1.items r.0.items) }
-    ensures lengths { IfOk result (λ r. r.1.items ≡ counts shares) }
+    ensures lengths { IfOk result (λ r. r.1.items ≡ counts shares.items) }
 {
     let orders = orders_of(alloc, shares, input)?;
     let lengths = lengths_of(alloc, orders.as_slice())?;
@@ -97,13 +97,13 @@ fn orders_and_lengths<D: DesignType>(
 fn shared_input<D: DesignType>(
     alloc: Global,
     input: PhaseInput<D>,
-    shares: Shares,
+    shares: Vec<Share>,
 ) -> Result<(Arc<PhaseInput<D>, Global>, Vec<Order<D>>, Vec<usize>), AllocError>
-    requires range { spec.IsRange (spec.at_input D.design input) (simulations.reached (spec.at_input D.design input)).owned 0 (joined shares) }
-    requires all { length (joined shares) ≡ length D.design.processes }
+    requires range { spec.IsRange (spec.at_input D.design input) (simulations.reached (spec.at_input D.design input)).owned 0 (joined shares.items) }
+    requires all { length (joined shares.items) ≡ length D.design.processes }
     ensures input { IfOk result (λ r. arc_value r.0 ≡ input) }
     ensures orders { IfOk result (λ r. spec.AreParts input.cycles input.phase r.2.items r.1.items) }
-    ensures lengths { IfOk result (λ r. r.2.items ≡ counts shares) }
+    ensures lengths { IfOk result (λ r. r.2.items ≡ counts shares.items) }
 {
     let input = Arc::new(alloc, input)?;
     let (orders, parts) = orders_and_lengths(alloc, shares, &input)?;
@@ -124,7 +124,7 @@ pub fn hand_out_phase<D: DesignType>(
     ensures orders { IfOk result (λ r. spec.AreAll r.0 r.1.items) }
 {
     let (design, contents) = simulation.into_contents();
-    let (input, shares, retained) = split_contents::<D>(alloc, design, contents)?;
+    let (input, shares, retained) = split_contents::<D>(design, contents);
     let (input, orders, parts) = shared_input(alloc, input, shares)?;
     let handed_out = HandedOutStore {
         input,
@@ -143,11 +143,11 @@ fn collect_answers<D: DesignType>(
     input: Arc<PhaseInput<D>, Global>,
     parts: Vec<usize>,
     answers: Vec<Answer<D>>,
-) -> Result<(PhaseInput<D>, Shares), HandOutError>
+) -> Result<(PhaseInput<D>, Vec<Share>), HandOutError>
     ensures input { IfOk result (λ r. r.0 ≡ arc_value input) }
     ensures range { IfOk result (λ r. spec.IsRange (spec.at_input D.design (arc_value input))
-        (spec.completed (spec.at_input D.design (arc_value input))).owned 0 (joined r.1)) }
-    ensures counts { IfOk result (λ r. counts r.1 ≡ parts.items) }
+        (spec.completed (spec.at_input D.design (arc_value input))).owned 0 (joined r.1.items)) }
+    ensures counts { IfOk result (λ r. counts r.1.items ≡ parts.items) }
     ensures err { IfErr result (λ e. e ≡ reason.Stranger
         → spec.AreParts (arc_value input).cycles (arc_value input).phase parts.items answers.items → ⊥) }
 {
@@ -162,13 +162,13 @@ fn collect_answers<D: DesignType>(
 fn simulation_of<D: DesignType>(
     alloc: Global,
     input: PhaseInput<D>,
-    shares: Shares,
+    shares: Vec<Share>,
     retained: RetainedContents,
 ) -> Result<Simulation, AllocError>
     requires retained { IsRetained D.design input retained }
-    requires range { spec.IsRange (spec.at_input D.design input) (spec.completed (spec.at_input D.design input)).owned 0 (joined shares) }
-    requires all { length (joined shares) ≡ length D.design.processes }
-    requires shares { AreShares retained.update_lists.each (counts shares) }
+    requires range { spec.IsRange (spec.at_input D.design input) (spec.completed (spec.at_input D.design input)).owned 0 (joined shares.items) }
+    requires all { length (joined shares.items) ≡ length D.design.processes }
+    requires shares { AreShares (counts shares.items) }
     ensures same { IfOk result (λ s. s ≡ simulations.with_marks (retained_of D.design input retained) s.deposited) }
     ensures complete { IfOk result simulations.IsComplete }
 {

@@ -1,16 +1,15 @@
-//! A share of the processes, handed out to be executed, and what comes back.
+//! A share of the processes, handed out to be executed, and the answer to it.
 
-ghost use Rattle.std.specs.Prelude.{ℕ, ◌≡◌, ◌≤◌, ◌+◌, IfOk, OnOk, length};
+ghost use Rattle.std.specs.Prelude.{◌≡◌, IfOk, length};
 ghost use Rattle.std.specs.Arc.{arc_value};
-ghost use Rattle.sim_exec_code.specs.Codes.{FitsAll};
 ghost use Rattle.sim_store.specs.Handing as spec;
 ghost use Rattle.sim_store_simulation.specs.Simulation.{reached};
 
 use crate::design_type::DesignType;
 use crate::phase_input::PhaseInput;
 use sim_exec::Frame;
+use sim_store_share::Share;
 use sim_store_simulation::Phase;
-use sim_store_state::Share;
 use std::alloc::{AllocError, Global};
 use std::marker::{Model, PhantomData};
 use std::sync::Arc;
@@ -69,32 +68,8 @@ impl<D: DesignType> Model for Answer<D> {
     ghost invariant = { λ a. IsRange (at_phase D.design a.cycles a.phase) (completed (at_phase D.design a.cycles a.phase)).owned a.from a.share };
 }
 
-/// Executes the due processes of a share.
-fn execute_range<D: DesignType>(
-    alloc: Global,
-    input: &PhaseInput<D>,
-    from: usize,
-    frame: &mut Frame,
-    share: &mut Share,
-) -> Result<(), AllocError>
-    requires range { spec.IsRange (spec.at_input D.design input.now) (reached (spec.at_input D.design input.now)).owned from share.old }
-    requires frame { FitsAll input.now.codes.codes frame.old }
-    ensures range { OnOk result (spec.IsRange (spec.at_input D.design input.now) (spec.completed (spec.at_input D.design input.now)).owned from share.new) }
-    ensures count { OnOk result (length share.new ≡ length share.old) }
-{
-    let _count = input.count();
-    let to = from + share.len();
-    let mut place = input.place_from(from);
-    let mut next = from;
-    while let Some(number) = input.next(place, next, to) {
-        input.execute(alloc, number, number - from, frame, share)?;
-        place = place.wrapping_add(1);
-        next = number + 1;
-    }
-    Ok(())
-}
-
-/// The same, on a frame that was kept, or on a new one; it is kept after that.
+/// Executes the due processes of a share, on a frame that was kept, or on a new one; it is kept after
+/// that.
 fn executed<D: DesignType>(
     alloc: Global,
     input: &PhaseInput<D>,
@@ -108,7 +83,7 @@ fn executed<D: DesignType>(
 {
     let mut share = share;
     let mut frame = input.frame(alloc, kept.take())?;
-    execute_range(alloc, input, from, &mut frame, &mut share)?;
+    input.execute(alloc, from, &mut frame, &mut share)?;
     *kept = Some(frame);
     Ok(share)
 }
@@ -137,6 +112,13 @@ impl<D: DesignType> Order<D> {
         Order { from, share, input }
     }
 
+    /// The number of the first process.
+    pub fn from(&self) -> usize
+        ensures { result ≡ self.now.from }
+    {
+        self.from
+    }
+
     /// The number of processes.
     pub fn len(&self) -> usize
         ensures { result ≡ length self.now.owned }
@@ -146,19 +128,7 @@ impl<D: DesignType> Order<D> {
 
     /// Whether at least this many of these processes are due, so that it is worth handing out.
     pub fn is_worthwhile(&self, least: usize) -> bool {
-        let input = &*self.input;
-        let _count = input.count();
-        let to = self.from + self.share.len();
-        let mut place = input.place_from(self.from);
-        let mut next = self.from;
-        for _turn in 0..least {
-            match input.next(place, next, to) {
-                None => return false,
-                Some(number) => next = number + 1,
-            }
-            place = place.wrapping_add(1);
-        }
-        true
+        self.input.due(self.from, self.share.len()).len() >= least
     }
 
     /// Executes the due processes. A frame that is kept from one order to the next is not made

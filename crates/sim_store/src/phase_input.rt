@@ -1,19 +1,16 @@
 //! The input that all threads read while the processes of a phase are executed.
 
-ghost use Rattle.std.specs.Prelude.{ℕ, ◌≡◌, ◌<◌, ◌≤◌, length, slice_set, MatchOption, IfOk, OnOk};
-ghost use Rattle.sim_exec_statements.specs.Ready.{IsReady};
+ghost use Rattle.std.specs.Prelude.{ℕ, ◌≡◌, ◌<◌, ◌≤◌, ◌+◌, length, slice_index_or, IfOk, OnOk};
 ghost use Rattle.sim_exec_code.specs.Codes.{FitsAll};
-ghost use Rattle.sim_standard.specs.Processes.{process_at};
-ghost use Rattle.sim_standard.specs.State.{owned_at};
 ghost use Rattle.sim_store.specs.Handing as spec;
-ghost use Rattle.sim_store_simulation.specs.Simulation.{is_due, reached};
+ghost use Rattle.sim_store_simulation.specs.Simulation.{reached};
 
 use crate::design_type::DesignType;
 use sim_exec::{Codes, Frame};
 use sim_flat_design::Design;
-use sim_logic::Logic;
+use sim_store_nets::Values;
+use sim_store_share::{Reading, Share};
 use sim_store_simulation::{Due, Phase};
-use sim_store_state::Share;
 use std::alloc::{AllocError, Global};
 use std::marker::{Model, PhantomData};
 
@@ -25,8 +22,7 @@ pub struct PhaseFields {
     pub(crate) time: u64,
     pub(crate) design: Design,
     pub(crate) codes: Codes,
-    pub(crate) values: Vec<Logic>,
-    pub(crate) values_before: Vec<Logic>,
+    pub(crate) values: Values,
     pub(crate) due: Due,
 }
 
@@ -47,8 +43,7 @@ impl<D: DesignType> Model for PhaseInput<D> {
       phase = f.fields.phase;
       time = f.fields.time;
       codes = f.fields.codes;
-      values = f.fields.values.items;
-      values_before = f.fields.values_before.items;
+      values = f.fields.values;
       due = f.fields.due;
     } };
 
@@ -57,10 +52,22 @@ impl<D: DesignType> Model for PhaseInput<D> {
       phase = f.fields.phase;
       time = f.fields.time;
       codes = f.fields.codes;
-      values = f.fields.values.items;
-      values_before = f.fields.values_before.items;
+      values = f.fields.values;
       due = f.fields.due;
     }) };
+}
+
+/// The place among rising numbers of the first from a number on.
+fn place_from(numbers: &[usize], from: usize) -> usize
+    requires { (i j : ℕ) → i < j → j < length numbers.now → slice_index_or numbers.now i 0 < slice_index_or numbers.now j 0 }
+    ensures within { result ≤ length numbers.now }
+    ensures below { (k : ℕ) → k < result → slice_index_or numbers.now k 0 < from }
+    ensures above { (k : ℕ) → result ≤ k → k < length numbers.now → from ≤ slice_index_or numbers.now k 0 }
+{
+    match numbers.binary_search(&from) {
+        Ok(place) => place,
+        Err(place) => place,
+    }
 }
 
 impl<D: DesignType> PhaseInput<D> {
@@ -96,55 +103,41 @@ impl<D: DesignType> PhaseInput<D> {
         }
     }
 
-    /// The place among the due processes of the first one from a number on. It is a hint for `next`,
-    /// and nothing is promised of it.
-    pub fn place_from(&self, from: usize) -> usize {
-        self.fields.due.place_from(from)
-    }
-
-    /// The first due process from one number on and below another. It is fast if that is at `place`
-    /// among the due processes.
-    pub fn next(&self, place: usize, from: usize, to: usize) -> Option<usize>
-        requires { to ≤ length D.design.processes }
-        ensures { MatchOption result (spec.NoneBetween (is_due (spec.at_input D.design self.now)) from to)
-            (spec.IsNextBelow (is_due (spec.at_input D.design self.now)) from to) }
+    /// The due processes among `count` from a number on, rising.
+    pub fn due(&self, from: usize, count: usize) -> &[usize]
+        requires { from + count ≤ length D.design.processes }
+        ensures { result.now ≡ spec.due_from (spec.at_input D.design self.now) from count }
     {
-        match self.fields.due.next_at(place, from) {
-            None => None,
-            Some(number) => { if number < to { Some(number) } else { None } }
-        }
+        let _processes = self.fields.design.processes().len();
+        let numbers = self.fields.due.numbers();
+        let start = place_from(numbers, from);
+        let end = place_from(numbers, from + count);
+        &numbers[start..end]
     }
 
-    /// Executes the process with a number; what it owns is at a place of a share. If allocation
-    /// fails, it must not be executed again.
+    /// Executes the due processes of a share, the first of which has this number. If allocation
+    /// fails, none must be executed again.
     pub fn execute(
         &self,
         alloc: Global,
-        number: usize,
-        place: usize,
+        from: usize,
         frame: &mut Frame,
         share: &mut Share,
     ) -> Result<(), AllocError>
-        requires number { number < length D.design.processes }
-        requires place { place < length share.old }
+        requires range { spec.IsRange (spec.at_input D.design self.now) (reached (spec.at_input D.design self.now)).owned from share.old }
         requires frame { FitsAll self.now.codes.codes frame.old }
-        requires begun { owned_at share.old place ≡ owned_at (reached (spec.at_input D.design self.now)).owned number }
-        requires ready { IsReady (process_at D.design.processes number).body (reached (spec.at_input D.design self.now)).time (owned_at share.old place) }
         ensures frame { frame.new ≡ frame.old }
-        ensures ok { OnOk result (share.new ≡ slice_set share.old place (spec.result_in (spec.at_input D.design self.now) number)) }
-        ensures ready { IsReady (process_at D.design.processes number).body (reached (spec.at_input D.design self.now)).time (owned_at share.new place) }
+        ensures range { OnOk result (spec.IsRange (spec.at_input D.design self.now) (spec.completed (spec.at_input D.design self.now)).owned from share.new) }
+        ensures count { length share.new ≡ length share.old }
     {
-        let process = &self.fields.design.processes()[number];
-        share.execute_unless_idle(
-            alloc,
-            number,
-            place,
-            process,
-            self.fields.time,
-            &self.fields.codes,
-            frame,
-            self.fields.values.as_slice(),
-            self.fields.values_before.as_slice(),
-        )
+        let numbers = self.due(from, share.len());
+        let reading = Reading {
+            nets: self.fields.values.seen(),
+            processes: self.fields.design.processes(),
+            codes: &self.fields.codes,
+            time: self.fields.time,
+            first: from,
+        };
+        share.execute(alloc, &reading, numbers, frame)
     }
 }

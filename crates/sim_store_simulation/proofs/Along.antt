@@ -23,7 +23,7 @@ rest_of : List ℕ → List ℕ
 rest_of [] = []
 rest_of (x ∷ xs) = xs
 
-first-of : (test : ℕ → Bool) (from count n : ℕ) (rest : List ℕ) → counted test from count ≡ n ∷ rest → Found test from count n rest
+pub first-of : (test : ℕ → Bool) (from count n : ℕ) (rest : List ℕ) → counted test from count ≡ n ∷ rest → Found test from count n rest
 unfolding counted rest_of
 first-of test from zero n rest e = absurd cc
 first-of test from (suc count) n rest e = go (test from) refl (first-of test (suc from) count n rest) e
@@ -59,7 +59,7 @@ first-of test from (suc count) n rest e = go (test from) refl (first-of test (su
           rest_is = w.rest_is ∙ ap (counted test (n + 1)) left;
         }
 
-none-of : (test : ℕ → Bool) (from count : ℕ) → counted test from count ≡ [] → (k : ℕ) → from ≤ k → k < from + count → test k ≡ false
+pub none-of : (test : ℕ → Bool) (from count : ℕ) → counted test from count ≡ [] → (k : ℕ) → from ≤ k → k < from + count → test k ≡ false
 unfolding counted
 none-of test from zero e k ge lt = absurd (omega (arith, ge, lt))
 none-of test from (suc count) e k ge lt = go (test from) refl (λ f after. none-of test (suc from) count f k after (omega (arith, lt))) e

@@ -1,6 +1,7 @@
 -- Due processes that are executed one after another, by what they own, without marks.
-use Rattle.std.proofs.Common.{ℕ, zero, suc, ◌+◌, ◌-◌, ◌<◌, ◌≤◌, ◌≡◌, Bool, true, false, if◌then◌else◌, List, ◌∷◌, length, get_or, take, drop}
+use Rattle.std.proofs.Common.{ℕ, zero, suc, ◌+◌, ◌-◌, ◌<◌, ◌≤◌, ◌≡◌, Bool, true, false, if◌then◌else◌, List, [], ◌∷◌, length, get_or, take, drop}
 use Rattle.std.proofs.Common.{add-one, refl, ap, sym, ◌∙◌, subst, arith}
+use Rattle.std.proofs.Math.Seq.{take-length}
 use Rattle.std.proofs.lemmas.List.Elements.{All-cons, All-nil}
 use Rattle.std.specs.List.{All}
 use Rattle.sim_flat_design.specs.Designs.{Design}
@@ -12,10 +13,11 @@ use Rattle.sim_store_state.specs.FlatState.{FlatState}
 use Rattle.sim_store_state.specs.InTurn as turn
 use Rattle.sim_store_state.specs.InTurn.{AreExecuted, after_one}
 use Rattle.sim_store_simulation.specs.declared.simulation.Contents.{Contents}
+use Rattle.sim_store_simulation.specs.Contents.{HasOneMore, IsExecutable, IsWith}
 use Rattle.sim_store_simulation.specs.Simulation.{listed, those_in}
 use Rattle.sim_store_simulation.proofs.Along.{number-at}
 use Rattle.sim_store_simulation.proofs.Going.{executed-keeps, held-count, ready-here}
-use Rattle.sim_store_simulation.proofs.Listed.{AreListed, listed-more, listed-next}
+use Rattle.sim_store_simulation.proofs.Listed.{AreListed, listed-first, listed-more, listed-next}
 use Rattle.sim_store_simulation.proofs.Walks.{due-within}
 
 -- what holds of each number from one on that passes a test holds of all that are listed from there
@@ -28,6 +30,37 @@ counted-each test from (suc count) P holds = go (test from) refl (counted-each t
         → All P (if b then from ∷ counted test (suc from) count else counted test (suc from) count)
     go true is rest = All-cons P from (counted test (suc from) count) (holds from (omega arith) is) rest
     go false is rest = rest
+
+-- after a due process has been executed, what is held is still that of the simulation
+one-kept : {design : Design} (m : Contents) (n : ℕ) → IsExecutable design m n
+    → IsReady (process_at design.processes n).body m.time (owned_at (after_one design.processes m.time m.state n).owned n)
+    → HasOneMore design m (record m { state = after_one design.processes m.time m.state n }) n
+one-kept {design} m n is ready executed of fresh =
+    let state : FlatState = after_one design.processes m.time m.state n in
+    record {
+      compiled = of.compiled;
+      marked = of.marked;
+      state = executed-keeps of.state n is.within fresh (process_at design.processes n) state refl
+          (sym (of.state.due_are n is.within) ∙ is.due) refl ready;
+      marks_sized = of.marks_sized;
+      counts = of.counts;
+    }
+
+module _ {design : Design} {m : Contents} {n : ℕ} (is : IsExecutable design m n) where
+  -- a single process can be executed by what it owns
+  pub one-executable : All (turn.IsExecutable design.processes m.time m.state.owned) (n ∷ [])
+  one-executable = All-cons (turn.IsExecutable design.processes m.time m.state.owned) n [] (record {
+    number = is.within;
+    owns = omega (arith, is.within, held-count is.of.state);
+    ready = ready-here is.of.state n is.within is.fresh;
+  }) (All-nil (turn.IsExecutable design.processes m.time m.state.owned))
+
+  -- and has then been
+  pub one-more : (new : Contents) → new ≡ record m { state = new.state } → AreExecuted design.processes m.time (n ∷ []) m.state new.state
+      → HasOneMore design m new n
+  one-more new kept e =
+      let same : new ≡ record m { state = after_one design.processes m.time m.state n } = kept ∙ ap (λ (w : FlatState). record m { state = w }) e.1 in
+      subst (λ (w : Contents). HasOneMore design m w n) (sym same) (one-kept m n is e.0)
 
 module _ {design : Design} {old : Contents} where
   -- the due processes from a place on can be executed
@@ -52,16 +85,7 @@ module _ {design : Design} {old : Contents} where
       → AreListed design old (record now { state = after_one design.processes now.time now.state (get_or (listed now.due) place 0) }) (place + 1)
   one-executed {now} {place} s lt ready =
       let n = get_or (listed now.due) place 0 in
-      let next = listed-next s lt in
-      let state : FlatState = after_one design.processes now.time now.state n in
-      listed-more s lt (record now { state = state }) refl (λ executed of fresh. record {
-        compiled = of.compiled;
-        marked = of.marked;
-        state = executed-keeps of.state n next.within fresh (process_at design.processes n) state refl
-            (sym (of.state.due_are n next.within) ∙ next.due) refl ready;
-        marks_sized = of.marks_sized;
-        counts = of.counts;
-      })
+      listed-more s lt (record now { state = after_one design.processes now.time now.state n }) refl (one-kept now n (listed-next s lt) ready)
 
   -- and so have the next few
   pub some-executed : (count : ℕ) {now : Contents} {place : ℕ} → AreListed design old now place → place + count ≤ length (listed now.due) → (new : Contents)
@@ -80,3 +104,17 @@ module _ {design : Design} {old : Contents} where
       let there : place + 1 + count ≡ place + suc count = omega arith in
       subst (λ (k : ℕ). AreListed design old new k) there
       (some-executed count (one-executed s lt w.0) (omega (arith, le)) new kept w.1)
+
+  -- where none had been, all due processes have been executed
+  pub all-executed : IsWith design old old.deposited → ((p : ℕ) → those_in old.deposited p ≡ false) → (new : Contents) → new ≡ record old { state = new.state }
+      → AreExecuted design.processes old.time (listed old.due) old.state new.state → AreListed design old new (length (listed old.due))
+  all-executed of none new kept e =
+      let l = listed old.due in
+      let all : 0 + length l ≡ length l = omega arith in
+      subst (AreListed design old new) all (some-executed (length l) (listed-first design old of none) (omega arith) new kept
+      (subst (λ (ns : List ℕ). AreExecuted design.processes old.time ns old.state new.state) (sym (take-length l)) e))
+
+-- where none has been executed, all due processes can be
+pub all-executable : (design : Design) (m : Contents) → IsWith design m m.deposited → ((p : ℕ) → those_in m.deposited p ≡ false)
+    → All (turn.IsExecutable design.processes m.time m.state.owned) (listed m.due)
+all-executable design m of none = rest-executable (listed-first design m of none)

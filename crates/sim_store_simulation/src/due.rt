@@ -68,23 +68,6 @@ impl Due {
         self.list.contains(number)
     }
 
-    /// The first due process from a number on. It is fast if that is at `place` among them.
-    #[inline(always)]
-    pub fn next_at(&self, place: usize, from: usize) -> Option<usize>
-        ensures { MatchOption result (NoneFrom (those_in self.now) from) (IsNext (those_in self.now) from) }
-    {
-        self.list.next_at(place, from)
-    }
-
-    /// The place among the due processes of the first one from a number on. It is a hint for
-    /// `next_at`, and nothing is promised of it.
-    pub fn place_from(&self, from: usize) -> usize {
-        match self.list.numbers().binary_search(&from) {
-            Ok(place) => place,
-            Err(place) => place,
-        }
-    }
-
     /// The first due process from a number on that is not in another set.
     pub fn next_beside(&self, others: &NumberSet, from: usize) -> Option<usize>
         ensures value { MatchOption result (NoneFrom (is_beside self.now others.now) from) (IsNext (is_beside self.now others.now) from) }
@@ -92,13 +75,6 @@ impl Due {
     {
         let _count = self.list.len();
         self.list.next_beside(others, from)
-    }
-
-    /// The due processes, as a list.
-    pub fn list(&self) -> &NumberList
-        ensures { result.now ≡ self.now }
-    {
-        &self.list
     }
 
     /// The numbers of the due processes, rising.

@@ -303,43 +303,14 @@ fn execute(
     ensures kept { contents.new ≡ record contents.old { compiled = contents.new.compiled; state = contents.new.state } }
     ensures step { OnOk result (HasOneMore design.now contents.old contents.new number) }
 {
-    let process = &design.processes()[number];
     let compiled = &mut contents.compiled;
-    let frame = &mut compiled.frame;
-    contents.state.execute_unless_idle(
+    contents.state.execute(
         alloc,
-        number,
-        process,
+        design.processes(),
+        &[number],
         contents.time,
         &compiled.codes,
-        frame,
-    )?;
-    Ok(())
-}
-
-/// Executes due processes in place, from a place in their list on, as long as the body of each is
-/// known to be a single assignment or to lack the edge that guards it, and returns how many it has
-/// executed. None is marked.
-fn execute_assignments(
-    design: &Design,
-    contents: &mut Contents,
-    place: usize,
-) -> Result<usize, AllocError>
-    requires within { place ≤ length (spec.listed contents.old.due) }
-    requires early { contents.old.time ≤ largest_time }
-    requires codes { AreCodesOf design.now.processes contents.old.compiled.codes }
-    requires each { All (turn.IsExecutable design.now.processes contents.old.time contents.old.state.owned) (drop place (spec.listed contents.old.due)) }
-    ensures within { IfOk result (λ count. place + count ≤ length (spec.listed contents.old.due)) }
-    ensures kept { contents.new ≡ record contents.old { state = contents.new.state } }
-    ensures ok { IfOk result (λ count. turn.AreExecuted design.now.processes contents.old.time (take count (drop place (spec.listed contents.old.due)))
-        contents.old.state contents.new.state) }
-{
-    let numbers = &contents.due.numbers()[place..];
-    contents.state.execute_single_assignments(
-        design.processes(),
-        numbers,
-        contents.time,
-        &contents.compiled.codes,
+        &mut compiled.frame,
     )
 }
 
@@ -353,16 +324,15 @@ fn execute_listed(alloc: Global, design: &Design, contents: &mut Contents) -> Re
         ≡ spec.with_marks (simulation_of design.now contents.old) (simulation_of design.now contents.new).deposited) }
     ensures complete { OnOk result (spec.IsComplete (simulation_of design.now contents.new)) }
 {
-    let count = contents.due.numbers().len();
-    let mut place = 0;
-    while place < count {
-        place += execute_assignments(design, contents, place)?;
-        if place < count {
-            let number = contents.due.numbers()[place];
-            execute(alloc, design, contents, number)?;
-            place += 1;
-        }
-    }
+    let compiled = &mut contents.compiled;
+    contents.state.execute(
+        alloc,
+        design.processes(),
+        contents.due.numbers(),
+        contents.time,
+        &compiled.codes,
+        &mut compiled.frame,
+    )?;
     contents.all_executed = true;
     Ok(())
 }
@@ -629,7 +599,7 @@ impl Simulation {
         let contents = &mut *self.contents;
         contents.log.reserve(nets)?;
         // c), d) Active drivers take their transactions, and their nets are updated.
-        contents.state.update(time)?;
+        contents.state.update(time);
         // a) The time becomes that of the next cycle.
         contents.delta = next_delta(time, contents.time, contents.delta);
         contents.time = time;

@@ -1,125 +1,127 @@
--- Flat lists hold what processes own, and nets.
-use Rattle.std.proofs.Common.{ℕ, zero, suc, ◌≡◌, ◌++◌, List, [], ◌∷◌, Option, length, get_or, set, map, refl, ap, sym, ◌∙◌, arith}
-use Rattle.std.proofs.lemmas.List.{length-map, length-set, get_or-map}
-use Rattle.sim_logic.specs.declared.logic.Logic.{Logic}
-use Rattle.sim_flat_design.specs.declared.held.Held.{Held}
-use Rattle.sim_flat_design.specs.declared.design.Source.{Source}
+-- The state that values of nets, shares and lists hold.
+use Rattle.std.proofs.Common.{ℕ, zero, suc, ◌+◌, ◌*◌, ◌/◌, ◌%◌, ◌<◌, ◌≤◌, ◌≡◌, List, [], ◌∷◌, length, get_or, set, take, map, refl, ap, sym, subst}
+use Rattle.std.proofs.Common.{◌∙◌, arith, length-append}
+use Rattle.std.proofs.Math.Decide.{dec_lt}
+use Rattle.std.proofs.Math.Seq.{map-set_same}
+use Rattle.std.proofs.lemmas.List.{get_or-map, get_or_default, length-map, length-set, take_all}
+use Rattle.std.proofs.lemmas.Nat.{div-add-mod', div_below, mod_below}
 use Rattle.sim_flat_design.specs.Designs.{Design, Net}
-use Rattle.sim_exec_code.specs.Codes.{Program, ArePlaced, objects_of, gathered_nets}
-use Rattle.sim_standard.specs.Drivers.{DriverState, taken}
-use Rattle.sim_containers.specs.RowArray.{joined}
-use Rattle.sim_standard.specs.declared.net_view.NetView.{NetView}
-use Rattle.sim_standard.specs.State.{State, Owned, net_at, all_drivers}
+use Rattle.sim_containers.specs.RowArray.{IsAt, joined}
+use Rattle.sim_containers.proofs.Placed.{at-get, at-set, before-more, placed-alone}
+use Rattle.sim_logic.specs.declared.logic.Logic.{Logic}
+use Rattle.sim_standard.specs.Drivers.{DriverState}
+use Rattle.sim_standard.specs.State.{State, Owned, all_drivers, driver_values}
 use Rattle.sim_standard.specs.Nets.{net_value}
 use Rattle.sim_standard.specs.Cycle.{updated}
-use Rattle.sim_standard.proofs.Names.{nothing_owned, nets_updated, own_taken}
-use Rattle.sim_store_nets.specs.Nets.{views_of, sources_of, changed_to, row_value}
-use Rattle.sim_store_state.specs.FlatState.{FlatState, flat_state_of, held, owned_lists, AreLists}
+use Rattle.sim_standard.proofs.Names.{nets_updated, nothing_owned, own_taken}
+use Rattle.sim_store_nets.specs.Lists.{Lists, NetValues}
+use Rattle.sim_store_nets.specs.Nets.{changed_to, row_from, row_value, sources_of, views_of}
+use Rattle.sim_store_nets.proofs.SourceValues.{rows-from}
 use Rattle.sim_store_nets.proofs.Views.{length-views_of}
+use Rattle.sim_store_state.specs.FlatState.{FlatState, AreShares, IsConsistent, counts, flat_state_of, held}
 
-abbrev pub as_owned : List DriverState → List Held → Owned
-as_owned ds vs = record { drivers = ds; variables = vs }
+-- ---- the share of a process
 
-pub length-owned : (dss : List (List DriverState)) (vss : List (List Held)) → length dss ≡ length vss → length (owned_lists dss vss) ≡ length dss
-length-owned [] vss e = refl
-length-owned (ds ∷ dss) [] e = absurd (omega arith)
-length-owned (ds ∷ dss) (vs ∷ vss) e = ap suc (length-owned dss vss (omega arith))
+module _ {A : Type 0} (xss : List (List A)) (i : AreShares (counts xss)) where
+  size : (p : ℕ) → p < length xss → get_or (counts xss) p 0 ≡ length (get_or xss p [])
+  size p lt = get_or-map (λ (xs : List A). length xs) xss p [] 0 lt
 
--- what a process owns is its two lists
-pub owned-at : (dss : List (List DriverState)) (vss : List (List Held)) (p : ℕ) → length dss ≡ length vss
-    → get_or (owned_lists dss vss) p nothing_owned ≡ record { drivers = get_or dss p []; variables = get_or vss p [] }
-owned-at [] [] p e = refl
-owned-at [] (vs ∷ vss) p e = absurd (omega arith)
-owned-at (ds ∷ dss) [] p e = absurd (omega arith)
-owned-at (ds ∷ dss) (vs ∷ vss) zero e = refl
-owned-at (ds ∷ dss) (vs ∷ vss) (suc p) e = owned-at dss vss p (omega arith)
+  count : length (counts xss) ≡ length xss
+  count = length-map xss (λ (xs : List A). length xs)
 
--- one process owns other lists
-pub owned-set : (dss : List (List DriverState)) (vss : List (List Held)) (p : ℕ) (ds : List DriverState) (vs : List Held) → length dss ≡ length vss
-    → owned_lists (set dss p ds) (set vss p vs) ≡ set (owned_lists dss vss) p (record { drivers = ds; variables = vs })
-owned-set [] [] p d v e = refl
-owned-set [] (vs ∷ vss) p d v e = absurd (omega arith)
-owned-set (ds ∷ dss) [] p d v e = absurd (omega arith)
-owned-set (ds ∷ dss) (vs ∷ vss) zero d v e = refl
-owned-set (ds ∷ dss) (vs ∷ vss) (suc p) d v e = ap (λ w. record { drivers = ds; variables = vs } ∷ w) (owned-set dss vss p d v (omega arith))
+  full : (p : ℕ) → p + 1 < length xss → length (get_or xss p []) ≡ length (get_or xss 0 [])
+  full p lt =
+      let whole = i.full p (omega (arith, lt, count)) in
+      sym (size p (omega (arith, lt))) ∙ (whole ∙ size 0 (omega (arith, lt)))
 
-pub owned-taken : (t : ℕ) (dss : List (List DriverState)) (vss : List (List Held)) → owned_lists (map (map (taken t)) dss) vss ≡ map (own_taken t)
-    (owned_lists dss vss)
-owned-taken t [] vss = refl
-owned-taken t (ds ∷ dss) [] = refl
-owned-taken t (ds ∷ dss) (vs ∷ vss) = ap (λ w. record { drivers = map (taken t) ds; variables = vs } ∷ w) (owned-taken t dss vss)
+  most : (p : ℕ) → p < length xss → length (get_or xss p []) ≤ length (get_or xss 0 [])
+  most p lt =
+      let bound = i.most p (omega (arith, lt, count)) in
+      omega (arith, bound, size p lt, size 0 (omega (arith, lt)))
 
--- drivers by number
-pub owned-drivers : (dss : List (List DriverState)) (vss : List (List Held)) → length dss ≡ length vss → all_drivers (owned_lists dss vss) ≡ joined dss
-owned-drivers [] vss e = refl
-owned-drivers (ds ∷ dss) [] e = absurd (omega arith)
-owned-drivers (ds ∷ dss) (vs ∷ vss) e = ap (λ w. ds ++ w) (owned-drivers dss vss (omega arith))
+  starts-at : (p : ℕ) → p < length xss → length (joined (take p xss)) ≡ p * length (get_or xss 0 [])
+  starts-at zero lt = omega arith
+  starts-at (suc p) lt =
+      let rest : length (joined (take p xss)) ≡ p * length (get_or xss 0 []) = starts-at p (omega arith) in
+      let one : length (get_or xss p []) ≡ length (get_or xss 0 []) = full p (omega arith) in
+      let more = before-more xss p (omega arith) in
+      grind arith
 
-pub same_owned : {ds es : List DriverState} {vs ws : List Held} → ds ≡ es → vs ≡ ws → as_owned ds vs ≡ as_owned es ws
-same_owned {es = es} {vs = vs} d v = ap (λ w. as_owned w vs) d ∙ ap (as_owned es) v
+bounded : {A : Type 0} (each : ℕ) (xss : List (List A)) → ((p : ℕ) → p < length xss → length (get_or xss p []) ≤ each)
+    → length (joined xss) ≤ length xss * each
+bounded each [] most = omega arith
+bounded each (xs ∷ xss) most =
+    let one : length xs ≤ each = most 0 (omega arith) in
+    let rest : length (joined xss) ≤ length xss * each = bounded each xss (λ p lt. most (suc p) (omega arith)) in
+    let both = length-append xs (joined xss) in
+    grind arith
 
-pub owned-by : {h : FlatState} {sources : List (List Source)} {values values_before : List Logic} {dss : List (List DriverState)} {vss : List (List Held)}
-    → held sources values values_before dss vss ≡ h
-    → AreLists values values_before dss vss → (p : ℕ) → get_or h.owned p nothing_owned ≡ record { drivers = get_or dss p []; variables = get_or vss p [] }
-owned-by {dss = dss} {vss = vss} e i p = ap (λ (g : FlatState). get_or g.owned p nothing_owned) (sym e) ∙ owned-at dss vss p i.owned
+-- the process with a number is in this share, at this place
+pub placed-in : {A : Type 0} {xss : List (List A)} → AreShares (counts xss) → (each n : ℕ) → each ≡ length (get_or xss 0 []) → 0 < each
+    → n < length (joined xss) → IsAt xss n (n / each) (n % each)
+placed-in {xss = xss} i each n is wide h =
+    let upper = bounded each xss (λ p lt. subst (λ k. length (get_or xss p []) ≤ k) (sym is) (most xss i p lt)) in
+    let among : n / each < length xss = div_below n each (length xss) wide (omega (arith, h, upper)) in
+    let whole : n / each * each + n % each ≡ n = div-add-mod' n each in
+    let start : length (joined (take (n / each) xss)) ≡ n / each * each = subst (λ k. length (joined (take (n / each) xss)) ≡ n / each * k) (sym is)
+    (starts-at xss i (n / each) among) in
+    let rest : n % each < each = mod_below n each wide in
+    record {
+      among = among;
+      inside = elim (dec_lt (n / each + 1) (length xss)) [
+        | yes k ↦ omega (arith, full xss i (n / each) k, is, rest)
+        | no k ↦ (let all : take (suc (n / each)) xss ≡ xss = take_all (suc (n / each)) xss (omega arith) in
+            omega (arith, before-more xss (n / each) among, ap (λ w. length (joined w)) all, whole, start, h))
+      ];
+      counted = omega (arith, whole, start);
+    }
 
-pub owned-count : {h : FlatState} {sources : List (List Source)} {values values_before : List Logic} {dss : List (List DriverState)} {vss : List (List Held)}
-    → held sources values values_before dss vss ≡ h
-    → AreLists values values_before dss vss → length h.owned ≡ length dss
-owned-count {dss = dss} {vss = vss} e i = ap (λ (g : FlatState). length g.owned) (sym e) ∙ length-owned dss vss i.owned
+-- in a single share it is at its own number
+pub placed-alone-in : {A : Type 0} (xss : List (List A)) (n : ℕ) → length xss ≡ 1 → n < length (joined xss) → IsAt xss n 0 n
+placed-alone-in xss n one h = placed-alone xss n one h
 
-pub net-count : {h : FlatState} {sources : List (List Source)} {values values_before : List Logic} {dss : List (List DriverState)} {vss : List (List Held)}
-    → held sources values values_before dss vss ≡ h
-    → AreLists values values_before dss vss → length h.nets ≡ length values
-net-count {values = values} {values_before = values_before} e i = ap (λ (g : FlatState). length g.nets) (sym e) ∙ length-views_of values values_before i.nets
+-- with several, the first has a process
+pub wide-in : {A : Type 0} (xss : List (List A)) → AreShares (counts xss) → (length xss ≡ 1 → ⊥) → 0 < length (get_or xss 0 [])
+wide-in xss i several =
+    let some = i.some in
+    let long = length-map xss (λ (xs : List _). length xs) in
+    let more : 1 < length xss = elim (dec_lt 1 (length xss)) [
+      | yes h ↦ h
+      | no h ↦ absurd (several (omega (arith, h, some, long)))
+    ] in
+    let wide = i.wide (omega (arith, more, long)) in
+    omega (arith, wide, size xss i 0 (omega (arith, more)))
 
-pub drivers-by : {h : FlatState} {sources : List (List Source)} {values values_before : List Logic} {dss : List (List DriverState)} {vss : List (List Held)}
-    → held sources values values_before dss vss ≡ h
-    → AreLists values values_before dss vss → all_drivers h.owned ≡ joined dss
-drivers-by {dss = dss} {vss = vss} e i = ap (λ (g : FlatState). all_drivers g.owned) (sym e) ∙ owned-drivers dss vss i.owned
+-- what a process owns is in its share
+pub owned-in : (shares : List (List Owned)) {n p i : ℕ} (own : Owned) (share : List Owned) → IsAt shares n p i → share ≡ get_or shares p share
+    → own ≡ get_or share i nothing_owned → own ≡ get_or (joined shares) n nothing_owned
+owned-in shares {n} {p} {i} own share at is e =
+    e ∙ (ap (λ (w : List Owned). get_or w i nothing_owned) (is ∙ get_or_default shares p share [] at.among) ∙ sym (at-get at nothing_owned))
 
--- ---- one process owns something else
+-- a share with another process, among all
+pub put-in : (shares : List (List Owned)) {n p i : ℕ} (x : Owned) (old new : List Owned) → IsAt shares n p i → old ≡ get_or shares p old → new ≡ set old i x
+    → joined (set shares p new) ≡ set (joined shares) n x
+put-in shares {n} {p} {i} x old new at is e =
+    ap (λ (w : List Owned). joined (set shares p w)) (e ∙ ap (λ (w : List Owned). set w i x) (is ∙ get_or_default shares p old [] at.among)) ∙ at-set at x
 
-pub held-set : {h : FlatState} {sources : List (List Source)} {values values_before : List Logic} {dss : List (List DriverState)} {vss : List (List Held)}
-    → held sources values values_before dss vss ≡ h
-    → AreLists values values_before dss vss → (p : ℕ) (ds : List DriverState) (vs : List Held) (dss' : List (List DriverState)) (vss' : List (List Held))
-    → dss' ≡ set dss p ds → vss' ≡ set vss p vs
-    → held sources values values_before dss' vss' ≡ record h { owned = set h.owned p (record { drivers = ds; variables = vs }) }
-held-set {h} {sources} {values} {values_before} {dss} {vss} e i p ds vs dss' vss' ed ev =
-    let o : owned_lists dss' vss' ≡ set (owned_lists dss vss) p (record { drivers = ds; variables = vs }) = rw (ed, ev) (owned-set dss vss p ds vs i.owned) in
-    ap (λ w. record { sources = sources; nets = views_of values values_before; owned = w }) o
-    ∙ ap (λ (g : FlatState). record { sources = g.sources; nets = g.nets; owned = set g.owned p (record { drivers = ds; variables = vs }) }) e
+pub put-counts : (shares : List (List Owned)) {n p i : ℕ} (x : Owned) (old new : List Owned) → IsAt shares n p i → old ≡ get_or shares p old → new ≡ set old i x
+    → counts (set shares p new) ≡ counts shares
+put-counts shares {n} {p} {i} x old new at is e =
+    map-set_same (λ (xs : List Owned). length xs) shares p new old (ap length e ∙ (length-set old i x ∙ ap length is))
 
--- what it owns then is what the new lists have there
-pub owned-now : {values values_before : List Logic} {dss : List (List DriverState)} {vss : List (List Held)} → AreLists values values_before dss vss → (p : ℕ)
-    (ds : List DriverState) (vs : List Held) (dss' : List (List DriverState)) (vss' : List (List Held)) → dss' ≡ set dss p ds → vss' ≡ set vss p vs
-    → get_or (owned_lists dss' vss') p nothing_owned ≡ record { drivers = get_or dss' p []; variables = get_or vss' p [] }
-owned-now {dss = dss} {vss = vss} i p ds vs dss' vss' ed ev =
-    owned-at dss' vss' p (omega (arith, ap length ed, ap length ev, length-set dss p ds, length-set vss p vs, i.owned))
+-- ---- counts
 
--- ---- how a process sees the nets
+pub net-count : {h : FlatState} {values : NetValues} {shares : List (List Owned)} {lists : Lists} → held values shares lists ≡ h
+    → IsConsistent values shares lists → length h.nets ≡ length values.present
+net-count {values = values} e i = ap (λ (g : FlatState). length g.nets) (sym e) ∙ length-views_of values.present values.before (sym i.nets)
 
-abbrev pub seen : List NetView → List ℕ → ℕ → NetView
-seen nets object_nets object = net_at nets (get_or object_nets object 0)
-
-pub sees : (nets : List NetView) (values values_before values' values_before' : List Logic) (object_nets object_nets' : List ℕ)
-    → views_of values values_before ≡ nets → values' ≡ values
-    → values_before' ≡ values_before → object_nets' ≡ object_nets → seen (views_of values' values_before') object_nets' ≡ seen nets object_nets
-sees nets values values_before values' values_before' object_nets object_nets' e ev el eh =
-    ap (λ w. seen (views_of w values_before') object_nets') ev ∙ (ap (λ w. seen (views_of values w) object_nets') el
-    ∙ (ap (seen (views_of values values_before)) eh ∙ ap (λ w. seen w object_nets) e))
-
--- the nets that are gathered for a code, by place, are those of its ports and signals
-pub gathered_placed : (nets : List ℕ) (values values_before : List Logic) (row : List ℕ) (code : Option Program) → row ≡ gathered_nets nets code
-    → ArePlaced (seen (views_of values values_before) nets) (seen (views_of values values_before) row) (objects_of code)
-gathered_placed nets values values_before row code e = λ k lt.
-    ap (net_at (views_of values values_before)) (ap (λ (ns : List ℕ). get_or ns k 0) e
-    ∙ get_or-map (λ (o : ℕ). get_or nets o 0) (objects_of code) k 0 0 lt)
+pub owned-is : {h : FlatState} (values : NetValues) (shares : List (List Owned)) (lists : Lists) → held values shares lists ≡ h → h.owned ≡ joined shares
+owned-is values shares lists e = ap (λ (g : FlatState). g.owned) (sym e)
 
 -- ---- a cycle
 
 -- new values, with the old ones as the values before
-pub views-updated : (ws : List DriverState) (nets : List Net) (values values_before : List Logic) → length values ≡ length values_before
+views-updated : (ws : List DriverState) (nets : List Net) (values values_before : List Logic) → length values ≡ length values_before
     → length nets ≡ length values → views_of (map (row_value ws) (sources_of nets)) values ≡ nets_updated ws nets (views_of values values_before)
 views-updated ws [] values values_before e f = refl
 views-updated ws (n ∷ nets) [] values_before e f = absurd (omega arith)
@@ -132,26 +134,35 @@ after_update design t g =
     let owned = map (own_taken t) g.owned in
     record { sources = sources_of design.nets; nets = nets_updated (all_drivers owned) design.nets g.nets; owned = owned }
 
--- an update of the flat lists is an update of what they hold
-pub held-updated : {h : FlatState} {sources : List (List Source)} {values values_before : List Logic} {dss : List (List DriverState)} {vss : List (List Held)}
-    → held sources values values_before dss vss ≡ h
-    → AreLists values values_before dss vss → (t : ℕ) (values' values_before' : List Logic) (dss' : List (List DriverState)) (ws : List DriverState)
-    → length sources ≡ length values → dss' ≡ map (map (taken t)) dss → ws ≡ joined dss' → values' ≡ map (row_value ws) sources → values_before' ≡ values
-    → (design : Design) (s : State) → h ≡ flat_state_of design s → held sources values' values_before' dss' vss ≡ flat_state_of design (updated design s t)
-held-updated {h} {sources} {values} {values_before} {dss} {vss} e i t values' values_before' dss' ws long ed ew ev el design s eh =
-    let k : held sources values values_before dss vss ≡ flat_state_of design s = e ∙ eh in
-    let es : sources ≡ sources_of design.nets = ap (λ (g : FlatState). g.sources) k in
-    let o : owned_lists dss' vss ≡ map (own_taken t) (owned_lists dss vss) = ap (λ w. owned_lists w vss) ed ∙ owned-taken t dss vss in
-    let same : length dss' ≡ length vss = omega (arith, ap length ed, length-map dss (map (taken t)), i.owned) in
-    let w : ws ≡ all_drivers (map (own_taken t) (owned_lists dss vss)) = ew ∙ (sym (owned-drivers dss' vss same) ∙ ap all_drivers o) in
-    let n : length design.nets ≡ length values = omega (arith, long, ap length es, length-map design.nets (λ (n : Net). n.sources)) in
-    let v : views_of values' values_before' ≡ nets_updated ws design.nets (views_of values values_before) =
-    ap (λ z. views_of z values_before') (ev ∙ ap (map (row_value ws)) es) ∙ (ap (views_of (map (row_value ws) (sources_of design.nets))) el
-    ∙ views-updated ws design.nets values values_before i.nets n) in
-    let here = held sources values values_before dss vss in
-    let whole : held sources values' values_before' dss' vss ≡ after_update design t here =
-    ap (λ a. record { sources = a; nets = views_of values' values_before'; owned = owned_lists dss' vss }) es
-    ∙ (ap (λ a. record { sources = sources_of design.nets; nets = a; owned = owned_lists dss' vss })
-    (v ∙ ap (λ z. nets_updated z design.nets (views_of values values_before)) w)
-    ∙ ap (λ a. record { sources = sources_of design.nets; nets = (after_update design t here).nets; owned = a }) o) in
+-- an update of what is held
+pub held-updated : {h : FlatState} {values : NetValues} {shares : List (List Owned)} {lists : Lists} → held values shares lists ≡ h
+    → IsConsistent values shares lists → (t : ℕ) (values' : NetValues) (shares' : List (List Owned)) (lists' : Lists)
+    → joined shares' ≡ map (own_taken t) (joined shares) → lists'.sources ≡ lists.sources → lists'.driving ≡ driver_values (all_drivers (joined shares'))
+    → values'.present ≡ map (row_from lists'.driving) lists'.sources → values'.before ≡ values.present
+    → (design : Design) (s : State) → h ≡ flat_state_of design s → held values' shares' lists' ≡ flat_state_of design (updated design s t)
+held-updated {h} {values} {shares} {lists} e i t values' shares' lists' eo es ed ev eb design s eh =
+    let k : held values shares lists ≡ flat_state_of design s = e ∙ eh in
+    let sources : lists'.sources ≡ sources_of design.nets = es ∙ ap (λ (g : FlatState). g.sources) k in
+    let ws : List DriverState = all_drivers (joined shares') in
+    let w : ws ≡ all_drivers (map (own_taken t) (joined shares)) = ap all_drivers eo in
+    let present : values'.present ≡ map (row_value ws) (sources_of design.nets) =
+    ev ∙ (ap (λ z. map (row_from z) lists'.sources) ed ∙ (rows-from ws lists'.sources ∙ ap (map (row_value ws)) sources)) in
+    let n : length design.nets ≡ length values.present =
+    omega (
+      arith,
+      ap length i.resolving,
+      length-map lists.sources (row_from lists.driving),
+      ap length (sym es ∙ sources),
+      length-map design.nets (λ
+          (n : Net). n.sources),
+    ) in
+    let v : views_of values'.present values'.before ≡ nets_updated ws design.nets (views_of values.present values.before) =
+    ap (λ z. views_of z values'.before) present ∙ (ap (views_of (map (row_value ws) (sources_of design.nets))) eb
+    ∙ views-updated ws design.nets values.present values.before (sym i.nets) n) in
+    let here = held values shares lists in
+    let whole : held values' shares' lists' ≡ after_update design t here =
+    ap (λ a. record { sources = a; nets = views_of values'.present values'.before; owned = joined shares' }) sources
+    ∙ (ap (λ a. record { sources = sources_of design.nets; nets = a; owned = joined shares' })
+    (v ∙ ap (λ z. nets_updated z design.nets (views_of values.present values.before)) w)
+    ∙ ap (λ a. record { sources = sources_of design.nets; nets = (after_update design t here).nets; owned = a }) eo) in
     ◌∙◌ {b = after_update design t here} whole (ap (after_update design t) k)

@@ -1,8 +1,7 @@
 -- The processes that resume are those sensitive to a net with an event.
-use Rattle.std.proofs.Common.{ℕ, zero, suc, ◌+◌, ◌<◌, ◌≤◌, ◌≡◌, ◌≢◌, ◌==◌, ◌++◌, ◌||◌, ◌&&◌, eqb, Bool, true, false, List, [], ◌∷◌, length, get_or, set}
-use Rattle.std.proofs.Common.{take, add-one, refl, ap, sym, ◌∙◌, arith, ◌⊎◌, inl, inr}
+use Rattle.std.proofs.Common.{ℕ, zero, suc, ◌+◌, ◌<◌, ◌≡◌, ◌==◌, ◌++◌, ◌||◌, ◌&&◌, eqb, Bool, true, List, [], ◌∷◌, length, get_or}
+use Rattle.std.proofs.Common.{take, add-one, refl, ap, sym, ◌∙◌, arith, inl, inr}
 use Rattle.std.proofs.lemmas.Bool.Decides.{nat_tests}
-use Rattle.std.proofs.lemmas.List.{get_or-set_same, get_or-set_other, take_more}
 use Rattle.sim_logic.specs.declared.logic.Logic.{Logic}
 use Rattle.sim_flat_design.specs.Processes.{Process}
 use Rattle.sim_standard.specs.declared.net_view.NetView.{NetView}
@@ -14,8 +13,8 @@ use Rattle.sim_containers.specs.Numbers as contained
 use Rattle.sim_store_state.specs.declared.log.Entry.{Entry}
 use Rattle.sim_store_state.specs.Log.{changes_of}
 use Rattle.sim_store_state.proofs.Logged.{changes-more}
-use Rattle.sim_store_nets.proofs.Booleans.{or_true, or_left, or_right, and_left, and_right, both_true, same_bools, or_false}
-use Rattle.sim_store_nets.proofs.Booleans.{or-assoc, or-turn, and-or, among-more, at_same, at_other, eqb-suc}
+use Rattle.sim_store_nets.proofs.Booleans.{or_true, or_left, or_right, and_left, and_right, both_true, same_bools, or_false, or-assoc, or-turn}
+use Rattle.sim_store_nets.proofs.Booleans.{and-or, among-more, at_same, at_other, eqb-suc}
 
 -- ---- processes sensitive to a net with an event
 

@@ -1,12 +1,10 @@
 -- The first state of a design.
-use Rattle.std.proofs.Common.{ℕ, zero, suc, ◌+◌, ◌-◌, ◌≤◌, ◌≡◌, ◌++◌, true, false, not, Bool, min, Option, None, List, [], ◌∷◌, length, take, drop, map}
+use Rattle.std.proofs.Common.{ℕ, ◌+◌, ◌-◌, ◌≤◌, ◌≡◌, ◌++◌, true, not, List, [], ◌∷◌, length, take, drop, map}
 use Rattle.std.proofs.Common.{refl, ap, sym, ◌∙◌, arith}
 use Rattle.std.specs.Prelude.{slice_range}
 use Rattle.std.specs.List.{All, AllByRecursion}
-use Rattle.std.specs.List.{reduce}
-use Rattle.std.proofs.Math.ListN.{replicate}
-use Rattle.std.proofs.lemmas.List.{length-map, length-replicate, length-drop, map-append, drop-drop, take-append-drop}
-use Rattle.std.proofs.lemmas.List.Elements.{All-from_recursion}
+use Rattle.std.proofs.lemmas.List.{append-nil, length-map, length-drop, map-append, drop-drop, take-append-drop}
+use Rattle.std.proofs.lemmas.List.Elements.{All-append, All-cons, All-from_recursion, All-nil}
 use Rattle.sim_logic.specs.declared.logic.Logic.{Logic}
 use Rattle.sim_logic.specs.declared.logic.Logic.TheVariants.{U, X, Zero, One, Z, W, L, H, Dash}
 use Rattle.sim_logic.specs.Logic.{is_same}
@@ -14,19 +12,17 @@ use Rattle.sim_flat_design.specs.declared.design.DriverOf.{DriverOf}
 use Rattle.sim_flat_design.specs.declared.held.Held.{Held}
 use Rattle.sim_flat_design.specs.Processes.{Process}
 use Rattle.sim_flat_design.specs.Designs.{AreOwned, Design, Net}
-use Rattle.sim_flat_design.specs.declared.design.Source.{Source}
-use Rattle.sim_standard.specs.Drivers.{Transaction, DriverState, next_time}
-use Rattle.sim_standard.specs.State.{Owned, driver_at, driver_values, all_drivers}
-use Rattle.sim_containers.specs.Times.{time_of}
-use Rattle.sim_store_nets.specs.Nets.{AreFanOut, AreTallied, row_from, row_value, value_at, views_of, sources_of}
-use Rattle.sim_store_state.specs.Changes.{IsConsistent}
-use Rattle.sim_store_nets.specs.Tallies.{TallyLists}
-use Rattle.sim_store_nets.proofs.SourceValues.{rows-from}
-use Rattle.sim_containers.specs.RowArray.{joined}
+use Rattle.sim_standard.specs.Drivers.{DriverState}
+use Rattle.sim_standard.specs.State.{Owned, all_drivers, driver_values}
 use Rattle.sim_standard.specs.Nets.{net_value}
 use Rattle.sim_standard.specs.Initialization.{first_owned, first_state}
 use Rattle.sim_standard.proofs.Names.{net_started}
-use Rattle.sim_store_state.specs.FlatState.{flat_state_of, held, owned_lists}
+use Rattle.sim_containers.specs.RowArray.{joined}
+use Rattle.sim_store_nets.specs.Lists.{Lists, NetValues}
+use Rattle.sim_store_nets.specs.Nets.{row_from, row_value, value_at, views_of, sources_of}
+use Rattle.sim_store_nets.proofs.SourceValues.{rows-from}
+use Rattle.sim_store_share.specs.Shares.{owned_lists}
+use Rattle.sim_store_state.specs.FlatState.{AreShares, IsConsistent, flat_state_of, held}
 
 -- ---- names for what the first state writes out
 
@@ -76,7 +72,7 @@ pub first_waves : (design : Design) → AreOwned (length design.nets) 0 0 design
     → all_drivers (all_first_owned design) ≡ map (λ (d : DriverOf). idle d.first) design.drivers
 first_waves design o = drivers-from (length design.nets) 0 0 design.drivers design.drivers design.processes refl o
 
--- ---- the lists of the first state
+-- ---- the share of all processes
 
 abbrev drivers_of : List DriverOf → Process → List DriverState
 drivers_of ds p = (first_owned ds p).drivers
@@ -91,6 +87,39 @@ owned-first ds (p ∷ ps) = ap (λ w. first_owned ds p ∷ w) (owned-first ds ps
 drivers-first : (ds : List DriverOf) (ps : List Process) → joined (map (drivers_of ds) ps) ≡ all_drivers (map (first_owned ds) ps)
 drivers-first ds [] = refl
 drivers-first ds (p ∷ ps) = ap (λ w. (first_owned ds p).drivers ++ w) (drivers-first ds ps)
+
+pub first-share : (design : Design) (dss : List (List DriverState)) (vss : List (List Held)) → dss ≡ map (drivers_of design.drivers) design.processes
+    → vss ≡ map variables_of design.processes → owned_lists dss vss ≡ all_first_owned design
+first-share design dss vss es ev =
+    ap (λ w. owned_lists w vss) es
+    ∙ (ap (owned_lists (map (drivers_of design.drivers) design.processes)) ev ∙ owned-first design.drivers design.processes)
+
+pub same-count : (design : Design) (dss : List (List DriverState)) (vss : List (List Held)) → dss ≡ map (drivers_of design.drivers) design.processes
+    → vss ≡ map variables_of design.processes → length dss ≡ length vss
+same-count design dss vss es ev =
+    omega (arith, ap length es, ap length ev, length-map design.processes (drivers_of design.drivers), length-map design.processes variables_of)
+
+pub same-drivers : (design : Design) (dss : List (List DriverState)) → dss ≡ map (drivers_of design.drivers) design.processes
+    → joined dss ≡ all_drivers (all_first_owned design)
+same-drivers design dss es = ap joined es ∙ drivers-first design.drivers design.processes
+
+-- nothing is pending
+abbrev Idle : DriverState → Type 0
+Idle d = d.pending ≡ []
+
+idle-all : (ds : List DriverOf) → All Idle (map idle_of ds)
+idle-all [] = All-nil Idle
+idle-all (d ∷ ds) = All-cons Idle (idle_of d) (map idle_of ds) refl (idle-all ds)
+
+idle-first : (ds : List DriverOf) (ps : List Process) → All Idle (joined (map (drivers_of ds) ps))
+idle-first ds [] = All-nil Idle
+idle-first ds (p ∷ ps) =
+    All-append Idle (drivers_of ds p) (joined (map (drivers_of ds) ps)) (idle-all (take p.body.drivers (drop p.first_driver ds))) (idle-first ds ps)
+
+pub first-idle : (design : Design) (dss : List (List DriverState)) → dss ≡ map (drivers_of design.drivers) design.processes → All Idle (joined dss)
+first-idle design dss es = rw es (idle-first design.drivers design.processes)
+
+-- ---- the state
 
 same_as_itself : (v : Logic) → is_same v v ≡ true
 same_as_itself U = refl
@@ -110,97 +139,48 @@ views-first ws (n ∷ nets) =
     ap (λ b. record { value = v; event = not b; before = v } ∷ views_of (map (net_value ws) nets) (map (net_value ws) nets)) (same_as_itself v)
     ∙ ap (λ w. net_started ws n ∷ w) (views-first ws nets)
 
-pub first-held : (design : Design) (sources : List (List Source)) (dss : List (List DriverState)) (vss : List (List Held)) (values values_before : List Logic)
-    → sources ≡ sources_of design.nets → dss ≡ map (drivers_of design.drivers) design.processes → vss ≡ map variables_of design.processes
-    → values ≡ map (net_value (joined dss)) design.nets → values_before ≡ values
-    → held sources values values_before dss vss ≡ flat_state_of design (first_state design)
-first-held design sources dss vss values values_before er es ev eu el =
-    let owned = all_first_owned design in
-    let o : owned_lists dss vss ≡ owned = ap (λ w. owned_lists w vss) es
-    ∙ (ap (owned_lists (map (drivers_of design.drivers) design.processes)) ev ∙ owned-first design.drivers design.processes) in
-    let w : joined dss ≡ all_drivers owned = ap joined es ∙ drivers-first design.drivers design.processes in
-    let u : values ≡ map (net_value (all_drivers owned)) design.nets = eu ∙ ap (λ z. map (net_value z) design.nets) w in
-    ap (λ z. held z values values_before dss vss) er ∙ (ap (λ z. held (sources_of design.nets) values z dss vss) el ∙ (ap
-    (λ z. held (sources_of design.nets) z z dss vss) u
-    ∙ (ap (λ z. record { sources = sources_of design.nets; nets = z; owned = owned_lists dss vss }) (views-first (all_drivers owned) design.nets)
-    ∙ ap (λ z. record { sources = sources_of design.nets; nets = map (net_started (all_drivers owned)) design.nets; owned = z }) o)))
-
--- ---- what is kept beside it
-
--- nothing is pending
-abbrev AreIdle : List DriverState → Type 0
-AreIdle ds = (d : ℕ) → (driver_at ds d).pending ≡ []
-
-idle-all : (ds : List DriverOf) → AreIdle (map idle_of ds)
-idle-all [] d = refl
-idle-all (x ∷ ds) zero = refl
-idle-all (x ∷ ds) (suc d) = idle-all ds d
-
-idle-append : (xs ys : List DriverState) → AreIdle xs → AreIdle ys → AreIdle (xs ++ ys)
-idle-append [] ys a b d = b d
-idle-append (x ∷ xs) ys a b zero = a 0
-idle-append (x ∷ xs) ys a b (suc d) = idle-append xs ys (λ e. a (suc e)) b d
-
-idle-first : (ds : List DriverOf) (ps : List Process) → AreIdle (joined (map (drivers_of ds) ps))
-idle-first ds [] d = refl
-idle-first ds (p ∷ ps) d =
-    idle-append (drivers_of ds p) (joined (map (drivers_of ds) ps)) (idle-all (take p.body.drivers (drop p.first_driver ds))) (idle-first ds ps) d
-
-none-idle : (w : DriverState) → w.pending ≡ [] → next_time (w ∷ []) ≡ None
-unfolding next_time
-none-idle w e = ap (λ (xs : List Transaction). reduce min (map (λ (x : Transaction). x.0) xs ++ [])) e
-
-abbrev no_time : Option ℕ
-no_time = None
-
-none-at : (n d : ℕ) → time_of (replicate n None) d ≡ None
-none-at zero d = refl
-none-at (suc n) zero = refl
-none-at (suc n) (suc d) = none-at n d
-
 same-rows : (ws : List DriverState) (nets : List Net) → map (net_value ws) nets ≡ map (row_value ws) (sources_of nets)
 same-rows ws [] = refl
 same-rows ws (n ∷ nets) = ap (λ w. net_value ws n ∷ w) (same-rows ws nets)
 
--- the values of nets, from the values of drivers
+-- the value of each net, from the values of the drivers
 pub first-values : (ws : List DriverState) (driving values : List Logic) (nets : List Net) → driving ≡ driver_values ws
     → values ≡ map (row_from driving) (sources_of nets) → values ≡ map (net_value ws) nets
 first-values ws driving values nets ed ev =
     ev ∙ (ap (λ w. map (row_from w) (sources_of nets)) ed ∙ (rows-from ws (sources_of nets) ∙ sym (same-rows ws nets)))
 
-pub count-values : (ws : List DriverState) (driving : List Logic) (count : ℕ) → driving ≡ driver_values ws → count ≡ length driving → count ≡ length ws
-count-values ws driving count ed ec = omega (arith, ec, ap length ed, length-map ws (λ (w : DriverState). w.value))
+pub first-held : (design : Design) (values : NetValues) (share : List Owned) (lists : Lists)
+    → lists.sources ≡ sources_of design.nets → share ≡ all_first_owned design → lists.driving ≡ driver_values (all_drivers share)
+    → values.present ≡ map (row_from lists.driving) (sources_of design.nets) → values.before ≡ values.present
+    → held values (share ∷ []) lists ≡ flat_state_of design (first_state design)
+first-held design values share lists es eo ed ev eb =
+    let owned = all_first_owned design in
+    let o : share ++ [] ≡ owned = append-nil share ∙ eo in
+    let w : all_drivers share ≡ all_drivers owned = ap all_drivers eo in
+    let u : values.present ≡ map (net_value (all_drivers owned)) design.nets =
+    first-values (all_drivers owned) lists.driving values.present design.nets (ed ∙ ap driver_values w) ev in
+    let v : views_of values.present values.before ≡ map (net_started (all_drivers owned)) design.nets =
+    ap (λ z. views_of values.present z) eb ∙ (ap (λ z. views_of z z) u ∙ views-first (all_drivers owned) design.nets) in
+    ap (λ z. record { sources = z; nets = views_of values.present values.before; owned = share ++ [] }) es
+    ∙ (ap (λ z. record { sources = sources_of design.nets; nets = z; owned = share ++ [] }) v
+    ∙ ap (λ z. record { sources = sources_of design.nets; nets = map (net_started (all_drivers owned)) design.nets; owned = z }) o)
 
-pub first-kept : (design : Design) (sources : List (List Source)) (dss : List (List DriverState)) (vss : List (List Held))
-    (values values_before driving : List Logic)
-    (fan_out : List (List ℕ)) (times : List (Option ℕ)) (stale touched : List Bool) (tallies : TallyLists) (count many : ℕ)
-    → sources ≡ sources_of design.nets → dss ≡ map (drivers_of design.drivers) design.processes → vss ≡ map variables_of design.processes
-    → driving ≡ driver_values (joined dss) → values ≡ map (net_value (joined dss)) design.nets → values_before ≡ values → count ≡ length (joined dss)
-    → many ≡ length values
-    → AreFanOut sources fan_out → length fan_out ≡ count → times ≡ replicate count None → stale ≡ replicate count false → touched ≡ replicate many false
-    → AreTallied sources driving tallies
-    → IsConsistent values values_before driving dss vss sources fan_out times stale touched tallies
-first-kept design sources dss vss values values_before driving fan_out times stale touched tallies count many er es ev eg eu el ec em ad ld
-    et est eto tallied =
-    let here : (d : ℕ) → (driver_at (joined dss) d).pending ≡ [] =
-    λ d. ap (λ w. (driver_at (joined w) d).pending) es ∙ idle-first design.drivers design.processes d in
-    record {
-      lists = record {
-        nets = sym (ap length el);
-        owned = omega (arith, ap length es, ap length ev, length-map design.processes (drivers_of design.drivers), length-map design.processes variables_of);
-      };
-      valued = eg;
-      timed = record {
-        sized = omega (arith, ap length et, length-replicate count no_time, ec);
-        marked = omega (arith, ap length est, length-replicate count false, ec);
-        current = λ d _. ap (λ w. time_of w d) et ∙ (none-at count d ∙ sym (none-idle (driver_at (joined dss) d) (here d)));
-      };
-      fan_out_count = ld ∙ ec;
-      fanned = ad;
-      resolving = eu ∙ (same-rows (joined dss) design.nets ∙ ap (map (row_value (joined dss))) (sym er));
-      touching = record {
-        sized = omega (arith, ap length eto, length-replicate many false, em);
-        still = λ n _. ap (λ w. value_at w n) (sym el);
-      };
-      tallied = tallied;
-    }
+pub one-share : {A : Type 0} (xs : List A) → AreShares (length xs ∷ [])
+one-share xs = record {
+  some = omega arith;
+  wide = λ h. absurd (omega (arith, h));
+  full = λ p h. absurd (omega (arith, h));
+  most = λ p h. let first : p ≡ 0 = omega (arith, h) in rw first (omega arith);
+}
+
+pub first-kept : (design : Design) (values : NetValues) (share : List Owned) (lists : Lists)
+    → lists.sources ≡ sources_of design.nets → lists.driving ≡ driver_values (all_drivers share)
+    → values.present ≡ map (row_from lists.driving) (sources_of design.nets) → values.before ≡ values.present
+    → length lists.touched ≡ length values.present → IsConsistent values (share ∷ []) lists
+first-kept design values share lists es ed ev eb et = record {
+  shared = one-share share;
+  nets = ap length eb;
+  valued = ed ∙ ap (λ (os : List Owned). driver_values (all_drivers os)) (sym (append-nil share));
+  resolving = ev ∙ ap (map (row_from lists.driving)) (sym es);
+  touching = record { sized = et; still = λ n _. ap (λ w. value_at w n) (sym eb) };
+}

@@ -1,10 +1,6 @@
-pub mod Executions
-pub mod Assignments
 pub mod Times
 pub mod FlatState
 pub mod Sensitive
-pub mod Changes
 pub mod Log
-pub mod Lending
-pub mod SplitState
+pub mod Updating
 pub mod InTurn

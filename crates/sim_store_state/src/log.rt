@@ -8,8 +8,8 @@ ghost use Rattle.sim_standard.specs.Records.{all_changes, changes_from};
 ghost use Rattle.sim_store_state.specs.Log.{changed, changes_before, changes_of, count_times, last_record, recorded, records_in, IsNext};
 ghost use Rattle.sim_store_state.specs.Log as spec;
 
-use crate::touched::Touched;
 use sim_logic::Logic;
+use sim_store_nets::UpdateLists;
 use std::alloc::{AllocError, Global};
 use std::marker::Model;
 
@@ -67,16 +67,16 @@ pub(crate) fn append_changes(
     entries: &mut Vec<Entry>,
     values: &[Logic],
     values_before: &[Logic],
-    touched: &Touched,
+    lists: &UpdateLists,
 )
     requires same { length values_before.now ≡ length values.now }
-    requires touched { AreTouched values.now values_before.now touched.now }
+    requires touched { AreTouched values.now values_before.now lists.now.touched }
     requires few { length values.now < 2 ^ 32 }
     requires room { vec_len entries.old + length values.now ≤ vec_capacity entries.old }
     ensures appended { entries.new.items ≡ entries.old.items ++ map changed (changes_from 0 (views_of values.now values_before.now)) }
     ensures capacity { vec_capacity entries.new ≡ vec_capacity entries.old }
 {
-    let nets = touched.numbers();
+    let nets = lists.touched();
     if nets.len() == 1 {
         let only = nets[0];
         append_change(entries, only, values[only], values_before[only]);
@@ -261,10 +261,10 @@ impl Log {
         delta: u64,
         values: &[Logic],
         values_before: &[Logic],
-        touched: &Touched,
+        lists: &UpdateLists,
     )
         requires same { length values_before.now ≡ length values.now }
-        requires touched { AreTouched values.now values_before.now touched.now }
+        requires touched { AreTouched values.now values_before.now lists.now.touched }
         requires few { length values.now < 2 ^ 32 }
         requires next { IsNext self.old.records time delta }
         requires time { 0 < self.old.times_room }
@@ -277,7 +277,7 @@ impl Log {
         } ∷ [] }
     {
         let start = self.entries.len();
-        append_changes(&mut self.entries, values, values_before, touched);
+        append_changes(&mut self.entries, values, values_before, lists);
         self.changes += self.entries.len() - start;
         begin_record(&mut self.times, &mut self.entries, start, time, delta);
         self.records += 1;

@@ -1,22 +1,16 @@
-//! The state of a design before any process is executed (IEEE 1076-2008, 14.7.5.2), and what is
-//! computed once for its cycles.
+//! The state of a design before any process is executed (IEEE 1076-2008, 14.7.5.2).
 
-ghost use Rattle.std.specs.Prelude.{ℕ, [], None, false, ◌≡◌, ◌+◌, ◌<◌, ◌≤◌, ◌==◌, ◌||◌, ◌&&◌, map, length, take, drop, slice_index_or, replicate, IfOk, OnOk};
+ghost use Rattle.std.specs.Prelude.{[], ◌≡◌, ◌+◌, ◌≤◌, map, length, take, drop, IfOk};
 ghost use Rattle.std.specs.List.{All};
 ghost use Rattle.sim_flat_design.specs.declared.design.DriverOf.{DriverOf as driver_of};
 ghost use Rattle.sim_standard.specs.Initialization as at_start;
-ghost use Rattle.sim_standard.specs.State.{driver_values};
-ghost use Rattle.sim_store_nets.specs.Nets.{AreFanOut, AreTallied, is_source, is_driver, row_from, sources_of};
-ghost use Rattle.sim_standard.specs.Orders.{is_among};
-ghost use Rattle.sim_containers.specs.RowArray.{joined};
+ghost use Rattle.sim_standard.specs.State.{all_drivers, driver_values};
 
-use crate::touched::Touched;
-use sim_containers::{DividedRows, NumberSet, RowArray, TimeQueue};
-use sim_flat_design::{Design, DriverOf, Held, Net, Process, Source};
+use sim_containers::RowArray;
+use sim_flat_design::{Design, DriverOf, Held, Process};
 use sim_logic::Logic;
-use sim_store_nets::net_value;
+use sim_store_share::Share;
 use sim_wave::Driver;
-use sqlite_items::Items;
 use std::alloc::{AllocError, Global};
 
 /// Drivers with their initial values and no pending transactions.
@@ -101,102 +95,20 @@ fn driving_values(alloc: Global, drivers: &[Driver]) -> Result<Vec<Logic>, Alloc
     Ok(values)
 }
 
-/// The value of each net, given the values of the drivers.
-fn values(alloc: Global, nets: &[Net], driving: &[Logic]) -> Result<Vec<Logic>, AllocError>
-    ensures { IfOk result (λ v. v.items ≡ map (row_from driving.now) (sources_of nets.now)) }
-{
-    let mut values = Vec::with_capacity(alloc, nets.len())?;
-    for net in nets {
-        values.push(net_value(net.sources(), driving))?;
-    }
-    Ok(values)
-}
-
-/// The value of each net, which is also its value before.
-fn first_values(
-    alloc: Global,
-    nets: &[Net],
-    driving: &[Logic],
-) -> Result<(Vec<Logic>, Vec<Logic>), AllocError>
-    ensures values { IfOk result (λ r. r.0.items ≡ map (row_from driving.now) (sources_of nets.now)) }
-    ensures values_before { IfOk result (λ r. r.1.items ≡ r.0.items) }
-{
-    let values = values(alloc, nets, driving)?;
-    let values_before = Vec::from_slice(alloc, values.as_slice())?;
-    Ok((values, values_before))
-}
-
-/// The initial drivers and variables of each process, in one part, and the value of each driver.
-fn first_parts(
-    alloc: Global,
-    design: &Design,
-) -> Result<(DividedRows<Driver>, DividedRows<Held>, Vec<Logic>), AllocError>
-    ensures drivers { IfOk result (λ r. r.0 ≡ map (λ p. (at_start.first_owned design.now.drivers p).drivers) design.now.processes) }
-    ensures variables { IfOk result (λ r. r.1 ≡ map (λ p. p.body.variables) design.now.processes) }
-    ensures driving { IfOk result (λ r. r.2.items ≡ driver_values (joined r.0)) }
-{
-    let (drivers, variables) = first_owned(alloc, design)?;
-    let driving = driving_values(alloc, drivers.flat())?;
-    let (drivers, variables) = in_one_part(alloc, drivers, variables)?;
-    Ok((drivers, variables, driving))
-}
-
-/// The same lists, each in one part.
-fn in_one_part(
-    alloc: Global,
-    drivers: RowArray<Driver>,
-    variables: RowArray<Held>,
-) -> Result<(DividedRows<Driver>, DividedRows<Held>), AllocError>
-    ensures drivers { IfOk result (λ r. r.0 ≡ drivers) }
-    ensures variables { IfOk result (λ r. r.1 ≡ variables) }
-{
-    let drivers = DividedRows::of(alloc, drivers)?;
-    let variables = DividedRows::of(alloc, variables)?;
-    Ok((drivers, variables))
-}
-
-/// The drivers and variables that processes own initially, and the values of drivers and nets that
-/// follow from them.
+/// The drivers and variables of the processes at first, and the value of each driver.
 #[derive(Drop)]
 pub struct FirstContents {
-    pub drivers: DividedRows<Driver>,
-    pub variables: DividedRows<Held>,
+    pub share: Share,
     pub driving: Vec<Logic>,
-    pub values: Vec<Logic>,
-    pub values_before: Vec<Logic>,
 }
 
 /// The initial contents for a design.
 pub fn first_contents(alloc: Global, design: &Design) -> Result<FirstContents, AllocError>
-    ensures drivers { IfOk result (λ r. r.drivers ≡ map (λ p. (at_start.first_owned design.now.drivers p).drivers) design.now.processes) }
-    ensures variables { IfOk result (λ r. r.variables ≡ map (λ p. p.body.variables) design.now.processes) }
-    ensures driving { IfOk result (λ r. r.driving.items ≡ driver_values (joined r.drivers)) }
-    ensures values { IfOk result (λ r. r.values.items ≡ map (row_from r.driving.items) (sources_of design.now.nets)) }
-    ensures values_before { IfOk result (λ r. r.values_before.items ≡ r.values.items) }
+    ensures owned { IfOk result (λ r. r.share ≡ map (at_start.first_owned design.now.drivers) design.now.processes) }
+    ensures driving { IfOk result (λ r. r.driving.items ≡ driver_values (all_drivers r.share)) }
 {
-    let (drivers, variables, driving) = first_parts(alloc, design)?;
-    let (values, values_before) = first_values(alloc, design.nets(), driving.as_slice())?;
-    Ok(FirstContents {
-        drivers,
-        variables,
-        driving,
-        values,
-        values_before,
-    })
-}
-
-/// An empty queue, no stale drivers and no touched nets, for this many drivers and nets.
-pub fn nothing_pending(
-    alloc: Global,
-    drivers: usize,
-    nets: usize,
-) -> Result<(TimeQueue, NumberSet, Touched), AllocError>
-    ensures queue { IfOk result (λ r. r.0 ≡ replicate drivers None) }
-    ensures stale { IfOk result (λ r. r.1 ≡ replicate drivers false) }
-    ensures touched { IfOk result (λ r. r.2 ≡ replicate nets false) }
-{
-    let queue = TimeQueue::new(alloc, drivers)?;
-    let stale = NumberSet::new(alloc, drivers)?;
-    let touched = Touched::none(alloc, nets)?;
-    Ok((queue, stale, touched))
+    let (drivers, variables) = first_owned(alloc, design)?;
+    let driving = driving_values(alloc, drivers.flat())?;
+    let share = Share::first(alloc, drivers, variables)?;
+    Ok(FirstContents { share, driving })
 }

@@ -5,7 +5,7 @@ ghost use Rattle.std.specs.Prelude.{◌≡◌, IfSome};
 use crate::line::Line;
 use crate::scripts::Call::{Advance, State, Total, Value};
 use crate::scripts::put_answers;
-use crate::texts::{EXCHANGE, POSTPONED, flat, go_on};
+use crate::texts::{EXCHANGE, IDLE, NOTHING, POSTPONED, flat, go_on};
 use sim_flat_design::Design;
 use sim_logic::LATEST;
 use sim_store::{Answer, DesignType, HandOutError, HandedOutStore, Order, WaveStore};
@@ -49,14 +49,28 @@ static ROWS: [Row<'_>; 13] = [
     (POSTPONED, 0, 1, Given::OfOtherOwnLeft, "Stranger"),
 ];
 
-/// A store of a copy of a design after some phases, with what its processes own in three shares.
-fn begun(alloc: Global, design: &Design, phases: usize) -> Option<WaveStore>
+/// A text, the number of phases before one is handed out, and the number of shares, which is also
+/// that of orders. The store goes on as if all processes had been executed in it, undivided: in one
+/// share, in shares of one process each, without processes, and where the last share has none due.
+static DIVIDED: [(&str, usize, usize); 8] = [
+    (EXCHANGE, 1, 1),
+    (EXCHANGE, 1, 2),
+    (EXCHANGE, 2, 100),
+    (POSTPONED, 1, 2),
+    (NOTHING, 0, 1),
+    (NOTHING, 0, 4),
+    (IDLE, 1, 2),
+    (IDLE, 3, 2),
+];
+
+/// A store of a copy of a design after some phases, with its processes in this many shares.
+fn begun(alloc: Global, design: &Design, phases: usize, shares: usize) -> Option<WaveStore>
     ensures { IfSome result (λ s. s.simulation.design ≡ design.now) }
 {
     let copy = design.try_copy().ok()?;
     let mut store = WaveStore::new(alloc, copy, LATEST, 100).ok()?;
     go_on(alloc, &mut store, phases);
-    let store = store.divide(alloc, 3).ok()?;
+    let store = store.divide(alloc, shares).ok()?;
     if !store.design().same(design) {
         return None;
     }
@@ -175,10 +189,10 @@ fn put_handed<D: DesignType>(
 
 /// The result of a row.
 fn put_row(line: &mut Line, alloc: Global, design: &Design, row: &Row<'_>) {
-    let Some(own) = begun(alloc, design, row.1) else {
+    let Some(own) = begun(alloc, design, row.1, 3) else {
         return line.put("no store");
     };
-    let Some(other) = begun(alloc, design, row.2) else {
+    let Some(other) = begun(alloc, design, row.2, 3) else {
         return line.put("no store");
     };
     put_handed::<Brand>(line, alloc, own, other, row.3);
@@ -186,7 +200,7 @@ fn put_row(line: &mut Line, alloc: Global, design: &Design, row: &Row<'_>) {
 
 /// The result if all processes are executed in the store.
 fn put_executed(line: &mut Line, alloc: Global, design: &Design, phases: usize) {
-    let Some(store) = begun(alloc, design, phases) else {
+    let Some(store) = begun(alloc, design, phases, 1) else {
         return line.put("no store");
     };
     match store.execute_due(alloc) {
@@ -202,6 +216,35 @@ fn put_wanted(line: &mut Line, alloc: Global, design: &Design, row: &Row<'_>) {
     } else {
         line.put(row.4);
     }
+}
+
+/// The result of a row of divided stores.
+fn put_divided(line: &mut Line, alloc: Global, design: &Design, row: &(&str, usize, usize)) {
+    let Some(own) = begun(alloc, design, row.1, row.2) else {
+        return line.put("no store");
+    };
+    let Some(other) = begun(alloc, design, row.1, 1) else {
+        return line.put("no store");
+    };
+    put_handed::<Brand>(line, alloc, own, other, Given::Own);
+}
+
+/// The results of divided stores, and those of stores that execute all processes themselves.
+fn divided(alloc: Global) -> (Line, Line) {
+    let mut found = Line::new(alloc);
+    let mut wanted = Line::new(alloc);
+    for row in DIVIDED.iter() {
+        match flat(alloc, row.0) {
+            None => found.put("no design"),
+            Some(design) => {
+                put_divided(&mut found, alloc, &design, row);
+                put_executed(&mut wanted, alloc, &design, row.1);
+            }
+        }
+        found.put("\n");
+        wanted.put("\n");
+    }
+    (found, wanted)
 }
 
 /// The results of all rows, and the expected ones.
@@ -225,6 +268,13 @@ fn handed_out(alloc: Global) -> (Line, Line) {
 #[test]
 fn phases_are_handed_out_and_taken_back(rt: HostRuntime) -> Result<(), Fail> {
     let (found, wanted) = handed_out(rt.alloc());
+    assert_eq!(rt; found.whole()?.as_str(), wanted.whole()?.as_str());
+    Ok(())
+}
+
+#[test]
+fn any_number_of_shares_leaves_the_same_store(rt: HostRuntime) -> Result<(), Fail> {
+    let (found, wanted) = divided(rt.alloc());
     assert_eq!(rt; found.whole()?.as_str(), wanted.whole()?.as_str());
     Ok(())
 }

@@ -35,6 +35,15 @@ pub const EXCHANGE: &str =
 clk <= '1' after 5 ns; process(clk) begin if rising_edge(clk) then a <= b; end if; end process; \
 process(clk) begin if rising_edge(clk) then b <= a; end if; end process; end;";
 
+/// A signal that nothing drives.
+pub const NOTHING: &str =
+    "entity t is end;architecture a of t is signal a:std_logic:='0';begin end;";
+
+/// An inverter that changes every nanosecond, and a process that is executed at first alone.
+pub const IDLE: &str =
+    "entity t is end;architecture a of t is signal a,z,q:std_logic:='0';begin a <= not a after 1 ns; \
+process(z) begin q <= not z; end process; end;";
+
 /// A flip-flop that toggles at each rising edge.
 pub const TOGGLE: &str =
     "entity t is end;architecture a of t is signal clk:std_logic:='0'; signal q:std_logic;begin \

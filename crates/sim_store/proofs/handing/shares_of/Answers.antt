@@ -4,7 +4,7 @@ use Rattle.std.proofs.lemmas.List.{length-append, take_all}
 use Rattle.sim_standard.specs.State.{Owned}
 use Rattle.sim_containers.specs.RowArray.{joined}
 use Rattle.sim_containers.proofs.Flat.{joined-push}
-use Rattle.sim_store_state.specs.Lending.{counts}
+use Rattle.sim_store_state.specs.FlatState.{counts}
 use Rattle.sim_store_nets.proofs.Walks.{not_both}
 use Rattle.sim_store.specs.Handing.{AreInOrder, IsRange, Range, completed, at_input, lengths}
 use Rattle.sim_store.proofs.Orders.{AreLeft, first-left, none-left, range-none, taken-more}
@@ -15,13 +15,13 @@ pub loop-answer-init : goal.loop-answer-init
 loop-answer-init g c =
     let f = c.args.input.now in
     let parts = c.args.parts.now in
-    let none : c.in_ok-shares.shares ≡ [] = c.in_ok-shares.ensures in
+    let none : c.in_ok-shares.shares.items ≡ [] = c.in_ok-shares.ensures.items in
     let gives = c.into_iter-answer-iterator.ensures.into_iter_gives in
     let items = into_iter_items c.into_iter-answer-iterator.result in
-    let own : joined c.in_ok-shares.shares ≡ [] = ap (λ (w : List (List Owned)). joined w) none in (
+    let own : joined c.in_ok-shares.shares.items ≡ [] = ap (λ (w : List (List Owned)). joined w) none in (
       tt,
       tt,
-      range-none (joined c.in_ok-shares.shares) own,
+      range-none (joined c.in_ok-shares.shares.items) own,
       omega (arith, ap length own),
       omega (arith, ap length none),
       ap (λ (w : List (List Owned)). counts w) none ∙ ap (λ (w : List (List Owned)). take (length w) parts) (sym none),
@@ -43,16 +43,16 @@ loop-answer-preserved g c =
     let is : c.is_next.result ≡ true = search (rules, tests) in
     let t = c.is_next.ensures.0 is in
     let i = c.loop-answer.invariant in
-    let xs = c.loop-answer.shares in
-    let number = c.count-number.result in
-    let n : number ≡ length xs = c.count-number.ensures in
+    let xs = c.loop-answer.shares.items in
+    let number = c.len-number.result in
+    let n : number ≡ length xs = omega (arith, c.len-number.ensures) in
     let lt : number < length parts = omega (arith, c.if-number-parts.false, i.4, n) in
     let at : answer.from ≡ 0 + length (joined xs) = omega (arith, t.2, i.3) in
     let r = range-of d f.cycles answer.cycles f.phase answer.phase (0 + length (joined xs)) answer.from answer.owned t.0 t.1 at
     c.into_share.ensures.range in
-    let e : c.push.new.self ≡ xs ++ answer.owned ∷ [] = c.in_ok-push.ensures ∙ ap (λ (w : List Owned). xs ++ w ∷ []) c.into_share.ensures.share in
-    let j : joined c.push.new.self ≡ joined xs ++ answer.owned = ap (λ (w : List (List Owned)). joined w) e ∙ joined-push xs answer.owned in
-    let more : length c.push.new.self ≡ length xs + 1 = omega (arith, ap length e, length-append xs (answer.owned ∷ [])) in
+    let e : c.add.new.shares.items ≡ xs ++ answer.owned ∷ [] = c.in_ok-add.ensures ∙ ap (λ (w : List Owned). xs ++ w ∷ []) c.into_share.ensures.share in
+    let j : joined c.add.new.shares.items ≡ joined xs ++ answer.owned = ap (λ (w : List (List Owned)). joined w) e ∙ joined-push xs answer.owned in
+    let more : length c.add.new.shares.items ≡ length xs + 1 = omega (arith, ap length e, length-append xs (answer.owned ∷ [])) in
     let own : length answer.owned ≡ get_or parts (length xs) 0 = t.3 ∙ ap (λ (k : ℕ). get_or parts k 0) n in (
       tt,
       tt,
@@ -72,22 +72,23 @@ loop-answer-preserved g c =
 pub returns-then-number-parts-clause-err : goal.returns-then-number-parts-clause-err
 returns-then-number-parts-clause-err g c = λ e all.
     let w = first-left c.in-Some.answer (into_iter_items c.next.new.self) _ c.in-Some.ensures.steps.0 (c.loop-answer.invariant.7 all) in
-    absurd (omega (arith, w.within, c.count-number.ensures, c.if-number-parts.true))
+    absurd (omega (arith, w.within, c.len-number.ensures, c.if-number-parts.true))
 
 pub returns-then-not-is_next-clause-err : goal.returns-then-not-is_next-clause-err
 returns-then-not-is_next-clause-err g c = λ e all.
     let w = first-left c.in-Some.answer (into_iter_items c.next.new.self) _ c.in-Some.ensures.steps.0 (c.loop-answer.invariant.7 all) in
-    let count = w.count_is ∙ ap (λ (k : ℕ). get_or c.args.parts.now k 0) (sym c.count-number.ensures) in
+    let n : c.len-number.result ≡ length c.loop-answer.shares.items = omega (arith, c.len-number.ensures) in
+    let count = w.count_is ∙ ap (λ (k : ℕ). get_or c.args.parts.now k 0) (sym n) in
     let is : c.is_next.result ≡ false = search (rules, tests) in
     not_both _ is (c.is_next.ensures.1 (w.cycles_are, w.phase_is, w.from_is, count))
 
-pub returns-then-count-parts-clause-err : goal.returns-then-count-parts-clause-err
-returns-then-count-parts-clause-err g c = λ e all.
+pub returns-then-len-parts-clause-err : goal.returns-then-len-parts-clause-err
+returns-then-len-parts-clause-err g c = λ e all.
     let i = c.loop-answer.invariant in
     let f = c.args.input.now in
     let items = into_iter_items c.loop-answer.answer-iterator in
     let none : length items ≡ 0 = omega (arith, i.6, c.in-None.ensures.steps.0) in
-    absurd (omega (arith, none-left c.args.parts.now _ _ items none (i.7 all), i.4, c.count.ensures, c.if-count-parts.true))
+    absurd (omega (arith, none-left c.args.parts.now _ _ items none (i.7 all), i.4, c.len.ensures, c.if-len-parts.true))
 
 pub returns-clause-range : goal.returns-clause-range
 returns-clause-range g c = c.loop-answer.invariant.2
@@ -95,4 +96,4 @@ returns-clause-range g c = c.loop-answer.invariant.2
 pub returns-clause-counts : goal.returns-clause-counts
 returns-clause-counts g c =
     let i = c.loop-answer.invariant in
-    i.5 ∙ take_all (length c.loop-answer.shares) c.args.parts.now (omega (arith, c.count.ensures, c.if-count-parts.false))
+    i.5 ∙ take_all (length c.loop-answer.shares.items) c.args.parts.now (omega (arith, c.len.ensures, c.if-len-parts.false))

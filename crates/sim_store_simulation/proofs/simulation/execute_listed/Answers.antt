@@ -1,51 +1,46 @@
-use Rattle.std.proofs.Common.{ℕ, ◌+◌, ◌<◌, Bool, List, length, get_or, ap, sym, subst, arith}
-use Rattle.sim_store_simulation.specs.Contents.{HasOneMore, IsExecutable}
+use Rattle.std.proofs.Common.{ℕ, ◌≡◌, List, length, ap, sym, ◌∙◌, subst, arith}
+use Rattle.std.specs.List.{All}
+use Rattle.sim_flat_design.specs.Processes.{Process}
+use Rattle.sim_exec_code.specs.Codes.{AreCodesOf}
+use Rattle.sim_store_state.specs.InTurn as turn
+use Rattle.sim_store_simulation.specs.declared.simulation.Contents.{Contents}
 use Rattle.sim_store_simulation.specs.Simulation.{listed}
-use Rattle.sim_store_simulation.proofs.Assignments.{rest-executable, some-executed}
-use Rattle.sim_store_simulation.proofs.Listed.{listed-all, listed-complete, listed-first, listed-more, listed-next, listed-same}
+use Rattle.sim_store_simulation.proofs.Assignments.{all-executable, all-executed}
+use Rattle.sim_store_simulation.proofs.Listed.{AreListed, listed-all, listed-complete, listed-same}
 use Rattle.sim_store_simulation.proofs.simulation.execute_listed.Goals as goal
-
-pub loop-place-init : goal.loop-place-init
-loop-place-init c = listed-first c.args.design.now c.args.contents.now c.requires.of c.requires.fresh
-
-pub execute_assignments-requires-clause-each : goal.execute_assignments-requires-clause-each
-execute_assignments-requires-clause-each c = rest-executable c.loop-place.invariant
-
-pub loop-place-preserved : goal.loop-place-preserved
-loop-place-preserved c =
-    some-executed c.in_ok-place.field-0 c.loop-place.invariant c.in_ok-place.ensures.within c.execute_assignments.new.contents c.in_ok-place.ensures.kept
-    c.in_ok-place.ensures.ok
 
 pub execute-requires : goal.execute-requires
 execute-requires c =
-    let contents = c.execute_assignments.new.contents in
-    let place = c.loop-place.place + c.in_ok-place.field-0 in
-    let i = some-executed c.in_ok-place.field-0 c.loop-place.invariant c.in_ok-place.ensures.within contents c.in_ok-place.ensures.kept
-    c.in_ok-place.ensures.ok in
-    let lt : place < length (listed contents.due) =
-    omega (arith, c.if-place-count.true, ap length c.numbers-count.ensures, ap (λ (d : List Bool). length (listed d)) i.due) in
-    let at = ap (λ (l : List ℕ). get_or l place 0) c.numbers.ensures in
-    subst (λ (k : ℕ). IsExecutable c.args.design.now contents k) (sym at) (listed-next i lt)
+    let m = c.args.contents.now in
+    let is = sym c.processes.ensures.value in
+    record {
+      time = c.requires.of.state.early;
+      codes = subst (λ (ps : List Process). AreCodesOf ps m.compiled.codes) is c.requires.of.compiled.codes_are;
+      frame = c.requires.of.compiled.frame_fits;
+      each = subst (λ (ns : List ℕ). All (turn.IsExecutable c.processes.result.now m.time m.state.owned) ns) (sym c.numbers.ensures)
+          (subst (λ (ps : List Process). All (turn.IsExecutable ps m.time m.state.owned) (listed m.due)) is
+          (all-executable c.args.design.now m c.requires.of c.requires.fresh));
+    }
 
-pub loop-place-preserved-then-place-count : goal.loop-place-preserved-then-place-count
-loop-place-preserved-then-place-count c =
-    let contents = c.execute_assignments.new.contents in
-    let new = c.execute.new.contents in
-    let place = c.loop-place.place + c.in_ok-place.field-0 in
-    let i = some-executed c.in_ok-place.field-0 c.loop-place.invariant c.in_ok-place.ensures.within contents c.in_ok-place.ensures.kept
-    c.in_ok-place.ensures.ok in
-    let lt : place < length (listed contents.due) =
-    omega (arith, c.if-place-count.true, ap length c.numbers-count.ensures, ap (λ (d : List Bool). length (listed d)) i.due) in
-    let at = ap (λ (l : List ℕ). get_or l place 0) c.numbers.ensures in
-    listed-more i lt new c.in_ok-execute.ensures.kept (subst (λ (k : ℕ). HasOneMore c.args.design.now contents new k) at c.in_ok-execute.ensures.step)
+-- the due processes have been executed
+all : (c : goal.After-contents-1) → AreListed c.args.design.now c.args.contents.now
+    (record c.args.contents.now { compiled = record c.args.contents.now.compiled { frame = c.execute.new.frame }; state = c.execute.new.self })
+    (length (listed c.args.contents.now.due))
+all c =
+    let m = c.args.contents.now in
+    let new : Contents = record m { compiled = record m.compiled { frame = c.execute.new.frame }; state = c.execute.new.self } in
+    let kept : new ≡ record m { state = new.state } =
+    ap (λ (f : ℕ). record m { compiled = record m.compiled { frame = f }; state = c.execute.new.self }) c.in_ok-execute.ensures.frame in
+    all-executed c.requires.of c.requires.fresh new kept
+    (subst (λ (ns : List ℕ). turn.AreExecuted c.args.design.now.processes m.time ns m.state c.execute.new.self) c.numbers.ensures
+    (subst (λ (ps : List Process). turn.AreExecuted ps m.time c.numbers.result.now m.state c.execute.new.self) c.processes.ensures.value
+    c.in_ok-execute.ensures.ok))
 
 pub returns-clause-of : goal.returns-clause-of
-returns-clause-of c =
-    let i = c.loop-place.invariant in
-    listed-all i (omega (arith, c.loop-place-test.false, ap length c.numbers-count.ensures, ap (λ (d : List Bool). length (listed d)) i.due))
+returns-clause-of c = listed-all (all c) (omega arith)
 
 pub returns-clause-same : goal.returns-clause-same
-returns-clause-same c = listed-same c.loop-place.invariant
+returns-clause-same c = listed-same (all c)
 
 pub returns-clause-complete : goal.returns-clause-complete
-returns-clause-complete c = listed-complete c.loop-place.invariant
+returns-clause-complete c = listed-complete (all c)

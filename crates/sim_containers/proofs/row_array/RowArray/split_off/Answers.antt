@@ -1,6 +1,7 @@
 use Rattle.std.proofs.Common.{ap, length, arith}
 use Rattle.sim_containers.proofs.Flat.{count, start-read, viewed_again, rows-flat}
-use Rattle.sim_containers.proofs.Divided.{before-whole, split-front, split-back}
+use Rattle.sim_containers.proofs.Placed.{before-whole}
+use Rattle.sim_containers.proofs.Split.{split-front, split-back}
 use Rattle.sim_containers.specs.RowArray.{joined}
 use Rattle.sim_containers.proofs.row_array.RowArray.split_off.Goals as goal
 

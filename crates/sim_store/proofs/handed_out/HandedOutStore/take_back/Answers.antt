@@ -10,7 +10,7 @@ use Rattle.sim_store.proofs.handed_out.HandedOutStore.take_back.Goals as goal
 
 pub simulation_of-requires-clause-all : goal.simulation_of-requires-clause-all
 simulation_of-requires-clause-all g c =
-    sym (sum-counts c.in_ok-input.shares) ∙ (ap sum c.in_ok-input.ensures.counts ∙ c.self.invariant.3)
+    sym (sum-counts c.in_ok-input.shares.items) ∙ (ap sum c.in_ok-input.ensures.counts ∙ c.self.invariant.3)
 
 pub open-requires : goal.open-requires
 open-requires g c =

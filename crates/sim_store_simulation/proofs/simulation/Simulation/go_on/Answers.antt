@@ -36,10 +36,7 @@ update-requires c =
     let kept = held c.self.inside.design c.deref_mut-contents.ensures.value c.self.invariant in
     let view = shown c.self.inside.design c.deref_mut-contents.ensures.value c.self.view_is in
     let done = subst IsExecuted (sym view) c.requires.executed in
-    record {
-      next = next-time-is kept.state done c.args.time
-          (subst (λ (g : Simulation). next_after g ≡ Some (CycleAt c.args.time)) (sym view) c.requires.next);
-    }
+    next-time-is kept.state done c.args.time (subst (λ (g : Simulation). next_after g ≡ Some (CycleAt c.args.time)) (sym view) c.requires.next)
 
 pub record-requires-clause-few : goal.record-requires-clause-few
 record-requires-clause-few c =
@@ -47,7 +44,7 @@ record-requires-clause-few c =
     let view = shown c.self.inside.design c.deref_mut-contents.ensures.value c.self.view_is in
     let s = c.self.inside in
     let done = subst IsExecuted (sym view) c.requires.executed in
-    let count = advanced-count kept.state done c.args.time c.update.new.self c.in_ok-update.ensures.ok in
+    let count = advanced-count kept.state done c.args.time c.update.new.self c.update.ensures in
     omega (arith, count, kept.state.few)
 
 pub record-requires-clause-next : goal.record-requires-clause-next
@@ -61,7 +58,7 @@ record-requires-clause-entries c =
     let kept = held c.self.inside.design c.deref_mut-contents.ensures.value c.self.invariant in
     let view = shown c.self.inside.design c.deref_mut-contents.ensures.value c.self.view_is in
     let done = subst IsExecuted (sym view) c.requires.executed in
-    let count = advanced-count kept.state done c.args.time c.update.new.self c.in_ok-update.ensures.ok in
+    let count = advanced-count kept.state done c.args.time c.update.new.self c.update.ensures in
     omega (arith, count, ap length c.nets-nets.ensures.value, c.in_ok-reserve.ensures.entries)
 
 pub find-requires-clause-processes : goal.find-requires-clause-processes
@@ -78,7 +75,7 @@ count_last-requires-clause-room c n =
     let i = kept.state in
     let few : (simulation_of s.design m).cycles < 4294967296 = subst (λ (g : Simulation). g.cycles < 4294967296) (sym view) c.requires.bound in
     let done = subst IsExecuted (sym view) c.requires.executed in
-    let count = advanced-count i done c.args.time c.update.new.self c.in_ok-update.ensures.ok in
+    let count = advanced-count i done c.args.time c.update.new.self c.update.ensures in
     let one : Record = record { time = c.args.time; delta = c.next_delta-contents.result; changes = changes_from 0 c.update.new.self.nets } in
     let records : c.record.new.log.records ≡ m.log.records ++ one ∷ [] = c.record.ensures ∙ ap (λ rs. rs ++ one ∷ []) c.in_ok-reserve.ensures.same in
     let last = last-record m.log.records c.record.new.log.records one records in
@@ -110,14 +107,14 @@ invariant_of-self-2 c =
     let marks = none-marked-for kept.state m.deposited kept.marks_sized in
     let last = last-record m.log.records c.record.new.log.records one records in
     let changes = ap (λ (r : Record). r.changes) last in
-    let sensed = kept.compiled.sensitive_sized ∙ sym (advanced-count i done c.args.time c.update.new.self c.in_ok-update.ensures.ok) in
+    let sensed = kept.compiled.sensitive_sized ∙ sym (advanced-count i done c.args.time c.update.new.self c.update.ensures) in
     let written = written_back c.count_last.new.totals m.totals.items m.totals.len (c.count_last.ensures.sized ∙ c.as_mut_slice.ensures.len) in
     subst (λ (w : Contents). IsOf s.design w) (sym c.begin_phase.ensures) (record {
       compiled = kept.compiled;
       marked = subst (ArePostponed s.design) (sym same) kept.marked;
       state = advanced-keeps i done c.args.time next c.requires.early c.next_delta-contents.result (length c.record.new.log.records - 1)
           c.update.new.self c.record.new.log.records m.waiting.postponed c.find.new.self c.find.new.waiting.waiting _ c.next_delta-contents.ensures
-          c.in_ok-update.ensures.ok records c.find.ensures.sized (c.find.ensures.waiting_sized ∙ c.leave.ensures.sized)
+          c.update.ensures records c.find.ensures.sized (c.find.ensures.waiting_sized ∙ c.leave.ensures.sized)
           kept.marked.are
           (λ p lt. c.find.ensures.found c.update.new.self.nets h.design.processes p changes sensed kept.compiled.sensitive_are lt
           ∙ ap (λ (ps : List Bool). has_event_in c.update.new.self.nets (process_at h.design.processes p).sensitivity && not (those_in ps p))

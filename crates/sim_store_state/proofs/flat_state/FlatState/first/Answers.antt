@@ -1,30 +1,33 @@
-use Rattle.std.proofs.Common.{List, length, ap, subst, arith}
+use Rattle.std.proofs.Common.{◌≡◌, List, false, subst, sym, ap, length, map, ◌∙◌}
+use Rattle.std.proofs.lemmas.List.{length-map, length-replicate}
 use Rattle.sim_logic.specs.declared.logic.Logic.{Logic}
-use Rattle.sim_store_nets.specs.Nets.{AreTallied}
-use Rattle.sim_containers.specs.RowArray.{joined}
-use Rattle.sim_store_state.proofs.Starting.{first-held, first-kept, first-values, count-values}
+use Rattle.sim_standard.specs.State.{Owned}
+use Rattle.sim_store_nets.specs.Nets.{row_from, sources_of}
+use Rattle.sim_store_state.specs.FlatState.{IsConsistent, held}
+use Rattle.sim_store_state.proofs.Starting.{first-held, first-kept}
 use Rattle.sim_store_state.proofs.flat_state.FlatState.first.Goals as goal
 
 pub invariant_of-result : goal.invariant_of-result
 invariant_of-result c =
-    let f = c.in_ok-first.first in
-    let values = first-values (joined f.drivers) f.driving.items f.values.items c.args.design.now.nets c.in_ok-first.ensures.driving
-    c.in_ok-first.ensures.values in
-    first-kept c.args.design.now c.in_ok-sources.sources f.drivers f.variables f.values.items f.values_before.items f.driving.items c.in_ok-sources.fan_out
-    c.in_ok-queue.queue c.in_ok-queue.stale c.in_ok-queue.touched c.in_ok-sources.tallies c.len-count.result c.len.result
-    c.in_ok-sources.ensures.sources c.in_ok-first.ensures.drivers c.in_ok-first.ensures.variables c.in_ok-first.ensures.driving values
-    c.in_ok-first.ensures.values_before
-    (count-values (joined f.drivers) f.driving.items c.len-count.result c.in_ok-first.ensures.driving (omega (arith, c.len-count.ensures, f.driving.ok)))
-    (omega (arith, c.len.ensures, f.values.ok)) c.in_ok-sources.ensures.fan_out
-    (omega (arith, c.in_ok-sources.ensures.drivers, ap length c.as_slice.ensures.value, c.len-count.ensures, f.driving.ok))
-    c.in_ok-queue.ensures.queue c.in_ok-queue.ensures.stale c.in_ok-queue.ensures.touched
-    (subst (λ (w : List Logic). AreTallied c.in_ok-sources.sources w c.in_ok-sources.tallies) c.as_slice.ensures.value
-    c.in_ok-sources.ensures.tallied)
+    let e = c.in_ok-values.ensures in
+    let values = c.in_ok-values.values in
+    let lists = c.in_ok-values.lists in
+    let nets = sources_of c.args.design.now.nets in
+    let present : values.present ≡ map (row_from lists.driving) nets =
+    e.values ∙ ap (λ (w : List Logic). map (row_from w) nets) (sym e.driving) in
+    subst (λ (shares : List (List Owned)). IsConsistent values shares lists) (sym c.in_ok-shares.ensures.items)
+    (first-kept c.args.design.now values c.in_ok-share.field-0.share lists e.sources (e.driving ∙ c.in_ok-share.ensures.driving) present e.before
+    (ap length e.touched ∙ (length-replicate (length lists.sources) false ∙ (ap length e.sources
+    ∙ (sym (length-map nets (row_from lists.driving)) ∙ sym (ap length present))))))
 
 pub returns : goal.returns
 returns c =
-    let f = c.in_ok-first.first in
-    let values = first-values (joined f.drivers) f.driving.items f.values.items c.args.design.now.nets c.in_ok-first.ensures.driving
-    c.in_ok-first.ensures.values in
-    first-held c.args.design.now c.in_ok-sources.sources f.drivers f.variables f.values.items f.values_before.items c.in_ok-sources.ensures.sources
-    c.in_ok-first.ensures.drivers c.in_ok-first.ensures.variables values c.in_ok-first.ensures.values_before
+    let e = c.in_ok-values.ensures in
+    let values = c.in_ok-values.values in
+    let lists = c.in_ok-values.lists in
+    let nets = sources_of c.args.design.now.nets in
+    let present : values.present ≡ map (row_from lists.driving) nets =
+    e.values ∙ ap (λ (w : List Logic). map (row_from w) nets) (sym e.driving) in
+    ap (λ (shares : List (List Owned)). held values shares lists) c.in_ok-shares.ensures.items
+    ∙ first-held c.args.design.now values c.in_ok-share.field-0.share lists e.sources c.in_ok-share.ensures.owned
+    (e.driving ∙ c.in_ok-share.ensures.driving) present e.before

@@ -9,8 +9,8 @@ use Rattle.sim_store_state.proofs.flat_state.FlatState.record_all.Goals as goal
 
 pub append_all-requires : goal.append_all-requires
 append_all-requires c =
-    let n = net-count c.self.view_is c.self.invariant.lists in
-    let v = ap length c.as_slice.ensures.value in
+    let n = net-count c.self.view_is c.self.invariant in
+    let v = ap length c.seen.ensures.values in
     record {
       few = omega (arith, c.requires.few, n, v);
       next = c.requires.next;
@@ -22,6 +22,6 @@ pub returns : goal.returns
 returns c =
     let s = c.self.inside in
     let as_record = λ (changes : List (ℕ × Logic)). c.args.log.now.records ++ record { time = c.args.time; delta = c.args.delta; changes = changes } ∷ [] in
-    c.append_all.ensures ∙ (ap (λ v. as_record (enumerate_from 0 v)) c.as_slice.ensures.value
-    ∙ (ap as_record (sym (all_values 0 s.values.items s.values_before.items c.self.invariant.lists.nets)) ∙ ap
+    c.append_all.ensures ∙ (ap (λ v. as_record (enumerate_from 0 v)) c.seen.ensures.values
+    ∙ (ap as_record (sym (all_values 0 s.values.present s.values.before (sym c.self.invariant.nets))) ∙ ap
     (λ (h : FlatState). as_record (values_of h.nets)) c.self.view_is))

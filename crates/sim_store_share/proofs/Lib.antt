@@ -1,0 +1,14 @@
+pub mod Items
+pub mod Walks
+pub mod Times
+pub mod Due
+pub mod Contents
+pub mod Putting
+pub mod Held
+pub mod Telling
+pub mod Taken
+pub mod Assigned
+pub mod InTurn
+pub mod WithoutValue
+pub mod Bodies
+pub mod Divided
