@@ -54,17 +54,15 @@ fn check_statement(
 ) -> Result<(), AllocError>
     ensures { OnOk result (first.new ≡ earliest first.old (spec.statement_faults library.now region.now components.now statement.now)) }
 {
-    let nothing = Scope::new(alloc);
     match statement {
         Concurrent::Assignment(assignment) => {
+            let nothing = Scope::new(alloc);
             concurrent_assignment(region, &nothing, assignment, first);
             Ok(())
         }
         Concurrent::Process(process) => { check_process_statement(alloc, region, process, first) }
         Concurrent::Instance(instance) => {
-            check_instance(
-                alloc, library, region, &nothing, components, instance, first,
-            )
+            check_instance(alloc, library, region, components, instance, first)
         }
     }
 }

@@ -1,6 +1,6 @@
 //! The entity, architecture and faults of an instance (IEEE 1076-2008, 11.7).
 
-ghost use Rattle.std.specs.Prelude.{◌≡◌, OnOk, slice_get};
+ghost use Rattle.std.specs.Prelude.{◌≡◌, OnOk, [], slice_get};
 ghost use Rattle.sim_flat_scope.specs.Faults.{earliest};
 ghost use Rattle.sim_flat_scope.specs.Scopes.{means};
 ghost use Rattle.sim_flat_instances.specs.Instances as spec;
@@ -185,25 +185,24 @@ fn check_port_map(
     }
 }
 
-/// Records the faults of an instance, in nested regions and given the architecture's components.
+/// Records the faults of an instance in the region of an architecture with these components.
 #[tactic(auto, unfolding(crate::specs::Instances::instance_faults, sim_flat_scope::specs::Faults::earliest))]
 pub fn check_instance(
     alloc: Global,
     library: &Library<'_>,
-    inner: &Scope<'_>,
-    outer: &Scope<'_>,
+    region: &Scope<'_>,
     components: &[Component],
     instance: &Instance,
     first: &mut Option<Fault>,
 ) -> Result<(), AllocError>
-    ensures { OnOk result (first.new
-        ≡ earliest first.old (spec.instance_faults library.now (means inner.now outer.now) components.now instance.now)) }
+    ensures { OnOk result (first.new ≡ earliest first.old (spec.instance_faults library.now (means region.now []) components.now instance.now)) }
 {
-    match unit_fault(library, inner, outer, components, &instance.unit) {
+    let nothing = Scope::new(alloc);
+    match unit_fault(library, region, &nothing, components, &instance.unit) {
         Some(fault) => {
             note(first, fault.kind, fault.at);
             Ok(())
         }
-        None => check_port_map(alloc, library, inner, outer, instance, first),
+        None => check_port_map(alloc, library, region, &nothing, instance, first),
     }
 }

@@ -147,26 +147,8 @@ impl<'m, 'a> PortMap<'m, 'a> {
         }
     }
 
-    /// Records the faults of an association of the port at a position.
-    #[tactic(auto, using(sim_flat_scope::proofs::Faults::of_both))]
-    fn check_port(
-        &self,
-        inner: &Scope<'_>,
-        outer: &Scope<'_>,
-        place: usize,
-        at: usize,
-        association: &Association,
-        first: &mut Option<Fault>,
-    )
-        ensures { first.new ≡ earliest first.old (spec.port_faults (means inner.now outer.now) self.now place at association.now) }
-    {
-        check_twice(&association.formal, self.first(place), at, first);
-        let mode = mode_at(self.ports.ports(), place);
-        check_actual(inner, outer, mode, &association.actual, first);
-    }
-
     /// Records the faults of the association at a position of the map.
-    #[tactic(auto, unfolding(crate::specs::PortMaps::association_faults))]
+    #[tactic(auto, using(sim_flat_scope::proofs::Faults::of_both), unfolding(crate::specs::PortMaps::association_faults))]
     fn check_association(
         &self,
         inner: &Scope<'_>,
@@ -179,7 +161,11 @@ impl<'m, 'a> PortMap<'m, 'a> {
     {
         match port_of(self.ports, at, &association.formal) {
             None => check_stray(inner, outer, association, first),
-            Some(place) => self.check_port(inner, outer, place, at, association, first),
+            Some(place) => {
+                check_twice(&association.formal, self.first(place), at, first);
+                let mode = mode_at(self.ports.ports(), place);
+                check_actual(inner, outer, mode, &association.actual, first);
+            }
         }
     }
 

@@ -28,16 +28,16 @@ fn put_change<N: Named, W: Write>(
     names: &[N],
     known: &[ShortName],
     head: &Head,
-    net: usize,
-    value: Logic,
+    change: (usize, Logic),
 ) -> Result<(), WriteError>
-    requires net { net < length names.now }
+    requires net { change.0 < length names.now }
     requires known { AreNames (map N.name_of names.now) known.now }
     ensures ok { OnOk result (Gathers (W.contents out.old) block.old (W.contents out.new) block.new
-        (line_of head.now.text (map N.name_of names.now) (net, value))) }
+        (line_of head.now.text (map N.name_of names.now) change)) }
     ensures part { OnErr result (AppendsPart (W.contents out.old) (W.contents out.new) (block.old ++
-        line_of head.now.text (map N.name_of names.now) (net, value))) }
+        line_of head.now.text (map N.name_of names.now) change)) }
 {
+    let (net, value) = change;
     if let Some(name) = known.get(net) {
         if block.gather_short(head, name, value) {
             return Ok(());
@@ -64,7 +64,10 @@ fn put_entry<N: Named, W: Write>(
         flat_map (line_of head.now.text (map N.name_of names.now)) (changes_of (entry ∷ [])))) }
 {
     match entry.change() {
-        Some((net, value)) => put_change(out, block, names, known, head, net as usize, value),
+        Some((net, value)) => {
+            let change = (net as usize, value);
+            put_change(out, block, names, known, head, change)
+        }
         None => Ok(()),
     }
 }

@@ -281,26 +281,13 @@ fn push_assignment(text: &mut Draft, signals: &Signals, net: usize, level: Level
     push_part(text, level_text(signals, level), ";");
 }
 
-/// Adds the assignment of the change at an index.
-fn push_change(text: &mut Draft, signals: &Signals, table: &Table, targets: &Targets, at: usize) {
-    if let Some(it) = table.changes.get(at) {
-        let target = targets.signal(it.net, it.is_late);
-        push_assignment(text, signals, target, it.change.level);
-    }
-}
-
-/// Adds the assignments of changes.
-fn push_assignments(
-    text: &mut Draft,
-    signals: &Signals,
-    table: &Table,
-    targets: &Targets,
-    order: &[(usize, usize)],
-) {
-    for (_, at) in order {
-        push_change(text, signals, table, targets, *at);
-    }
-    text.push("\n");
+/// The process of a table as text: its changes, the signals that they are assigned to, and the bits
+/// of its counter.
+struct Counted<'a> {
+    signals: &'a Signals,
+    table: &'a Table,
+    targets: &'a Targets,
+    bits: &'a [CounterBit],
 }
 
 /// The end of the changes at the same edge as the first of a list.
@@ -315,69 +302,79 @@ fn end_of_edge(order: &[(usize, usize)], edge: usize) -> usize
     order.len()
 }
 
-/// Adds changes under one `if` for all bits from an index on.
-fn push_tested(
-    text: &mut Draft,
-    bits: &[CounterBit],
-    signals: &Signals,
-    table: &Table,
-    targets: &Targets,
-    changes: &[(usize, usize)],
-    number: usize,
-    tested: usize,
-) {
-    if tested >= bits.len() {
-        return push_assignments(text, signals, table, targets, changes);
-    }
-    push_last_if(text, bits, number, tested);
-    push_assignments(text, signals, table, targets, changes);
-    push_ends(text, 1)
-}
-
-/// Adds the changes at one edge, which is `number`, under the tests of those bits that are not
-/// tested yet. `from` bits have been tested, and `to` are tested for the next edge as well.
-fn push_edge(
-    text: &mut Draft,
-    bits: &[CounterBit],
-    signals: &Signals,
-    table: &Table,
-    targets: &Targets,
-    changes: &[(usize, usize)],
-    number: usize,
-    from: usize,
-    to: usize,
-) {
-    push_ifs(text, bits, number, from, to);
-    let tested = from.max(to);
-    push_tested(text, bits, signals, table, targets, changes, number, tested);
-    push_ends(text, from.saturating_sub(to))
-}
-
-/// Adds the changes of a table, edge by edge. The bits in which an edge is equal to the next one
-/// are tested once for both.
-fn push_edges(
-    text: &mut Draft,
-    bits: &[CounterBit],
-    signals: &Signals,
-    table: &Table,
-    targets: &Targets,
-) {
-    let mut rest = table.order.as_slice();
-    let mut from = 0;
-    for _ in 0..table.order.len() {
-        let Some((number, _)) = rest.first() else {
-            break;
-        };
-        let (changes, others) = rest.split_at(end_of_edge(rest, *number));
-        let to = shared(bits, *number, others);
-        if from > 0 {
-            text.push("else ");
+impl Counted<'_> {
+    /// Adds the assignment of the change at an index.
+    fn push_change(&self, text: &mut Draft, at: usize) {
+        if let Some(it) = self.table.changes.get(at) {
+            let target = self.targets.signal(it.net, it.is_late);
+            push_assignment(text, self.signals, target, it.change.level);
         }
-        push_edge(
-            text, bits, signals, table, targets, changes, *number, from, to,
-        );
-        from = to;
-        rest = others;
+    }
+
+    /// Adds the assignments of changes.
+    fn push_assignments(&self, text: &mut Draft, order: &[(usize, usize)]) {
+        for (_, at) in order {
+            self.push_change(text, *at);
+        }
+        text.push("\n");
+    }
+
+    /// Adds changes under one `if` for all bits from an index on.
+    fn push_tested(
+        &self,
+        text: &mut Draft,
+        changes: &[(usize, usize)],
+        number: usize,
+        tested: usize,
+    ) {
+        if tested >= self.bits.len() {
+            return self.push_assignments(text, changes);
+        }
+        push_last_if(text, self.bits, number, tested);
+        self.push_assignments(text, changes);
+        push_ends(text, 1)
+    }
+
+    /// Adds the changes at one edge, which is `number`, under the tests of those bits that are not
+    /// tested yet. `from` bits have been tested, and `to` are tested for the next edge as well.
+    fn push_edge(
+        &self,
+        text: &mut Draft,
+        changes: &[(usize, usize)],
+        number: usize,
+        from: usize,
+        to: usize,
+    ) {
+        push_ifs(text, self.bits, number, from, to);
+        self.push_tested(text, changes, number, from.max(to));
+        push_ends(text, from.saturating_sub(to))
+    }
+
+    /// Adds the changes of the table, edge by edge. The bits in which an edge is equal to the next
+    /// one are tested once for both.
+    fn push_edges(&self, text: &mut Draft) {
+        let mut rest = self.table.order.as_slice();
+        let mut from = 0;
+        for _ in 0..self.table.order.len() {
+            let Some((number, _)) = rest.first() else {
+                break;
+            };
+            let (changes, others) = rest.split_at(end_of_edge(rest, *number));
+            let to = shared(self.bits, *number, others);
+            if from > 0 {
+                text.push("else ");
+            }
+            self.push_edge(text, changes, *number, from, to);
+            from = to;
+            rest = others;
+        }
+    }
+
+    /// Adds the whole process, which counts the edges of a clock for which a condition holds.
+    fn push(&self, text: &mut Draft, clock: usize, condition: &str) {
+        push_head(text, self.signals.text(clock), condition, self.bits);
+        self.push_edges(text);
+        push_tail(text, self.bits);
     }
 }
 
@@ -432,21 +429,6 @@ fn push_tail(text: &mut Draft, bits: &[CounterBit]) {
     text.push("end if;end process;\n")
 }
 
-/// Adds the process of a table, with a counter of these bits.
-fn push_table(
-    text: &mut Draft,
-    signals: &Signals,
-    table: &Table,
-    targets: &Targets,
-    clock: usize,
-    condition: &str,
-    bits: &[CounterBit],
-) {
-    push_head(text, signals.text(clock), condition, bits);
-    push_edges(text, bits, signals, table, targets);
-    push_tail(text, bits);
-}
-
 /// Writes the process of a table. It counts the edges of a clock for which `condition` holds, of
 /// which there are at most `edges`.
 pub(crate) fn put_table(
@@ -460,14 +442,12 @@ pub(crate) fn put_table(
     let bits = counter(statements.alloc, &mut statements.signals.names, edges)?;
     statements.count_process();
     let (signals, text) = (&statements.signals, &mut statements.body);
-    push_table(
-        text,
+    let counted = Counted {
         signals,
         table,
         targets,
-        clock,
-        condition,
-        bits.as_slice(),
-    );
+        bits: bits.as_slice(),
+    };
+    counted.push(text, clock, condition);
     Ok(())
 }

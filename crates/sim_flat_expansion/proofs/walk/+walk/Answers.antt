@@ -9,9 +9,10 @@ use Rattle.sim_flat_expansion.specs.Expanding.{instances_expanded}
 pub block-returns : goal.block-returns
 unfolding block_expanded
 block-returns t c =
+    let s = c.args.spot in
     let e = deeper
-    (λ n. block_expanded c.args.blocks.now n c.args.prefix.now c.args.links.now c.args.outer.now c.args.at.now c.args.around.now c.args.flat.now)
-    c.args.levels (omega arith) in
+    (λ n. block_expanded s.blocks.now n s.path.now s.links.now s.outer.now c.args.at.now c.args.around.now c.args.flat.now)
+    s.levels (omega arith) in
     first_of (search rules, grind (arith, common_steps))
 
 pub instance-returns : goal.instance-returns
