@@ -16,7 +16,7 @@ use Rattle.sim_run_session.specs.declared.error.RunError.TheVariants as refusal
 use Rattle.sim_run_session.specs.declared.program.Failure.{Failure}
 use Rattle.sim_run_session.specs.declared.program.Failure.TheVariants as failure
 use Rattle.sim_run_session.specs.Run.{IsCutShort}
-use Rattle.sim_run_session.specs.Session.{ReadsSource, IsWhole, HasText, HasRun, HasOptions, IsFailure, status_of}
+use Rattle.sim_run_session.specs.Session.{AreInRange, ReadsSource, IsWhole, HasText, HasRun, HasOptions, IsFailure, status_of}
 use Rattle.sim_run_session.specs.Simulation.{HasDesign, HasNoDesign, IsRefusal, IsRefusedText}
 
 -- ---- the source
@@ -43,11 +43,6 @@ read_text unread left source Holds r short p =
       | inl e ↦ record { text = t.0; whole = t.1; holds = subst Holds e p }
       | inr (long, _) ↦ absurd (too_much source long short)
     ]
-
--- a text for which something holds, with what holds for all texts
-pub with_range : (unread : Option (List ℕ)) {Holds : List ℕ → Type 0} {Range : Type 0} → Range → HasText unread Holds
-    → HasText unread (λ text. Range × Holds text)
-with_range unread in_range t = record { text = t.text; whole = t.whole; holds = (in_range, t.holds) }
 
 -- ---- failures
 
@@ -80,16 +75,21 @@ text_refused unread left source options e r p =
     ]
 
 pub run_fails : (unread left : Option (List ℕ)) (source : List ℕ) (options : Options) (e : RunError) → ReadsSource unread left source
-    → (e ≢ refusal.Write → IsRefusal source options e) → IsFailure unread options (failure.Run e)
-run_fails unread left source options refusal.Write r p = tt
-run_fails unread left source options refusal.Options r p = text_refused unread left source options refusal.Options r (p (λ q. absurd cc))
-run_fails unread left source options (refusal.Text f) r p = text_refused unread left source options (refusal.Text f) r (p (λ q. absurd cc))
-run_fails unread left source options (refusal.Flat f) r p = text_refused unread left source options (refusal.Flat f) r (p (λ q. absurd cc))
-run_fails unread left source options (refusal.CycleLimit l) r p = text_refused unread left source options (refusal.CycleLimit l) r (p (λ q. absurd cc))
-run_fails unread left source options refusal.PostponedDelta r p =
-    text_refused unread left source options refusal.PostponedDelta r (p (λ q. absurd cc))
-run_fails unread left source options refusal.Stranger r p = text_refused unread left source options refusal.Stranger r (p (λ q. absurd cc))
-run_fails unread left source options refusal.Memory r p = text_refused unread left source options refusal.Memory r (p (λ q. absurd cc))
+    → (e ≢ refusal.Write → IsRefusal source options e) → (e ≢ refusal.Options → AreInRange options) → IsFailure unread options (failure.Run e)
+run_fails unread left source options refusal.Write r p i = i (λ q. absurd cc)
+run_fails unread left source options refusal.Options r p i = text_refused unread left source options refusal.Options r (p (λ q. absurd cc))
+run_fails unread left source options (refusal.Text f) r p i =
+    (i (λ q. absurd cc), text_refused unread left source options (refusal.Text f) r (p (λ q. absurd cc)))
+run_fails unread left source options (refusal.Flat f) r p i =
+    (i (λ q. absurd cc), text_refused unread left source options (refusal.Flat f) r (p (λ q. absurd cc)))
+run_fails unread left source options (refusal.CycleLimit l) r p i =
+    (i (λ q. absurd cc), text_refused unread left source options (refusal.CycleLimit l) r (p (λ q. absurd cc)))
+run_fails unread left source options refusal.PostponedDelta r p i =
+    (i (λ q. absurd cc), text_refused unread left source options refusal.PostponedDelta r (p (λ q. absurd cc)))
+run_fails unread left source options refusal.Stranger r p i =
+    (i (λ q. absurd cc), text_refused unread left source options refusal.Stranger r (p (λ q. absurd cc)))
+run_fails unread left source options refusal.Memory r p i =
+    (i (λ q. absurd cc), text_refused unread left source options refusal.Memory r (p (λ q. absurd cc)))
 
 pub failed_write : (e : RunError) → ◌≡◌ {A = Result (Unit {0}) Failure} (Err (failure.Run e)) (Err (failure.Run refusal.Write)) → ◌≡◌
     {A = Result (Unit {0}) RunError} (Err e) (Err refusal.Write)
@@ -152,18 +152,23 @@ flat_not_words e (inl h) is = let four = h.1 in absurd (omega arith)
 flat_not_words e (inr h) is = let one = h.1 in absurd (omega arith)
 
 module _ (words : List (List ℕ)) (unread : Option (List ℕ)) (options : Options) (a : Asks words options) where
-  pub has_run : (Holds : List ℕ → Options → Type 0) → HasText unread (λ text. Holds text options) → HasRun words unread Holds
-  has_run Holds p = record { options = options; asked = a; read = p }
+  pub has_run : AreInRange options → (Holds : List ℕ → Options → Type 0) → HasText unread (λ text. Holds text options) → HasRun words unread Holds
+  has_run i Holds p = record {
+    options = options;
+    asked = a;
+    in_range = i;
+    read = p;
+  }
 
-  faulty : (e : TextError) → e ≢ fault.Memory → HasText unread (λ text. IsFault text e) → HasRun words unread IsRefusedText
-  faulty e known p = has_run IsRefusedText
-      (record { text = p.text; whole = p.whole; holds = inl (record { found = e; known = known; is = p.holds }) })
+  faulty : (e : TextError) → e ≢ fault.Memory → AreInRange options × HasText unread (λ text. IsFault text e) → HasRun words unread IsRefusedText
+  faulty e known p = has_run p.0 IsRefusedText
+      (record { text = p.1.text; whole = p.1.whole; holds = inl (record { found = e; known = known; is = p.1.holds }) })
 
-  unelaborated : (e : FlatError) → FlatStatus e → status_of (failure.Run (refusal.Flat e)) ≡ 1 → HasText unread (λ text. HasNoDesign text options e)
-      → HasRun words unread IsRefusedText
+  unelaborated : (e : FlatError) → FlatStatus e → status_of (failure.Run (refusal.Flat e)) ≡ 1
+      → AreInRange options × HasText unread (λ text. HasNoDesign text options e) → HasRun words unread IsRefusedText
   unelaborated e (inl h) is p = let four = h.1 in absurd (omega arith)
-  unelaborated e (inr h) is p = has_run IsRefusedText
-      (record { text = p.text; whole = p.whole; holds = inr (record { fault = e; known = h.0; is = p.holds }) })
+  unelaborated e (inr h) is p = has_run p.0 IsRefusedText
+      (record { text = p.1.text; whole = p.1.whole; holds = inr (record { fault = e; known = h.0; is = p.1.holds }) })
 
   pub status_1 : (f : Failure) → status_of f ≡ 1 → IsFailure unread options f → HasRun words unread IsRefusedText
   status_1 failure.Read e p = absurd (omega arith)
@@ -192,14 +197,14 @@ module _ (words : List (List ℕ)) (unread : Option (List ℕ)) (options : Optio
   status_3 (failure.Run (refusal.Text f)) e p = absurd (text_not_limit f e)
   status_3 (failure.Run (refusal.Flat f)) e p = absurd (flat_not_limit f (flat_status f) e)
   status_3 (failure.Run (refusal.CycleLimit l)) e p =
-      let d = p.holds.1 in
-      has_run (λ text o. HasDesign text o (λ design. IsCutShort design o))
-      (record { text = p.text; whole = p.whole; holds = record { design = d.design; is_design = d.is_design; holds = inl d.holds } })
+      let d = p.1.holds.1 in
+      has_run p.0 (λ text o. HasDesign text o (λ design. IsCutShort design o))
+      (record { text = p.1.text; whole = p.1.whole; holds = record { design = d.design; is_design = d.is_design; holds = inl d.holds } })
   status_3 (failure.Run refusal.PostponedDelta) e p =
-      let d = p.holds in
-      has_run (λ text o. HasDesign text o (λ design. IsCutShort design o))
-      (record { text = p.text; whole = p.whole; holds = record { design = d.design; is_design = d.is_design; holds = inr d.holds } })
-  status_3 (failure.Run refusal.Stranger) e p = absurd p.holds
+      let d = p.1.holds in
+      has_run p.0 (λ text o. HasDesign text o (λ design. IsCutShort design o))
+      (record { text = p.1.text; whole = p.1.whole; holds = record { design = d.design; is_design = d.is_design; holds = inr d.holds } })
+  status_3 (failure.Run refusal.Stranger) e p = absurd p.1.holds
   status_3 (failure.Run refusal.Write) e p = absurd (omega arith)
   status_3 (failure.Run refusal.Memory) e p = absurd (omega arith)
 
@@ -221,16 +226,17 @@ module _ (words : List (List ℕ)) (unread : Option (List ℕ)) (options : Optio
   status_2 f e p = inr (record { options = options; asked = a; holds = out_of_range unread f e p })
 
   -- nothing was written, or a write failed
-  pub stopped : (Holds : List ℕ → Options → Type 0) {Quiet Helped : Type 0} (f : Failure) → (f ≢ failure.Run refusal.Write → Quiet) →
-      (◌≡◌ {A = Result (Unit {0}) Failure} (Err f) (Err (failure.Run refusal.Write)) → HasText unread (λ text. Holds text options)) → Quiet ⊎
-      (HasRun words unread Holds ⊎ Helped)
-  stopped Holds failure.Read quiet part = inl (quiet (λ e. absurd cc))
-  stopped Holds failure.Memory quiet part = inl (quiet (λ e. absurd cc))
-  stopped Holds (failure.Run refusal.Options) quiet part = inl (quiet (λ e. absurd cc))
-  stopped Holds (failure.Run (refusal.Text f)) quiet part = inl (quiet (λ e. absurd cc))
-  stopped Holds (failure.Run (refusal.Flat f)) quiet part = inl (quiet (λ e. absurd cc))
-  stopped Holds (failure.Run (refusal.CycleLimit l)) quiet part = inl (quiet (λ e. absurd cc))
-  stopped Holds (failure.Run refusal.PostponedDelta) quiet part = inl (quiet (λ e. absurd cc))
-  stopped Holds (failure.Run refusal.Stranger) quiet part = inl (quiet (λ e. absurd cc))
-  stopped Holds (failure.Run refusal.Memory) quiet part = inl (quiet (λ e. absurd cc))
-  stopped Holds (failure.Run refusal.Write) quiet part = inr (inl (has_run Holds (part refl)))
+  pub stopped : (Holds : List ℕ → Options → Type 0) {Quiet Helped : Type 0} (f : Failure) → IsFailure unread options f
+      → (f ≢ failure.Run refusal.Write → Quiet)
+      → (◌≡◌ {A = Result (Unit {0}) Failure} (Err f) (Err (failure.Run refusal.Write)) → HasText unread (λ text. Holds text options))
+      → Quiet ⊎ (HasRun words unread Holds ⊎ Helped)
+  stopped Holds failure.Read failed quiet part = inl (quiet (λ e. absurd cc))
+  stopped Holds failure.Memory failed quiet part = inl (quiet (λ e. absurd cc))
+  stopped Holds (failure.Run refusal.Options) failed quiet part = inl (quiet (λ e. absurd cc))
+  stopped Holds (failure.Run (refusal.Text f)) failed quiet part = inl (quiet (λ e. absurd cc))
+  stopped Holds (failure.Run (refusal.Flat f)) failed quiet part = inl (quiet (λ e. absurd cc))
+  stopped Holds (failure.Run (refusal.CycleLimit l)) failed quiet part = inl (quiet (λ e. absurd cc))
+  stopped Holds (failure.Run refusal.PostponedDelta) failed quiet part = inl (quiet (λ e. absurd cc))
+  stopped Holds (failure.Run refusal.Stranger) failed quiet part = inl (quiet (λ e. absurd cc))
+  stopped Holds (failure.Run refusal.Memory) failed quiet part = inl (quiet (λ e. absurd cc))
+  stopped Holds (failure.Run refusal.Write) failed quiet part = inr (inl (has_run failed Holds (part refl)))

@@ -46,3 +46,9 @@ pub in_range : (r : Result (Unit {0}) RunError) (b : Bool) → (r ≡ Err refusa
 in_range (Ok done) true h = refl
 in_range (Ok done) false h = let is = h.1 refl in absurd cc
 in_range (Err e) b h = tt
+
+-- so they are if it is refused for another reason
+pub in_range_else : (e : RunError) (b : Bool) → (◌≡◌ {A = Result (Unit {0}) RunError} (Err e) (Err refusal.Options)) ↔ (b ≡ false)
+    → e ≢ refusal.Options → b ≡ true
+in_range_else e true h other = refl
+in_range_else e false h other = let is = h.1 refl in absurd (other cc)

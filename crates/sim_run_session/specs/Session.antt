@@ -1,5 +1,5 @@
 -- What the program promises about its words, its input and its output.
-use Rattle.std.specs.Prelude.{◌≡◌, ℕ, ◌+◌, List, length, Option, Some, None, ◌⊎◌}
+use Rattle.std.specs.Prelude.{◌≡◌, ℕ, ◌+◌, List, length, Option, Some, None, true, ◌⊎◌}
 use Rattle.std.specs.String.{string_bytes}
 use Rattle.std.specs.Io.KnownBytes.{Appends, Keeps, Consumes, IsAtEnd}
 use Rattle.sim_text_tokens.specs.Limits.{most_bytes}
@@ -9,6 +9,7 @@ use Rattle.sim_run_options.specs.declared.fault.CliFault.{CliFault}
 use Rattle.sim_run_options.specs.declared.fault.CliFault.TheVariants as cli
 use Rattle.sim_run_options.specs.declared.options.Options.{Options}
 use Rattle.sim_run_options.specs.Asks.{Asks, AsksForHelp}
+use Rattle.sim_run_options.specs.Options.{are_in_range}
 use Rattle.sim_run_session.specs.declared.error.RunError.TheVariants as refusal
 use Rattle.sim_run_session.specs.declared.program.Failure.{Failure}
 use Rattle.sim_run_session.specs.declared.program.Failure.TheVariants as failure
@@ -31,10 +32,15 @@ pub record HasText (unread : Option (List ℕ)) (Holds : List ℕ → Type 0) : 
   pub whole : IsWhole unread text
   pub holds : Holds text
 
--- The words ask for a run of the text that the reader had, and this holds for the text and the options.
+-- the options are in their ranges
+abbrev pub AreInRange : Options → Type 0
+AreInRange options = are_in_range options.stop options.limit options.workers ≡ true
+
+-- The words ask for a run of the text that the reader had, with options in their ranges, and this holds for the text and the options.
 pub record HasRun (words : List (List ℕ)) (unread : Option (List ℕ)) (Holds : List ℕ → Options → Type 0) : Type 0 where
   pub options : Options
   pub asked : Asks words options
+  pub in_range : AreInRange options
   pub read : HasText unread (λ text. Holds text options)
 
 -- The words ask for a run with options for which this holds.
@@ -58,8 +64,9 @@ IsAnswerTo cli.Memory status old new = (status ≡ 4) × Keeps old new
 
 -- Why the program failed, in a run of the text that the reader had, with these options.
 abbrev pub IsFailure : Option (List ℕ) → Options → Failure → Type 0
-IsFailure unread options (failure.Run refusal.Write) = Unit {0}
-IsFailure unread options (failure.Run e) = HasText unread (λ text. IsRefusal text options e)
+IsFailure unread options (failure.Run refusal.Write) = AreInRange options
+IsFailure unread options (failure.Run refusal.Options) = HasText unread (λ text. IsRefusal text options refusal.Options)
+IsFailure unread options (failure.Run e) = AreInRange options × HasText unread (λ text. IsRefusal text options e)
 IsFailure unread options failure.Read = Unit {0}
 IsFailure unread options failure.Memory = Unit {0}
 

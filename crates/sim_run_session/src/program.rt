@@ -171,8 +171,7 @@ pub fn session<T: Threads + Wait + Sync, R: Read, W: Write, E: Write>(
 ) -> u8
     ensures status { result ≤ 4 }
     ensures success { result ≡ 0 → HasRun (map string_bytes words.items) (R.remaining input.old) (λ text options.
-        (are_in_range options.stop options.limit options.workers ≡ true) × HasDesign text options (λ design.
-        Lists design options (W.contents out.old) (W.contents out.new)))
+        HasDesign text options (λ design. Lists design options (W.contents out.old) (W.contents out.new)))
         ⊎ HasHelp (map string_bytes words.items) (λ help. Appends (W.contents out.old) (W.contents out.new) help) }
     ensures text { result ≡ 1 → HasRun (map string_bytes words.items) (R.remaining input.old) (λ text options. IsRefusedText text options) }
     ensures words { result ≡ 2 → AreRefused (map string_bytes words.items) ⊎ HasOptions (map string_bytes words.items) (λ options.
@@ -206,8 +205,7 @@ pub fn session_with_hints<T: Threads + Wait + Sync, R: Read, W: Write, E: Write>
 ) -> u8
     ensures status { result ≤ 4 }
     ensures success { result ≡ 0 → HasRun (map string_bytes words.items) (R.remaining input.old) (λ text options.
-        (are_in_range options.stop options.limit options.workers ≡ true) × HasDesign text options (λ design.
-        Lists design options (W.contents out.old) (W.contents out.new)))
+        HasDesign text options (λ design. Lists design options (W.contents out.old) (W.contents out.new)))
         ⊎ HasHelp (map string_bytes words.items) (λ help. Appends (W.contents out.old) (W.contents out.new) help) }
     ensures text { result ≡ 1 → HasRun (map string_bytes words.items) (R.remaining input.old) (λ text options. IsRefusedText text options) }
     ensures words { result ≡ 2 → AreRefused (map string_bytes words.items) ⊎ HasOptions (map string_bytes words.items) (λ options.

@@ -2,7 +2,7 @@ use Rattle.std.proofs.Common.{Ok}
 use Rattle.sim_run_session.specs.Run.{Lists, ListsPart}
 use Rattle.sim_run_session.specs.Simulation.{HasDesign}
 use Rattle.sim_run_session.proofs.Programs.{read_text, run_fails, failed_write}
-use Rattle.sim_run_session.proofs.Simulations.{in_range}
+use Rattle.sim_run_session.proofs.Simulations.{in_range, in_range_else}
 use Rattle.sim_run_session.proofs.program.carry_out.Goals as goal
 
 pub returns-in-Ok-clause-listed : goal.returns-in-Ok-clause-listed
@@ -25,7 +25,7 @@ pub returns-clause-failed : goal.returns-clause-failed
 returns-clause-failed g c =
     let refused = rw c.as_slice.ensures.value at c.in-Err.ensures.refused in
     run_fails (g.R.Read.remaining c.args.input.now) (g.R.Read.remaining c.read_source.new.input) c.in_ok-source.source.items c.args.options.now
-    c.in-Err.refusal c.in_ok-source.ensures.source refused
+    c.in-Err.refusal c.in_ok-source.ensures.source refused (in_range_else c.in-Err.refusal _ c.in-Err.ensures.options)
 
 pub returns-in-Ok-clause-range : goal.returns-in-Ok-clause-range
 returns-in-Ok-clause-range g c = in_range (Ok tt) _ c.in-Ok.ensures.options
