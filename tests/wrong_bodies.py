@@ -67,8 +67,6 @@ BODIES = [
          "        &mut compiled.frame,\n    )?;\n"
          "    contents.state.update(contents.time);\n"
          "    Ok(())\n}")]),
-    Body("a process that is due is left out", "sim_store_share", "execution.rt", "share::Share::execute", "loop", 1, [
-        ("            place += 1;\n            if quick.is_idle(&nets) {", "            place += 2;\n            if quick.is_idle(&nets) {")]),
     Body("a waiting process is forgotten over a delta cycle", SIMULATION, "simulation.rt", "simulation::leave", "left", 1, [
         ("        Phase::NonPostponed => {}", "        Phase::NonPostponed => waiting.clear(),")]),
     Body("a delta cycle of a postponed process is carried out", SIMULATION, "simulation.rt", "simulation::upcoming", "", 1, [
