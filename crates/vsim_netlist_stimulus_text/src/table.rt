@@ -283,6 +283,7 @@ fn push_assignment(text: &mut Draft, signals: &Signals, net: usize, level: Level
 
 /// The process of a table as text: its changes, the signals that they are assigned to, and the bits
 /// of its counter.
+#[derive(Clone, Copy)]
 struct Counted<'a> {
     signals: &'a Signals,
     table: &'a Table,
