@@ -228,7 +228,8 @@ fn arms_of(statements: &[Statement]) -> Option<(&[Branch], &Branch, Option<Level
 }
 
 /// The guard of a single if statement without `else` whose last condition is an edge, the branches
-/// before the last, and the last.
+/// before the last, and the last. Speed alone depends on one that is found: where none is, the
+/// statements are executed as they stand.
 pub fn guarded_if(statements: &[Statement]) -> Option<(Guard, &[Branch], &Branch)>
     ensures { IfSome result (λ r. spec.IsGuardedIf statements.now r.0 r.1.now r.2.now) }
 {
@@ -291,7 +292,8 @@ fn waveforms_of(
 }
 
 /// The guard of a single conditional signal assignment without a last `else` whose last condition
-/// is an edge, the assignment, the waveforms before the last, and the last.
+/// is an edge, the assignment, the waveforms before the last, and the last. Speed alone depends on
+/// one that is found, as above.
 pub fn guarded_assignment(
     statements: &[Statement],
 ) -> Option<
@@ -392,7 +394,8 @@ fn needed_by_assignment(statements: &[Statement]) -> Option<Guard>
     }
 }
 
-/// The guard of statements that are executed as a whole where it is not idle.
+/// The guard of statements that are executed as a whole where it is not idle. Speed alone depends on
+/// one that is found, as above.
 pub fn guard_of_all(statements: &[Statement]) -> Option<Guard>
     ensures { spec.IsGuarded result statements.now statements.now }
 {
