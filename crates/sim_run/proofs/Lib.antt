@@ -1,2 +1,3 @@
 pub mod Answering
+pub mod EventTotals
 pub mod NestedValues

@@ -34,8 +34,21 @@ impl<D: DesignType> Work for PhaseWork<D> {
     /// The frame on which bodies are executed.
     type Kept = Option<Frame>;
 
+    ghost number_of_order = { λ o. o.from };
+
+    ghost number_of_answer = { λ a. a.from };
+
     fn at_first() -> Option<Frame> {
         None
+    }
+
+    /// That of its first process.
+    fn order_number(order: &Order<D>) -> usize {
+        order.from()
+    }
+
+    fn answer_number(answer: &Answer<D>) -> usize {
+        answer.from()
     }
 
     fn is_large(order: &Order<D>, least: usize) -> bool {

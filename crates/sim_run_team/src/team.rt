@@ -1,17 +1,25 @@
 //! The team of a run: how the main thread has orders carried out.
 
-ghost use Rattle.std.specs.Prelude.{◌≡◌, ◌+◌, IfSome, length};
+ghost use Rattle.std.specs.Prelude.{◌≡◌, ◌++◌, [], ◌∷◌, true, IfSome, map};
 
 use crate::hints::Hints;
 use crate::workers::{Post, Work};
 use std::alloc::Global;
 use std::sync::Wait;
 
-/// An order that was begun: carried out here, or given to a worker.
+/// What has become of an order: carried out here, or given to a worker.
 #[derive(Drop)]
-enum Begun<'a, W: Work> {
+enum Way<'a, W: Work> {
     Done(Option<W::Answer>),
     Given(&'a Post<W>),
+}
+
+/// An order that was begun.
+#[derive(Drop)]
+struct Begun<'a, W: Work> {
+    /// The number of the order.
+    number: usize,
+    way: Way<'a, W>,
 }
 
 /// The main thread's side: the posts of the workers. When it is dropped, the workers end.
@@ -56,23 +64,38 @@ impl<'a, W: Work> Team<'a, W> {
 
     /// Gives an order to the worker with a number, or carries it out here if it is small or there
     /// is no such worker.
+    fn begin_at<R: Wait>(
+        &mut self,
+        rt: &R,
+        alloc: Global,
+        order: W::Order,
+        worker: usize,
+    ) -> Way<'a, W> {
+        let is_large = W::is_large(&order, self.hints.least_processes_of_an_order);
+        if !is_large || worker >= self.posts.len() {
+            return Way::Done(W::carry_out(alloc, order, &mut self.kept));
+        }
+        let posts = self.posts;
+        let post = &posts[worker];
+        match post.orders.put(rt, order) {
+            Ok(()) => Way::Given(post),
+            Err(order) => Way::Done(W::carry_out(alloc, order, &mut self.kept)),
+        }
+    }
+
+    /// The same, with the number of the order.
     fn begin<R: Wait>(
         &mut self,
         rt: &R,
         alloc: Global,
         order: W::Order,
-        number: usize,
-    ) -> Begun<'a, W> {
-        let is_large = W::is_large(&order, self.hints.least_processes_of_an_order);
-        if !is_large || number >= self.posts.len() {
-            return Begun::Done(W::carry_out(alloc, order, &mut self.kept));
-        }
-        let posts = self.posts;
-        let post = &posts[number];
-        match post.orders.put(rt, order) {
-            Ok(()) => Begun::Given(post),
-            Err(order) => Begun::Done(W::carry_out(alloc, order, &mut self.kept)),
-        }
+        worker: usize,
+    ) -> Begun<'a, W>
+        ensures { result.number ≡ W.number_of_order order }
+    {
+        let number = W::order_number(&order);
+        let way = self.begin_at(rt, alloc, order, worker);
+        Begun { number, way }
     }
 
     /// Begins each order: it is given to the worker with the same number, so that a worker has the
@@ -83,72 +106,96 @@ impl<'a, W: Work> Team<'a, W> {
         alloc: Global,
         orders: Vec<W::Order>,
     ) -> Option<Vec<Begun<'a, W>>>
-        ensures { IfSome result (λ v. length v.items ≡ length orders.items) }
+        ensures { IfSome result (λ v. map (λ b. b.number) v.items ≡ map W.number_of_order orders.items) }
     {
         let mut begun = Vec::with_capacity(alloc, orders.len()).ok()?;
-        for (number, order) in orders.into_iter().enumerate() {
-            let one = self.begin(rt, alloc, order, number);
+        for order in orders {
+            let one = self.begin(rt, alloc, order, begun.len());
             begun.push(one).ok()?;
         }
         Some(begun)
     }
 
-    /// Carries out here each order that its worker has not begun.
-    fn take_back<R: Wait>(&mut self, rt: &R, alloc: Global, begun: &mut [Begun<'a, W>])
-        ensures { length begun.new ≡ length begun.old }
+    /// Carries out an order here, if its worker has not begun it.
+    fn take_one_back<R: Wait>(&mut self, rt: &R, alloc: Global, begun: &mut Begun<'a, W>)
+        ensures { begun.new.number ≡ begun.old.number }
     {
-        for one in begun.iter_mut() {
-            if let Begun::Given(post) = one {
-                if let Some(order) = post.orders.take(rt) {
-                    *one = Begun::Done(W::carry_out(alloc, order, &mut self.kept));
-                }
+        if let Way::Given(post) = begun.way {
+            if let Some(order) = post.orders.take(rt) {
+                begun.way = Way::Done(W::carry_out(alloc, order, &mut self.kept));
             }
         }
     }
 
-    /// The answer to an order that was begun; `None` if there is none.
-    fn answer<R: Wait>(&self, rt: &R, begun: Begun<'a, W>) -> Option<W::Answer> {
-        match begun {
-            Begun::Done(answer) => answer,
-            Begun::Given(post) => post.answers.next(rt, self.hints.looks_before_sleep)?,
+    /// Carries out here each order that its worker has not begun.
+    fn take_back<R: Wait>(&mut self, rt: &R, alloc: Global, begun: &mut [Begun<'a, W>])
+        ensures { map (λ b. b.number) begun.new ≡ map (λ b. b.number) begun.old }
+    {
+        for one in begun.iter_mut() {
+            self.take_one_back(rt, alloc, one);
+        }
+    }
+
+    /// What was answered to an order that was begun; `None` if nothing was.
+    fn answered<R: Wait>(&self, rt: &R, way: Way<'a, W>) -> Option<W::Answer> {
+        match way {
+            Way::Done(answer) => answer,
+            Way::Given(post) => post.answers.next(rt, self.hints.looks_before_sleep)?,
+        }
+    }
+
+    /// The answer to an order that was begun; `None` if there is none, or it is another's.
+    fn answer<R: Wait>(&self, rt: &R, begun: Begun<'a, W>) -> Option<W::Answer>
+        ensures { IfSome result (λ answer. W.number_of_answer answer ≡ begun.entry.number) }
+    {
+        let Begun { number, way } = begun;
+        let answer = self.answered(rt, way)?;
+        if W::answer_number(&answer) != number {
+            return None;
+        }
+        Some(answer)
+    }
+
+    /// Puts the answer to an order that was begun at the end of the answers; whether there is one.
+    fn put_answer<R: Wait>(&self, rt: &R, begun: Begun<'a, W>, answers: &mut Vec<W::Answer>) -> bool
+        ensures { result ≡ true → map W.number_of_answer answers.new.items
+            ≡ map W.number_of_answer answers.old.items ++ begun.entry.number ∷ [] }
+    {
+        match self.answer(rt, begun) {
+            Some(answer) => answers.push(answer).is_ok(),
+            None => false,
         }
     }
 
     /// The answers to orders, in order. Waits for all that were given away; `None` if one has no
-    /// answer.
+    /// answer of its own.
     fn answers<R: Wait>(
         &self,
         rt: &R,
         begun: Vec<Begun<'a, W>>,
         answers: &mut Vec<W::Answer>,
     ) -> Option<()>
-        ensures { IfSome result (λ _. length answers.new.items ≡ length answers.old.items + length begun.entry.items) }
+        ensures { IfSome result (λ _. map W.number_of_answer answers.new.items
+            ≡ map W.number_of_answer answers.old.items ++ map (λ b. b.number) begun.entry.items) }
     {
-        let mut all = Some(());
+        let mut all = true;
         for one in begun {
-            match self.answer(rt, one) {
-                Some(answer) => {
-                    if answers.push(answer).is_err() {
-                        all = None;
-                    }
-                }
-                None => all = None,
-            }
+            all = self.put_answer(rt, one, answers) && all;
         }
-        all
+        if all { Some(()) } else { None }
     }
 
-    /// Has orders carried out by the workers and this thread, and returns their answers in order.
-    /// This thread carries out the orders that are left when it has done its own. `None` if the
-    /// team fails: this thread or a worker had no memory. The orders and all that they held are
-    /// then lost.
+    /// Has orders carried out by the workers and this thread, and returns their answers in order,
+    /// each of which has the number of its order. This thread carries out the orders that are left
+    /// when it has done its own. `None` if the team fails: this thread or a worker had no memory.
+    /// The orders and all that they held are then lost.
     pub fn carry_out<R: Wait>(
         &mut self,
         rt: &R,
         alloc: Global,
         orders: Vec<W::Order>,
     ) -> Option<Vec<W::Answer>>
-        ensures { IfSome result (λ v. length v.items ≡ length orders.items) }
+        ensures { IfSome result (λ v. map W.number_of_answer v.items ≡ map W.number_of_order orders.items) }
     {
         let mut answers = Vec::with_capacity(alloc, orders.len()).ok()?;
         let mut begun = self.begin_all(rt, alloc, orders)?;

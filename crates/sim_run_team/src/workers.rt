@@ -1,11 +1,13 @@
 //! Workers: what they carry out, and where they get their orders.
 
+ghost use Rattle.std.specs.Prelude.{◌≡◌, ℕ, IfSome};
+
 use crate::inbox::Inbox;
 use std::alloc::{AllocError, Global};
 use std::sync::Wait;
 
-/// Work that any thread may carry out, one order at a time. The type of an answer says all that is
-/// known about it.
+/// Work that any thread may carry out, one order at a time. Of an answer that another thread gives,
+/// its type says all that is known, and its number, which is compared with that of the order.
 pub trait Work {
     /// A part of the work.
     type Order: Drop;
@@ -13,17 +15,32 @@ pub trait Work {
     /// The result of an order.
     type Answer: Drop;
 
+    /// The number of an order.
+    ghost number_of_order: { Self.Order → ℕ };
+
+    /// The number of the order that an answer belongs to.
+    ghost number_of_answer: { Self.Answer → ℕ };
+
     /// What a thread keeps from one order to the next.
     type Kept: Drop;
 
     /// What a thread has before its first order.
     fn at_first() -> Self::Kept;
 
+    /// The number of an order.
+    fn order_number(order: &Self::Order) -> usize
+        ensures { result ≡ number_of_order order.now };
+
+    /// The number of the order that an answer belongs to.
+    fn answer_number(answer: &Self::Answer) -> usize
+        ensures { result ≡ number_of_answer answer.now };
+
     /// Whether an order has at least this many processes to execute.
     fn is_large(order: &Self::Order, least: usize) -> bool;
 
     /// Carries out an order; `None` if memory runs out.
-    fn carry_out(alloc: Global, order: Self::Order, kept: &mut Self::Kept) -> Option<Self::Answer>;
+    fn carry_out(alloc: Global, order: Self::Order, kept: &mut Self::Kept) -> Option<Self::Answer>
+        ensures { IfSome result (λ answer. number_of_answer answer ≡ number_of_order order) };
 }
 
 /// The post of a worker: where its next order waits for it, and its answer for the main thread.

@@ -24,7 +24,19 @@ impl Work for Visits {
 
     type Kept = ();
 
+    ghost number_of_order = { λ v. v.number };
+
+    ghost number_of_answer = { λ n. n };
+
     fn at_first() {}
+
+    fn order_number(order: &Visit) -> usize {
+        order.number
+    }
+
+    fn answer_number(answer: &usize) -> usize {
+        *answer
+    }
 
     fn is_large(order: &Visit, least: usize) -> bool {
         order.number >= least
