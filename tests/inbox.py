@@ -55,8 +55,13 @@ RUNS = [
     ["put 1", "take", "put 2", "put 3", "close"],
     ["put 1"], ["put 1", "put 2"],
 ]
-# the same by two threads
-PAIRS = [(["put 1", "close"], ["take"]), (["put 1", "put 2"], ["close"]), (["put 1"], ["put 2", "close"])]
+# the same by two threads and by three
+GROUPS = [
+    (["put 1", "close"], ["take"]), (["put 1", "put 2"], ["close"]), (["put 1"], ["put 2", "close"]), (["put 1", "put 2"], ["take", "take"]),
+    (["put 1"], ["put 2"], ["take"]), (["put 1"], ["put 2"], ["put 3"]),
+]
+# the numbers of messages for which there is room
+ROOMS = [1, 2, 3]
 CALLS = {"put": PUT, "take": TAKE, "close": CLOSE}
 # programs with steps exchanged or left out, which must be seen
 WRONG = {
@@ -91,18 +96,18 @@ def other_thread(calls, words):
     return tuple(steps)
 
 
-def step_of_other(shared, thread, steps):
+def step_of_other(shared, thread, steps, room):
     """Returns what is shared and the thread after its next step, and whether it wakes the waiting one."""
-    (message, asleep, closed), (place, taken) = shared, thread
+    (messages, asleep, closed), (place, taken) = shared, thread
     step, new, left = steps[place]
     wakes = False
     if step == "push":
-        if message is not None:
+        if len(messages) == room:
             # it comes back, and the call ends
             return shared, (place + left, (*taken, new)), False
-        message = new
+        messages = (*messages, new)
     elif step == "take":
-        taken, message = (*taken, message) if message is not None else taken, None
+        taken, messages = (*taken, *messages[:1]), messages[1:]
     elif step == "shut":
         closed = 1
     elif step == "hear" and not asleep:
@@ -111,50 +116,50 @@ def step_of_other(shared, thread, steps):
         asleep = 0
     elif step == "wake":
         wakes = True
-    return (message, asleep, closed), (place + 1, taken), wakes
+    return (messages, asleep, closed), (place + 1, taken), wakes
 
 
 def step_of_waiting(shared, thread, program):
     """Returns what is shared and the waiting thread after its next step; its place is the number of a step, or `withdraw`, `asleep` or `end`."""
-    (message, asleep, closed), (place, kept, read) = shared, thread
+    (messages, asleep, closed), (place, kept, read) = shared, thread
     if place == "withdraw":
-        return (message, 0, closed), (0, None, (*read, kept) if kept is not None else read)
+        return (messages, 0, closed), (0, (), (*read, *kept))
     step = program[place][0]
     if step == "end if closed" and closed:
-        return shared, ("end", None, read)
-    if step == "look" and message is not None:
-        return (None, asleep, closed), (0, None, (*read, message))
+        return shared, ("end", (), read)
+    if step == "look" and messages:
+        return (messages[1:], asleep, closed), (0, (), (*read, messages[0]))
     if step == "announce":
         asleep = 1
     elif step == "look again":
-        message, kept = None, message
-    elif step == "leave if closed" and (kept is not None or closed):
+        messages, kept = messages[1:], messages[:1]
+    elif step == "leave if closed" and (kept or closed):
         return shared, ("withdraw", kept, read)
     elif step == "sleep":
-        if kept is not None:
+        if kept:
             return shared, ("withdraw", kept, read)
-        return shared, ("asleep" if asleep else 0, None, read)
-    return (message, asleep, closed), (place + 1, kept, read)
+        return shared, ("asleep" if asleep else 0, (), read)
+    return (messages, asleep, closed), (place + 1, kept, read)
 
 
 def fault_of(shared, waiting, others, puts, closes):
     """Returns what is wrong where no thread can go on."""
-    message, _, _ = shared
-    if waiting[0] == "asleep" and (message is not None or closes):
+    messages, _, _ = shared
+    if waiting[0] == "asleep" and (messages or closes):
         return "a thread sleeps though there is a message or the inbox was closed"
-    found = [*waiting[2], *(it for _, taken in others for it in taken), *([message] if message is not None else [])]
+    found = [*waiting[2], *(it for _, taken in others for it in taken), *messages]
     if sorted(found) != puts:
         return f"of the messages {puts} these are found: {found}"
     is_ordered = len(others) > 1 or list(waiting[2]) == sorted(waiting[2])
     return "" if is_ordered else f"messages are read as {waiting[2]}"
 
 
-def fault(next_program, calls, parts):
-    """Returns what is wrong in some order of the steps, or nothing."""
+def fault(next_program, calls, parts, room):
+    """Returns what is wrong in some order of the steps with room for so many messages, or nothing."""
     steps = [other_thread(calls, words) for words in parts]
     puts = sorted(int(word.split()[1]) for words in parts for word in words if word.startswith("put"))
     closes = any("close" in words for words in parts)
-    first = (None, 0, 0), (0, None, ()), tuple((0, ()) for _ in parts)
+    first = ((), 0, 0), (0, (), ()), tuple((0, ()) for _ in parts)
     seen, todo, before, ends = {first}, [first], {}, []
     while todo:
         state = todo.pop()
@@ -164,8 +169,8 @@ def fault(next_program, calls, parts):
             after.append((*step_of_waiting(shared, waiting, next_program), others))
         for number, thread in enumerate(others):
             if thread[0] < len(steps[number]):
-                now, moved, wakes = step_of_other(shared, thread, steps[number])
-                woken = (0, None, waiting[2]) if wakes and waiting[0] == "asleep" else waiting
+                now, moved, wakes = step_of_other(shared, thread, steps[number], room)
+                woken = (0, (), waiting[2]) if wakes and waiting[0] == "asleep" else waiting
                 after.append((now, woken, (*others[:number], moved, *others[number + 1 :])))
         if not after:
             ends.append(state)
@@ -187,8 +192,15 @@ def fault(next_program, calls, parts):
     return "" if good == seen else "a thread never comes to an end"
 
 
+def cases():
+    """Yields what the other threads do, and the room for messages."""
+    for room in ROOMS:
+        for parts in [*([it] for it in RUNS), *GROUPS]:
+            yield parts, room
+
+
 def first_fault(next_program, calls):
-    return next((found for parts in [*([it] for it in RUNS), *PAIRS] for found in [fault(next_program, calls, parts)] if found), "")
+    return next((found for parts, room in cases() for found in [fault(next_program, calls, parts, room)] if found), "")
 
 
 def checks():
@@ -199,8 +211,8 @@ def checks():
     lines = " ".join(BODIES.values())
     for _, line in [*PUT, *TAKE, *CLOSE, *NEXT, ("", WITHDRAW)]:
         yield f"the line {line}", "" if line in lines else "no function has it"
-    for parts in [*([it] for it in RUNS), *PAIRS]:
-        yield f"{parts}", fault(NEXT, CALLS, parts)
+    for parts, room in cases():
+        yield f"{parts}, room for {room}", fault(NEXT, CALLS, parts, room)
     for name, (call, program) in WRONG.items():
         found = first_fault(program if call == "next" else NEXT, {**CALLS, call: program})
         yield name, "" if found else "no order of the steps shows it"

@@ -8,7 +8,7 @@ ghost use Rattle.sim_store.specs.WaveStore as store;
 ghost use Rattle.sim_store.specs.WaveStore.{IsSameRun};
 
 use sim_exec::Frame;
-use sim_run_team::{Hints, Post, Team, Work};
+use sim_run_team::{Hints, Posts, Team, Work};
 use sim_store::{Answer, DesignType, Order, WaveStore};
 use std::alloc::{AllocError, Global};
 use std::marker::{Brand, PhantomData};
@@ -146,28 +146,69 @@ fn lead<D: DesignType, R: Wait>(
     None
 }
 
-/// Starts a thread for each post, as long as threads can be started. Returns the posts that have
-/// one.
+/// Carries on a run until it has ended, with the workers at so many posts, the first ones; `None` if
+/// the team fails.
+fn lead_hired<D: DesignType, R: Wait>(
+    rt: &R,
+    alloc: Global,
+    run: WaveStore,
+    posts: &Posts<PhaseWork<D>>,
+    hired: usize,
+    hints: Hints,
+) -> Option<WaveStore>
+    requires { run.simulation.design ≡ D.design }
+    ensures { IfSome result (λ r. IsSameRun run r × (r.ended ≢ None)) }
+{
+    let mut team = Team::new(posts, hired, hints);
+    lead(rt, alloc, run, &mut team)
+}
+
+/// Starts a thread for each post, as long as threads can be started. Returns how many posts have
+/// one: the first ones.
 fn hire<'s, D: DesignType + Send + Sync + 's, R: Threads + Wait + Sync, E>(
     scope: &Scope<'s, E>,
     rt: &'s R,
     alloc: Global,
-    posts: &'s [Post<PhaseWork<D>>],
-) -> &'s [Post<PhaseWork<D>>] {
-    for (number, post) in posts.iter().enumerate() {
+    posts: &'s Posts<PhaseWork<D>>,
+) -> usize {
+    for post in 0..posts.len() {
         let thread = Builder::new().stack_size(STACK_SIZE);
         if thread
-            .spawn_scoped(scope, move || post.work(rt, alloc))
+            .spawn_scoped(scope, move || posts.work(rt, alloc, post))
             .is_err()
         {
-            return &posts[..number];
+            return post;
         }
     }
-    posts
+    posts.len()
 }
 
-/// Carries a run of the design that `D` names to its end. It starts up to `workers - 1` threads, as
-/// many as can be. `None` if the team fails or memory runs out.
+/// Carries a run of the design that `D` names to its end. It starts a thread for each post, as many
+/// as can be. `None` if the team fails or memory runs out.
+fn run_at<D: DesignType + Send + Sync, R: Threads + Wait + Sync>(
+    rt: &R,
+    alloc: Global,
+    run: WaveStore,
+    posts: &Posts<PhaseWork<D>>,
+    hints: Hints,
+) -> Option<WaveStore>
+    requires { run.simulation.design ≡ D.design }
+    ensures { IfSome result (λ r. IsSameRun run r × (r.ended ≢ None)) }
+{
+    thread::scope(
+        thread::scope_env(),
+        rt,
+        |scope| -> Option<WaveStore>
+            requires { run.simulation.design ≡ D.design }
+            ensures { IfSome result (λ r. IsSameRun run r × (r.ended ≢ None)) }
+        {
+            let hired = hire(scope, rt, alloc, posts);
+            lead_hired(rt, alloc, run, posts, hired, hints)
+        },
+    )
+}
+
+/// The same by up to so many workers, of which this thread is one.
 fn run_by<D: DesignType + Send + Sync, R: Threads + Wait + Sync>(
     rt: &R,
     alloc: Global,
@@ -179,37 +220,34 @@ fn run_by<D: DesignType + Send + Sync, R: Threads + Wait + Sync>(
     ensures { IfSome result (λ r. IsSameRun run r × (r.ended ≢ None)) }
 {
     let others = workers.saturating_sub(1);
-    let posts = Post::<PhaseWork<D>>::several(alloc, others, hints.looks_before_sleep)?;
-    let posts = posts.as_slice();
-    thread::scope(
-        thread::scope_env(),
-        rt,
-        |scope| -> Option<WaveStore>
-            requires { run.simulation.design ≡ D.design }
-            ensures { IfSome result (λ r. IsSameRun run r × (r.ended ≢ None)) }
-        {
-            let hired = hire(scope, rt, alloc, posts);
-            lead(rt, alloc, run, &mut Team::new(hired, hints))
-        },
-    )
+    let posts = Posts::new(
+        alloc,
+        others,
+        hints.orders_of_a_thread,
+        hints.looks_before_sleep,
+    )?;
+    run_at::<D, R>(rt, alloc, run, &posts, hints)
 }
 
-/// The number of threads that are useful for a run, at most `workers`: one if bodies are short, or
-/// all processes together have too little work, and otherwise one for each processor.
+/// The number of threads that are useful for a run, at most `workers`: one if bodies are short, and
+/// otherwise as many as have enough to do where all processes are due, and one for each processor at
+/// most.
 fn useful<R: Threads>(rt: &R, run: &WaveStore, workers: usize, hints: Hints) -> usize {
     let length = run.mean_length();
-    let all = run.design().processes().len().saturating_mul(length);
-    if length < hints.least_steps_of_a_process || all < hints.least_steps_of_a_phase {
-        1
-    } else {
-        workers.min(hints.most_threads(rt))
+    if length < hints.least_steps_of_a_process {
+        return 1;
     }
+    let all = run.design().processes().len().saturating_mul(length);
+    workers
+        .min(hints.busy_threads(all))
+        .min(hints.most_threads(rt))
+        .max(1)
 }
 
 /// Carries on a run from the present state of its store until it has ended, by at most `workers`
-/// threads. In each phase with enough work, by the hints, each thread gets a share of the processes
-/// that are due, by value; this thread also executes the shares that no other has begun. A caller
-/// cannot tell which thread executes which process. `None` if the team fails: one of its threads
+/// threads. In each phase with enough work, by the hints, each thread gets shares of the processes
+/// that are due, by value, and then executes those that no other has begun. A caller cannot tell
+/// which thread executes which process. `None` if the team fails: one of its threads
 /// had no memory. The store is then lost, and the run may begin again on the calling thread.
 pub fn carry_to_end<R: Threads + Wait + Sync>(
     rt: &R,
@@ -221,6 +259,6 @@ pub fn carry_to_end<R: Threads + Wait + Sync>(
     ensures { IfSome result (λ r. IsSameRun run r × (r.ended ≢ None)) }
 {
     let workers = useful(rt, &run, workers, hints);
-    let run = run.divide(alloc, workers).ok()?;
+    let run = run.divide(alloc, hints.orders(workers)).ok()?;
     run_by::<Brand, R>(rt, alloc, run, workers, hints)
 }

@@ -10,12 +10,16 @@ pub struct Hints {
     /// The least mean number of steps of a process. Below it, a run uses one thread: another would
     /// save less than it costs to hand out and take back what the processes own.
     pub least_steps_of_a_process: usize,
-    /// The least number of steps of all processes of a phase. Below it, the phase is over before
-    /// another thread has its order.
-    pub least_steps_of_a_phase: usize,
+    /// The least number of steps of all processes of a phase for each thread. A run uses no more
+    /// threads than get as much where all processes are due, and a phase in which they do not is
+    /// carried out by the main thread: sending a thread to sleep and waking it takes a part of this.
+    pub least_steps_of_a_thread: usize,
     /// The least number of processes of an order for a worker. A smaller order is carried out by
     /// the main thread.
     pub least_processes_of_an_order: usize,
+    /// The number of orders of a thread in a phase. A thread that is done with its own takes those
+    /// that no other has begun.
+    pub orders_of_a_thread: usize,
     /// The number of times that a waiting thread looks for a message before it sleeps, so that
     /// another thread or program may have its processor.
     pub looks_before_sleep: u32,
@@ -25,14 +29,15 @@ pub struct Hints {
 }
 
 impl Hints {
-    /// Measured values: a phase takes some tens of microseconds, and so do sleeping and being woken;
-    /// so a thread looks for as long.
+    /// Measured values: sleeping and being woken take some ten microseconds of a processor, and so
+    /// does looking as often.
     pub const fn measured() -> Hints {
         Hints {
             least_steps_of_a_process: 16,
-            least_steps_of_a_phase: 10_000,
+            least_steps_of_a_thread: 20_000,
             least_processes_of_an_order: 16,
-            looks_before_sleep: 4_000,
+            orders_of_a_thread: 2,
+            looks_before_sleep: 1_000,
             threads_of_a_processor: 1,
         }
     }
@@ -42,10 +47,29 @@ impl Hints {
     pub const fn all_handed_out() -> Hints {
         Hints {
             least_steps_of_a_process: 0,
-            least_steps_of_a_phase: 0,
+            least_steps_of_a_thread: 0,
             least_processes_of_an_order: 0,
+            orders_of_a_thread: 2,
             looks_before_sleep: 100,
             threads_of_a_processor: usize::MAX,
+        }
+    }
+
+    /// The greatest number of threads that have enough to do in a phase of so many steps.
+    pub fn busy_threads(&self, steps: usize) -> usize {
+        if self.least_steps_of_a_thread == 0 {
+            usize::MAX
+        } else {
+            steps / self.least_steps_of_a_thread
+        }
+    }
+
+    /// The number of orders in a phase of a run by so many threads.
+    pub fn orders(&self, threads: usize) -> usize {
+        if threads > 1 {
+            threads.saturating_mul(self.orders_of_a_thread)
+        } else {
+            1
         }
     }
 

@@ -1,4 +1,6 @@
-//! A message for a thread that may wait for it.
+//! Messages for a thread that may wait for them.
+
+ghost use Rattle.std.specs.Prelude.{◌<◌};
 
 use crate::bell::Bell;
 use crossbeam_queue::ArrayQueue;
@@ -7,8 +9,8 @@ use std::hint::spin_loop;
 use std::sync::Wait;
 use std::sync::atomic::{AtomicU64, Ordering};
 
-/// Room for one message. One thread waits here for the next; any thread may take out a message that
-/// was not read.
+/// Room for some messages. One thread waits here for the next; any thread may take out one that was
+/// not read.
 #[derive(Drop)]
 pub struct Inbox<T: Drop> {
     messages: ArrayQueue<T>,
@@ -19,24 +21,26 @@ pub struct Inbox<T: Drop> {
 }
 
 impl<T: Drop> Inbox<T> {
-    /// An empty inbox.
-    pub fn new(alloc: Global) -> Result<Inbox<T>, AllocError> {
+    /// An empty inbox with room for so many messages, at least one.
+    pub fn new(alloc: Global, room: usize) -> Result<Inbox<T>, AllocError>
+        requires { 0 < room }
+    {
         Ok(Inbox {
-            messages: ArrayQueue::new(alloc, 1)?,
+            messages: ArrayQueue::new(alloc, room)?,
             bell: Bell::new(),
             closed: AtomicU64::new(0),
         })
     }
 
     /// Puts a message in, and wakes the thread that waits for it. The message comes back if there
-    /// is another.
+    /// is no room.
     pub fn put<R: Wait>(&self, rt: &R, message: T) -> Result<(), T> {
         self.messages.push(rt, message)?;
         self.bell.ring();
         Ok(())
     }
 
-    /// Takes the message out, if there is one.
+    /// Takes the first message out, if there is one.
     pub fn take<R: Wait>(&self, rt: &R) -> Option<T> {
         self.messages.pop(rt)
     }

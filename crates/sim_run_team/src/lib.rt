@@ -10,4 +10,4 @@ mod workers;
 
 pub use hints::Hints;
 pub use team::Team;
-pub use workers::{Post, Work};
+pub use workers::{Posts, Work};

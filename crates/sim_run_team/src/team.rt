@@ -3,28 +3,26 @@
 ghost use Rattle.std.specs.Prelude.{◌≡◌, ◌++◌, [], ◌∷◌, true, IfSome, map};
 
 use crate::hints::Hints;
-use crate::workers::{Post, Work};
+use crate::workers::{Placed, Posts, Work};
 use std::alloc::Global;
 use std::sync::Wait;
 
-/// What has become of an order: carried out here, or given to a worker.
+/// An order that was begun, and its answer once there is one.
 #[derive(Drop)]
-enum Way<'a, W: Work> {
-    Done(Option<W::Answer>),
-    Given(&'a Post<W>),
-}
-
-/// An order that was begun.
-#[derive(Drop)]
-struct Begun<'a, W: Work> {
+struct Begun<W: Work> {
     /// The number of the order.
     number: usize,
-    way: Way<'a, W>,
+    answer: Option<W::Answer>,
 }
 
 /// The main thread's side: the posts of the workers. When it is dropped, the workers end.
 pub struct Team<'a, W: Work> {
-    posts: &'a [Post<W>],
+    posts: &'a Posts<W>,
+    /// The number of posts that have a worker: the first ones.
+    hired: usize,
+    /// The number of orders of this phase that were given to workers, and that this thread has
+    /// neither carried out itself nor got the answer to.
+    awaited: usize,
     hints: Hints,
     kept: W::Kept,
 }
@@ -33,21 +31,23 @@ impl<W: Work> Drop for Team<'_, W> {
     fn drop(self) {
         let Team {
             posts,
+            hired: _,
+            awaited: _,
             hints: _,
             kept,
         } = self;
         drop(kept);
-        for post in posts {
-            post.orders.close();
-        }
+        posts.close();
     }
 }
 
 impl<'a, W: Work> Team<'a, W> {
-    /// The team of the workers at these posts.
-    pub fn new(posts: &'a [Post<W>], hints: Hints) -> Team<'a, W> {
+    /// The team of the workers at so many of these posts, the first ones.
+    pub fn new(posts: &'a Posts<W>, hired: usize, hints: Hints) -> Team<'a, W> {
         Team {
             posts,
+            hired,
+            awaited: 0,
             hints,
             kept: W::at_first(),
         }
@@ -56,139 +56,118 @@ impl<'a, W: Work> Team<'a, W> {
     /// How many processes of a phase must have something to do for it to be worth giving away, if
     /// each takes about `mean_length` steps. No phase has as many if there are no workers.
     pub fn least_processes(&self, mean_length: usize) -> usize {
-        if self.posts.is_empty() {
+        if self.hired == 0 {
             return usize::MAX;
         }
-        self.hints.least_steps_of_a_phase / mean_length.max(1)
+        let threads = self.hired.saturating_add(1);
+        threads.saturating_mul(self.hints.least_steps_of_a_thread) / mean_length.max(1)
     }
 
-    /// Gives an order to the worker with a number, or carries it out here if it is small or there
-    /// is no such worker.
-    fn begin_at<R: Wait>(
+    /// Gives an order to the worker at a post, or returns the answer if it was carried out here: if
+    /// it is small, or there is no such worker.
+    fn give<R: Wait>(
         &mut self,
         rt: &R,
         alloc: Global,
-        order: W::Order,
-        worker: usize,
-    ) -> Way<'a, W> {
-        let is_large = W::is_large(&order, self.hints.least_processes_of_an_order);
-        if !is_large || worker >= self.posts.len() {
-            return Way::Done(W::carry_out(alloc, order, &mut self.kept));
+        order: Placed<W::Order>,
+        post: usize,
+    ) -> Option<W::Answer> {
+        let is_large = W::is_large(&order.of, self.hints.least_processes_of_an_order);
+        if !is_large || post >= self.hired {
+            return W::carry_out(alloc, order.of, &mut self.kept);
         }
-        let posts = self.posts;
-        let post = &posts[worker];
-        match post.orders.put(rt, order) {
-            Ok(()) => Way::Given(post),
-            Err(order) => Way::Done(W::carry_out(alloc, order, &mut self.kept)),
+        match self.posts.give(rt, post, order) {
+            Ok(()) => {
+                self.awaited = self.awaited.saturating_add(1);
+                None
+            }
+            Err(order) => W::carry_out(alloc, order.of, &mut self.kept),
         }
     }
 
-    /// The same, with the number of the order.
+    /// Begins an order, for the worker at a post.
     fn begin<R: Wait>(
         &mut self,
         rt: &R,
         alloc: Global,
-        order: W::Order,
-        worker: usize,
-    ) -> Begun<'a, W>
-        ensures { result.number ≡ W.number_of_order order }
+        order: Placed<W::Order>,
+        post: usize,
+    ) -> Begun<W>
+        ensures { result.number ≡ W.number_of_order order.of }
     {
-        let number = W::order_number(&order);
-        let way = self.begin_at(rt, alloc, order, worker);
-        Begun { number, way }
+        let number = W::order_number(&order.of);
+        let answer = self.give(rt, alloc, order, post);
+        Begun { number, answer }
     }
 
-    /// Begins each order: it is given to the worker with the same number, so that a worker has the
-    /// same share each time, or carried out here if there is none. `None` if memory runs out.
+    /// Begins each order. Each worker gets as many that follow one another, so that it has the same
+    /// shares each time; this thread carries out the last. `None` if memory runs out.
     fn begin_all<R: Wait>(
         &mut self,
         rt: &R,
         alloc: Global,
         orders: Vec<W::Order>,
-    ) -> Option<Vec<Begun<'a, W>>>
+    ) -> Option<Vec<Begun<W>>>
         ensures { IfSome result (λ v. map (λ b. b.number) v.items ≡ map W.number_of_order orders.items) }
     {
+        let of_each = orders.len().div_ceil(self.hired.saturating_add(1)).max(1);
         let mut begun = Vec::with_capacity(alloc, orders.len()).ok()?;
         for order in orders {
-            let one = self.begin(rt, alloc, order, begun.len());
+            let place = begun.len();
+            let one = self.begin(rt, alloc, Placed { place, of: order }, place / of_each);
             begun.push(one).ok()?;
         }
         Some(begun)
     }
 
-    /// Carries out an order here, if its worker has not begun it.
-    fn take_one_back<R: Wait>(&mut self, rt: &R, alloc: Global, begun: &mut Begun<'a, W>)
-        ensures { begun.new.number ≡ begun.old.number }
-    {
-        if let Way::Given(post) = begun.way {
-            if let Some(order) = post.orders.take(rt) {
-                begun.way = Way::Done(W::carry_out(alloc, order, &mut self.kept));
-            }
-        }
-    }
-
-    /// Carries out here each order that its worker has not begun.
-    fn take_back<R: Wait>(&mut self, rt: &R, alloc: Global, begun: &mut [Begun<'a, W>])
+    /// Carries out here the orders at a post that no thread has begun.
+    fn take_at<R: Wait>(&mut self, rt: &R, alloc: Global, post: usize, begun: &mut [Begun<W>])
         ensures { map (λ b. b.number) begun.new ≡ map (λ b. b.number) begun.old }
     {
-        for one in begun.iter_mut() {
-            self.take_one_back(rt, alloc, one);
+        for _turn in rt.forever() {
+            let Some(order) = self.posts.take(rt, post) else {
+                return;
+            };
+            let Placed { place, of } = order;
+            put_at(begun, place, W::carry_out(alloc, of, &mut self.kept));
+            self.awaited = self.awaited.saturating_sub(1);
         }
     }
 
-    /// What was answered to an order that was begun; `None` if nothing was.
-    fn answered<R: Wait>(&self, rt: &R, way: Way<'a, W>) -> Option<W::Answer> {
-        match way {
-            Way::Done(answer) => answer,
-            Way::Given(post) => post.answers.next(rt, self.hints.looks_before_sleep)?,
-        }
-    }
-
-    /// The answer to an order that was begun; `None` if there is none, or it is another's.
-    fn answer<R: Wait>(&self, rt: &R, begun: Begun<'a, W>) -> Option<W::Answer>
-        ensures { IfSome result (λ answer. W.number_of_answer answer ≡ begun.entry.number) }
+    /// Carries out here the orders that no thread has begun.
+    fn take_all<R: Wait>(&mut self, rt: &R, alloc: Global, begun: &mut [Begun<W>])
+        ensures { map (λ b. b.number) begun.new ≡ map (λ b. b.number) begun.old }
     {
-        let Begun { number, way } = begun;
-        let answer = self.answered(rt, way)?;
-        if W::answer_number(&answer) != number {
-            return None;
-        }
-        Some(answer)
-    }
-
-    /// Puts the answer to an order that was begun at the end of the answers; whether there is one.
-    fn put_answer<R: Wait>(&self, rt: &R, begun: Begun<'a, W>, answers: &mut Vec<W::Answer>) -> bool
-        ensures { result ≡ true → map W.number_of_answer answers.new.items
-            ≡ map W.number_of_answer answers.old.items ++ begun.entry.number ∷ [] }
-    {
-        match self.answer(rt, begun) {
-            Some(answer) => answers.push(answer).is_ok(),
-            None => false,
+        for post in 0..self.hired {
+            self.take_at(rt, alloc, post, begun);
         }
     }
 
-    /// The answers to orders, in order. Waits for all that were given away; `None` if one has no
-    /// answer of its own.
-    fn answers<R: Wait>(
-        &self,
-        rt: &R,
-        begun: Vec<Begun<'a, W>>,
-        answers: &mut Vec<W::Answer>,
-    ) -> Option<()>
-        ensures { IfSome result (λ _. map W.number_of_answer answers.new.items
-            ≡ map W.number_of_answer answers.old.items ++ map (λ b. b.number) begun.entry.items) }
+    /// Waits for the answers to all orders that workers have begun, and puts each at its place.
+    fn wait<R: Wait>(&mut self, rt: &R, begun: &mut [Begun<W>])
+        ensures { map (λ b. b.number) begun.new ≡ map (λ b. b.number) begun.old }
     {
-        let mut all = true;
-        for one in begun {
-            all = self.put_answer(rt, one, answers) && all;
+        for _answer in 0..self.awaited {
+            let Some(answer) = self.posts.next_answer(rt) else {
+                return;
+            };
+            put_at(begun, answer.place, answer.of);
         }
-        if all { Some(()) } else { None }
+        self.awaited = 0;
+    }
+
+    /// Sees to it that each order that was begun is carried out.
+    fn finish<R: Wait>(&mut self, rt: &R, alloc: Global, begun: &mut [Begun<W>])
+        ensures { map (λ b. b.number) begun.new ≡ map (λ b. b.number) begun.old }
+    {
+        self.take_all(rt, alloc, begun);
+        self.wait(rt, begun);
     }
 
     /// Has orders carried out by the workers and this thread, and returns their answers in order,
-    /// each of which has the number of its order. This thread carries out the orders that are left
-    /// when it has done its own. `None` if the team fails: this thread or a worker had no memory.
-    /// The orders and all that they held are then lost.
+    /// each of which has the number of its order. A thread that has carried out its own orders takes
+    /// those that no other has begun. `None` if the team fails: this thread or a worker had no
+    /// memory. The orders and all that they held are then lost.
     pub fn carry_out<R: Wait>(
         &mut self,
         rt: &R,
@@ -197,10 +176,48 @@ impl<'a, W: Work> Team<'a, W> {
     ) -> Option<Vec<W::Answer>>
         ensures { IfSome result (λ v. map W.number_of_answer v.items ≡ map W.number_of_order orders.items) }
     {
-        let mut answers = Vec::with_capacity(alloc, orders.len()).ok()?;
+        let answers = Vec::with_capacity(alloc, orders.len()).ok()?;
         let mut begun = self.begin_all(rt, alloc, orders)?;
-        self.take_back(rt, alloc, begun.as_mut_slice());
-        self.answers(rt, begun, &mut answers)?;
-        Some(answers)
+        self.finish(rt, alloc, begun.as_mut_slice());
+        in_order(begun, answers)
     }
+}
+
+/// Puts an answer to the order at a place.
+fn put_at<W: Work>(begun: &mut [Begun<W>], place: usize, answer: Option<W::Answer>)
+    ensures { map (λ b. b.number) begun.new ≡ map (λ b. b.number) begun.old }
+{
+    if place < begun.len() {
+        begun[place].answer = answer;
+    }
+}
+
+/// Puts the answer to an order at the end of the answers; whether there is one, and it is no
+/// other's.
+fn put_answer<W: Work>(begun: Begun<W>, answers: &mut Vec<W::Answer>) -> bool
+    ensures { result ≡ true → map W.number_of_answer answers.new.items
+        ≡ map W.number_of_answer answers.old.items ++ begun.number ∷ [] }
+{
+    let Begun { number, answer } = begun;
+    let Some(answer) = answer else {
+        return false;
+    };
+    if W::answer_number(&answer) != number {
+        return false;
+    }
+    answers.push(answer).is_ok()
+}
+
+/// These answers, followed by those to orders, in order; `None` if one has no answer of its own.
+fn in_order<W: Work>(begun: Vec<Begun<W>>, answers: Vec<W::Answer>) -> Option<Vec<W::Answer>>
+    ensures { IfSome result (λ v. map W.number_of_answer v.items
+        ≡ map W.number_of_answer answers.items ++ map (λ b. b.number) begun.items) }
+{
+    let mut answers = answers;
+    for one in begun {
+        if !put_answer::<W>(one, &mut answers) {
+            return None;
+        }
+    }
+    Some(answers)
 }

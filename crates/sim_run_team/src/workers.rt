@@ -1,6 +1,6 @@
-//! Workers: what they carry out, and where they get their orders.
+//! Workers: what they carry out, and where orders and answers wait.
 
-ghost use Rattle.std.specs.Prelude.{◌≡◌, ℕ, IfSome};
+ghost use Rattle.std.specs.Prelude.{◌≡◌, ◌<◌, ℕ, IfSome};
 
 use crate::inbox::Inbox;
 use std::alloc::{AllocError, Global};
@@ -43,45 +43,136 @@ pub trait Work {
         ensures { IfSome result (λ answer. number_of_answer answer ≡ number_of_order order) };
 }
 
-/// The post of a worker: where its next order waits for it, and its answer for the main thread.
+/// An order or an answer, with its place among those of a phase.
 #[derive(Drop)]
-pub struct Post<W: Work> {
-    pub(crate) orders: Inbox<W::Order>,
-    pub(crate) answers: Inbox<Option<W::Answer>>,
-    /// The number of looks for an order before the worker sleeps.
+pub(crate) struct Placed<T: Drop> {
+    pub(crate) place: usize,
+    pub(crate) of: T,
+}
+
+/// The posts of the workers, at each of which the orders for one of them wait, and where all answers
+/// wait for the main thread. A thread that has carried out its own orders takes those of others.
+#[derive(Drop)]
+pub struct Posts<W: Work> {
+    orders: Vec<Inbox<Placed<W::Order>>>,
+    answers: Inbox<Placed<Option<W::Answer>>>,
+    /// The number of looks for a message before a thread sleeps.
     looks: u32,
 }
 
-impl<W: Work> Post<W> {
-    /// A post without an order.
-    fn new(alloc: Global, looks: u32) -> Result<Post<W>, AllocError> {
-        Ok(Post {
-            orders: Inbox::new(alloc)?,
-            answers: Inbox::new(alloc)?,
+/// So many inboxes, each with room for as many messages.
+fn inboxes<T: Drop>(alloc: Global, count: usize, room: usize) -> Option<Vec<Inbox<T>>>
+    requires { 0 < room }
+{
+    let mut inboxes = Vec::with_capacity(alloc, count).ok()?;
+    for _inbox in 0..count {
+        let inbox = Inbox::new(alloc, room).ok()?;
+        inboxes.push(inbox).ok()?;
+    }
+    Some(inboxes)
+}
+
+impl<W: Work> Posts<W> {
+    /// Posts for so many workers, each with room for so many orders, at least one, and room for the
+    /// answers to all of these. A thread sleeps once it has looked `looks` times for a message. `None`
+    /// if memory runs out.
+    pub fn new(alloc: Global, workers: usize, room: usize, looks: u32) -> Option<Posts<W>> {
+        let room = room.max(1);
+        let orders = inboxes(alloc, workers, room)?;
+        let answers = Inbox::new(alloc, workers.saturating_mul(room).max(1)).ok()?;
+        Some(Posts {
+            orders,
+            answers,
             looks,
         })
     }
 
-    /// As many posts, whose workers sleep once they have looked `looks` times for an order. `None`
-    /// if memory runs out.
-    pub fn several(alloc: Global, count: usize, looks: u32) -> Option<Vec<Post<W>>> {
-        let mut posts = Vec::with_capacity(alloc, count).ok()?;
-        for _post in 0..count {
-            let post = Post::new(alloc, looks).ok()?;
-            posts.push(post).ok()?;
-        }
-        Some(posts)
+    /// The number of posts.
+    pub fn len(&self) -> usize {
+        self.orders.len()
     }
 
-    /// Carries out one order after another, until the team is gone.
-    pub fn work<R: Wait>(&self, rt: &R, alloc: Global) {
-        let mut kept = W::at_first();
+    /// Gives an order to the worker at a post. It comes back if there is no such post, or no room.
+    pub(crate) fn give<R: Wait>(
+        &self,
+        rt: &R,
+        post: usize,
+        order: Placed<W::Order>,
+    ) -> Result<(), Placed<W::Order>> {
+        if post < self.orders.len() {
+            self.orders[post].put(rt, order)
+        } else {
+            Err(order)
+        }
+    }
+
+    /// Takes an order from a post, if one is there that no thread has begun.
+    pub(crate) fn take<R: Wait>(&self, rt: &R, post: usize) -> Option<Placed<W::Order>> {
+        if post < self.orders.len() {
+            self.orders[post].take(rt)
+        } else {
+            None
+        }
+    }
+
+    /// The next answer. Waits for it.
+    pub(crate) fn next_answer<R: Wait>(&self, rt: &R) -> Option<Placed<Option<W::Answer>>> {
+        self.answers.next(rt, self.looks)
+    }
+
+    /// Ends the work: each worker is done with its last order.
+    pub(crate) fn close(&self) {
+        for orders in self.orders.iter() {
+            orders.close();
+        }
+    }
+
+    /// Carries out an order as a worker, and leaves the answer for the main thread.
+    fn answer<R: Wait>(&self, rt: &R, alloc: Global, order: Placed<W::Order>, kept: &mut W::Kept) {
+        let Placed { place, of } = order;
+        let of = W::carry_out(alloc, of, kept);
+        // There is room: as many orders as there is room for are given in a phase, and the main thread
+        // has taken the answers to those of the phase before.
+        let _ = self.answers.put(rt, Placed { place, of });
+    }
+
+    /// Carries out the orders at a post until none is left there.
+    fn answer_all<R: Wait>(
+        &self,
+        rt: &R,
+        alloc: Global,
+        orders: &Inbox<Placed<W::Order>>,
+        kept: &mut W::Kept,
+    ) {
         for _ in rt.forever() {
-            let Some(order) = self.orders.next(rt, self.looks) else {
+            let Some(order) = orders.take(rt) else {
                 return;
             };
-            // There is room: the main thread has taken the answer before.
-            let _ = self.answers.put(rt, W::carry_out(alloc, order, &mut kept));
+            self.answer(rt, alloc, order, kept);
+        }
+    }
+
+    /// Carries out the orders at each post that no thread has begun.
+    fn help<R: Wait>(&self, rt: &R, alloc: Global, kept: &mut W::Kept) {
+        for orders in self.orders.iter() {
+            self.answer_all(rt, alloc, orders, kept);
+        }
+    }
+
+    /// Carries out orders as the worker at a post, its own first, until the team is gone.
+    pub fn work<R: Wait>(&self, rt: &R, alloc: Global, post: usize) {
+        if post >= self.orders.len() {
+            return;
+        }
+        let own = &self.orders[post];
+        let mut kept = W::at_first();
+        for _ in rt.forever() {
+            let Some(order) = own.next(rt, self.looks) else {
+                return;
+            };
+            self.answer(rt, alloc, order, &mut kept);
+            self.answer_all(rt, alloc, own, &mut kept);
+            self.help(rt, alloc, &mut kept);
         }
     }
 }

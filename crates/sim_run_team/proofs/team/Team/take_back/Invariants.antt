@@ -1,6 +1,0 @@
-use Rattle.std.proofs.Common.{◌≡◌, map}
-use Rattle.sim_run_team.proofs.team.Team.take_back.Given as goal
-
--- each that was begun keeps its number
-abbrev pub invariant-loop-one : goal.invariant-loop-one
-invariant-loop-one g l = map (λ b. b.number) l.begun ≡ map (λ b. b.number) l.fn.begun
