@@ -1,5 +1,6 @@
 -- Each change is of one net, so the changes of all nets are all changes.
-use Rattle.std.proofs.Common.{◌≡◌, ℕ, zero, suc, ◌+◌, ◌<◌, ◌≤◌, ◌==◌, Bool, true, false, List, [], ◌∷◌, drop, length, ◌≢◌, ◌⊎◌, inl, inr, refl, sym, ap, ◌∙◌, arith, cond}
+use Rattle.std.proofs.Common.{◌≡◌, ◌≢◌, ◌⊎◌, ℕ, zero, suc, ◌+◌, ◌<◌, ◌≤◌, ◌==◌, Bool, true, false, List, [], ◌∷◌}
+use Rattle.std.proofs.Common.{ap, arith, cond, drop, inl, inr, length, refl, ◌∙◌}
 use Rattle.std.proofs.lemmas.Bool.{ne_eqb}
 use Rattle.std.proofs.lemmas.Bool.Decides.{eqb_tells}
 use Rattle.std.proofs.lemmas.List.Concat.{length-flat_map}
@@ -72,7 +73,8 @@ all_counted : (nets : ℕ) (changes : List (ℕ × Logic)) → AllByRecursion (�
     → sum_by (counted changes) (range_with_len 0 nets) ≡ length changes
 all_counted nets [] below = none_counted (range_with_len 0 nets)
 all_counted nets (change ∷ changes) below =
-    omega (arith, one_more change changes (range_with_len 0 nets), one_marked change.0 0 nets (omega arith) (omega (arith, below.0)), all_counted nets changes below.1)
+    let one = one_marked change.0 0 nets (omega arith) (omega (arith, below.0)) in
+    omega (arith, one_more change changes (range_with_len 0 nets), one, all_counted nets changes below.1)
 
 named_changes : (nets : ℕ) (rs : List Record) → AllByRecursion (IsNamed nets) rs → All (λ c. c.0 < nets) (all_changes rs)
 named_changes nets [] named = All-nil (λ c. c.0 < nets)
