@@ -61,8 +61,14 @@ one_more : (change : ℕ × Logic) (changes : List (ℕ × Logic)) (ns : List �
     → sum_by (counted (change ∷ changes)) ns ≡ sum_by (marked change.0) ns + sum_by (counted changes) ns
 one_more change changes [] = refl
 one_more change changes (k ∷ ns) =
-    omega (arith, sum_by-cons (counted (change ∷ changes)) k ns, sum_by-cons (marked change.0) k ns, sum_by-cons (counted changes) k ns,
-    counted_more change changes k, one_more change changes ns)
+    omega (
+      arith,
+      sum_by-cons (counted (change ∷ changes)) k ns,
+      sum_by-cons (marked change.0) k ns,
+      sum_by-cons (counted changes) k ns,
+      counted_more change changes k,
+      one_more change changes ns,
+    )
 
 none_counted : (ns : List ℕ) → sum_by (counted []) ns ≡ 0
 none_counted [] = refl
