@@ -9,8 +9,9 @@ without `--deltas`, and read by a reader that knows only the rules of a VCD. The
 - the times are those of the listing; with `--deltas` one for each delta cycle, always later than the one before it;
 - at each time each net has the value that the listing gives it by then.
 
-By a map a variable has the bits that the map names, constants among them, and the last time is that of the end of the stimuli. Faulty
-listings and maps and wrong words are refused with a line on standard error.
+By a map a variable has the bits that the map names, constants among them, and the last time is that of the end of the stimuli. A listing
+that is cut short has with `--partial` the waves of its whole lines, and `--scope` names the outermost scope. Faulty listings and maps and
+wrong words are refused with a line on standard error.
 
 Differences are printed, and the last line is `N passed, M failed`.
 """
@@ -51,8 +52,8 @@ REFUSED = [
 ]
 # a map that is refused, and what is told
 MAPS = [
-    ("vsim_netlist map 2\nend 5\n", "it is a map of version 2, and version 1 is wanted"),
-    ("0 0 s 0\ndone 0 0\n", "it is no map of vsim_netlist"),
+    ("vsim_netlist map 2\nend 5\n", "line 1: it is a map of another version, and version 1 is wanted"),
+    ("0 0 s 0\ndone 0 0\n", "line 1: it is no map of vsim_netlist"),
     ("vsim_netlist map 1\nend soon\n", "line 2: the end is no number"),
     ("vsim_netlist map 1\nend 5\nvar s 0\n", "line 3: a variable is cut off"),
     ("vsim_netlist map 1\nnet s\n", "line 2: it is no line of a map"),
@@ -62,6 +63,15 @@ MAPPED = [
     ("0 0 s 0\n5 0 s 1\ndone 1 1\n", "end 9\ntop m\nvar v 0 downto s 'Z' '0' '1' 'X' -\n", [(0, "xx10z0"), (5, "xx10z1")], 9),
     ("0 0 s 0\n5 0 s 1\ndone 1 1\n", "end 5\ntop m\nvar v 0 downto s s\n", [(0, "00"), (5, "11")], 5),
     ("0 0 s U\ndone 0 0\n", "end 7\ntop m\nvar v 0 downto 'Z' 'Z'\n", [(0, "zz")], 7),
+]
+# a listing that is cut short, and the whole listing with the same waves
+PARTIAL = [
+    ("0 0 s 0\n5 0 s 1\n", "0 0 s 0\n5 0 s 1\ndone 1 1\n"),
+    ("0 0 s 0\n5 0 s 1\n7 0 s", "0 0 s 0\n5 0 s 1\ndone 1 1\n"),
+    ("0 0 s 0\n5 0 s 1\n7 0 s 0", "0 0 s 0\n5 0 s 1\ndone 1 1\n"),
+    ("0 0 s 0\n0 0 r U\n", "0 0 s 0\n0 0 r U\ndone 0 0\n"),
+    ("0 0 s 0\n5 0 s 1\ndone 1 1\n", "0 0 s 0\n5 0 s 1\ndone 1 1\n"),
+    ("", "done 0 0\n"),
 ]
 
 
@@ -222,6 +232,18 @@ def check_mapped(program, listing, lines, values, end):
     demand(times == [str(time) for time in dict.fromkeys([*(time for time, _ in values), end])], f"the times are {times}")
 
 
+def check_partial(program, text, whole):
+    for words in ([], ["--deltas"], ["--scope", "t"]):
+        wanted = run(program, words, whole.encode())
+        demand(run(program, ["--partial", *words], text.encode()) == wanted and wanted[0] == 0, f"{words}: other waves")
+
+
+def check_scope(program, listing):
+    (status, top, _), named = (run(program, words, listing.encode()) for words in ([], ["--scope", "uart_1"]))
+    demand(status == 0 and named == (0, top.replace(b"$scope module top $end", b"$scope module uart_1 $end"), ""), "the scope is another")
+    demand(top.count(b"$scope module top $end") == 1, "top is no scope")
+
+
 def check_words(program, words):
     status, out, err = run(program, words, b"done 0 0\n")
     demand(status == 2 and not out and err.startswith("usage: vsim_waves "), f"status {status}: {err}")
@@ -275,7 +297,11 @@ def checks(vsim, program):
         yield f"a map of which is told: {told}", lambda: check_map(program, text, told)
     for row in MAPPED:
         yield f"a map with {row[1]!r}", lambda: check_mapped(program, *row)
-    for words in (["--delta"], ["--deltas", "--deltas"], ["FILE.vcd"], [""]):
+    for row in PARTIAL:
+        yield f"--partial of {row[0]!r}", lambda: check_partial(program, *row)
+    yield "--scope", lambda: check_scope(program, "0 0 s 0\n0 0 u1.s 0\n5 0 s 1\ndone 1 1\n")
+    for words in (["--delta"], ["--deltas", "--deltas"], ["FILE.vcd"], [""], ["--scope"], ["--scope", "a b"], ["--map"], ["--partial", "--partial"],
+                  ["--deltas", "--map", "FILE"]):
         yield f"the words {words}", lambda: check_words(program, words)
 
 

@@ -1,0 +1,16 @@
+//! The inputs of a comparison: listings and VCDs, as changes of numbered signals, with the nets that
+//! they offer.
+#![tactic(auto)]
+
+mod bits;
+mod change;
+mod header;
+mod listing;
+mod times;
+mod vcd;
+
+pub use bits::{Bits, Offers, owned, push};
+pub use change::Change;
+pub use listing::Listing;
+pub use times::read_time;
+pub use vcd::Vcd;
