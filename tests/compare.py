@@ -5,19 +5,18 @@
 
 A row of CASES has two inputs, the words of the command line, the status and what is written on standard output; a row of REFUSED what is
 said on standard error. Each comparison is also made with its sides exchanged, where its words allow that: then the values of the first
-difference are exchanged, and all else stays. The listing of each example is the same as itself, and as the VCD that VSIM_WAVES makes of it,
-and a listing without its last line is refused. With many changes the answer is that of a comparison by this script, which knows nothing
-of how the program works. The last line is `N passed, M failed`.
+difference are exchanged, and all else stays. Each listing of waves.py is the same as itself, and as the VCD that VSIM_WAVES makes of it.
+With many changes the answer is that of a comparison by this script, at each moment. What differs is told, and the last line is
+`N passed, M failed`.
 """
-import glob
 import os
 import random
 import re
-import subprocess
 import sys
 import tempfile
 
-TOP = os.path.dirname(os.path.dirname(os.path.realpath(__file__)))
+from netlist_texts import demand, run, tally
+from waves import listings
 
 # the net q of B is late by a delta cycle at 5, and another from 9 on; r is alike
 ONE = "0 0 q U\n0 0 r 0\n0 1 q 0\n5 0 q 1\n7 0 r 1\n9 0 q 0\ndone 4 4\n"
@@ -99,11 +98,15 @@ REFUSED = [
     (ONE[: ONE.index("done")], ONE, "", 3, "A: line 6: the last line, as 'done 3 3', is missing: the run was cut short"),
     (ONE, LATE[: LATE.index("done")], "", 3, "B: line 6: the last line, as 'done 3 3', is missing: the run was cut short"),
     ("", ONE, "", 3, "A: the last line, as 'done 3 3', is missing: the run was cut short"),
-    (ONE, "entity t is end;\n", "", 3, "B: line 1: this is not a line of a listing, or not in its place"),
-    (ONE, ONE + "10 0 q 1\n", "", 3, "B: line 8: this is not a line of a listing, or not in its place"),
-    (ONE, ONE.replace("5 0 q 1", "5 0 s 1"), "", 3, "B: line 4: this is not a line of a listing, or not in its place"),
-    (ONE, ONE.replace("7 0 r 1", "4 0 r 1"), "", 3, "B: line 5: this is not a line of a listing, or not in its place"),
-    (ONE, ONE.replace("7 0 r 1", "7 0 r u"), "", 3, "B: line 5: this is not a line of a listing, or not in its place"),
+    *((ONE, text, "", 3, f"B: line {line}: this is not a line of a listing, or not in its place") for text, line in (
+        ("entity t is end;\n", 1),
+        (ONE + "10 0 q 1\n", 8),
+        (ONE.replace("5 0 q 1", "5 0 s 1"), 4),
+        (ONE.replace("7 0 r 1", "4 0 r 1"), 5),
+        (ONE.replace("7 0 r 1", "7 0 r u"), 5),
+        (ONE.replace("0 0 r 0", "0 0 r..s 0"), 2),
+        (ONE.replace("0 0 r 0", "0 0 q 0"), 2),
+    )),
     (ONE, "0 0 s 0\ndone 0 0\n", "", 3, "nothing to compare: no net of those asked for is in both"),
     (ONE, ONE, "--nets p*", 3, "nothing to compare: no net of those asked for is in both"),
     (ONE, ONE, "--at-edges clk", 3, "clk: A has no such net of one bit"),
@@ -122,36 +125,23 @@ REFUSED = [
 ]
 
 
-class Fault(Exception):
-    """A fault of an answer."""
+def answer(program, words):
+    status, out, err = run([program, *words])
+    return status, out.decode(), err
 
 
-def demand(holds, text):
-    if not holds:
-        raise Fault(text)
-
-
-def answer(program, words, folder):
-    ran = subprocess.run([program, *words], cwd=folder, stdin=subprocess.DEVNULL, stdout=subprocess.PIPE, stderr=subprocess.PIPE, timeout=120)
-    return ran.returncode, ran.stdout.decode(), ran.stderr.decode()
-
-
-def write(path, text):
-    with open(path, "w", encoding="ascii") as file:
-        file.write(text)
-
-
-def fill(folder, here, there):
+def fill(here, there):
     for name, text in (("A", here), ("B", there), ("MAP", MAP)):
-        write(f"{folder}/{name}", text)
+        with open(name, "w", encoding="ascii") as file:
+            file.write(text)
 
 
-def check(program, folder, row):
+def check(program, row):
     here, there, words, status, told = row
-    fill(folder, here, there)
-    found = answer(program, [*words.split(), "A", "B"], folder)
+    fill(here, there)
+    found = answer(program, [*words.split(), "A", "B"])
     demand(found == (status, told, ""), f"{found}, not {(status, told)}")
-    demand(answer(program, ["A", "B", *words.split()], folder) == found, "words behind the files give another answer")
+    demand(answer(program, ["A", "B", *words.split()]) == found, "words behind the files give another answer")
 
 
 def exchanged(told):
@@ -162,70 +152,64 @@ def exchanged(told):
     return "".join(f"{line}\n" for line in [*(line for line in lines if not line.startswith("only")), *alone])
 
 
-def check_exchanged(program, folder, row):
+def check_exchanged(program, row):
     here, there, words, status, told = row
-    fill(folder, there, here)
+    fill(there, here)
     if "ignore-unknown" in words:
         words = words.translate(str.maketrans("AB", "BA"))
-    found = answer(program, [*words.split(), "A", "B"], folder)
+    found = answer(program, [*words.split(), "A", "B"])
     demand(found == (status, exchanged(told), ""), f"exchanged: {found}")
 
 
-def check_refusal(program, folder, row):
+def check_refusal(program, row):
     here, there, words, status, said = row
-    fill(folder, here, there)
-    found = answer(program, [*words.split(), "A", "B"], folder)
+    fill(here, there)
+    found = answer(program, [*words.split(), "A", "B"])
     demand(found[:2] == (status, "") and said in found[2], f"{found}, not {(status, said)}")
     demand(found[2].startswith("vsim_compare: " if status > 2 else "error: "), f"it says {found[2]}")
 
 
-def check_example(programs, folder, path):
-    vsim, compare, waves = programs
-    words = ["--top", "t"]
-    if os.path.exists(f"{path[:-4]}.words"):
-        with open(f"{path[:-4]}.words", encoding="utf-8") as file:
-            words = file.read().split()
-    with open(path, "rb") as file, open(f"{folder}/A", "wb") as out:
-        if subprocess.run([vsim, *words], stdin=file, stdout=out, stderr=subprocess.DEVNULL).returncode != 0:
-            return
-    with open(f"{folder}/A", "rb") as file, open(f"{folder}/B", "wb") as out:
-        subprocess.run([waves], stdin=file, stdout=out, check=True)
+def check_same(compare, waves, listing):
+    """A listing is the same as itself and as its waves, or it has no nets."""
+    fill(listing, run([waves], listing.encode())[1].decode())
     for words in (["A", "A"], ["A", "B"], ["B", "A"]):
-        status, told, said = answer(compare, words, folder)
-        has_nets = os.path.getsize(f"{folder}/A") > len("done 0 0\n")
-        demand(status == 0 and not said or not has_nets and status == 3, f"{words}: {status} {told}{said}")
+        status, told, said = answer(compare, words)
+        demand(status == 0 and not said or listing == "done 0 0\n" and status == 3, f"{words}: {status} {told}{said}")
 
 
 def made(chance, names, count):
-    """Returns the lines of a listing: at each of some moments a few changes."""
+    """Returns the changes of a listing: at each of some moments a few."""
     values, at = {it: chance.choice("UX01ZWLH-") for it in names}, (0, 0)
-    lines = [(at, it, values[it]) for it in names]
+    changes = [(at, it, values[it]) for it in names]
     for _ in range(count):
         at = (at[0], at[1] + 1) if chance.random() < 0.3 else (at[0] + chance.randint(1, 9), 0)
         for name in chance.sample(names, chance.randint(1, 4)):
             values[name] = chance.choice("UX01ZWLH-".replace(values[name], ""))
-            lines.append((at, name, values[name]))
-    return lines
+            changes.append((at, name, values[name]))
+    return changes
 
 
-def changed(chance, lines):
-    """Returns the same with some changes left out, later, or to other values."""
+def changed(chance, changes):
+    """Returns the same with some changes left out, or to other values."""
     found = []
-    for line in lines:
-        at, name, value = line
+    for at, name, value in changes:
         if at == (0, 0) or chance.random() > 0.02:
-            found.append(line)
+            found.append((at, name, value))
         elif chance.random() < 0.5:
             found.append((at, name, chance.choice("UX01ZWLH-")))
     return found
+
+
+def listed(changes):
+    return "".join(f"{at[0]} {at[1]} {net} {value}\n" for at, net, value in changes) + "done 1 1\n"
 
 
 def compared(here, there):
     """Returns what is to be told of two listings with the same nets, by looking at each moment."""
     order = list(dict.fromkeys(name for _, name, _ in here))
     sides, moments = ({}, {}), {}
-    for side, lines in enumerate((here, there)):
-        for at, name, value in lines:
+    for side, changes in enumerate((here, there)):
+        for at, name, value in changes:
             moments.setdefault(at, []).append((side, name, value))
     first, nets, differing, count = None, set(), 0, 0
     for at in sorted(moments):
@@ -241,47 +225,37 @@ def compared(here, there):
     return f"{told}{len(nets)} of {len(order)} nets differ, in {differing} of {count} changes{behind}\n"
 
 
-def check_made(program, folder, seed):
+def check_made(program, seed):
     chance = random.Random(seed)
-    names = [f"u{it % 7}.n{it}" for it in range(200)]
-    here = made(chance, names, 3000)
+    here = made(chance, [f"u{it % 7}.n{it}" for it in range(200)], 3000)
     there = changed(chance, here)
-    for name, lines in (("A", here), ("B", there)):
-        write(f"{folder}/{name}", "".join(f"{at[0]} {at[1]} {net} {value}\n" for at, net, value in lines) + "done 1 1\n")
-    found = answer(program, ["A", "B"], folder)
-    wanted = compared(here, there)
+    fill(listed(here), listed(there))
+    found, wanted = answer(program, ["A", "B"]), compared(here, there)
     demand(found == (int(wanted.count("\n") > 1), wanted, ""), f"{found}, not {wanted}")
 
 
-def checks(programs, folder):
+def checks(vsim, compare, waves):
     """Yields the name of each check, and the check."""
     for number, row in enumerate(CASES):
-        yield f"case {number}, {row[2]}", lambda: check(programs[1], folder, row)
+        yield f"case {number}, {row[2]}", lambda: check(compare, row)
         if "--map" not in row[2] and "--at-edges" not in row[2] and "first in delta" not in row[4]:
-            yield f"case {number} exchanged, {row[2]}", lambda: check_exchanged(programs[1], folder, row)
+            yield f"case {number} exchanged, {row[2]}", lambda: check_exchanged(compare, row)
     for row in REFUSED:
-        yield f"refusal {row[2]} {row[4]}", lambda: check_refusal(programs[1], folder, row)
-    for path in sorted(glob.glob(f"{TOP}/examples/*.vhd")):
-        yield os.path.relpath(path, TOP), lambda: check_example(programs, folder, path)
+        yield f"refusal {row[2]} {row[4]}", lambda: check_refusal(compare, row)
+    for name, listing in listings(vsim):
+        yield name, lambda: check_same(compare, waves, listing)
     for seed in range(10):
-        yield f"listings that chance makes, {seed}", lambda: check_made(programs[1], folder, seed)
+        yield f"listings that chance makes, {seed}", lambda: check_made(compare, seed)
 
 
 def main(programs):
-    passed = failed = 0
     with tempfile.TemporaryDirectory() as folder:
-        for name, made_check in checks(programs, folder):
-            try:
-                made_check()
-                passed += 1
-            except (Fault, subprocess.TimeoutExpired) as fault:
-                failed += 1
-                print(f"{name}: {fault}")
-    print(f"{passed} passed, {failed} failed")
-    return 1 if failed or not passed else 0
+        os.chdir(folder)
+        return tally(checks(*programs)) != 0
 
 
 if __name__ == "__main__":
+    sys.dont_write_bytecode = True
     if len(sys.argv) != 4:
         print(__doc__.rstrip())
         sys.exit(2)

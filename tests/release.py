@@ -1,5 +1,5 @@
 #!/usr/bin/env python3
-"""Installs what the script release writes of programs in a root of its own, runs the example there, and removes it.
+"""Installs the tarball and the package that the script release makes, each in a root of its own, runs the example there, and removes it.
 
     release.py VSIM VSIM_EXPLAIN VSIM_WAVES VSIM_COMPARE VSIM_NETLIST
 

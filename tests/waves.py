@@ -18,11 +18,11 @@ Differences are printed, and the last line is `N passed, M failed`.
 import glob
 import os
 import random
-import subprocess
 import sys
 import tempfile
 
 import netlist_texts
+from netlist_texts import Fault, demand, read, run, tally
 
 TOP = os.path.dirname(os.path.dirname(os.path.realpath(__file__)))
 VALUES = "UX01ZWLH-"
@@ -73,20 +73,6 @@ PARTIAL = [
     ("0 0 s 0\n5 0 s 1\ndone 1 1\n", "0 0 s 0\n5 0 s 1\ndone 1 1\n"),
     ("", "done 0 0\n"),
 ]
-
-
-class Fault(Exception):
-    """A fault of a VCD, or of an answer of the program."""
-
-
-def demand(holds, text):
-    if not holds:
-        raise Fault(text)
-
-
-def run(program, words, text):
-    ran = subprocess.run([program, *words], input=text, stdout=subprocess.PIPE, stderr=subprocess.PIPE, timeout=120)
-    return ran.returncode, ran.stdout, ran.stderr.decode(errors="replace")
 
 
 class Waves:
@@ -196,13 +182,13 @@ def compare(waves, wanted):
 
 
 def check(program, words, wanted, listing):
-    status, out, err = run(program, words, listing.encode())
+    status, out, err = run([program, *words], listing.encode())
     demand(status == 0 and not err, f"status {status}: {err}")
     compare(Waves(out.decode("ascii")), wanted(moments(listing)))
 
 
 def check_refusal(program, text, line):
-    status, _, err = run(program, [], text.encode())
+    status, _, err = run([program], text.encode())
     demand(status == 1, f"status {status}")
     demand(err.startswith(f"vsim_waves: line {line}: " if line else "vsim_waves: the listing has no last line"), f"it says {err}")
     demand(err.count("\n") == 1, f"it says {err}")
@@ -212,7 +198,7 @@ def check_map(program, text, told):
     with tempfile.TemporaryDirectory() as folder:
         with open(f"{folder}/map", "w", encoding="utf-8") as file:
             file.write(text)
-        status, out, err = run(program, ["--map", f"{folder}/map"], b"0 0 s 0\ndone 0 0\n")
+        status, out, err = run([program, "--map", f"{folder}/map"], b"0 0 s 0\ndone 0 0\n")
     demand(status == 1 and not out, f"status {status}")
     demand(err.startswith("vsim_waves: ") and err.endswith(f"/map: {told}\n"), f"it says {err}")
 
@@ -221,7 +207,7 @@ def check_mapped(program, listing, lines, values, end):
     with tempfile.TemporaryDirectory() as folder:
         with open(f"{folder}/map", "w", encoding="utf-8") as file:
             file.write(f"vsim_netlist map 1\n{lines}")
-        status, out, err = run(program, ["--map", f"{folder}/map"], listing.encode())
+        status, out, err = run([program, "--map", f"{folder}/map"], listing.encode())
     demand(status == 0 and not err, f"status {status}: {err}")
     waves = netlist_texts.Waves(out, "m")
     code, width = waves.variables["v"]
@@ -234,18 +220,18 @@ def check_mapped(program, listing, lines, values, end):
 
 def check_partial(program, text, whole):
     for words in ([], ["--deltas"], ["--scope", "t"]):
-        wanted = run(program, words, whole.encode())
-        demand(run(program, ["--partial", *words], text.encode()) == wanted and wanted[0] == 0, f"{words}: other waves")
+        wanted = run([program, *words], whole.encode())
+        demand(run([program, "--partial", *words], text.encode()) == wanted and wanted[0] == 0, f"{words}: other waves")
 
 
 def check_scope(program, listing):
-    (status, top, _), named = (run(program, words, listing.encode()) for words in ([], ["--scope", "uart_1"]))
+    (status, top, _), named = (run([program, *words], listing.encode()) for words in ([], ["--scope", "uart_1"]))
     demand(status == 0 and named == (0, top.replace(b"$scope module top $end", b"$scope module uart_1 $end"), ""), "the scope is another")
     demand(top.count(b"$scope module top $end") == 1, "top is no scope")
 
 
 def check_words(program, words):
-    status, out, err = run(program, words, b"done 0 0\n")
+    status, out, err = run([program, *words], b"done 0 0\n")
     demand(status == 2 and not out and err.startswith("usage: vsim_waves "), f"status {status}: {err}")
 
 
@@ -278,8 +264,7 @@ def listings(vsim):
         if os.path.exists(f"{path[:-4]}.words"):
             with open(f"{path[:-4]}.words", encoding="utf-8") as file:
                 words = file.read().split()
-        with open(path, "rb") as file:
-            status, out, _ = run(vsim, words, file.read())
+        status, out, _ = run([vsim, *words], read(path))
         if status == 0:
             yield os.path.relpath(path, TOP), out.decode("ascii")
     yield "9,000 nets", made()
@@ -305,21 +290,8 @@ def checks(vsim, program):
         yield f"the words {words}", lambda: check_words(program, words)
 
 
-def main(vsim, program):
-    passed = failed = 0
-    for name, made_check in checks(vsim, program):
-        try:
-            made_check()
-            passed += 1
-        except (Fault, subprocess.TimeoutExpired) as fault:
-            failed += 1
-            print(f"{name}: {fault}")
-    print(f"{passed} passed, {failed} failed")
-    return 1 if failed or not passed else 0
-
-
 if __name__ == "__main__":
     if len(sys.argv) != 3:
         print(__doc__.rstrip())
         sys.exit(2)
-    sys.exit(main(*map(os.path.abspath, sys.argv[1:])))
+    sys.exit(tally(checks(*map(os.path.abspath, sys.argv[1:]))) != 0)
