@@ -15,7 +15,7 @@ use crate::clock::{Clock, find_clock};
 use crate::comparison::Comparison;
 use crate::failure::Failure;
 use crate::options::{Options, Request, read_request};
-use crate::pairs::{Sides, alone, make_board, offers};
+use crate::pairs::{Sides, find_sides, make_board, names_alone};
 use crate::report::write_report;
 use crate::source::{Source, open_source};
 use std::io::{self, BufWriter, Write, writer};
@@ -149,7 +149,7 @@ fn path<'a>(options: &Options<'a>, place: usize) -> &'a str {
 }
 
 /// Opens both inputs.
-fn open<'a>(rt: &HostRuntime, options: &Options<'a>) -> Result<Inputs<'a>, Failure> {
+fn open_inputs<'a>(rt: &HostRuntime, options: &Options<'a>) -> Result<Inputs<'a>, Failure> {
     let here = open_source(rt, path(options, 0))?;
     let there = open_source(rt, path(options, 1))?;
     Ok(Inputs { here, there })
@@ -174,8 +174,8 @@ fn read_heads(
 
 /// The nets that one side alone has.
 fn find_alone(rt: &HostRuntime, options: &Options<'_>, sides: &Sides) -> Result<Alone, Failure> {
-    let here = alone(rt.alloc(), options.nets, &sides.here, &sides.there)?;
-    let there = alone(rt.alloc(), options.nets, &sides.there, &sides.here)?;
+    let here = names_alone(rt.alloc(), options.nets, &sides.here, &sides.there)?;
+    let there = names_alone(rt.alloc(), options.nets, &sides.there, &sides.here)?;
     Ok(Alone { here, there })
 }
 
@@ -251,7 +251,7 @@ fn make_sides(
     inputs: &Inputs<'_>,
 ) -> Result<Sides, Failure> {
     let map = read_source_map(rt, options.map)?;
-    offers(
+    find_sides(
         rt.alloc(),
         options,
         &inputs.here,
@@ -295,7 +295,7 @@ fn compare_all(
 
 /// Answers options, and returns the exit status.
 fn answer_options(rt: &HostRuntime, options: &Options<'_>) -> Result<u8, Failure> {
-    let mut inputs = open(rt, options)?;
+    let mut inputs = open_inputs(rt, options)?;
     read_heads(rt, options, &mut inputs)?;
     compare(rt, options, &mut inputs)
 }

@@ -50,7 +50,7 @@ fn offers_in_turn(
 
 /// What both sides offer. The map is that of the first listing; a VCD's scope is the one that has
 /// most of the other side's nets.
-pub fn offers(
+pub fn find_sides(
     alloc: Global,
     options: &Options<'_>,
     here: &Source<'_>,
@@ -65,7 +65,7 @@ pub fn offers(
 }
 
 /// The names of the nets of a side that are selected and that the other does not have in this width.
-pub fn alone(
+pub fn names_alone(
     alloc: Global,
     list: Option<&str>,
     side: &Offers,

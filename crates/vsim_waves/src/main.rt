@@ -125,8 +125,8 @@ fn error_of(fault: Fault) -> anyhow::Error {
     }
 }
 
-/// Goes on to the next line; `false` at the end. Of a listing that may be cut short, a last line
-/// without its line feed is left out.
+/// Goes on to the next line; `false` at the end. A listing that may be cut short ends before a line
+/// that lacks its line feed.
 fn next_line<R: Read>(input: &mut Pieces<R>, is_partial: bool) -> Result<bool> {
     match input.next_line() {
         Ok(is_there) => Ok(is_there && (input.is_ended() || !is_partial)),
