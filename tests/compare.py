@@ -38,7 +38,7 @@ VCD = HEAD.format("fs") + "#0\n$dumpvars\n0!\n0\"\n$end\n#5\n1!\n#7\n1\"\n#9\n0!
 OTHER_VCD = HEAD.format("fs") + "$comment none $end\n#0\n0! 0\"\n#5 1! #7 1\"\n#9\nx!\n"
 IN_PICOSECONDS = "0 0 q 0\n0 0 r 0\n5000 0 q 1\n7000 0 r 1\n9000 0 q 0\ndone 3 3\n"
 # v is 10, then 01, then xx; a bit of w is always 1, and one is made by nothing
-MAP = "vsim_netlist map 1\nend 9\ntop m\nvar v 0 downto a b\nvar w 0 downto a '1' -\n"
+MAP = "vsim_netlist map 1 m\nend 9\ntop m\nvar v 0 downto a b\nvar w 0 downto a '1' -\n"
 BITS = "0 0 a 0\n0 0 b H\n5 0 a 1\n5 1 b L\n9 0 a U\n9 0 b W\ndone 3 4\n"
 VECTOR = "$timescale 1fs $end\n$scope module m $end\n$var wire 2 ! v [1:0] $end\n$var wire 3 w0 w [2:0] $end\n$var real 64 r r $end\n$upscope $end\n" \
     "$enddefinitions $end\n#0\nb10 !\nbz10 w0\nr1.5 r\n#5\nb1 !\nbz11 w0\n#9\nbx !\nb1x w0\n"
@@ -122,6 +122,13 @@ REFUSED = [
     (ONE, ONE, "--ignore-unknown C", 2, "error: invalid value 'C'"),
     (ONE, ONE, "--setled", 2, "error: unexpected argument '--setled'"),
     (ONE, ONE, "C", 2, "error: unexpected argument 'B'"),
+    (ONE, ONE, "--settled --from", 2, "error: invalid value 'A'"),
+]
+# words without files, and what is said
+WORDS = [
+    ("A", "error: two files are wanted\n"),
+    ("A B --map", "error: a value is missing behind the last word\n"),
+    ("A B --nets=q --from=", "error: invalid value '--from='\n"),
 ]
 
 
@@ -167,6 +174,12 @@ def check_refusal(program, row):
     found = answer(program, [*words.split(), "A", "B"])
     demand(found[:2] == (status, "") and said in found[2], f"{found}, not {(status, said)}")
     demand(found[2].startswith("vsim_compare: " if status > 2 else "error: "), f"it says {found[2]}")
+
+
+def check_words(program, words, said):
+    fill(ONE, ONE)
+    status, told, found = answer(program, words.split())
+    demand((status, told) == (2, "") and found.startswith(said) and "Usage: vsim_compare " in found, f"{status} {told}{found}")
 
 
 def check_same(compare, waves, listing):
@@ -242,6 +255,8 @@ def checks(vsim, compare, waves):
             yield f"case {number} exchanged, {row[2]}", lambda: check_exchanged(compare, row)
     for row in REFUSED:
         yield f"refusal {row[2]} {row[4]}", lambda: check_refusal(compare, row)
+    for words, said in WORDS:
+        yield f"words {words}", lambda: check_words(compare, words, said)
     for name, listing in listings(vsim):
         yield name, lambda: check_same(compare, waves, listing)
     for seed in range(10):

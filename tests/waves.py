@@ -16,6 +16,7 @@ wrong words are refused with a line on standard error.
 Differences are printed, and the last line is `N passed, M failed`.
 """
 import glob
+import itertools
 import os
 import random
 import sys
@@ -52,12 +53,15 @@ REFUSED = [
 ]
 # a map that is refused, and what is told
 MAPS = [
-    ("vsim_netlist map 2\nend 5\n", "line 1: it is a map of another version, and version 1 is wanted"),
+    *((f"vsim_netlist map {it}\nend 5\n", "line 1: it is a map of another version, and version 1 is wanted") for it in ("2", "2 m", "10", "")),
+    ("vsim_netlist map\nend 5\n", "line 1: it is no map of vsim_netlist"),
     ("0 0 s 0\ndone 0 0\n", "line 1: it is no map of vsim_netlist"),
     ("vsim_netlist map 1\nend soon\n", "line 2: the end is no number"),
     ("vsim_netlist map 1\nend 5\nvar s 0\n", "line 3: a variable is cut off"),
     ("vsim_netlist map 1\nnet s\n", "line 2: it is no line of a map"),
 ]
+# the first line of a map, which may end with the name of the entity
+HEADS = ["vsim_netlist map 1", "vsim_netlist map 1 m_2"]
 # a listing, the lines of a map behind its first, what the bits of v are from each time on, and the last time
 MAPPED = [
     ("0 0 s 0\n5 0 s 1\ndone 1 1\n", "end 9\ntop m\nvar v 0 downto s 'Z' '0' '1' 'X' -\n", [(0, "xx10z0"), (5, "xx10z1")], 9),
@@ -203,10 +207,10 @@ def check_map(program, text, told):
     demand(err.startswith("vsim_waves: ") and err.endswith(f"/map: {told}\n"), f"it says {err}")
 
 
-def check_mapped(program, listing, lines, values, end):
+def check_mapped(program, head, listing, lines, values, end):
     with tempfile.TemporaryDirectory() as folder:
         with open(f"{folder}/map", "w", encoding="utf-8") as file:
-            file.write(f"vsim_netlist map 1\n{lines}")
+            file.write(f"{head}\n{lines}")
         status, out, err = run([program, "--map", f"{folder}/map"], listing.encode())
     demand(status == 0 and not err, f"status {status}: {err}")
     waves = netlist_texts.Waves(out, "m")
@@ -280,8 +284,8 @@ def checks(vsim, program):
         yield f"refusal of {text!r}", lambda: check_refusal(program, text, line)
     for text, told in MAPS:
         yield f"a map of which is told: {told}", lambda: check_map(program, text, told)
-    for row in MAPPED:
-        yield f"a map with {row[1]!r}", lambda: check_mapped(program, *row)
+    for head, row in itertools.product(HEADS, MAPPED):
+        yield f"a map {head!r} with {row[1]!r}", lambda: check_mapped(program, head, *row)
     for row in PARTIAL:
         yield f"--partial of {row[0]!r}", lambda: check_partial(program, *row)
     yield "--scope", lambda: check_scope(program, "0 0 s 0\n0 0 u1.s 0\n5 0 s 1\ndone 1 1\n")
