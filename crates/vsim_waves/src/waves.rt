@@ -112,10 +112,7 @@ impl Waves {
             net.value = value;
             return Ok(());
         }
-        self.nets.push(Shown {
-            value,
-            written: 0,
-        })?;
+        self.nets.push(Shown { value, written: 0 })?;
         Ok(())
     }
 
