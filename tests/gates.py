@@ -137,7 +137,8 @@ def is_typed(room):
     waves = read(f"{room.folder}/first/gates.vcd")
     demand(b"$scope module counter $end" in waves and waves.count(b"\n#") > 10, "the waves lack changes")
     os.makedirs(f"{room.folder}/second")
-    typed = subprocess.run(["sh", "-e", "-c", "\n".join(commands)], cwd=f"{room.folder}/second", env={**os.environ, "PATH": path})
+    how = {"cwd": f"{room.folder}/second", "env": {**os.environ, "PATH": path}, "stdout": subprocess.DEVNULL}
+    typed = subprocess.run(["sh", "-e", "-c", "\n".join(commands)], **how)
     demand(typed.returncode == 0 and read(f"{room.folder}/second/gates.vcd") == waves, "the commands give other waves when typed")
 
 
