@@ -10,8 +10,9 @@ without `--deltas`, and read by a reader that knows only the rules of a VCD. The
 - at each time each net has the value that the listing gives it by then.
 
 By a map a variable has the bits that the map names, constants among them, and the last time is that of the end of the stimuli. A listing
-that is cut short has with `--partial` the waves of its whole lines, and `--scope` names the outermost scope. Faulty listings and maps and
-wrong words are refused with a line on standard error.
+that is cut short has with `--partial` the waves of its whole lines, and `--scope` names the outermost scope. The lines, boxes and texts of
+pictures were worked out by hand, and docs/delays.svg is made anew. Faulty listings and maps and wrong words are refused with a line on
+standard error.
 
 Differences are printed, and the last line is `N passed, M failed`.
 """
@@ -21,6 +22,7 @@ import os
 import random
 import sys
 import tempfile
+import xml.etree.ElementTree
 
 import netlist_texts
 from netlist_texts import Fault, demand, read, run, tally
@@ -76,6 +78,29 @@ PARTIAL = [
     ("0 0 s 0\n0 0 r U\n", "0 0 s 0\n0 0 r U\ndone 0 0\n"),
     ("0 0 s 0\n5 0 s 1\ndone 1 1\n", "0 0 s 0\n5 0 s 1\ndone 1 1\n"),
     ("", "done 0 0\n"),
+]
+
+TWO = "0 0 s 0\n0 0 u1.r X\n5 0 s 1\n7 0 u1.r 1\ndone 2 2\n"
+# a listing, the lines of a map if there is one, words, the texts of the picture, and its lines, boxes and areas. The waves are 600 pixels wide,
+# and begin at 20 and 7.5 for each letter of the longest name; a row is 34 high, and its 1, Z and 0 are 18, 29 and 40 below the top of the first
+PICTURES = [
+    (TWO, None, "--to 10", ["0 fs", "2 fs", "4 fs", "6 fs", "8 fs", "10 fs", "s", "u1.r"],
+     ["M50.0 40H350.0V18H650.0", "M50.0 63H470.0V52H650.0"], [("50.0", "52", "420.0", "22")]),
+    # what is left out changes nothing but the end
+    (TWO, None, "--nets s --from 3", ["3 fs", "4 fs", "5 fs", "6 fs", "7 fs", "s"], ["M27.5 40H327.5V18H627.5"], []),
+    (TWO, None, "--nets s --from 5 --to 1ps", ["200 fs", "400 fs", "600 fs", "800 fs", "1000 fs", "s"], ["M27.5 18H627.5"], []),
+    ("0 0 s Z\n0 1 s 1\n1 0 s L\n1 1 s Z\ndone 3 3\n", None, "--to 2", ["0 fs", "1 fs", "2 fs", "s"], ["M27.5 18H327.5V29H627.5"], []),
+    # 0b101, and from 5 on a high bit that is unknown, or three that are Z
+    ("0 0 s 1\n5 0 s Z\ndone 1 1\n", "end 10\nvar v 0 downto s '0' s 'Z' '1'\nvar w<a 0 downto s s s\n", "",
+     ["0 fs", "2 fs", "4 fs", "6 fs", "8 fs", "10 fs", "v", "1x", "1x", "w<a", "7", "z"],
+     ["M42.5 29l2 -11H340.5l2 11l-2 11H44.5z", "M342.5 29l2 -11H640.5l2 11l-2 11H344.5z",
+      "M42.5 63l2 -11H340.5l2 11l-2 11H44.5z", "M342.5 63l2 -11H640.5l2 11l-2 11H344.5z"], []),
+]
+# a listing that no picture can be made of, and what is told
+UNDRAWN = [
+    ("".join(f"0 0 s{it} 0\n" for it in range(257)) + "done 0 0\n", "line 257: a picture has at most 256 rows: choose them by --nets\n"),
+    ("0 0 s 0\n" + "".join(f"{it} 0 s {it % 2}\n" for it in range(1, 100_002)) + "done 1 1\n",
+     "line 100002: a picture has at most 100000 values: choose them by --from, --to and --nets\n"),
 ]
 
 
@@ -234,6 +259,34 @@ def check_scope(program, listing):
     demand(top.count(b"$scope module top $end") == 1, "top is no scope")
 
 
+def read_picture(text):
+    """Returns the texts of a picture, its lines and boxes, and its areas, but for the grid and what is behind all."""
+    elements = list(xml.etree.ElementTree.fromstring(text))[1:]
+    shapes = [it.attrib["d"] for it in elements if it.attrib.get("fill") == "none"]
+    areas = [tuple(it.attrib[name] for name in ("x", "y", "width", "height")) for it in elements if it.tag.endswith("rect")]
+    return [it.text for it in elements if it.tag.endswith("text")], shapes, areas
+
+
+def check_picture(program, listing, lines, words, *wanted):
+    with tempfile.TemporaryDirectory() as folder:
+        with open(f"{folder}/map", "w", encoding="utf-8") as file:
+            file.write(f"{HEADS[0]}\n{lines}")
+        by_map = ["--map", f"{folder}/map"] if lines else []
+        status, out, err = run([program, "--svg", *by_map, *words.split()], listing.encode())
+    demand(status == 0 and not err, f"status {status}: {err}")
+    found = read_picture(out)
+    demand(found == wanted, f"{found}")
+
+
+def check_undrawn(program, listing, told):
+    demand(run([program, "--svg"], listing.encode()) == (1, b"", f"vsim_waves: {told}"), "it is drawn, or another refusal")
+
+
+def check_page(program):
+    found = run([program, "--svg", "--to", "55ns"], read(f"{TOP}/examples/delays.listing"))
+    demand(found == (0, read(f"{TOP}/docs/delays.svg"), ""), "docs/delays.svg is another picture")
+
+
 def check_words(program, words):
     status, out, err = run([program, *words], b"done 0 0\n")
     demand(status == 2 and not out and err.startswith("usage: vsim_waves "), f"status {status}: {err}")
@@ -289,8 +342,14 @@ def checks(vsim, program):
     for row in PARTIAL:
         yield f"--partial of {row[0]!r}", lambda: check_partial(program, *row)
     yield "--scope", lambda: check_scope(program, "0 0 s 0\n0 0 u1.s 0\n5 0 s 1\ndone 1 1\n")
+    for row in PICTURES:
+        yield f"the picture of {row[2]}", lambda: check_picture(program, *row)
+    for row in UNDRAWN:
+        yield row[1].strip(), lambda: check_undrawn(program, *row)
+    yield "docs/delays.svg", lambda: check_page(program)
     for words in (["--delta"], ["--deltas", "--deltas"], ["FILE.vcd"], [""], ["--scope"], ["--scope", "a b"], ["--map"], ["--partial", "--partial"],
-                  ["--deltas", "--map", "FILE"]):
+                  ["--deltas", "--map", "FILE"], ["--svg", "--deltas"], ["--svg", "--scope", "t"], ["--from", "5"], ["--svg", "--from", "x"],
+                  ["--svg", "--to"], ["--nets", "s"]):
         yield f"the words {words}", lambda: check_words(program, words)
 
 

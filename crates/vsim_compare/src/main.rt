@@ -7,7 +7,6 @@ mod comparison;
 mod failure;
 mod options;
 mod pairs;
-mod patterns;
 mod report;
 mod source;
 

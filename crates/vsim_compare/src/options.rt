@@ -1,7 +1,7 @@
 //! The words of the command line.
 
 use std::alloc::{AllocError, Global};
-use vsim_compare_inputs::read_time;
+use vsim_waves_words::read_time;
 
 /// Which edges of a clock count.
 #[derive(Clone, Copy, PartialEq, Eq)]

@@ -2,12 +2,12 @@
 
 use crate::failure::Failure;
 use crate::options::Options;
-use crate::patterns::is_selected;
 use crate::source::Source;
 use std::alloc::{AllocError, Global};
 use vsim_compare_board::{Board, Values};
 use vsim_compare_inputs::{Bits, Offers, owned};
 use vsim_waves_listing::SourceMap;
+use vsim_waves_words::is_selected;
 
 /// What both sides offer.
 pub struct Sides {

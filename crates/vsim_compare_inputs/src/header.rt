@@ -1,10 +1,10 @@
 //! The header of a VCD: its scopes and variables.
 
 use crate::bits::{Bits, Offers, owned, push};
-use crate::times::{read_number, read_time};
 use indexmap::IndexMap;
 use std::alloc::{AllocError, Global};
 use vsim_waves_listing::{Fault, MapBit};
+use vsim_waves_words::{read_number, read_time};
 
 /// The widest variable.
 const WIDEST: u64 = 1 << 20;

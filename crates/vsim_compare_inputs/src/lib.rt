@@ -6,11 +6,9 @@ mod bits;
 mod change;
 mod header;
 mod listing;
-mod times;
 mod vcd;
 
 pub use bits::{Bits, Offers, owned, push};
 pub use change::Change;
 pub use listing::Listing;
-pub use times::read_time;
 pub use vcd::Vcd;

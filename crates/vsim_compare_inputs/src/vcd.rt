@@ -3,10 +3,10 @@
 use crate::bits::{Offers, push};
 use crate::change::{BATCH, Change};
 use crate::header::Header;
-use crate::times::read_number;
 use std::alloc::{AllocError, Global};
 use std::fs::File;
 use vsim_waves_listing::{Fault, Moment, Pieces};
+use vsim_waves_words::read_number;
 
 /// A VCD whose header is read. Its signals are the bits of its variables.
 pub struct Vcd {

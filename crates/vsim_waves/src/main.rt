@@ -2,7 +2,7 @@
 //! `vsim_waves [--deltas | --map FILE] < LISTING > FILE.vcd`. A net has one value at each time, that
 //! of the last delta cycle; with `--deltas` each delta cycle has a time of its own, a femtosecond
 //! after the one before it, which makes glitches visible. With `--map` the variables are those of
-//! the source of a netlist.
+//! the source of a netlist, and with `--svg` the waves are a picture.
 #![tactic(auto)]
 
 mod hierarchy;
@@ -19,6 +19,7 @@ use std::io::{self, BufWriter, Read, Write, writer};
 use std::process::ExitCode;
 use std::{env, fs};
 use vsim_waves_listing::{Fault, Line, Moment, Pieces, SourceMap, read_line, read_map};
+use vsim_waves_picture::{Recording, Window};
 
 /// The text of `--version`. The script `build` fills in the sources and the toolchain in its copy.
 const VERSION: &str = "vsim_waves 1.0.0, sources unknown, toolchain unknown";
@@ -26,7 +27,7 @@ const VERSION: &str = "vsim_waves 1.0.0, sources unknown, toolchain unknown";
 const USAGE: &str = "usage: vsim_waves [OPTIONS] < LISTING > FILE.vcd";
 
 /// The text of `--help`.
-const HELP: &str = "Converts a listing of vsim to VCD, for waveform viewers.
+const HELP: &str = "Converts a listing of vsim to VCD, for waveform viewers, or to a picture.
 
 Usage: vsim_waves [OPTIONS] < LISTING > FILE.vcd
 
@@ -35,6 +36,10 @@ Options:
       --map <FILE>    Show the variables of a netlist's source, with the map from vsim_netlist
       --scope <NAME>  Name the outermost scope, as after the entity: else top, or as the map says
       --partial       Take a listing without its last line, of a run that was cut short
+      --svg           Draw a picture of the waves, an SVG, in place of a VCD
+      --from <TIME>   Begin the picture at this time, as 10ns; without a unit it is in fs
+      --to <TIME>     End the picture at this time
+      --nets <LIST>   Draw these nets alone, as 'q,u1.*'
   -h, --help          Print help
   -V, --version       Print version
 
@@ -52,14 +57,15 @@ Status:
 Example:
   vsim --top t < pulse.vhd | vsim_waves --scope t > pulse.vcd";
 
-/// The waves of a listing: those of its nets, or of the variables of a source.
+/// The waves of a listing: those of its nets, or of the variables of a source, or a picture.
 #[derive(Drop)]
-enum View {
+enum View<'a> {
     Nets(Waves),
     Source(Box<Vectors>),
+    Picture(Box<Recording<'a>>),
 }
 
-impl View {
+impl View<'_> {
     /// Takes a change; `false` if it can't be at this place.
     fn change<W: Write>(
         &mut self,
@@ -68,18 +74,28 @@ impl View {
         at: Moment,
         name: &str,
         value: u8,
-    ) -> io::Result<bool> {
+    ) -> Result<bool, Fault> {
         match self {
-            View::Nets(waves) => waves.change(alloc, out, at, name, value),
-            View::Source(vectors) => vectors.change(out, at, name, value),
+            View::Nets(waves) => Ok(waves.change(alloc, out, at, name, value)?),
+            View::Source(vectors) => Ok(vectors.change(out, at, name, value)?),
+            View::Picture(recording) => recording.change(at, name, value),
         }
     }
 
     /// Takes the last line; `false` if there was one before.
-    fn end<W: Write>(&mut self, out: &mut W) -> io::Result<bool> {
+    fn end<W: Write>(&mut self, out: &mut W) -> Result<bool, Fault> {
         match self {
-            View::Nets(waves) => waves.end(out),
-            View::Source(vectors) => vectors.end(out),
+            View::Nets(waves) => Ok(waves.end(out)?),
+            View::Source(vectors) => Ok(vectors.end(out)?),
+            View::Picture(recording) => recording.end(),
+        }
+    }
+
+    /// Draws what was taken, if it is a picture.
+    fn draw<W: Write>(&self, out: &mut W) -> io::Result<()> {
+        match self {
+            View::Nets(_) | View::Source(_) => Ok(()),
+            View::Picture(recording) => recording.write(out),
         }
     }
 
@@ -88,6 +104,7 @@ impl View {
         match self {
             View::Nets(waves) => waves.is_done(),
             View::Source(vectors) => vectors.is_done(),
+            View::Picture(recording) => recording.is_done(),
         }
     }
 }
@@ -95,10 +112,10 @@ impl View {
 /// Takes a line of a listing, and writes all changes before its time; `false` if it is none.
 fn take_line<W: Write>(
     alloc: Global,
-    view: &mut View,
+    view: &mut View<'_>,
     out: &mut W,
     line: &[u8],
-) -> io::Result<bool> {
+) -> Result<bool, Fault> {
     match read_line(line) {
         None => Ok(false),
         Some(Line::Done) => view.end(out),
@@ -109,19 +126,20 @@ fn take_line<W: Write>(
     }
 }
 
-/// The same, with an error if it is none.
-fn take<W: Write>(alloc: Global, view: &mut View, out: &mut W, line: &[u8]) -> Result<()> {
-    if !take_line(alloc, view, out, line)? {
-        bail!("this is not a line of a listing, or not in its place");
-    }
-    Ok(())
-}
-
 /// A fault of reading as an error of the program.
 fn error_of(fault: Fault) -> anyhow::Error {
     match fault {
         Fault::Stream(fault) => anyhow::Error::from(fault),
         Fault::Refused(text) => anyhow::Error::msg(text),
+    }
+}
+
+/// Takes a line of a listing, or ends with an error if it is none.
+fn take<W: Write>(alloc: Global, view: &mut View<'_>, out: &mut W, line: &[u8]) -> Result<()> {
+    match take_line(alloc, view, out, line) {
+        Ok(true) => Ok(()),
+        Ok(false) => bail!("this is not a line of a listing, or not in its place"),
+        Err(fault) => Err(error_of(fault)),
     }
 }
 
@@ -139,7 +157,7 @@ fn write_lines<R: Read, W: Write>(
     alloc: Global,
     input: &mut Pieces<R>,
     out: &mut W,
-    view: &mut View,
+    view: &mut View<'_>,
     is_partial: bool,
 ) -> Result<()> {
     for _ in 0..u64::MAX {
@@ -153,15 +171,17 @@ fn write_lines<R: Read, W: Write>(
 }
 
 /// Takes the end of a listing, which has to have its last line unless it may be cut short.
-fn finish<W: Write>(view: &mut View, out: &mut W, is_partial: bool) -> Result<()> {
+fn finish<W: Write>(view: &mut View<'_>, out: &mut W, is_partial: bool) -> Result<()> {
     if view.is_done() {
         return Ok(());
     }
     if !is_partial {
         bail!("the listing has no last line, as 'done 3 3'");
     }
-    view.end(out)?;
-    Ok(())
+    match view.end(out) {
+        Ok(_is_first) => Ok(()),
+        Err(fault) => Err(error_of(fault)),
+    }
 }
 
 /// A writer, and whether it failed because its reader is gone, as with `head`.
@@ -186,25 +206,50 @@ impl<W: Write> Write for Watched<W> {
 }
 
 /// The view that a listing is turned into: that of the map in a file where there is one.
-fn make_view(rt: &HostRuntime, options: &Options<'_>) -> Result<View> {
+fn make_view<'a>(rt: &HostRuntime, options: &Options<'a>) -> Result<View<'a>> {
     let Some(path) = options.map else {
-        let scope = String::from_str(rt.alloc(), options.scope.unwrap_or("top"))?;
-        return Ok(View::Nets(Waves::new(rt.alloc(), options.has_deltas, scope)));
+        return view_of_nets(rt.alloc(), options);
     };
     let text = fs::read_to_string(rt, path).context(format_args!("{path}"))?;
-    read_view(rt.alloc(), text.as_str(), options.scope).context(format_args!("{path}"))
+    read_view(rt.alloc(), text.as_str(), options).context(format_args!("{path}"))
+}
+
+/// A picture of which nothing was read.
+fn make_recording<'a>(alloc: Global, options: &Options<'a>) -> Recording<'a> {
+    let (from, to, nets) = (options.from.unwrap_or(0), options.to, options.nets);
+    Recording::new(alloc, Window { from, to, nets })
+}
+
+/// The view that a listing is turned into without a map.
+fn view_of_nets<'a>(alloc: Global, options: &Options<'a>) -> Result<View<'a>> {
+    if options.is_drawn {
+        let recording = make_recording(alloc, options);
+        return Ok(View::Picture(Box::new(alloc, recording)?));
+    }
+    let scope = String::from_str(alloc, options.scope.unwrap_or("top"))?;
+    Ok(View::Nets(Waves::new(alloc, options.has_deltas, scope)))
 }
 
 /// The view that a listing is turned into by a map.
-fn read_view(alloc: Global, text: &str, scope: Option<&str>) -> Result<View> {
+fn read_view<'a>(alloc: Global, text: &str, options: &Options<'a>) -> Result<View<'a>> {
     match read_map(alloc, text) {
-        Ok(map) => view_of(alloc, map, scope),
+        Ok(map) if options.is_drawn => picture_of(alloc, &map, options),
+        Ok(map) => view_of(alloc, map, options.scope),
         Err((line, fault)) => Err(error_of(fault).context(format_args!("line {line}"))),
     }
 }
 
-/// The view of a map.
-fn view_of(alloc: Global, map: SourceMap, scope: Option<&str>) -> Result<View> {
+/// The picture of a map.
+fn picture_of<'a>(alloc: Global, map: &SourceMap, options: &Options<'a>) -> Result<View<'a>> {
+    let mut recording = make_recording(alloc, options);
+    match recording.take_map(map) {
+        Ok(()) => Ok(View::Picture(Box::new(alloc, recording)?)),
+        Err(fault) => Err(error_of(fault)),
+    }
+}
+
+/// The VCD of a map.
+fn view_of<'a>(alloc: Global, map: SourceMap, scope: Option<&str>) -> Result<View<'a>> {
     let mut vectors = Vectors::new(alloc, map)?;
     if let Some(scope) = scope {
         vectors.rename(scope)?;
@@ -215,7 +260,7 @@ fn view_of(alloc: Global, map: SourceMap, scope: Option<&str>) -> Result<View> {
 /// Writes the waves of the listing on standard input.
 fn write_input<W: Write>(
     rt: &HostRuntime,
-    view: &mut View,
+    view: &mut View<'_>,
     out: &mut W,
     is_partial: bool,
 ) -> Result<()> {
@@ -224,22 +269,33 @@ fn write_input<W: Write>(
     finish(view, out, is_partial)
 }
 
+/// Writes the waves of the listing on standard input, or the picture.
+fn write_view<W: Write>(
+    rt: &HostRuntime,
+    view: &mut View<'_>,
+    out: &mut W,
+    is_partial: bool,
+) -> Result<()> {
+    write_input(rt, view, out, is_partial)?;
+    view.draw(out).context("writing")
+}
+
 /// Makes a VCD of the listing on standard input.
 fn convert<W: Write>(
     rt: &HostRuntime,
-    view: &mut View,
+    view: &mut View<'_>,
     out: &mut W,
     is_partial: bool,
 ) -> Result<()> {
     let mut out = BufWriter::new(rt.alloc(), out)?;
-    write_input(rt, view, &mut out, is_partial)?;
+    write_view(rt, view, &mut out, is_partial)?;
     out.flush().context("writing")
 }
 
 /// The same, for these waves.
 fn convert_with<W: Write>(
     rt: &HostRuntime,
-    view: View,
+    view: View<'_>,
     out: &mut W,
     is_partial: bool,
 ) -> Result<()> {
