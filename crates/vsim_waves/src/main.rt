@@ -51,7 +51,8 @@ Waves:
 
 Status:
   0  the waves are written, or help or the version was requested
-  1  the listing or map is damaged, a last line is missing, or reading or writing failed
+  1  the listing or map is damaged, a last line is missing, a picture is too large, or
+     reading or writing failed
   2  the command line is refused
 
 Example:
