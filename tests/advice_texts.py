@@ -58,6 +58,8 @@ COMPONENT = "component inverter is port (i : in std_logic; o : out std_logic); e
 EXCHANGED = "component inverter is port (o : out std_logic; i : in std_logic); end component;\n"
 INVERT = "function invert (x : std_logic) return std_logic is begin return not x; end function;\n"
 BUFFER = "entity e is port (i : in std_logic; o : out std_logic); end; architecture g of e is begin o <= i; end;\n"
+BOTH = ("entity e is port (a : in std_logic; b : in std_logic := '0'; q : out std_logic); end;\n"
+        "architecture g of e is begin q <= a and b; end;\n")
 V = "variable v : std_logic;\n"
 B = "variable b : boolean;\n"
 IF_A = "if a = '1' then q <= '1'; end if;"
@@ -155,7 +157,7 @@ ADVICE = [
     ("The only modes of ports are in, out and inout.", *beside(INVERTER.replace(": out", ": buffer"), INVERTER), INVERTED),
     ("in a process an if statement",
      *both(process("with a select q <= '1' when '1', '0' when others;"), process("if a = '1' then q <= '1'; else q <= '0'; end if;")), FOLLOWS),
-    ("A comment begins with two hyphens.", *both("q <= a; // follows a", "q <= a; -- follows a"), FOLLOWS),
+    ("A comment begins with --", *both("q <= a; // follows a", "q <= a; -- follows a"), FOLLOWS),
     ("The only types are std_logic, std_ulogic", *edited(FOLLOWING, "std_logic", "bit"), FOLLOWS),
     ("a process declares variables", of("shared " + V + signals("a,q"), A + process("v := a; q <= v;")),
      of(signals("a,q"), A + process("v := a; q <= v;", " (a)", V)), FOLLOWS),
@@ -218,6 +220,61 @@ ADVICE = [
     ("or a word is misspelled", *edited(FOLLOWING, "\nbegin\n", "\nbegn\n"), FOLLOWS),
     ("Some editors put a byte order mark at the beginning", "\ufeff" + FOLLOWING, FOLLOWING, FOLLOWS),
     ("or other quotes in place of '", *edited(FOLLOWING, "'0'", "\u2018" "0" "\u2019"), FOLLOWS),
+    # words and signs of other languages, and what is missing
+    ("Arithmetic is left out; the operators are and, or, nand, nor, xor", *both("q <= a + '1';", "q <= a xor '1';"), NOT_A),
+    ("There is no entity inverter in this file.", *(of(COMPONENT + signals("a,q"), A + "u : inverter port map (a, q);", it) for it in ("", INVERTER)),
+     INVERTED),
+    ("put both files in one: cat a.vhd b.vhd", *both(INSTANCE, INSTANCE)[:1], of(signals("a,q"), A + INSTANCE, INVERTER), INVERTED),
+    ("No port is named c; the nearest that is free is b.",
+     *beside(BOTH, BOTH, "u : entity work.e port map (a => a, c => a, q => q);")[:1],
+     of(signals("a,q"), A + "u : entity work.e port map (a => a, b => a, q => q);", BOTH), "0 0 a 0\n0 0 q U\n0 1 q 0\n1000000 0 a 1\n1000000 1 q 1\n"),
+    ("The logical operators are words: s and d", *both("q <= a && a;", "q <= a and a;"), FOLLOWS),
+    ("s or d", *both("q <= a | a;", "q <= a or a;"), FOLLOWS),
+    ("s xor d", *both("q <= a ^ '0';", "q <= a xor '0';"), FOLLOWS),
+    ("not s.", *both("q <= ~a;", "q <= not a;"), NOT_A),
+    ("A comment begins with --", *both("q <= a; // the output", "q <= a; -- the output"), FOLLOWS),
+    ("A comment begins with --", "# a text\n" + FOLLOWING, "-- a text\n" + FOLLOWING, FOLLOWS),
+    ("is written process (all)", *both(process("q <= a;", " (*)"), process("q <= a;", " (all)")), FOLLOWS),
+    ("positional associations come before named ones", *both("u : entity work.inverter port map (o => q, a);",
+     "u : entity work.inverter port map (a, o => q);", more=INVERTER), INVERTED),
+    ("or each names its port", *both("u : entity work.inverter port map (i => a, q);",
+     "u : entity work.inverter port map (i => a, o => q);", more=INVERTER), INVERTED),
+    ("port map is missing before the parenthesis", *both("u : entity work.inverter (a, q);", INSTANCE, more=INVERTER), INVERTED),
+    ("An instance has a label", *both("entity work.inverter port map (a, q);", INSTANCE, more=INVERTER), INVERTED),
+    ("or, if its component is declared, u1 : NAME port map (s, d)",
+     *(of(COMPONENT + signals("a,q"), A + it + "inverter port map (a, q);", INVERTER) for it in ("", "u : ")), INVERTED),
+    ("goes on with else", *both("q <= '1' when a = '1', '0';", "q <= '1' when a = '1' else '0';"), FOLLOWS),
+    ("the word is when", *both("q <= '1' if a = '1' else '0';", "q <= '1' when a = '1' else '0';"), FOLLOWS),
+    ("write an if statement around it", *both(process("q <= '1' if a = '1';"), process(IF_A)), FOLLOWS),
+    ("Comparisons need parentheses to be combined", *both("q <= '1' when a = a = '1' else '0';", "q <= '1' when (a = a) and (a = '1') else '0';"), FOLLOWS),
+    ("= compares values", *both(process("if a := '1' then q <= '1'; end if;"), process(IF_A)), FOLLOWS),
+    ("The word is elsif.", *both(process("if a = '0' then q <= '0';\nels if a = '1' then q <= '1';\nend if;"),
+     process("if a = '0' then q <= '0';\nelsif a = '1' then q <= '1';\nend if;")), FOLLOWS),
+    ("A word is missing behind 'event", *both(process("if a'event a = '1' then q <= '1'; end if;"),
+     process("if a'event and a = '1' then q <= '1'; end if;")), FOLLOWS),
+    ("The rising edge of not clk is falling_edge (clk)", *both(process("if rising_edge(not a) then q <= '1'; end if;"),
+     process("if falling_edge (a) then q <= '1'; end if;")), A_Q + "1000000 0 a 1\n"),
+    ("transport, inertial and reject come directly behind <=", *both("q <= a transport after 1 ns;", "q <= transport a after 1 ns;"),
+     A_Q + "1000000 0 a 1\n2000000 0 q 1\n"),
+    ("Names are separated by commas", of("signal a q : std_logic := '0';", A + "q <= a;"), FOLLOWING, FOLLOWS),
+    ("ends with end component", *(of(COMPONENT.replace("end component;", it) + signals("a,q"), A + "u : inverter port map (a, q);", INVERTER)
+                                  for it in ("end inverter;", "end component;")), INVERTED),
+    ("ends with end component", *(of(COMPONENT.replace("end component;", it) + signals("a,q"), A + "u : inverter port map (a, q);", INVERTER)
+                                  for it in ("", "end component;")), INVERTED),
+    ("This end if is one too many", *both(process(IF_A + " end if;"), process(IF_A)), FOLLOWS),
+    ("If this is a variable, use :=", *both(process("v <= a; q <= v;", " (a)", V), process("v := a; q <= v;", " (a)", V)), FOLLOWS),
+    ("If this is a signal or port, use <=", *both(process("q := a;"), process("q <= a;")), FOLLOWS),
+    ("Write if rising_edge(clk) then .. end if; in process (clk)", *both(process("wait until rising_edge(a); q <= '1';", ""),
+     process("if rising_edge(a) then q <= '1'; end if;")), FOLLOWS),
+    ("Write if rising_edge(clk) then .. end if; in process (clk)", *both(process("wait until rising_edge(a); q <= '1';"),
+     process("if rising_edge(a) then q <= '1'; end if;")), FOLLOWS),
+    ("Files are left out", of(signals("a,q") + "file f : text open read_mode is stimuli;", A + "q <= a;"), FOLLOWING, FOLLOWS),
+    ("Configurations are left out; remove it", *(of(COMPONENT + signals("a,q") + it, A + "u : inverter port map (a, q);", INVERTER)
+                                                 for it in ("for all : inverter use entity work.inverter(g);", "")), INVERTED),
+    ("s ? d : clk is written d when s = '1' else clk", *both("q <= a ? '1' : '0';", "q <= '1' when a = '1' else '0';"), FOLLOWS),
+    ("in a process it is an if statement", *both(process("q <= a ? '1' : '0';"), process("if a = '1' then q <= '1'; else q <= '0'; end if;")), FOLLOWS),
+    ("dat is not declared; did you mean data?", of(signals("data,q"), "data <= '1' after 1 ns; q <= dat;"),
+     of(signals("data,q"), "data <= '1' after 1 ns; q <= data;"), FOLLOWS.replace(" a ", " data ")),
     # what a text has too much of, and too little
     ("Leave out units that the top does not need.", "".join(f"entity spare{n} is end;\n" for n in range(50000)) + FOLLOWING, FOLLOWING, FOLLOWS),
     ("Replace or remove it", *both("q <= ~a;", "q <= not a;"), NOT_A),
@@ -258,7 +315,7 @@ ADVICE = [
      "0 0 a 0\n0 0 q U\n0 0 r U\n0 0 u.s 0\n0 1 q 0\n0 1 r 0\n1000000 0 a 1\n1000000 1 u.s 1\n1000000 2 q 1\n1000000 2 r 1\n"),
     ("The port without an actual is i of inverter.", of(signals("a,q"), A + "u : entity work.inverter port map (o => q);", INVERTER),
      of(signals("a,q"), A + "u : entity work.inverter port map (i => a, o => q);", INVERTER), "0 0 a 0\n0 0 q U\n0 1 q 1\n1000000 0 a 1\n1000000 1 q 0\n"),
-    ("the nearest is i.", of(signals("a,q"), A + "u : entity work.inverter port map (ii => a, o => q);", INVERTER),
+    ("the nearest that is free is i.", of(signals("a,q"), A + "u : entity work.inverter port map (ii => a, o => q);", INVERTER),
      of(signals("a,q"), A + "u : entity work.inverter port map (i => a, o => q);", INVERTER), "0 0 a 0\n0 0 q U\n0 1 q 1\n1000000 0 a 1\n1000000 1 q 0\n"),
     ("Remove one of the two", of(signals("a,q"), A + "u : entity work.inverter port map (i => a, i => q, o => q);", INVERTER),
      of(signals("a,q"), A + "u : entity work.inverter port map (i => a, o => q);", INVERTER), "0 0 a 0\n0 0 q U\n0 1 q 1\n1000000 0 a 1\n1000000 1 q 0\n"),

@@ -1,7 +1,7 @@
 #!/usr/bin/env python3
 """Tries what each program answers before it reads a design, and what a shell finds of it.
 
-    everyday.py VSIM VSIM_EXPLAIN VSIM_WAVES VSIM_NETLIST [--install]
+    everyday.py VSIM VSIM_EXPLAIN VSIM_WAVES VSIM_COMPARE VSIM_NETLIST [--install]
 
 For each program: `--version` and `-V` print a line that begins with its name, `--help` and `-h` print the help, both on standard output
 with status 0; words that are refused, or are no text, go to standard error with status 2; and a line of usage has the program's own name. Its man page
@@ -28,7 +28,9 @@ import sys
 import tempfile
 
 TOP = os.path.dirname(os.path.dirname(os.path.realpath(__file__)))
-NAMES = ["vsim", "vsim_explain", "vsim_waves", "vsim_netlist"]
+NAMES = ["vsim", "vsim_explain", "vsim_waves", "vsim_compare", "vsim_netlist"]
+# those that take paths of files, so that bash offers files
+TAKE_FILES = ["vsim_explain", "vsim_compare"]
 # where the files of a program are in a prefix; for each shell also the command that reads the file, and the mark of a value that is a file
 PAGE = "share/man/man1/{}.1"
 COMPLETIONS = {
@@ -103,11 +105,14 @@ def faults_of_files(name, prefix):
 
 
 def fault_in_bash(name, prefix, options):
-    """Returns what is wrong with the words that bash offers after `NAME --`, if anything."""
+    """Returns what is wrong with the words that bash offers after `NAME --` and after `NAME `, if anything."""
     file = f"{prefix}/share/bash-completion/completions/{name}"
-    status, out, errors = answer(["bash", "-c", f". '{file}'; COMP_WORDS=({name} --); COMP_CWORD=1; _{name}; echo ${{COMPREPLY[*]}}"])
-    offered = set(out.split())
-    return None if status == 0 and not errors and set(options) <= offered else f"bash offers {out}{errors} after {name} --"
+    for word, wanted in (("--", options), ("''", [] if name in TAKE_FILES else options)):
+        call = f". '{file}'; COMP_WORDS=({name} {word}); COMP_CWORD=1; _{name}; echo ${{COMPREPLY[*]}}"
+        status, out, errors = answer(["bash", "-c", call])
+        if status or errors or not set(wanted) <= set(out.split()) or out.strip() and not wanted:
+            return f"bash offers {out}{errors} after {name} {word}"
+    return None
 
 
 def fault_of_waves(waves, room):

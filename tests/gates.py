@@ -1,14 +1,16 @@
 #!/usr/bin/env python3
 """Tests the script vsim_gates.
 
-    gates.py VSIM VSIM_NETLIST VSIM_WAVES
+    gates.py VSIM VSIM_NETLIST VSIM_WAVES VSIM_COMPARE
 
 First where no tool is needed: words that are refused, and tools that are missing. Then with tools that are scripts of this test, which put
 a netlist and a VCD of netlists/ in place: each command is printed as it is carried out, and the printed commands, typed into a shell in a
-folder of their own, give the same waves; a command that fails ends all. At last with Yosys, Icarus and GHDL, where they are installed: the
-designs of netlists/designs/ in Verilog and in VHDL, with test benches in both languages. The last line is `N passed, M failed`.
+folder of their own, give the same waves; a command that fails ends all, and gates that differ from their source are told. At last with
+Yosys, Icarus and GHDL, where they are installed: the designs of netlists/designs/ in Verilog and in VHDL, with test benches in both
+languages. The last line is `N passed, M failed`.
 """
 import os
+import re
 import shutil
 import subprocess
 import sys
@@ -18,6 +20,7 @@ TOP = os.path.dirname(os.path.dirname(os.path.realpath(__file__)))
 NETLISTS = f"{TOP}/tests/netlists"
 COUNTER, BENCH = f"{NETLISTS}/counter.v", f"{NETLISTS}/counter_tb.v"
 FIR, FIR_BENCH = f"{NETLISTS}/designs/fir.vhd", f"{NETLISTS}/designs/fir_tb.v"
+PROGRAMS = ["vsim", "vsim_netlist", "vsim_waves", "vsim_compare"]
 # a test bench in VHDL of an inverter in VHDL
 INVERTER = """\
 library ieee; use ieee.std_logic_1164.all;
@@ -45,6 +48,7 @@ REFUSED = [
     ([COUNTER], 2, "--top"),
     (["--top", "counter"], 2, "SOURCE"),
     (["--top", "counter", "--tb", BENCH, "--stimuli", f"{NETLISTS}/counter.vcd", COUNTER], 2, "--tb and --stimuli exclude each other"),
+    (["--top", "counter", "--clock", "clk", COUNTER], 2, "--clock needs --tb"),
     (["--top", "counter", COUNTER, FIR], 2, "the sources are of both languages"),
     (["--top", "counter", "--tb", FIR, COUNTER], 2, "a test bench in VHDL needs sources in VHDL"),
     (["--top", "counter", "counter.json"], 2, "counter.json is neither Verilog"),
@@ -76,7 +80,7 @@ class Room:
         os.makedirs(f"{folder}/bin")
         os.makedirs(self.tools)
         self.script = shutil.copy(f"{TOP}/vsim_gates", f"{folder}/bin/vsim_gates")
-        for name, path in zip(("vsim", "vsim_netlist", "vsim_waves"), programs):
+        for name, path in zip(PROGRAMS, programs):
             os.symlink(os.path.abspath(path), f"{folder}/bin/{name}")
 
     def put_tools(self, **tools):
@@ -124,15 +128,27 @@ def is_typed(room):
     path = f"{room.tools}:{os.environ['PATH']}"
     status, out, said = room.run(["--top", "counter", "--tb", BENCH, "--folder", "first", COUNTER], path)
     demand(status == 0 and not said, f"status {status}: {said}")
-    head, *commands, last = out.splitlines()
+    head, *commands, told, comparison, result = out.splitlines()
+    commands.append(comparison)
     names = [os.path.basename(line.split()[0]) for line in commands]
-    demand(names == ["iverilog", "vvp", "yosys", "vsim_netlist", "vsim", "vsim_waves"], f"the commands are {names}")
-    demand((head, last) == ("cd first", "vsim_gates: the waves are first/gates.vcd"), f"{head} .. {last}")
+    demand(names == ["iverilog", "vvp", "yosys", "vsim_netlist", "vsim", "vsim_waves", "vsim_compare"], f"the commands are {names}")
+    demand((head, told) == ("cd first", "vsim_gates: the waves are first/gates.vcd"), f"{head} .. {told}")
+    demand(re.fullmatch(r"0 of [1-9]\d* nets differ, in 0 of [1-9]\d* changes", result), result)
     waves = read(f"{room.folder}/first/gates.vcd")
     demand(b"$scope module counter $end" in waves and waves.count(b"\n#") > 10, "the waves lack changes")
     os.makedirs(f"{room.folder}/second")
-    typed = subprocess.run(["sh", "-e", "-c", "\n".join(commands)], cwd=f"{room.folder}/second", env={**os.environ, "PATH": path})
+    how = {"cwd": f"{room.folder}/second", "env": {**os.environ, "PATH": path}, "stdout": subprocess.DEVNULL}
+    typed = subprocess.run(["sh", "-e", "-c", "\n".join(commands)], **how)
     demand(typed.returncode == 0 and read(f"{room.folder}/second/gates.vcd") == waves, "the commands give other waves when typed")
+
+
+def is_different(room, words, time):
+    """Demands that gates that differ from the source are told: the register `sum` when it is cleared."""
+    room.put_tools(**{**TOOLS, "vvp": f"sed 's/^b1010 %$/b1011 %/' {NETLISTS}/counter.vcd > counter.vcd"})
+    folder = f"different{len(words)}"
+    status, out, said = room.run(["--top", "counter", "--tb", BENCH, "--folder", folder, *words, COUNTER], f"{room.tools}:{os.environ['PATH']}")
+    demand(status == 1 and said.endswith("vsim_compare ended with status 1\n"), f"status {status}: {said}")
+    demand(f"\n{time} sum 1010 1011\n" in out, out)
 
 
 def ends_with_failure(room):
@@ -181,6 +197,9 @@ def tests(room):
     for row in MISSING:
         yield row[2], lambda row=row: is_missing(room, *row)
     yield "commands that are typed", lambda: is_typed(room)
+    # (sum is cleared at 2 ns, and the clock rises first at 5 ns)
+    yield "gates that differ", lambda: is_different(room, [], 2000000)
+    yield "gates that differ at a clock", lambda: is_different(room, ["--clock", "clk"], 5000000)
     yield "a command that fails", lambda: ends_with_failure(room)
     for tools, words, wanted in runs(room):
         yield f"{words[1]} by {', '.join(tools)}", lambda tools=tools, words=words, wanted=wanted: is_run(room, tools, words, wanted)
@@ -203,6 +222,6 @@ def main(programs):
 
 
 if __name__ == "__main__":
-    if len(sys.argv) != 4:
+    if len(sys.argv) != 5:
         sys.exit(__doc__)
     sys.exit(main(sys.argv[1:]))

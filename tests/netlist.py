@@ -3,7 +3,8 @@
 
     netlist.py VSIM VSIM_NETLIST VSIM_WAVES [--keep]
 
-For each design of netlists/ and netlists/designs/ Yosys writes the netlist as JSON and as Verilog, and Icarus runs the test bench with the
+For each design of netlists/ and netlists/designs/, and for most once more with the cells of osu018 where Debian's package qflow-tech-osu018
+is installed, Yosys writes the netlist as JSON and as Verilog, and Icarus runs the test bench with the
 source, of which the stimuli come, and with the Verilog netlist. The text that VSIM_NETLIST makes is run by VSIM with one worker and with
 four, and by GHDL where that is installed. Then
 
@@ -43,6 +44,15 @@ DESIGNS = {
     "fir": (f"{FOLDER}/designs", SYNTH, "clk", []),
     "odd": (f"{FOLDER}/designs", SHARED, "clk", ["--delays", "dff=4ps,latch=2ps,others=1ps", "--hold", "2ps"]),
 }
+# a library of cells, its models for Icarus, and how Yosys maps a design to it
+OSU018 = "/usr/share/qflow/tech/osu018/osu018_stdcells"
+MAPPED = f"; dfflibmap -liberty {OSU018}.lib; abc -liberty {OSU018}.lib; opt_clean"
+BY_OSU018 = " by osu018"
+for it in ("counter", "sharing", "operands", "uart", "mul32", "fir", "odd"):
+    place, passes, clock, words = DESIGNS[it]
+    # more gates between an input and a register: an input of odd changes 3 ps before an edge
+    words = [word.replace("ps", "0fs") for word in words]
+    DESIGNS[it + BY_OSU018] = place, passes.partition("; abc")[0] + MAPPED, clock, [*words, "--liberty", f"{OSU018}.lib"]
 # how long the gates of a design with delays take, in femtoseconds
 SETTLING = 20_000
 # cells that are written as they are, of which Yosys has models
@@ -106,7 +116,7 @@ def driven(folder, name):
     """Returns the variables that the map knows, each with its bits, and a dash for a bit that nothing drives: it is z in Verilog, U in VHDL."""
     module = json.loads(read(f"{folder}/{name}.json"))["modules"][name]
     cells, ports = module["cells"].values(), module["ports"].values()
-    drivers = {bit for it in cells for pin in ("Y", "Q") for bit in it["connections"].get(pin, [])}
+    drivers = {bit for it in cells for pin in ("Y", "Q", "YC", "YS") for bit in it["connections"].get(pin, [])}
     drivers |= {bit for it in ports if it["direction"] != "output" for bit in it["bits"]} | set("01xz")
     return {path: [it if bit in drivers else "-" for it, bit in zip(bits, module["netnames"][path]["bits"])]
             for path, bits in known_to(f"{folder}/map").items()}
@@ -164,15 +174,17 @@ def by_ghdl(folder, name, listing, end):
     return count, seconds
 
 
-def try_design(programs, name, keep):
+def try_design(programs, design, keep):
     """Makes, runs and compares a design, and returns what was found."""
     vsim, netlist, waves = programs
-    origin, passes, clock, words = DESIGNS[name]
+    origin, passes, clock, words = DESIGNS[design]
+    name, _, library = design.partition(" ")
+    models = [*MODELS, f"{OSU018}.v"] if library else MODELS
     with tempfile.TemporaryDirectory() as folder:
         fetch(origin, folder, name)
         _, of_source = icarus(folder, name, [f"{name}.v", f"{name}_tb.v", *MODELS], f"{name}.source")
         synthesize(folder, name, passes)
-        theirs, of_icarus = icarus(folder, name, [f"{name}_gates.v", f"{name}_tb.v", *MODELS], f"{name}.gates")
+        theirs, of_icarus = icarus(folder, name, [f"{name}_gates.v", f"{name}_tb.v", *models], f"{name}.gates")
         command = [netlist, "--stimuli", f"{folder}/{name}.source", "--scope", "tb.dut", "--map", f"{folder}/map", *words]
         status, text, said = run(command, read(f"{folder}/{name}.json"))
         demand(status == 0, said)
@@ -187,13 +199,13 @@ def try_design(programs, name, keep):
         demand(status == 0, said)
         ours, theirs = Waves(vcd, name), Waves(theirs, "tb.dut")
         # with delays, what has just changed has not come to rest
-        times = edges(ours, theirs, clock, SETTLING if words else 0)
+        times = edges(ours, theirs, clock, SETTLING if "--delays" in words else 0)
         count, alone, differ = compare(ours, theirs, driven(folder, name), times)
         demand(not differ, f"Icarus: {len(differ)} of {count} differ, first {differ[:3]}")
         end = re.search(rb"^end (\d+)$", read(f"{folder}/map"), re.M)[1].decode()
         values, of_ghdl = by_ghdl(folder, name, listing[1], end) if shutil.which("ghdl") else (0, 0)
-        found = Found(name, len(text), listing[1].count(10), seconds, of_icarus, of_ghdl, count, alone, values)
-        if keep and origin == FOLDER:
+        found = Found(design, len(text), listing[1].count(10), seconds, of_icarus, of_ghdl, count, alone, values)
+        if keep and origin == FOLDER and not library:
             shutil.copy(f"{folder}/{name}.json", f"{FOLDER}/{name}.json")
             shutil.copy(f"{folder}/{name}.source", f"{FOLDER}/{name}.vcd")
     return found
@@ -209,10 +221,14 @@ def designs():
     missing = [it for it in ("yosys", "iverilog", "vvp") if not shutil.which(it)]
     if missing:
         sys.exit(f"netlist.py: {', '.join(missing)} is not installed, which it needs: apt-get install yosys iverilog")
+    found = list(DESIGNS)
+    if not os.path.exists(f"{OSU018}.lib"):
+        print("osu018 is not installed, and no design is mapped to it: apt-get install qflow-tech-osu018")
+        found = [name for name in found if BY_OSU018 not in name]
     if shutil.which("ghdl"):
-        return list(DESIGNS)
+        return found
     print("ghdl is not installed: nothing is compared with it, and designs in VHDL are left out")
-    return [name for name in DESIGNS if os.path.exists(f"{DESIGNS[name][0]}/{name}.v")]
+    return [name for name in found if os.path.exists(f"{DESIGNS[name][0]}/{name.partition(' ')[0]}.v")]
 
 
 def main():

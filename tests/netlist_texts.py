@@ -209,6 +209,13 @@ def netlist(cells, **ports):
     return json.dumps({"creator": "Yosys 0.23", "modules": {"top": {"attributes": {}, "ports": ports, "cells": cells, "netnames": names}}})
 
 
+def with_names(given, **names):
+    """Returns a netlist in which these nets have names in the source."""
+    document = json.loads(given)
+    document["modules"]["top"]["netnames"].update((name, {"hide_name": 0, "bits": bits, "attributes": {}}) for name, bits in names.items())
+    return json.dumps(document)
+
+
 GOOD = netlist({"u": cell("$_NOT_", {"A": [2], "Y": [3]})})
 WIRES = {"u": cell("$_BUF_", {"A": [3], "Y": [4]}, attributes={"src": "uart.v:7.5"}), "v": cell("$_BUF_", {"A": [4], "Y": [3]})}
 PLAIN = {"y": {"direction": "output", "bits": [5]}}
@@ -216,6 +223,16 @@ HEAD = "$timescale 1ns $end $scope module tb $end $var wire 1 ! a $end $upscope 
 # three inputs
 THREE = {"a": {"direction": "input", "bits": [2]}, "b": {"direction": "input", "bits": [4]}, "c": {"direction": "input", "bits": [5]},
             "y": {"direction": "output", "bits": [3]}}
+SEVEN = {**{f"i{n}": {"direction": "input", "bits": [10 + n]} for n in range(7)}, "y": {"direction": "output", "bits": [3]}}
+# an input of six bits
+SIX = {"a": {"direction": "input", "bits": [2, 4, 5, 6, 7, 8]}, "y": {"direction": "output", "bits": [3]}}
+INVERTER = {"u": cell("$_NOT_", {"A": [2], "Y": [3]})}
+FLIP_FLOP = cell("$_DFF_P_", {"C": [2], "D": [2], "Q": [3]}, attributes={"src": "uart.v:7.5"})
+BUFFERS = "which are no three-state buffers: run tribuf before synth, or remove one of them"
+OF_FPGA = "a cell of an FPGA: use synth in place of synth_ice40, synth_xilinx or synth_ecp5"
+# two scopes, of which the inner one has an a, and a b of two bits
+INNER = ("$timescale 1ns $end $scope module tb $end $var wire 1 ! c $end $scope module dut $end $var wire 1 \" a $end $var wire 2 # b $end "
+         "$upscope $end $upscope $end $enddefinitions $end\n#0 0! 0\" b0 #\n")
 # the units of a scale of time, in femtoseconds
 SCALES = {"fs": 1, "ps": 10**3, "ns": 10**6, "us": 10**9, "ms": 10**12, "s": 10**15}
 # the latest time of vsim, in femtoseconds
@@ -268,6 +285,16 @@ LISTED = [
     # a port that is an input and an output
     (netlist({"u": cell("$_NOT_", {"A": [2], "Y": [3]})}, a={"direction": "inout", "bits": [2]}, y={"direction": "output", "bits": [3]}),
      "0 a 0\n10ns a 1\n", [], "0 U, 0 1, 10000000 0"),
+    # a port that is an input and an output, driven by a three-state buffer as well, which is unknown until it has its enable
+    (netlist({"t": cell("$_TBUF_", {"A": ["1"], "E": [4], "Y": [2]}), **INVERTER}, **{**THREE, "a": {"direction": "inout", "bits": [2]}}),
+     "0 a z\n0 b 1\n0 c 0\n10ns b 0\n20ns a 0\n", [], "0 U, 0 X, 0 0, 10000000 X, 20000000 1"),
+    # zeros in front of a hexadecimal number
+    (GOOD, "0 a 0x00\n5ns a 0x01\n", [], "0 U, 0 1, 5000000 0"),
+    (netlist({"u": cell("$_NOT_", {"A": [8], "Y": [3]})}, **SIX), "0 a 0x0F\n5ns a 0x3f\n6ns a 1\n7ns a 100000\n", [],
+     "0 U, 0 1, 5000000 0, 6000000 1, 7000000 0"),
+    # an escaped name with an index in it is that of an input
+    (netlist(INVERTER, **{"a[0]": {"direction": "input", "bits": [2]}, "y": {"direction": "output", "bits": [3]}}),
+     HEAD.replace(" a ", " \\a[0] ") + "#0 0! #5 1!\n", [], "0 U, 0 1, 5000000 0"),
     # each unit of time
     (GOOD, "0 a 0\n1fs a 1\n1ps a 0\n1ns a 1\n1us a 0\n1ms a 1\n1s a 0\n2sec a 1\n", [],
      f"0 U, 0 1, 1 0, 1000 1, 1000000 0, {10**9} 1, {10**12} 0, {10**15} 1, {2 * 10**15} 0"),
@@ -301,6 +328,20 @@ REFUSED = [
     (netlist({"u": cell("$_NOT_", {"A": [2, 2], "Y": [3]})}), "", [], "its pin A is not connected with one bit"),
     (netlist({"u": cell("$_NOT_", {"A": [2], "Y": ["0"]})}), "", [], "its output Y is connected with a constant"),
     (netlist({"u": cell("$lut", {"A": [2], "Y": [3]}, parameters={"LUT": "0x"})}), "", [], "its LUT is no table"),
+    *((netlist({"u": cell(kind, {})}), "", [], f"cell u of type {kind}: {OF_FPGA}")
+      for kind in ("SB_LUT4", "SB_DFF", "LUT4", "FDRE", "CARRY4", "TRELLIS_FF", "PFUMX", "IBUF")),
+    # two cells drive a net, or a cell and an input
+    (netlist({"u": cell("$_OR_", {"A": [2], "B": [2], "Y": [3]}), "v": FLIP_FLOP}), "", [],
+     f"vsim_netlist: y is driven by cell u and by uart.v:7.5: cell v, {BUFFERS}"),
+    (netlist({"t": cell("$_TBUF_", {"A": [2], "E": [2], "Y": [3]}), "v": FLIP_FLOP, **INVERTER}), "", [],
+     f"vsim_netlist: y is driven by uart.v:7.5: cell v and by cell u, {BUFFERS}"),
+    (netlist(INVERTER | {"v": FLIP_FLOP}, a={"direction": "input", "bits": [2]}, y={"direction": "output", "bits": [4, 3]}), "", [],
+     f"vsim_netlist: y[1] is driven by cell u and by uart.v:7.5: cell v, {BUFFERS}"),
+    (netlist(INVERTER | {"v": FLIP_FLOP}, **PLAIN), "", [], f"vsim_netlist: a net is driven by cell u and by uart.v:7.5: cell v, {BUFFERS}"),
+    (netlist({"u": cell("$_NOT_", {"A": [3], "Y": [2]})}), "", [], f"vsim_netlist: a is driven by input a and by cell u, {BUFFERS}"),
+    (netlist({"u": cell("$_NOT_", {"A": [3], "Y": [2]})}).replace("input", "inout"), "", [], f"vsim_netlist: a is driven by input a and by cell u, {BUFFERS}"),
+    (netlist({}, a={"direction": "input", "bits": [2]}, b={"direction": "input", "bits": [2]}), "", [],
+     f"vsim_netlist: a is driven by input a and by input b, {BUFFERS}"),
     (netlist(WIRES), "", [], "vsim_netlist: y is in a loop of wires"),
     (netlist(WIRES, **PLAIN), "", [], "vsim_netlist: uart.v:7.5: cell u is in a loop of wires"),
     (netlist({"u": cell("$_BUF_", {"A": [3], "Y": [3]})}, **PLAIN), "", [], "vsim_netlist: cell u is in a loop of wires"),
@@ -309,6 +350,12 @@ REFUSED = [
     (GOOD, "1ns b 1\n", [], "line 1: there is no input b"),
     (GOOD, "soon a 1\n", [], "line 1: the first word is no time"),
     (GOOD, "1ns a 7\n", [], "line 1: the value is neither bits nor a number"),
+    (GOOD, "1ns a 0x\n", [], "line 1: the value is neither bits nor a number"),
+    (GOOD, "1ns a 0xG\n", [], "line 1: the value is neither bits nor a number"),
+    (GOOD, "0 a 0\n1ns a 11\n", [], "line 2: input a has 1 bit, and 11 has 2 bits"),
+    (GOOD, "0 a 0xA5\n", [], "line 1: input a has 1 bit, and 0xA5 has 8 bits"),
+    (netlist(INVERTER, **SIX), "0 a 0x40\n", [], "line 1: input a has 6 bits, and 0x40 has 7 bits"),
+    (netlist(INVERTER, **SIX), "0 a 0000001\n", [], "line 1: input a has 6 bits, and 0000001 has 7 bits"),
     (GOOD, "1ns a\n", [], "line 1: 'TIME INPUT VALUE' or 'end TIME' is wanted"),
     (GOOD, "end 1ns\n", [], "input a has no value"),
     (GOOD, HEAD + "#0 0! #5 1!", [], "the VCD is cut off"),
@@ -319,7 +366,11 @@ REFUSED = [
     (GOOD, HEAD.replace("$scope", "\nscope") + "#0 0!\n", [], "line 2: 'scope' begins no section of a VCD"),
     (GOOD, HEAD.replace("1ns", "1ls") + "#0 0!\n", [], "line 1: the time scale is none"),
     (GOOD, HEAD + "#0\n", [], "input a has no value"),
-    (GOOD, HEAD.replace("! a", "! b") + "#0 0!\n", [], "no scope has all inputs"),
+    (GOOD, HEAD.replace("! a", "! b") + "#0 0!\n", [], "no scope has all inputs, each with its width; the nearest: tb lacks a; --scope names one"),
+    (GOOD, "$enddefinitions $end\n#0\n", [], "no scope has all inputs, each with its width\n"),
+    (netlist(INVERTER, **THREE), INNER, [], "no scope has all inputs, each with its width; the nearest: tb.dut lacks b of 1 bit, not 2, c; --scope names one"),
+    (netlist(INVERTER, **THREE), INNER, ["--scope", "tb"], "stimuli: tb lacks a, b\n"),
+    (netlist({"u": cell("$_NOT_", {"A": [10], "Y": [3]})}, **SEVEN), HEAD + "#0 0!\n", [], "the nearest: tb lacks i0, i1, i2, i3 and 3 more; --scope"),
     (GOOD, HEAD + "#0 0!\n", ["--scope", "tb.dut"], "there is no scope tb.dut"),
     (GOOD, "", ["--delays", "nand"], "'nand' is no delay"),
     (GOOD, "", ["--delays", "nend=1ns"], "there is no gate 'nend'"),
@@ -450,6 +501,48 @@ def are_bits_named(programs):
     demand(sorted(set(names)) == ["a_0", "a_1", "y_0", "y_1"], f"the names are {names}")
 
 
+def is_told(program, folder):
+    """Demands that what nothing drives is told in one line and is not in the map, with or without stimuli."""
+    given = with_names(GOOD, dead=[90], half=[3, 91], wide=[92, 93], fixed=["0", "z"], whole=[2, 3])
+    dead = with_names(GOOD, **{f"d{n:02}": [50 + n] for n in range(13)})
+    for words in ([], put_stimuli(folder, "0 a 0\n")):
+        status, _, said = run([program, "--map", f"{folder}/map", *words], given.encode())
+        demand(status == 0 and said == "vsim_netlist: nothing drives dead, half[1], wide, which the map leaves out\n", said)
+        lines = [line for line in read(f"{folder}/map").decode().splitlines() if line.startswith("var ")]
+        demand(lines == ["var a 0 downto a", "var y 0 downto y", "var half 0 downto y -", "var fixed 0 downto '0' 'Z'", "var whole 0 downto a y"], str(lines))
+    names = ", ".join(f"d{n:02}" for n in range(10))
+    said = run([program], dead.encode())[2]
+    demand(said == f"vsim_netlist: nothing drives {names} and 3 more, which the map leaves out\n", said)
+    demand(run([program], GOOD.encode())[2] == "", "something is told of a netlist in which all is driven")
+
+
+def is_entity_named(programs, folder):
+    """Demands that the entity's name is told on request and by the map, and is that of the text, also where VHDL reserves the module's name."""
+    for module, entity in (("top", "top"), ("Signal", "signal_2"), ("Top_1", "top_1")):
+        given = GOOD.replace('"top"', f'"{module}"').encode()
+        demand(run([programs[1], "--entity", "--map", f"{folder}/map"], given) == (0, f"{entity}\n".encode(), ""), f"{module} is not {entity}")
+        head = read(f"{folder}/map").decode().splitlines()[:3]
+        demand(head == [f"vsim_netlist map 1 {entity}", "end 0", f"top {module}"], f"the map begins {head}")
+        status, _, said = run([programs[0], "--top", entity], run([programs[1]], given)[1])
+        demand(status == 0, said)
+    status, out, said = run([programs[1], "--entity"], netlist(WIRES).encode())
+    demand(status == 1 and not out and "loop" in said, f"status {status}: {said}")
+
+
+def is_one_name(programs, folder):
+    """Demands that an escaped name with a dot stays one name from the stimuli to the waves, and that those of scopes stay paths."""
+    ports = {"a.b": {"direction": "input", "bits": [2]}, "y": {"direction": "output", "bits": [3]}}
+    given = with_names(netlist(INVERTER, **ports), **{"u.n": [3]})
+    vcd = HEAD.replace(" a ", " \\a.b ") + "#0 0! #5 1!\n"
+    status, text, said = run([programs[1], *put_stimuli(folder, vcd), "--map", f"{folder}/map"], given.encode())
+    demand(status == 0, said)
+    status, waves, said = run([programs[2], "--map", f"{folder}/map"], run([programs[0], "--top", "top"], text)[1])
+    demand(status == 0, said)
+    found = Waves(waves, "top").variables
+    demand(sorted(it for it in found if it != "y") == ["\\a.b", "u.n"], f"the variables are {sorted(found)}")
+    demand("$var wire 1 ! \\a.b $end\n" in waves.decode() and "$scope module a $end" not in waves.decode(), waves.decode())
+
+
 def put_stimuli(folder, stimuli):
     """Returns the words that name these stimuli, if there are any."""
     path = f"{folder}/stimuli"
@@ -491,14 +584,13 @@ def beyond():
     """Returns netlists beyond a limit of vsim, each with what is told."""
     many = range(MOST + 1)
     port = {"a": {"direction": "input", "bits": list(range(2, MOST + 3))}}
-    gates = {f"u{it}": cell("$_BUF_", {"A": [2], "Y": [3]}) for it in many}
-    registers = {f"u{it}": cell("$_DFF_P_", {"C": [2], "D": [2], "Q": [3]}) for it in many}
+    gates = {f"u{it}": cell("$_BUF_", {"A": [2], "Y": [10 + it]}) for it in range(MOST - 4)}
+    gates.update((f"t{it}", cell("$_TBUF_", {"A": [2], "E": [2], "Y": [3]})) for it in range(10))
     long = {f"u{it}": cell("$_XOR_", {"A": [it], "B": [it + 1], "Y": [it + 2]}) for it in range(2, MOST)}
     smaller = "a smaller part of the design helps"
     return [
         (netlist({}, **port), f"{MOST + 1} nets, of which vsim takes {MOST}: {smaller}"),
-        (netlist(gates), f"{MOST + 1} processes or drivers, of which vsim takes {MOST}: {smaller}"),
-        (netlist(registers), f"{MOST + 1} processes or drivers, of which vsim takes {MOST}: {smaller}"),
+        (with_names(netlist(gates), n=list(range(10, MOST + 6))), f"{MOST + 6} processes or drivers, of which vsim takes {MOST}: {smaller}"),
         (netlist(long), "bytes, of which vsim takes 1048576: shorter stimuli or a smaller part of the design help"),
     ]
 
@@ -619,6 +711,9 @@ def tests_of(programs, folder, mutated):
     yield "steps with a clock that falls at first", lambda: is_counted(programs, folder, falling_at_first())
     yield "names of bits", lambda: are_bits_named(programs)
     yield "clocks", lambda: is_one_statement(program, folder)
+    yield "what nothing drives", lambda: is_told(program, folder)
+    yield "the entity's name", lambda: is_entity_named(programs, folder)
+    yield "escaped names", lambda: is_one_name(programs, folder)
     for row in REFUSED:
         yield row[3], lambda row=row: is_refused(program, folder, *row)
     for text, told in beyond():

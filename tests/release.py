@@ -1,7 +1,7 @@
 #!/usr/bin/env python3
-"""Installs what the script release writes of programs in a root of its own, runs the example there, and removes it.
+"""Installs the tarball and the package that the script release makes, each in a root of its own, runs the example there, and removes it.
 
-    release.py VSIM VSIM_EXPLAIN VSIM_WAVES VSIM_NETLIST
+    release.py VSIM VSIM_EXPLAIN VSIM_WAVES VSIM_COMPARE VSIM_NETLIST
 
 The tarball and the package, made twice, a second later and by one who lets nobody else read files, are the same byte for byte. From each
 the program answers examples/bus.vhd with its listing, BUILT has what each program says of itself and the checksum of its file, and each
@@ -21,7 +21,7 @@ import tempfile
 import time
 
 TOP = os.path.dirname(os.path.dirname(os.path.realpath(__file__)))
-NAMES = ["vsim", "vsim_explain", "vsim_waves", "vsim_netlist"]
+NAMES = ["vsim", "vsim_explain", "vsim_waves", "vsim_compare", "vsim_netlist"]
 # what dpkg wants of a root, and what the checks of a system do not concern
 STATE = ["info", "updates", "triggers"]
 DPKG = ["--force-not-root", "--force-depends", "--force-bad-path"]
@@ -113,6 +113,6 @@ def main(words):
 
 if __name__ == "__main__":
     sys.dont_write_bytecode = True
-    if len(sys.argv) != 5:
+    if len(sys.argv) != 6:
         sys.exit(__doc__)
     sys.exit(main(sys.argv[1:]))

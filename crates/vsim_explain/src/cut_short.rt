@@ -119,7 +119,7 @@ fn write_last_cycles<W: Write>(alloc: Global, out: &mut W, store: &WaveStore) ->
 }
 
 /// Writes all cycles.
-fn write_all_cycles<W: Write>(alloc: Global, out: &mut W, store: &WaveStore) -> Result<()> {
+pub fn write_all_cycles<W: Write>(alloc: Global, out: &mut W, store: &WaveStore) -> Result<()> {
     let records = last_records(alloc, store, usize::MAX)?;
     write_cycles(out, store.design(), records.as_slice(), usize::MAX)?;
     Ok(())
@@ -136,18 +136,16 @@ fn write_state<W: Write>(
     write_last_changes(alloc, out, store)
 }
 
-/// Writes how far a run came, and the last changes of its nets, or all of them if the listing is
-/// wanted.
+/// Writes how far a run came, and the last changes of its nets unless the listing is written.
 pub fn write_cut_short<W: Write>(
     alloc: Global,
     out: &mut W,
     request: &Request,
     store: &WaveStore,
 ) -> Result<()> {
-    if request.listing {
-        write_all_cycles(alloc, out, store)?;
-        return write_state(alloc, out, &request.options, store);
-    }
     write_state(alloc, out, &request.options, store)?;
+    if request.listing {
+        return Ok(());
+    }
     write_last_cycles(alloc, out, store)
 }

@@ -1,6 +1,6 @@
-//! Explains the answer of `vsim`: `vsim_explain --top NAME < design.vhd`, called as `vsim` is. For
-//! a refusal it shows the line and column, and says in plain words what the fault means and how to
-//! mend it; for a run, how far it came and which nets change most.
+//! Explains the answer of `vsim`: `vsim_explain --top NAME design.vhd`, called as `vsim` is or with
+//! files. For a refusal it shows the line and column, and says in plain words what the fault means
+//! and how to mend it; for a run, how far it came and which nets change most.
 #![tactic(auto)]
 
 mod changes;
@@ -15,16 +15,16 @@ use crate::request::{Request, read_request};
 use crate::runs::tell_run;
 use anyhow::{Context, Result, bail};
 use sim_flat::FlatError;
+use sim_flat_design::Design;
 use sim_run_options::CliFault;
 use sim_run_session::{RunError, elaborate};
 use sim_text::TextError;
 use std::alloc::{AllocError, Global};
-use std::env;
 use std::io::{self, BufWriter, Read, Write, writer};
 use std::process::ExitCode;
-use std::rt::Env;
+use std::{env, fs};
 use vsim_explain_refusals::{
-    explain_design, explain_text, write_more_of_design, write_more_of_text,
+    Part, Source, explain_design, explain_text, write_more_of_design, write_more_of_text,
 };
 
 /// One byte more than a text may have: enough to see that it is too long.
@@ -46,55 +46,85 @@ every change of a signal on standard output.
 ";
 
 /// The same lines of this program's help.
-const ABOUT: &str = "Explains in plain words what vsim answers to a design on standard input.
-It takes the options of vsim.
+const ABOUT: &str = "Explains in plain words what vsim answers to a design, on standard output. The
+design is in files, which are one text in their order, or on standard input.
 ";
 
-/// This program's own option, placed before that for the help.
-const LISTING_OPTION: &str = "
-      --listing      Write the listing first, as far as it goes if the run is cut short
+/// The end of the usage of `vsim`, and that of this program.
+const USAGE_OF_VSIM: &str = "[OPTIONS] --top <NAME>\n";
+
+const USAGE: &str = "[OPTIONS] --top <NAME> [FILE]...\n";
+
+/// This program's own options, placed before that for the help.
+const OWN_OPTIONS: &str = "
+      --check        Check the text and its design, and run nothing
+      --listing      Write the listing to standard output, as far as it goes if the run is
+                     cut short, and the explanation to standard error
   -h, --help ";
+
+/// Where `vsim` writes refusals, and where this program does.
+const ERRORS_OF_VSIM: &str =
+    "  A refusal goes to standard error, as in 'vsim: Syntax at 77', where the number is
+  a byte offset in the input.
+";
+
+const ERRORS: &str =
+    "  A refusal goes to standard output, as in 'design.vhd:7:5: error: Syntax at 77',
+  with the file, the line and the column; only a refused command line goes to
+  standard error.
+";
+
+/// The name of standard input in place of a file's.
+const STANDARD_INPUT: &str = "<stdin>";
+
+/// The answer to a text that is only checked.
+const NO_FAULT: &[u8] = b"No fault in the text or its design.\n";
+
+/// The message for a stop time that is refused.
+const FEMTOSECONDS: &str = "
+--stop is a whole number of femtoseconds: 10ns is 10000000, and 1us is 1000000000.
+";
 
 /// The message for words that are refused, after that of `clap`.
 const REFUSED: &str = "
-The design is read from standard input: vsim_explain --top NAME < design.vhd
+The design is read from files or from standard input: vsim_explain --top NAME design.vhd
 ";
 
 /// Writes an explanation of a fault of a text.
 fn write_text_fault<W: Write>(
     alloc: Global,
     out: &mut W,
-    source: &[u8],
+    source: Source<'_>,
     fault: TextError,
 ) -> io::Result<()> {
-    explain_text(source, fault).write(out, source, &fault)?;
-    write_more_of_text(alloc, out, source, fault)
+    explain_text(source.text, fault).write(out, source, &fault)?;
+    write_more_of_text(alloc, out, source.text, fault)
 }
 
 /// Writes an explanation of a fault of a design under a top.
 fn write_design_fault<W: Write>(
     alloc: Global,
     out: &mut W,
-    source: &[u8],
+    source: Source<'_>,
     top: &str,
     fault: FlatError,
 ) -> io::Result<()> {
-    explain_design(source, fault).write(out, source, &fault)?;
-    write_more_of_design(alloc, out, source, top, fault)
+    explain_design(source.text, fault).write(out, source, &fault)?;
+    write_more_of_design(alloc, out, source.text, top, fault)
 }
 
 /// Writes an explanation of a refusal of a text under a top.
 fn write_refusal<W: Write>(
     alloc: Global,
     out: &mut W,
-    source: &[u8],
+    source: Source<'_>,
     top: &str,
     refusal: RunError,
 ) -> io::Result<()> {
     match refusal {
         RunError::Text(fault) => write_text_fault(alloc, out, source, fault),
         RunError::Flat(fault) => write_design_fault(alloc, out, source, top, fault),
-        _ => out.write_all(b"Memory\nThere is not enough memory.\n"),
+        _ => out.write_all(b"error: Memory\nThere is not enough memory.\n"),
     }
 }
 
@@ -107,78 +137,167 @@ fn status_of(refusal: RunError) -> u8 {
     }
 }
 
-/// Reads the text.
-fn read_source<R: AllocGlobal + Input>(rt: &R) -> io::Result<Vec<u8>> {
-    let mut source = Vec::new(rt.alloc());
-    rt.reader().take(MOST_BYTES).read_to_end(&mut source)?;
-    Ok(source)
+/// Reads standard input to the end of a text.
+fn read_input(rt: &HostRuntime, text: &mut Vec<u8>) -> io::Result<()> {
+    rt.reader().take(MOST_BYTES).read_to_end(text)?;
+    Ok(())
+}
+
+/// Reads a file to the end of a text.
+fn read_file(rt: &HostRuntime, path: &str, text: &mut Vec<u8>) -> io::Result<()> {
+    fs::open(rt, path)?.take(MOST_BYTES).read_to_end(text)?;
+    Ok(())
+}
+
+/// The part of a text that ends here.
+fn part(alloc: Global, name: &str, end: usize) -> Result<Part, AllocError> {
+    let name = String::from_str(alloc, name)?;
+    Ok(Part { name, end })
+}
+
+/// Reads a file to the end of a text, and notes it.
+fn read_part(
+    rt: &HostRuntime,
+    path: &str,
+    text: &mut Vec<u8>,
+    parts: &mut Vec<Part>,
+) -> Result<()> {
+    read_file(rt, path, text).context(format_args!("{path}"))?;
+    let part = part(rt.alloc(), path, text.len())?;
+    parts.push(part)?;
+    Ok(())
+}
+
+/// Reads the text on standard input, and notes it.
+fn read_all_input(rt: &HostRuntime, text: &mut Vec<u8>, parts: &mut Vec<Part>) -> Result<()> {
+    read_input(rt, text)?;
+    let part = part(rt.alloc(), STANDARD_INPUT, text.len())?;
+    parts.push(part)?;
+    Ok(())
+}
+
+/// Reads the files, or standard input if there are none.
+fn read_source(
+    rt: &HostRuntime,
+    files: &[String],
+    text: &mut Vec<u8>,
+    parts: &mut Vec<Part>,
+) -> Result<()> {
+    if files.is_empty() {
+        return read_all_input(rt, text, parts);
+    }
+    for path in files {
+        read_part(rt, path.as_str(), text, parts)?;
+    }
+    Ok(())
+}
+
+/// Writes the answer to a design, and returns the exit status.
+fn answer_design<L: Write, W: Write>(
+    alloc: Global,
+    design: Design,
+    request: &Request,
+    listing: &mut L,
+    words: &mut W,
+) -> Result<u8> {
+    if request.is_check {
+        drop(design);
+        words.write_all(NO_FAULT)?;
+        return Ok(0);
+    }
+    tell_run(alloc, design, request, listing, words)
 }
 
 /// Writes the answer to a text, and returns the exit status.
-fn answer_text<W: Write>(
+fn answer_text<L: Write, W: Write>(
     alloc: Global,
-    source: &[u8],
+    source: Source<'_>,
     request: &Request,
-    out: &mut W,
+    listing: &mut L,
+    words: &mut W,
 ) -> Result<u8> {
-    match elaborate(alloc, source, &request.options) {
-        Ok(design) => tell_run(alloc, design, request, out),
+    match elaborate(alloc, source.text, &request.options) {
+        Ok(design) => answer_design(alloc, design, request, listing, words),
         Err(refusal) => {
-            write_refusal(alloc, out, source, request.options.top.as_str(), refusal)?;
+            write_refusal(alloc, words, source, request.options.top.as_str(), refusal)?;
             Ok(status_of(refusal))
         }
     }
 }
 
-/// Writes the answer to the text on standard input, and returns the exit status.
-fn answer_request<R: AllocGlobal + Input, W: Write>(
-    rt: &R,
+/// Writes the answer to the files or standard input, and returns the exit status.
+fn answer_request<L: Write, W: Write>(
+    rt: &HostRuntime,
     request: &Request,
-    out: &mut W,
+    listing: &mut L,
+    words: &mut W,
 ) -> Result<u8> {
     if !request.options.are_in_range() {
-        write_ranges(out, &request.options)?;
+        write_ranges(words, &request.options)?;
         return Ok(2);
     }
-    let source = read_source(rt)?;
-    answer_text(rt.alloc(), source.as_slice(), request, out)
+    let (mut text, mut parts) = (Vec::new(rt.alloc()), Vec::new(rt.alloc()));
+    read_source(rt, request.files.as_slice(), &mut text, &mut parts)?;
+    let source = Source {
+        text: text.as_slice(),
+        parts: parts.as_slice(),
+    };
+    answer_text(rt.alloc(), source, request, listing, words)
 }
 
-/// A message of `vsim` about its words, with this program's name in the line of usage.
+/// Writes what two streams still hold.
+fn flush_both<O: Write, E: Write>(out: &mut O, errors: &mut E) -> Result<()> {
+    out.flush().context("writing")?;
+    errors.flush().context("writing")
+}
+
+/// Writes the answer to a request, with its listing and its words to a stream each.
+fn answer_apart(rt: &HostRuntime, request: &Request) -> Result<u8> {
+    let mut out = BufWriter::new(rt.alloc(), writer(rt))?;
+    let mut errors = BufWriter::new(rt.alloc(), rt.stderr())?;
+    let status = if request.listing {
+        answer_request(rt, request, &mut out, &mut errors)
+    } else {
+        answer_request(rt, request, &mut errors, &mut out)
+    };
+    flush_both(&mut out, &mut errors)?;
+    status
+}
+
+/// A message of `vsim` about its words, with this program's name and files in the line of usage.
 fn renamed(alloc: Global, text: &str) -> Result<String, AllocError> {
-    text.replace(alloc, "Usage: vsim ", "Usage: vsim_explain ")
+    let text = text.replace(alloc, "Usage: vsim ", "Usage: vsim_explain ")?;
+    text.replace(alloc, USAGE_OF_VSIM, USAGE)
 }
 
-/// The help of `vsim`, adapted to this program and with its own option.
+/// The help of `vsim`, adapted to this program and with its own options.
 fn own_help(alloc: Global, text: &str) -> Result<String, AllocError> {
-    let text = renamed(alloc, text)?;
-    let text = text.replace(alloc, ABOUT_VSIM, ABOUT)?;
-    text.replace(alloc, "\n  -h, --help ", LISTING_OPTION)
+    let text = renamed(alloc, text)?.replace(alloc, ABOUT_VSIM, ABOUT)?;
+    let text = text.replace(alloc, ERRORS_OF_VSIM, ERRORS)?;
+    text.replace(alloc, "\n  -h, --help ", OWN_OPTIONS)
 }
 
-/// Writes the help.
-fn write_help<W: Write>(alloc: Global, out: &mut W, text: &str) -> io::Result<()> {
-    let text = own_help(alloc, text)?;
-    out.write_all(text.as_bytes())
+/// Prints the help.
+fn tell_help(rt: &HostRuntime, text: &str) -> Result<()> {
+    let text = own_help(rt.alloc(), text)?;
+    rt.print(text.as_str()).context("writing")
 }
 
 /// Prints that words are refused, and why.
-fn tell_refused<R: AllocGlobal + Eprint>(rt: &R, text: &str) -> Result<()> {
+fn tell_refused(rt: &HostRuntime, text: &str) -> Result<()> {
     let text = renamed(rt.alloc(), text)?;
     rt.eprint(text.as_str())?;
-    rt.eprint(REFUSED)?;
-    Ok(())
+    if text.contains("--stop") {
+        rt.eprint(FEMTOSECONDS)?;
+    }
+    rt.eprint(REFUSED).context("writing")
 }
 
-/// Answers words that give no options.
-fn answer_fault<R: AllocGlobal + Eprint, W: Write>(
-    rt: &R,
-    fault: &CliFault,
-    out: &mut W,
-) -> Result<u8> {
+/// Answers words that give no options, and returns the exit status.
+fn answer_fault(rt: &HostRuntime, fault: &CliFault) -> Result<u8> {
     match fault {
         CliFault::Help(text) => {
-            write_help(rt.alloc(), out, text.as_str())?;
+            tell_help(rt, text.as_str())?;
             Ok(0)
         }
         CliFault::Refused(text) => {
@@ -190,29 +309,17 @@ fn answer_fault<R: AllocGlobal + Eprint, W: Write>(
 }
 
 /// The words after the program's name.
-fn words<R: AllocGlobal + Env>(rt: &R) -> io::Result<Vec<String>> {
+fn words(rt: &HostRuntime) -> io::Result<Vec<String>> {
     let words = env::args(rt)?.skip(1).collect(rt.alloc())?;
     Ok(words)
 }
 
-/// Writes the answer to the words, and returns the exit status.
-fn answer_to<R: AllocGlobal + Input + Eprint, W: Write>(
-    rt: &R,
-    words: Vec<String>,
-    out: &mut W,
-) -> Result<u8> {
-    match read_request(rt.alloc(), words) {
-        Ok(request) => answer_request(rt, &request, out),
-        Err(fault) => answer_fault(rt, &fault, out),
-    }
-}
-
 /// Answers the words, and returns the exit status.
-fn answer_words<R: AllocGlobal + Input + Print + Eprint>(rt: &R, words: Vec<String>) -> Result<u8> {
-    let mut out = BufWriter::new(rt.alloc(), writer(rt))?;
-    let status = answer_to(rt, words, &mut out);
-    out.flush().context("writing")?;
-    status
+fn answer_words(rt: &HostRuntime, words: Vec<String>) -> Result<u8> {
+    match read_request(rt.alloc(), words) {
+        Ok(request) => answer_apart(rt, &request),
+        Err(fault) => answer_fault(rt, &fault),
+    }
 }
 
 /// Whether the words ask for the version.
@@ -224,7 +331,7 @@ fn ask_for_version(words: &[String]) -> bool {
 }
 
 /// Answers words that are valid UTF-8, and returns the exit status.
-fn answer_texts<R: AllocGlobal + Input + Print + Eprint>(rt: &R, words: Vec<String>) -> Result<u8> {
+fn answer_texts(rt: &HostRuntime, words: Vec<String>) -> Result<u8> {
     if ask_for_version(words.as_slice()) {
         drop(words);
         rt.println(VERSION)?;
@@ -234,13 +341,13 @@ fn answer_texts<R: AllocGlobal + Input + Print + Eprint>(rt: &R, words: Vec<Stri
 }
 
 /// Prints that the words are not valid UTF-8.
-fn answer_no_text<R: Eprint>(rt: &R) -> Result<u8> {
+fn answer_no_text(rt: &HostRuntime) -> Result<u8> {
     rt.eprint(NO_TEXT)?;
     Ok(2)
 }
 
 /// Answers the command line, and returns the exit status.
-fn answer<R: AllocGlobal + Input + Print + Eprint + Env>(rt: &R) -> Result<u8> {
+fn answer(rt: &HostRuntime) -> Result<u8> {
     match words(rt) {
         Ok(words) => answer_texts(rt, words),
         Err(fault) if fault.kind() == io::ErrorKind::InvalidData => answer_no_text(rt),

@@ -1,10 +1,7 @@
 //! The words of the command line.
 
 use sim_run_options::{CliFault, Options, read_options};
-use std::alloc::Global;
-
-/// The word that asks for the listing.
-const LISTING: &str = "--listing";
+use std::alloc::{AllocError, Global};
 
 /// The request that the words of the command line make.
 #[derive(Drop)]
@@ -13,13 +10,104 @@ pub struct Request {
     pub options: Options,
     /// Whether the listing is wanted as well.
     pub listing: bool,
+    /// Whether the text and its design are to be checked, without a run.
+    pub is_check: bool,
+    /// The files of the text, in order; none for standard input.
+    pub files: Vec<String>,
 }
 
-/// Reads the words: those of `vsim`, and `--listing` anywhere among them.
-pub fn read_request(alloc: Global, mut words: Vec<String>) -> Result<Request, CliFault> {
-    let count = words.len();
-    words.retain(|word| word.as_str() != LISTING);
-    let listing = words.len() < count;
-    let options = read_options(alloc, words)?;
-    Ok(Request { options, listing })
+/// The words, divided into those of `vsim` and others.
+#[derive(Drop)]
+struct Words {
+    of_vsim: Vec<String>,
+    files: Vec<String>,
+    listing: bool,
+    is_check: bool,
+    /// Whether the next word is the value of an option.
+    is_value: bool,
+}
+
+/// The options of `vsim` whose value may be the next word.
+static VALUED: [&str; 4] = ["--top", "--stop", "--limit", "--workers"];
+
+/// Whether a word is an option of `vsim` whose value is the next word.
+fn is_valued(word: &str) -> bool {
+    for it in &VALUED {
+        if *it == word {
+            return true;
+        }
+    }
+    false
+}
+
+/// Adds a word, by one call however many there are.
+fn push(words: &mut Vec<String>, word: String) -> Result<(), AllocError> {
+    words.push(word)?;
+    Ok(())
+}
+
+impl Words {
+    /// Takes a word that is no option of this program's own.
+    fn take_other(&mut self, word: String) -> Result<(), AllocError> {
+        let is_value = self.is_value;
+        self.is_value = !is_value && is_valued(word.as_str());
+        if is_value || word.as_str().starts_with("-") {
+            return push(&mut self.of_vsim, word);
+        }
+        push(&mut self.files, word)
+    }
+
+    /// Takes a word.
+    fn take(&mut self, word: String) -> Result<(), AllocError> {
+        if !self.is_value && word.as_str() == "--listing" {
+            self.listing = true;
+            return Ok(());
+        }
+        if !self.is_value && word.as_str() == "--check" {
+            self.is_check = true;
+            return Ok(());
+        }
+        self.take_other(word)
+    }
+}
+
+/// Divides the words.
+fn divided(alloc: Global, words: Vec<String>) -> Result<Words, AllocError> {
+    let mut divided = Words {
+        of_vsim: Vec::new(alloc),
+        files: Vec::new(alloc),
+        listing: false,
+        is_check: false,
+        is_value: false,
+    };
+    for word in words {
+        divided.take(word)?;
+    }
+    Ok(divided)
+}
+
+/// The request of divided words.
+fn request_of(alloc: Global, words: Words) -> Result<Request, CliFault> {
+    let Words {
+        of_vsim,
+        files,
+        listing,
+        is_check,
+        is_value: _,
+    } = words;
+    let options = read_options(alloc, of_vsim)?;
+    Ok(Request {
+        options,
+        listing,
+        is_check,
+        files,
+    })
+}
+
+/// Reads the words: those of `vsim`, and `--listing`, `--check` and files anywhere among them.
+pub fn read_request(alloc: Global, words: Vec<String>) -> Result<Request, CliFault> {
+    match divided(alloc, words) {
+        Ok(words) => request_of(alloc, words),
+        Err(_lack) => Err(CliFault::Memory),
+    }
 }

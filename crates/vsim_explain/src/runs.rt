@@ -1,7 +1,7 @@
 //! The explanation of a run.
 
 use crate::changes::write_totals;
-use crate::cut_short::write_cut_short;
+use crate::cut_short::{write_all_cycles, write_cut_short};
 use crate::request::Request;
 use anyhow::{Result, bail};
 use sim_flat_design::Design;
@@ -94,32 +94,43 @@ fn ended(alloc: Global, store: WaveStore) -> Result<WaveStore> {
     }
 }
 
+/// Writes the listing of a run that has ended, as far as it goes.
+fn write_listing<L: Write>(alloc: Global, listing: &mut L, store: &WaveStore) -> Result<()> {
+    if store.ended() != Some(Step::Finished) {
+        return write_all_cycles(alloc, listing, store);
+    }
+    write_run(alloc, store, listing)?;
+    Ok(())
+}
+
 /// Writes the explanation of a run that has ended, and returns the exit status.
-fn tell_end<W: Write>(
+fn write_words<W: Write>(
     alloc: Global,
     store: &WaveStore,
     request: &Request,
-    out: &mut W,
+    words: &mut W,
 ) -> Result<u8> {
     if store.ended() != Some(Step::Finished) {
-        write_cut_short(alloc, out, request, store)?;
+        write_cut_short(alloc, words, request, store)?;
         return Ok(3);
     }
-    if request.listing {
-        write_run(alloc, store, out)?;
-    }
-    write_finished(alloc, out, store)?;
+    write_finished(alloc, words, store)?;
     Ok(0)
 }
 
-/// Runs a design, writes the explanation of its run, and returns the exit status.
-pub fn tell_run<W: Write>(
+/// Runs a design, writes its listing, if it is wanted, and the explanation of its run, and returns
+/// the exit status.
+pub fn tell_run<L: Write, W: Write>(
     alloc: Global,
     design: Design,
     request: &Request,
-    out: &mut W,
+    listing: &mut L,
+    words: &mut W,
 ) -> Result<u8> {
     let store = begun(alloc, design, &request.options)?;
     let store = ended(alloc, store)?;
-    tell_end(alloc, &store, request, out)
+    if request.listing {
+        write_listing(alloc, listing, &store)?;
+    }
+    write_words(alloc, &store, request, words)
 }

@@ -1,6 +1,6 @@
 //! Explanations of refusals.
 
-use crate::places::place_at;
+use crate::source::Source;
 use crate::tokens::token_at;
 use std::fmt::Display;
 use std::io::{self, Write};
@@ -69,34 +69,35 @@ impl Explanation {
         }
     }
 
-    /// Writes a refusal as `vsim` prints it, with its line and column, and the line itself.
+    /// Writes a refusal as `vsim` prints it, after its file, line and column as compilers write
+    /// them, and the line itself.
     fn write_place<W: Write, F: Display>(
         &self,
         out: &mut W,
-        source: &[u8],
+        source: Source<'_>,
         at: usize,
         refusal: &F,
     ) -> io::Result<()> {
-        let place = place_at(source, at);
+        let (name, place) = source.place(at);
         let (line, column) = (place.line, place.column);
-        writeln!(out, "{line}:{column}: {refusal}")?;
+        writeln!(out, "{name}:{line}:{column}: error: {refusal}")?;
         place.write_marked(out)?;
         if !self.is_at_token {
             return Ok(());
         }
-        write_found(out, token_at(source, at))
+        write_found(out, token_at(source.text, at))
     }
 
     /// Writes a refusal as `vsim` prints it and, if it has a place, the line there.
     fn write_head<W: Write, F: Display>(
         &self,
         out: &mut W,
-        source: &[u8],
+        source: Source<'_>,
         refusal: &F,
     ) -> io::Result<()> {
         match self.at {
             Some(at) => self.write_place(out, source, at, refusal),
-            None => writeln!(out, "{refusal}"),
+            None => writeln!(out, "error: {refusal}"),
         }
     }
 
@@ -114,7 +115,7 @@ impl Explanation {
     pub fn write<W: Write, F: Display>(
         &self,
         out: &mut W,
-        source: &[u8],
+        source: Source<'_>,
         refusal: &F,
     ) -> io::Result<()> {
         self.write_head(out, source, refusal)?;

@@ -14,7 +14,8 @@ pub const ASSERTION: &str = "\
 
 pub const TYPES: &str = "\
     The only types are std_logic, std_ulogic and, for variables, boolean. Numbers,\n\
-    user-defined types and all others are left out. See Declarations in docs/LEFT_OUT.md.";
+    user-defined types and all others are left out. See Declarations in docs/LEFT_OUT.md.\n\
+    Designs with vectors, numbers or Verilog become gates first. See docs/SYNTHESIS.md.";
 
 pub const DECLARATION: &str = "\
     Declarations of this kind are left out. An architecture declares signals and components,\n\
@@ -26,10 +27,12 @@ pub const UNIT: &str = "\
 
 pub const VECTOR: &str = "\
     Vectors are left out. Declare a signal or port for each element.\n\
-    See Declarations in docs/LEFT_OUT.md.";
+    See Declarations in docs/LEFT_OUT.md.\n\
+    Designs with vectors, numbers or Verilog become gates first. See docs/SYNTHESIS.md.";
 
 pub const SHIFT: &str = "\
-    Shift operators are left out, as vectors are. See Values in docs/LEFT_OUT.md.";
+    Shift operators are left out, as vectors are. See Values in docs/LEFT_OUT.md.\n\
+    Designs with vectors, numbers or Verilog become gates first. See docs/SYNTHESIS.md.";
 
 pub const MODES: &str = "\
     The only modes of ports are in, out and inout. See Entities in docs/LEFT_OUT.md.";
@@ -52,6 +55,18 @@ pub const WAIT: &str = "\
     a waveform, as in s <= '0', '1' after 5 ns, '0' after 10 ns;\n\
     See Sequential statements in docs/LEFT_OUT.md.";
 
+pub const WAIT_EDGE: &str = "\
+    Wait statements are left out. Write if rising_edge(clk) then .. end if; in process (clk).\n\
+    See Edges in docs/LANGUAGE.md.";
+
+pub const FILES: &str = "\
+    Files are left out. Write stimuli as a waveform, and look at the listing for results.\n\
+    See Declarations in docs/LEFT_OUT.md.";
+
+pub const CONFIGURATION: &str = "\
+    Configurations are left out; remove it. A component is bound to the entity of its name.\n\
+    See Which architecture in docs/INSTANCES.md.";
+
 pub const CASE: &str = "\
     Case statements are left out. Write if, elsif and else.\n\
     See Sequential statements in docs/LEFT_OUT.md.";
@@ -67,14 +82,16 @@ pub const PROCESS: &str = "\
 
 pub const FOREIGN: &str = "\
     This looks like Verilog or a netlist. vsim reads a subset of VHDL, in which each unit is\n\
-    an entity or an architecture. See A first design in docs/LANGUAGE.md.";
+    an entity or an architecture. See A first design in docs/LANGUAGE.md.\n\
+    Designs with vectors, numbers or Verilog become gates first. See docs/SYNTHESIS.md.";
 
 pub const SELECTED: &str = "\
     Selected assignments are left out. Write a conditional assignment: '1' when .. else '0';\n\
     in a process an if statement. See Concurrent statements in docs/LEFT_OUT.md.";
 
 pub const AGGREGATE: &str = "\
-    Aggregates are left out, as vectors are. See Values in docs/LEFT_OUT.md.";
+    Aggregates are left out, as vectors are. See Values in docs/LEFT_OUT.md.\n\
+    Designs with vectors, numbers or Verilog become gates first. See docs/SYNTHESIS.md.";
 
 pub const UNAFFECTED: &str = "\
     unaffected is left out. Omit the last else: if no condition holds, nothing is assigned.\n\
@@ -92,12 +109,14 @@ pub const TICK: &str = "\
 
 pub const CALL: &str = "\
     The only calls are rising_edge (s) and falling_edge (s); signals have no elements, since\n\
-    vectors are left out. See Values in docs/LEFT_OUT.md.";
+    vectors are left out. See Values in docs/LEFT_OUT.md.\n\
+    Designs with vectors, numbers or Verilog become gates first. See docs/SYNTHESIS.md.";
 
 pub const STRING: &str = "\
     Strings are left out, since vectors and reports are. Declare a signal for each element\n\
     of a vector, and assign each one a value in apostrophes, such as '1'.\n\
-    See Values in docs/LEFT_OUT.md.";
+    See Values in docs/LEFT_OUT.md.\n\
+    Designs with vectors, numbers or Verilog become gates first. See docs/SYNTHESIS.md.";
 
 pub const EXTENDED: &str = "\
     Extended identifiers are left out. Use a name of letters, digits and single underscores.\n\
@@ -109,14 +128,17 @@ pub const ORDER: &str = "\
 
 pub const ARITHMETIC: &str = "\
     Arithmetic is left out; the operators are and, or, nand, nor, xor, xnor, not, ??,\n\
-    = and /=. A comment begins with two hyphens. See Values in docs/LEFT_OUT.md.";
+    = and /=. See Values in docs/LEFT_OUT.md.\n\
+    Designs with vectors, numbers or Verilog become gates first. See docs/SYNTHESIS.md.";
 
 pub const JOINING: &str = "\
-    Concatenation is left out, as vectors are. See Values in docs/LEFT_OUT.md.";
+    Concatenation is left out, as vectors are. See Values in docs/LEFT_OUT.md.\n\
+    Designs with vectors, numbers or Verilog become gates first. See docs/SYNTHESIS.md.";
 
 pub const BASED: &str = "\
     Based literals are left out. Write the number in decimal.\n\
-    See Values in docs/LEFT_OUT.md.";
+    See Values in docs/LEFT_OUT.md.\n\
+    Designs with vectors, numbers or Verilog become gates first. See docs/SYNTHESIS.md.";
 
 /// The constructs that a word at the place of a `Syntax` begins.
 pub static AT: [(&str, &str); 20] = [
@@ -126,7 +148,7 @@ pub static AT: [(&str, &str); 20] = [
     ("subtype", TYPES),
     ("range", TYPES),
     ("alias", DECLARATION),
-    ("file", DECLARATION),
+    ("file", FILES),
     ("shared", DECLARATION),
     ("attribute", DECLARATION),
     ("disconnect", DECLARATION),

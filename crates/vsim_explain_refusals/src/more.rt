@@ -1,7 +1,8 @@
 //! What the text itself says about a fault.
 
+use crate::names::write_meant_name;
 use crate::nearest::{meant, nearest};
-use crate::ports::write_missing;
+use crate::ports::{has_instance, write_missing, write_unknown};
 use crate::tokens::{first_word, is_one_of, last_word, without_comments};
 use crate::words::{OTHER_WORDS, WORDS};
 use sim_flat::FlatError;
@@ -64,6 +65,10 @@ pub fn write_more_of_design<W: Write>(
     match fault {
         FlatError::NoTop => write_entities(alloc, out, &file, top),
         FlatError::PortMissing { at } => write_missing(alloc, out, &file, at),
+        FlatError::Unknown { at } if has_instance(&file, at) => {
+            write_unknown(alloc, out, &file, at)
+        }
+        FlatError::Unknown { at } => write_meant_name(alloc, out, source, &file, at),
         _ => Ok(()),
     }
 }

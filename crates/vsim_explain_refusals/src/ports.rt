@@ -3,17 +3,45 @@
 use crate::nearest::nearest;
 use sim_text_tree::DesignFile;
 use sim_text_tree::declaration::{Mode, PortDeclaration};
+use sim_text_tree::name::Name;
 use sim_text_tree::unit::{
     Actual, Association, Concurrent, Entity, Instance, Instantiated, LibraryUnit,
 };
 use std::alloc::{AllocError, Global};
 use std::io::{self, Write};
 
-/// The instance whose label is at a place, among the statements of an architecture.
+/// The name of the component or entity of an instance.
+fn unit_name(instance: &Instance) -> &Name {
+    match &instance.unit {
+        Instantiated::Component { component, .. } => component,
+        Instantiated::Entity { entity, .. } => entity,
+    }
+}
+
+/// The formal at a place, if a port map has one there.
+fn formal_at(associations: &[Association], at: usize) -> Option<&Name> {
+    for association in associations {
+        if let Some(formal) = &association.formal {
+            if formal.at() == at {
+                return Some(formal);
+            }
+        }
+    }
+    None
+}
+
+/// Whether the label, the unit or a formal of an instance is at a place.
+fn is_at(instance: &Instance, at: usize) -> bool {
+    instance.label.at() == at
+        || unit_name(instance).at() == at
+        || formal_at(instance.associations.as_slice(), at).is_some()
+}
+
+/// The instance that has a place, among the statements of an architecture.
 fn instance_among(statements: &[Concurrent], at: usize) -> Option<&Instance> {
     for statement in statements {
         if let Concurrent::Instance(instance) = statement {
-            if instance.label.at() == at {
+            if is_at(instance, at) {
                 return Some(instance);
             }
         }
@@ -21,7 +49,7 @@ fn instance_among(statements: &[Concurrent], at: usize) -> Option<&Instance> {
     None
 }
 
-/// The instance whose label is at a place.
+/// The instance whose label, unit or formal is at a place.
 fn instance_at(file: &DesignFile, at: usize) -> Option<&Instance> {
     for unit in file.units() {
         if let LibraryUnit::Architecture(architecture) = &unit.library_unit {
@@ -48,10 +76,12 @@ fn entity_named<'a>(file: &'a DesignFile, name: &str) -> Option<&'a Entity> {
 
 /// The entity of an instance.
 fn entity_of<'a>(file: &'a DesignFile, instance: &Instance) -> Option<&'a Entity> {
-    match &instance.unit {
-        Instantiated::Component { component, .. } => entity_named(file, component.as_str()),
-        Instantiated::Entity { entity, .. } => entity_named(file, entity.as_str()),
-    }
+    entity_named(file, unit_name(instance).as_str())
+}
+
+/// Whether the label, the unit or a formal of an instance is at a place.
+pub fn has_instance(file: &DesignFile, at: usize) -> bool {
+    instance_at(file, at).is_some()
 }
 
 /// Whether the ports of a declaration need an actual.
@@ -135,22 +165,91 @@ fn write_ports<W: Write>(
     let of = entity.name.as_str();
     writeln!(out, "The port without an actual is {name} of {of}.")?;
     match stranger(ports.as_slice(), associations) {
-        Some(formal) => write_stranger(alloc, out, ports.as_slice(), formal),
+        Some(formal) => write_stranger(alloc, out, ports.as_slice(), associations, formal),
         None => Ok(()),
     }
 }
 
-/// Writes that a name is no port, and the port with the nearest name.
+/// Whether a port has an association.
+fn is_taken(associations: &[Association], name: &str, place: usize) -> bool {
+    for (index, association) in associations.iter().enumerate() {
+        if is_of(association, index, name, place) {
+            return true;
+        }
+    }
+    false
+}
+
+/// The names of ports without an association.
+fn free_ports<'a>(
+    alloc: Global,
+    ports: &[(&'a str, bool)],
+    associations: &[Association],
+) -> Result<Vec<&'a str>, AllocError> {
+    let mut found = Vec::new(alloc);
+    for (place, (name, _)) in ports.iter().enumerate() {
+        if !is_taken(associations, name, place) && found.push(*name).is_err() {
+            return Err(AllocError);
+        }
+    }
+    Ok(found)
+}
+
+/// Writes that a name is no port, and the port that is free and has the nearest name.
 fn write_stranger<W: Write>(
     alloc: Global,
     out: &mut W,
     ports: &[(&str, bool)],
+    associations: &[Association],
     formal: &str,
 ) -> io::Result<()> {
-    let names: Vec<&str> = ports.iter().map(|port| port.0).collect(alloc)?;
+    let names = free_ports(alloc, ports, associations)?;
     match nearest(alloc, formal, names.as_slice())? {
-        Some(name) => writeln!(out, "No port is named {formal}; the nearest is {name}."),
-        None => Ok(()),
+        Some(name) => writeln!(
+            out,
+            "No port is named {formal}; the nearest that is free is {name}."
+        ),
+        None => writeln!(out, "No port is named {formal}, and none is free."),
+    }
+}
+
+/// Writes that the text has no entity of a name.
+fn write_no_entity<W: Write>(out: &mut W, name: &str) -> io::Result<()> {
+    writeln!(
+        out,
+        "There is no entity {name} in this file. If another file has it, put both files in one:\n\
+         cat a.vhd b.vhd"
+    )
+}
+
+/// Writes what a formal at a place that names no port of an entity may have meant.
+fn write_formal<W: Write>(
+    alloc: Global,
+    out: &mut W,
+    entity: &Entity,
+    associations: &[Association],
+    at: usize,
+) -> io::Result<()> {
+    let Some(formal) = formal_at(associations, at) else {
+        return Ok(());
+    };
+    let ports = ports_of(alloc, entity)?;
+    write_stranger(alloc, out, ports.as_slice(), associations, formal.as_str())
+}
+
+/// Writes what is known of an unknown name at a place in an instance: the entity or a formal.
+pub fn write_unknown<W: Write>(
+    alloc: Global,
+    out: &mut W,
+    file: &DesignFile,
+    at: usize,
+) -> io::Result<()> {
+    let Some(instance) = instance_at(file, at) else {
+        return Ok(());
+    };
+    match entity_of(file, instance) {
+        Some(entity) => write_formal(alloc, out, entity, instance.associations.as_slice(), at),
+        None => write_no_entity(out, unit_name(instance).as_str()),
     }
 }
 

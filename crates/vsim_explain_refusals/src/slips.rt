@@ -116,8 +116,80 @@ pub const CONVERSION: &str = "\
     A type is not a value, and conversions are left out: signals of std_logic and std_ulogic\n\
     can be assigned to one another directly. See Values in docs/LEFT_OUT.md.";
 
+pub const LOGICAL: &str = "\
+    The logical operators are words: s and d, s or d, s xor d, not s.\n\
+    See Expressions in docs/LANGUAGE.md.";
+
+pub const COMMENT: &str = "\
+    A comment begins with -- and goes to the end of the line. See Text in docs/LANGUAGE.md.";
+
+pub const CHOICE: &str = "\
+    s ? d : clk is written d when s = '1' else clk; in a process it is an if statement.\n\
+    See Conditional assignments in docs/LANGUAGE.md.";
+
+pub const ALL_SIGNALS: &str = "\
+    A process that is sensitive to all it reads is written process (all).\n\
+    See Processes in docs/LANGUAGE.md.";
+
+pub const POSITIONAL: &str = "\
+    In a port map positional associations come before named ones, as in\n\
+    port map (s, b => d), or each names its port. See docs/INSTANCES.md.";
+
+pub const MAP_MISSING: &str = "\
+    port map is missing before the parenthesis, as in entity work.NAME port map (s, d).\n\
+    See docs/INSTANCES.md.";
+
+pub const LABEL: &str = "\
+    An instance has a label, as in u1 : entity work.NAME port map (s, d); or, if its\n\
+    component is declared, u1 : NAME port map (s, d). See docs/INSTANCES.md.";
+
+pub const ELSE: &str = "\
+    A conditional assignment goes on with else, as in '1' when s = '1' else '0'.\n\
+    See Conditional assignments in docs/LANGUAGE.md.";
+
+pub const WHEN: &str = "\
+    In an assignment the word is when, as in q <= '1' when s = '1' else '0'; in a process\n\
+    write an if statement around it. See Conditional assignments in docs/LANGUAGE.md.";
+
+pub const CHAINED: &str = "\
+    Comparisons need parentheses to be combined, as in (s = d) and (d = '1').\n\
+    See Expressions in docs/LANGUAGE.md.";
+
+pub const AND_MISSING: &str = "\
+    A word is missing behind 'event, as in clk'event and clk = '1'.\n\
+    See Edges in docs/LANGUAGE.md.";
+
+pub const EDGE_OF: &str = "\
+    rising_edge and falling_edge take the name of one signal. The rising edge of not clk is\n\
+    falling_edge (clk). See Edges in docs/LANGUAGE.md.";
+
+pub const TRANSPORT: &str = "\
+    transport, inertial and reject come directly behind <=, as in q <= transport d after 1 ns.\n\
+    See Transport, inertial and reject in docs/LANGUAGE.md.";
+
+pub const NAMES_APART: &str = "\
+    Names are separated by commas, and a colon comes before their type, as in\n\
+    signal a, b : std_logic; See Signals and their values in docs/LANGUAGE.md.";
+
+pub const COMPONENT_END: &str = "\
+    A component declaration ends with end component; See docs/INSTANCES.md.";
+
+pub const END_TOO_MANY: &str = "\
+    This end if is one too many: each if of this process has its own already.\n\
+    See Processes in docs/LANGUAGE.md.";
+
+pub const OF_VARIABLE: &str = "\
+    If this is a variable, use :=, as in v := d; See Variables in docs/LANGUAGE.md.";
+
+pub const OF_SIGNAL: &str = "\
+    If this is a signal or port, use <=, as in q <= d;\n\
+    See Assignments and delays in docs/LANGUAGE.md.";
+
 /// The hint on a word at the place of a `Syntax`.
-pub static AT: [(&str, &str); 16] = [
+pub static AT: [(&str, &str); 19] = [
+    ("transport", TRANSPORT),
+    ("inertial", TRANSPORT),
+    ("reject", TRANSPORT),
     ("and", MIXED),
     ("or", MIXED),
     ("nand", MIXED),
@@ -137,7 +209,8 @@ pub static AT: [(&str, &str); 16] = [
 ];
 
 /// The hint on a word before the place of a `Syntax`.
-pub static AFTER: [(&str, &str); 6] = [
+pub static AFTER: [(&str, &str); 7] = [
+    ("els", ELSIF),
     ("end", ENDS),
     ("endif", END_IF),
     ("elseif", ELSIF),
@@ -152,6 +225,9 @@ pub static KINDS: [(&str, &str); 3] = [
     ("std_logic", CONVERSION),
     ("std_ulogic", CONVERSION),
 ];
+
+/// The types of signals and variables.
+pub static TYPES: [&str; 3] = ["std_logic", "std_ulogic", "boolean"];
 
 /// The operators that are words.
 pub static OPERATORS: [&str; 7] = ["not", "and", "or", "nand", "nor", "xor", "xnor"];

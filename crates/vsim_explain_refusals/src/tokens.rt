@@ -81,6 +81,95 @@ pub fn has_word(text: &[u8], word: &str) -> bool {
     false
 }
 
+/// Whether a text contains one of these words after the last of others.
+pub fn has_one_since(text: &[u8], words: &[&str], since: &[&str]) -> bool {
+    let mut found = false;
+    for it in text.split(|byte| !is_of_word(*byte)) {
+        found = (found && !is_one_of(since, it)) || is_one_of(words, it);
+    }
+    found
+}
+
+/// Whether a component declaration is open at the end of a text.
+pub fn is_in_component(text: &[u8]) -> bool {
+    let (mut is_open, mut is_end) = (false, false);
+    for it in text.split(|byte| !is_of_word(*byte)) {
+        if !it.is_empty() {
+            is_open = if is_same(it, "component") {
+                !is_end
+            } else {
+                is_open && !is_same(it, "begin")
+            };
+            is_end = is_same(it, "end");
+        }
+    }
+    is_open
+}
+
+/// Whether a statement of a process waits for an edge, up to the first end.
+pub fn waits_for_edge(text: &[u8]) -> bool {
+    let (mut is_wait, mut is_until) = (false, false);
+    for it in text.split(|byte| !is_of_word(*byte)) {
+        if is_same(it, "end") {
+            return false;
+        }
+        if is_until && is_one_of(&["rising_edge", "falling_edge"], it) {
+            return true;
+        }
+        if !it.is_empty() {
+            is_until = is_wait && is_same(it, "until");
+            is_wait = is_same(it, "wait");
+        }
+    }
+    false
+}
+
+/// Whether as many if statements have ended as have begun since the last process began.
+pub fn are_ifs_closed(text: &[u8]) -> bool {
+    let (mut open, mut is_end) = (0usize, false);
+    for it in text.split(|byte| !is_of_word(*byte)) {
+        if is_same(it, "process") {
+            open = 0;
+        } else if is_same(it, "if") && is_end {
+            open = open.saturating_sub(1);
+        } else if is_same(it, "if") {
+            open = open.saturating_add(1);
+        }
+        if !it.is_empty() {
+            is_end = is_same(it, "end");
+        }
+    }
+    open == 0
+}
+
+/// Whether a text contains `=` that is a sign by itself.
+pub fn has_comparison(text: &[u8]) -> bool {
+    let mut before = b' ';
+    for (place, byte) in text.iter().enumerate() {
+        let after = text.get(place.saturating_add(1)).copied().unwrap_or(b' ');
+        let is_part = matches!(before, b'<' | b'>' | b':' | b'/' | b'?') || after == b'>';
+        if *byte == b'=' && !is_part {
+            return true;
+        }
+        before = *byte;
+    }
+    false
+}
+
+/// The text before the first semicolon.
+pub fn first_statement(text: &[u8]) -> &[u8] {
+    match text.split(|byte| *byte == b';').next() {
+        Some(statement) => statement,
+        None => text,
+    }
+}
+
+/// The text behind its first word, without blanks before it.
+pub fn behind_word(text: &[u8]) -> &[u8] {
+    let (_, rest) = text.split_at(first_word(text).len().min(text.len()));
+    rest.trim_ascii_start()
+}
+
 /// Whether `word` is followed by `next` after the last occurrence of `since`.
 pub fn has_pair_since(text: &[u8], since: &str, word: &str, next: &str) -> bool {
     let (mut found, mut is_behind) = (false, false);
@@ -142,6 +231,19 @@ fn behind_comment(text: &[u8]) -> Option<&[u8]> {
     let (_, inside) = text.split_at(2.min(text.len()));
     let end = inside.windows(2).position(|pair| pair == b"*/".as_slice())?;
     inside.get(end.saturating_add(2)..)
+}
+
+/// A text without blanks and comments at its start, as Verilog or a netlist has them.
+pub fn behind_foreign_comments(text: &[u8]) -> &[u8] {
+    let mut text = behind_comments(text);
+    for _turn in 0..MOST_COMMENTS {
+        if !text.starts_with(b"//") && !text.starts_with(b"#") {
+            break;
+        }
+        let (_, after) = text.split_at(first_line(text).len().min(text.len()));
+        text = behind_comments(after);
+    }
+    text
 }
 
 /// A text without blanks and comments `/* .. */` at its start.

@@ -12,6 +12,7 @@ const MORE: &str = "Input:
   The netlist comes by standard input. It is flat, and of Yosys' own gates:
       yosys -p 'read_verilog uart.v; synth -flatten -top uart;
         abc -g AND,OR,XOR,NAND,NOR,XNOR,MUX; opt_clean; write_json uart.json'
+  or of cells of a library, by dfflibmap -liberty FILE and abc -liberty FILE.
 
 Stimuli:
   A VCD, or lines TIME INPUT VALUE, as '10ns data 0xA5' or '5ns clk 1', and at
@@ -22,10 +23,11 @@ Delays:
   A gate is buf, not, and, nand, or, nor, xor, xnor, andnot, ornot, mux, nmux,
   mux4, mux8, mux16, aoi3, oai3, aoi4, oai4, lut, tbuf, dff or latch. A delay is
   as 40ps, or 40ps/55ps to rise and to fall. Without it a gate is a delta cycle.
+  A cell of a library takes that of the gate that its function is, else others.
 
 Status:
   0  the text is written, or help or the version was asked for
-  1  the netlist, its stimuli or a delay is refused
+  1  the netlist, a library, its stimuli or a delay is refused
   2  the command line is refused
   4  memory was refused, or reading or writing failed
 
@@ -40,9 +42,12 @@ pub(crate) struct Options<'a> {
     top: &'a str,
     stimuli: &'a str,
     scope: &'a str,
+    /// The Liberty files.
+    pub(crate) liberty: &'a [&'a str],
     pub(crate) delays: &'a str,
     pub(crate) hold: &'a str,
     map: &'a str,
+    pub(crate) names_entity: bool,
 }
 
 /// A message about the arguments, in place of a text: help, a refusal, or that there is no memory
@@ -102,6 +107,14 @@ fn with_valued<'a>(
     )
 }
 
+/// The option for the name of the entity.
+fn entity<'a>(alloc: Global) -> Arg<'a> {
+    Arg::new(alloc, "entity")
+        .long("entity")
+        .action(ArgAction::SetTrue)
+        .help("Print the name of the text's entity, for vsim --top, and no text")
+}
+
 /// The option of the version.
 fn version<'a>(alloc: Global) -> Arg<'a> {
     Arg::new(alloc, "version")
@@ -111,10 +124,22 @@ fn version<'a>(alloc: Global) -> Arg<'a> {
         .help("Print version")
 }
 
+/// Adds the option of the Liberty files, which may be given several times.
+fn with_liberty<'a>(alloc: Global, command: Command<'a>) -> Result<Command<'a>, AllocError> {
+    command.arg(
+        Arg::new(alloc, "liberty")
+            .long("liberty")
+            .action(ArgAction::Append)
+            .value_name("FILE")
+            .help("A library of cells; several are one library"),
+    )
+}
+
 /// Adds the options about what to simulate.
 fn with_design<'a>(alloc: Global, command: Command<'a>) -> Result<Command<'a>, AllocError> {
     let help = "The module, if not the one that is marked as the top";
     let command = with_valued(alloc, command, "top", "NAME", help)?;
+    let command = with_liberty(alloc, command)?;
     let help = "How the inputs change: a VCD, or lines";
     let command = with_valued(alloc, command, "stimuli", "FILE", help)?;
     let help = "The scope of the VCD, else the deepest that fits";
@@ -138,7 +163,8 @@ pub(crate) fn command_line<'a>(alloc: Global) -> Result<Command<'a>, AllocError>
         .after_help(MORE)
         .no_binary_name(true);
     let command = with_design(alloc, command)?;
-    with_times(alloc, command)?.arg(version(alloc))
+    let command = with_times(alloc, command)?.arg(entity(alloc))?;
+    command.arg(version(alloc))
 }
 
 /// The value of an option; empty if it is not given.
@@ -149,15 +175,25 @@ fn value<'a>(matches: &'a ArgMatches<'_>, name: &str) -> &'a str {
     }
 }
 
+/// The values of an option that may be given several times.
+fn values<'a>(matches: &'a ArgMatches<'_>, name: &str) -> &'a [&'a str] {
+    match matches.get_strs(name) {
+        Some(values) => values,
+        None => &[],
+    }
+}
+
 /// The values of the options in valid arguments.
 pub(crate) fn make_options<'a>(matches: &'a ArgMatches<'_>) -> Options<'a> {
     Options {
         top: value(matches, "top"),
         stimuli: value(matches, "stimuli"),
         scope: value(matches, "scope"),
+        liberty: values(matches, "liberty"),
         delays: value(matches, "delays"),
         hold: value(matches, "hold"),
         map: value(matches, "map"),
+        names_entity: matches.get_flag("entity"),
     }
 }
 

@@ -5,7 +5,7 @@ use crate::delay_list::{read_delays, read_hold};
 use crate::text::{Request, Written, write_text};
 use std::alloc::{AllocError, Global};
 use vsim_netlist_cells::read_netlist;
-use vsim_netlist_design::{Draft, Fault, Netlist, Port, Stimuli, push};
+use vsim_netlist_design::{Draft, Fault, Library, Netlist, Port, Stimuli, push};
 use vsim_netlist_stimuli::{Input, LATEST, read_stimuli};
 
 /// Adds an input.
@@ -44,14 +44,16 @@ fn stimuli(
     }
 }
 
-/// Makes the text of a netlist, with the text of its stimuli, if there are any.
+/// Makes the text of a netlist of cells of a library, with the text of its stimuli, if there are
+/// any.
 pub(crate) fn convert(
     alloc: Global,
     options: &Options<'_>,
+    library: &Library,
     text: &str,
     of_stimuli: Option<&str>,
 ) -> Result<Written, Fault> {
-    match read_netlist(alloc, text, options.top()) {
+    match read_netlist(alloc, text, options.top(), library) {
         Ok(netlist) => convert_netlist(alloc, options, &netlist, of_stimuli),
         Err(fault) => Err(fault.about(alloc, &["the netlist"])),
     }

@@ -9,6 +9,7 @@ mod delay_list;
 mod failure;
 mod map;
 mod text;
+mod undriven;
 
 use crate::command::{Notice, Options, command_line, make_notice, make_options};
 use crate::conversion::convert;
@@ -18,7 +19,8 @@ use clap::ArgMatches;
 use std::io::{self, BufWriter, Write, writer};
 use std::process::ExitCode;
 use std::{env, fs};
-use vsim_netlist_design::Fault;
+use vsim_netlist_design::{Fault, Library};
+use vsim_netlist_liberty::read_library;
 
 /// The output of `--version`. In the copy that is built, the script `build` fills in this line.
 const VERSION: &str = "vsim_netlist 1.0.0, sources unknown, toolchain unknown
@@ -73,16 +75,29 @@ fn write_text(rt: &HostRuntime, text: &str) -> Result<(), Failure> {
     }
 }
 
-/// Warns of clocks that gates or registers drive, if standard error can be written.
+/// Warns of what nothing drives and of clocks that gates or registers drive, if standard error can
+/// be written.
 fn warn(rt: &HostRuntime, options: &Options<'_>, written: &Written) {
+    let _told = rt.eprint(written.undriven.as_str());
     if written.derived_clocks > 0 && !options.is_timed() {
         let _warned = rt.eprint(DERIVED);
     }
 }
 
-/// Writes the text and the map.
+/// Writes the name of an entity on standard output, in a line of its own.
+fn write_entity(rt: &HostRuntime, entity: &str) -> Result<(), Failure> {
+    match rt.println(entity) {
+        Ok(()) => Ok(()),
+        Err(fault) => Err(Failure::of_streams(fault, "writing")),
+    }
+}
+
+/// Writes the text and the map, or the name of the entity and the map if that name is requested.
 fn write_all(rt: &HostRuntime, options: &Options<'_>, written: &Written) -> Result<(), Failure> {
     write_map(rt, options.map(), written.map.as_str())?;
+    if options.names_entity {
+        return write_entity(rt, written.entity.as_str());
+    }
     warn(rt, options, written);
     write_text(rt, written.text.as_str())
 }
@@ -95,6 +110,32 @@ fn read_stimuli(rt: &HostRuntime, options: &Options<'_>) -> Result<Option<String
     }
 }
 
+/// The bytes of a file.
+fn read_bytes(rt: &HostRuntime, path: &str) -> Result<Vec<u8>, Failure> {
+    match fs::read(rt, path) {
+        Ok(bytes) => Ok(bytes),
+        Err(fault) => Err(Failure::of_reading(fault, path)),
+    }
+}
+
+/// Adds the cells of a Liberty file to a library.
+fn put_cells(rt: &HostRuntime, library: &mut Library, path: &str) -> Result<(), Failure> {
+    let text = read_bytes(rt, path)?;
+    match read_library(rt.alloc(), library, path, text.as_slice()) {
+        Ok(()) => Ok(()),
+        Err(fault) => Err(Failure::Conversion(fault)),
+    }
+}
+
+/// The library of all Liberty files.
+fn library(rt: &HostRuntime, options: &Options<'_>) -> Result<Library, Failure> {
+    let mut library = Library::new(rt.alloc());
+    for path in options.liberty {
+        put_cells(rt, &mut library, *path)?;
+    }
+    Ok(library)
+}
+
 /// Makes the text of a netlist, or tells why there is none.
 fn converted(
     rt: &HostRuntime,
@@ -102,7 +143,8 @@ fn converted(
     netlist: &str,
     stimuli: Option<&str>,
 ) -> Result<Written, Failure> {
-    match convert(rt.alloc(), options, netlist, stimuli) {
+    let library = library(rt, options)?;
+    match convert(rt.alloc(), options, &library, netlist, stimuli) {
         Ok(written) => Ok(written),
         Err(fault) => Err(Failure::Conversion(fault)),
     }

@@ -1,12 +1,15 @@
 //! The text of a netlist.
 
 use crate::map::make_map;
+use crate::undriven::note_undriven;
 use std::alloc::{AllocError, Global};
 use vsim_netlist_design::{Draft, Fault, Level, Netlist, Stimuli};
 use vsim_netlist_gate_text::put_cells;
 use vsim_netlist_signals::{NamedDelay, Signals, Statements, make_signals};
 use vsim_netlist_stimulus_text::{frequent_levels, put_stimuli};
-use vsim_netlist_uses::{Clocks, Uses, all_within, refuse_loops, wanted_nets};
+use vsim_netlist_uses::{
+    Clocks, Uses, all_within, driven_nets, refuse_clashes, refuse_loops, wanted_nets,
+};
 
 /// The maximum size of a text of vsim, in bytes.
 const MOST_BYTES: usize = 1_048_576;
@@ -24,11 +27,14 @@ pub(crate) struct Request<'a> {
     pub(crate) hold: u64,
 }
 
-/// A text, its map, and the number of clocks that gates or registers drive.
+/// A text, the name of its entity, its map, a note about what nothing drives, and the number of
+/// clocks that gates or registers drive.
 #[derive(Drop)]
 pub(crate) struct Written {
     pub(crate) text: String,
+    pub(crate) entity: String,
     pub(crate) map: String,
+    pub(crate) undriven: String,
     pub(crate) derived_clocks: usize,
 }
 
@@ -108,24 +114,43 @@ fn end(stimuli: Option<&Stimuli>) -> u64 {
     }
 }
 
+/// The map, and the note about what nothing drives.
+fn map_and_note(
+    statements: &Statements,
+    request: &Request<'_>,
+    uses: &Uses,
+) -> Result<(String, String), AllocError> {
+    let (alloc, netlist) = (statements.alloc, request.netlist);
+    let driven = driven_nets(alloc, netlist, uses)?;
+    let (driven, end) = (driven.as_slice(), end(request.stimuli));
+    let map = make_map(alloc, netlist, &statements.signals, driven, end)?;
+    let note = note_undriven(alloc, netlist, driven)?;
+    Ok((map, note))
+}
+
 /// The finished text and map.
 fn finished(
     statements: &Statements,
     request: &Request<'_>,
+    uses: &Uses,
     derived_clocks: usize,
 ) -> Result<Written, Fault> {
     let text = limited(statements)?;
-    let end = end(request.stimuli);
-    let map = make_map(statements.alloc, request.netlist, &statements.signals, end)?;
+    let (map, undriven) = map_and_note(statements, request, uses)?;
+    let entity = String::from_str(statements.alloc, statements.signals.entity.as_str())?;
     Ok(Written {
         text,
+        entity,
         map,
+        undriven,
         derived_clocks,
     })
 }
 
-/// The uses of the nets of a netlist without a loop of wires.
+/// The uses of the nets of a netlist without a loop of wires, and without a net that two inputs or
+/// cells drive always.
 fn checked_uses(alloc: Global, netlist: &Netlist) -> Result<Uses, Fault> {
+    refuse_clashes(alloc, netlist)?;
     let uses = Uses::of(alloc, netlist, false)?;
     refuse_loops(alloc, netlist, &uses)?;
     Ok(uses)
@@ -190,10 +215,11 @@ fn put_inputs(
 fn finish(
     statements: &mut Statements,
     request: &Request<'_>,
+    uses: &Uses,
     clocks: &Clocks,
 ) -> Result<Written, Fault> {
     put_inputs(statements, request, clocks.is_before.as_slice())?;
-    finished(statements, request, clocks.derived)
+    finished(statements, request, uses, clocks.derived)
 }
 
 /// Writes the text of a netlist, given the uses of its nets.
@@ -205,7 +231,7 @@ fn write_with(
 ) -> Result<Written, Fault> {
     let within = all_within(alloc, request.netlist, uses, !request.delays.is_empty())?;
     let mut statements = cell_statements(alloc, request, uses, within.as_slice())?;
-    finish(&mut statements, request, clocks)
+    finish(&mut statements, request, uses, clocks)
 }
 
 /// Writes the text of a netlist.

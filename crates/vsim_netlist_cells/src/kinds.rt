@@ -1,12 +1,20 @@
 //! The cells of a module, by their types.
 
 use crate::document::{WrittenBit, WrittenCell};
+use crate::library_cells::library_cells;
 use crate::nets::Nets;
 use crate::registers::letters;
 use std::alloc::Global;
 use vsim_netlist_design::{
-    Bit, Cell, Control, Draft, Fault, Gate, GateCell, Level, Register, Style, push,
+    Bit, Cell, Control, Draft, Fault, Gate, GateCell, Level, Library, Register, Style, push,
 };
+
+/// Where cells are made, and the library of those that are not Yosys' own.
+#[derive(Clone, Copy)]
+pub(crate) struct Site<'a> {
+    pub(crate) alloc: Global,
+    pub(crate) library: &'a Library,
+}
 
 /// The maximum number of inputs of a look-up table.
 const MOST_INPUTS: usize = 6;
@@ -51,14 +59,55 @@ fn kind_of(kind: &str) -> Kind<'_> {
     }
 }
 
-/// Advice on a type that is not a gate of Yosys' library.
-fn advice(kind: &str) -> &'static str {
+/// The beginnings of the names of cells that FPGAs have and gates have not.
+static OF_FPGAS: [&str; 17] = [
+    "SB_",
+    "ICESTORM_",
+    "TRELLIS_",
+    "CCU2",
+    "PFUMX",
+    "L6MUX21",
+    "DP16KD",
+    "MULT18X18",
+    "EHXPLL",
+    "CARRY4",
+    "CARRY8",
+    "MUXF",
+    "BUFG",
+    "DSP48",
+    "RAMB",
+    "SRL16",
+    "SRLC32",
+];
+
+/// Other names of cells that FPGAs have.
+static CELLS_OF_FPGAS: [&str; 17] = [
+    "LUT1", "LUT2", "LUT3", "LUT4", "LUT5", "LUT6", "FDRE", "FDSE", "FDCE", "FDPE", "LDCE", "LDPE",
+    "INV", "IBUF", "OBUF", "IOBUF", "OBUFT",
+];
+
+/// Whether a type is a cell of an FPGA, as synth_ice40, synth_xilinx and synth_ecp5 make.
+fn is_of_fpga(kind: &str) -> bool {
+    for begin in &OF_FPGAS {
+        if kind.starts_with(*begin) {
+            return true;
+        }
+    }
+    CELLS_OF_FPGAS.contains(&kind)
+}
+
+/// Advice on a type that is not a gate of Yosys' library, nor in the library that is given.
+fn advice(kind: &str, has_library: bool) -> &'static str {
     if kind.starts_with("$_") {
         "a gate that this program does not know"
     } else if kind.starts_with("$") {
         "run memory_map, techmap and simplemap before write_json"
+    } else if is_of_fpga(kind) {
+        "a cell of an FPGA: use synth in place of synth_ice40, synth_xilinx or synth_ecp5"
+    } else if has_library {
+        "no Liberty file has such a cell"
     } else {
-        "run flatten, and neither dfflibmap nor abc -liberty, before write_json"
+        "run flatten before write_json, or name the library that has it by --liberty"
     }
 }
 
@@ -138,6 +187,9 @@ fn gate(
         inputs,
         output,
         table: None,
+        steps: Vec::new(alloc),
+        is_inner: false,
+        is_low: false,
     })))
 }
 
@@ -200,6 +252,9 @@ fn lookup_of(
         inputs,
         output,
         table: Some(table),
+        steps: Vec::new(alloc),
+        is_inner: false,
+        is_low: false,
     })))
 }
 
@@ -295,21 +350,48 @@ fn register(
     Ok(Some(Cell::Register(register)))
 }
 
-/// Reads a cell; `None` if it has no effect in a simulation.
-pub(crate) fn make_cell(
+/// Reads a cell of Yosys' library; `None` if it has no effect in a simulation.
+fn own_cell(
     alloc: Global,
     cell: &WrittenCell,
     nets: &mut Nets,
+    has_library: bool,
 ) -> Result<Option<Cell>, Fault> {
     let kind = cell.kind.as_str();
     match kind_of(kind) {
         Kind::Note => Ok(None),
         Kind::Other => {
-            let told = advice(kind);
+            let told = advice(kind, has_library);
             Err(Fault::of(alloc, &[told]))
         }
         Kind::Gate(Gate::Lut) => lookup(alloc, cell, nets),
         Kind::Gate(found) => gate(alloc, cell, nets, found),
         Kind::Register(given, pins, style) => register(alloc, cell, nets, given, pins, style),
+    }
+}
+
+/// Reads a cell of Yosys' library: one, or none if it has no effect in a simulation.
+fn own_cells(
+    alloc: Global,
+    cell: &WrittenCell,
+    nets: &mut Nets,
+    has_library: bool,
+) -> Result<Vec<Cell>, Fault> {
+    let mut cells = Vec::new(alloc);
+    if let Some(cell) = own_cell(alloc, cell, nets, has_library)? {
+        push(&mut cells, cell)?;
+    }
+    Ok(cells)
+}
+
+/// Reads a cell: the gates and registers that make it up, none if it has no effect in a simulation.
+pub(crate) fn make_cells(
+    site: Site<'_>,
+    cell: &WrittenCell,
+    nets: &mut Nets,
+) -> Result<Vec<Cell>, Fault> {
+    match site.library.find(cell.kind.as_str()) {
+        Some(entry) => library_cells(site.alloc, cell, nets, entry),
+        None => own_cells(site.alloc, cell, nets, !site.library.is_empty()),
     }
 }

@@ -3,6 +3,7 @@
 
 mod document;
 mod kinds;
+mod library_cells;
 mod modules;
 mod nets;
 mod object;

@@ -1,11 +1,11 @@
 //! The simulated module of a netlist.
 
 use crate::document::{Document, Members, Module, WrittenCell, WrittenName, WrittenPort};
-use crate::kinds::make_cell;
+use crate::kinds::{Site, make_cells};
 use crate::nets::Nets;
 use indexmap::IndexSet;
 use std::alloc::{AllocError, Global};
-use vsim_netlist_design::{Cell, Draft, Fault, Netlist, Port, Variable, push};
+use vsim_netlist_design::{Cell, Draft, Fault, Library, Netlist, Port, Variable, push};
 
 /// Whether a module is marked as the top.
 fn is_top(module: &Module) -> bool {
@@ -132,16 +132,16 @@ fn about_cell(alloc: Global, fault: Fault, name: &str, written: &WrittenCell) ->
     }
 }
 
-/// Reads a cell. The error names its place in the source.
-fn placed_cell(
-    alloc: Global,
+/// Reads a cell, as the cells that make it up. The error names its place in the source.
+fn placed_cells(
+    site: Site<'_>,
     nets: &mut Nets,
     name: &str,
     written: &WrittenCell,
-) -> Result<Option<Cell>, Fault> {
-    match make_cell(alloc, written, nets) {
-        Ok(cell) => Ok(cell),
-        Err(fault) => Err(about_cell(alloc, fault, name, written)),
+) -> Result<Vec<Cell>, Fault> {
+    match make_cells(site, written, nets) {
+        Ok(cells) => Ok(cells),
+        Err(fault) => Err(about_cell(site.alloc, fault, name, written)),
     }
 }
 
@@ -155,59 +155,96 @@ fn origin(alloc: Global, name: &str, written: &WrittenCell) -> Result<String, Al
     origin.finish()
 }
 
-/// Adds a cell, unless it has no effect in a simulation.
-fn put_cell(
-    alloc: Global,
-    nets: &mut Nets,
-    netlist: &mut Netlist,
-    name: &str,
-    written: &WrittenCell,
-    origin: String,
-) -> Result<(), Fault> {
-    if let Some(cell) = placed_cell(alloc, nets, name, written)? {
-        push(&mut netlist.cells, cell)?;
-        push(&mut netlist.origins, origin)?;
+/// Adds the origin of a cell.
+fn put_origin(origins: &mut Vec<String>, origin: &String) -> Result<(), AllocError> {
+    let copy = origin.clone()?;
+    push(origins, copy)
+}
+
+/// Adds the origin of the cells that make up one, for each of them.
+fn put_origins(origins: &mut Vec<String>, origin: &String, count: usize) -> Result<(), AllocError> {
+    for _ in 0..count {
+        put_origin(origins, origin)?;
     }
     Ok(())
 }
 
+/// Adds the cells that make up one, none if that has no effect in a simulation.
+fn put_parts_of_cell(
+    site: Site<'_>,
+    nets: &mut Nets,
+    netlist: &mut Netlist,
+    name: &str,
+    written: &WrittenCell,
+    origin: &String,
+) -> Result<(), Fault> {
+    let mut cells = placed_cells(site, nets, name, written)?;
+    put_origins(&mut netlist.origins, origin, cells.len())?;
+    Ok(netlist.cells.append(&mut cells)?)
+}
+
 /// Adds a cell whose name is not among these, and notes its name.
 fn put_new_cell(
-    alloc: Global,
+    site: Site<'_>,
     nets: &mut Nets,
     netlist: &mut Netlist,
     names: &mut IndexSet<String>,
     name: &String,
     written: &WrittenCell,
 ) -> Result<(), Fault> {
-    let origin = origin(alloc, name.as_str(), written)?;
-    note(alloc, names, name, origin.as_str())?;
-    put_cell(alloc, nets, netlist, name.as_str(), written, origin)
+    let origin = origin(site.alloc, name.as_str(), written)?;
+    note(site.alloc, names, name, origin.as_str())?;
+    put_parts_of_cell(site, nets, netlist, name.as_str(), written, &origin)
 }
 
 /// Adds cells whose names are not among these, and notes their names.
 fn put_each_cell(
-    alloc: Global,
+    site: Site<'_>,
     nets: &mut Nets,
     netlist: &mut Netlist,
     names: &mut IndexSet<String>,
     written: &Members<WrittenCell>,
 ) -> Result<(), Fault> {
     for (name, written) in written.entries.iter() {
-        put_new_cell(alloc, nets, netlist, names, name, written)?;
+        put_new_cell(site, nets, netlist, names, name, written)?;
     }
     Ok(())
 }
 
 /// Adds the cells of a module.
 fn put_cells(
-    alloc: Global,
+    site: Site<'_>,
     nets: &mut Nets,
     netlist: &mut Netlist,
     written: &Members<WrittenCell>,
 ) -> Result<(), Fault> {
+    let mut names = IndexSet::new(site.alloc);
+    put_each_cell(site, nets, netlist, &mut names, written)
+}
+
+/// The names of ports with a dot. They are escaped names, as a port is in no scope.
+fn escaped_names(alloc: Global, ports: &[Port]) -> Result<IndexSet<String>, AllocError> {
     let mut names = IndexSet::new(alloc);
-    put_each_cell(alloc, nets, netlist, &mut names, written)
+    for port in ports {
+        if port.name.as_str().contains('.') {
+            let _ = is_new(&mut names, &port.name)?;
+        }
+    }
+    Ok(names)
+}
+
+/// A name of the source, after a backslash if it is an escaped one with a dot.
+fn source_name(
+    alloc: Global,
+    escaped: &IndexSet<String>,
+    name: &str,
+) -> Result<String, AllocError> {
+    let mut text = Draft::new(alloc);
+    if escaped.get_index_of(name).is_some() {
+        text.push("\\");
+    }
+    text.push(name);
+    text.finish()
 }
 
 /// Adds a name of the source, if it is one.
@@ -215,50 +252,66 @@ fn put_variable(
     alloc: Global,
     nets: &mut Nets,
     variables: &mut Vec<Variable>,
+    escaped: &IndexSet<String>,
     name: &str,
     written: &WrittenName,
 ) -> Result<(), AllocError> {
-    match nets.take_name(alloc, name, written)? {
+    let name = source_name(alloc, escaped, name)?;
+    match nets.take_name(alloc, name.as_str(), written)? {
         Some(variable) => push(variables, variable),
         None => Ok(()),
     }
+}
+
+/// Adds the source's names of nets, given the names that are escaped.
+fn put_each_variable(
+    alloc: Global,
+    nets: &mut Nets,
+    variables: &mut Vec<Variable>,
+    escaped: &IndexSet<String>,
+    written: &Members<WrittenName>,
+) -> Result<(), AllocError> {
+    for (name, written) in written.entries.iter() {
+        put_variable(alloc, nets, variables, escaped, name.as_str(), written)?;
+    }
+    Ok(())
 }
 
 /// Adds the source's names of nets.
 fn put_variables(
     alloc: Global,
     nets: &mut Nets,
-    variables: &mut Vec<Variable>,
+    netlist: &mut Netlist,
     written: &Members<WrittenName>,
 ) -> Result<(), AllocError> {
-    for (name, written) in written.entries.iter() {
-        put_variable(alloc, nets, variables, name.as_str(), written)?;
-    }
-    Ok(())
+    let escaped = escaped_names(alloc, netlist.ports.as_slice())?;
+    put_each_variable(alloc, nets, &mut netlist.variables, &escaped, written)
 }
 
 /// Adds the ports, cells and names of a module.
 fn put_parts(
-    alloc: Global,
+    site: Site<'_>,
     nets: &mut Nets,
     netlist: &mut Netlist,
     module: &Module,
 ) -> Result<(), Fault> {
+    let alloc = site.alloc;
     put_ports(alloc, nets, &mut netlist.ports, &module.ports)?;
-    put_cells(alloc, nets, netlist, &module.cells)?;
-    Ok(put_variables(alloc, nets, &mut netlist.variables, &module.netnames)?)
+    put_cells(site, nets, netlist, &module.cells)?;
+    Ok(put_variables(alloc, nets, netlist, &module.netnames)?)
 }
 
 /// Adds all parts of a module.
-fn put_module(alloc: Global, netlist: &mut Netlist, module: &Module) -> Result<(), Fault> {
-    let mut nets = Nets::new(alloc);
-    put_parts(alloc, &mut nets, netlist, module)?;
+fn put_module(site: Site<'_>, netlist: &mut Netlist, module: &Module) -> Result<(), Fault> {
+    let mut nets = Nets::new(site.alloc);
+    put_parts(site, &mut nets, netlist, module)?;
     netlist.nets = nets.nets;
     Ok(())
 }
 
 /// Reads the netlist of a module.
-fn make_netlist(alloc: Global, name: &str, module: &Module) -> Result<Netlist, Fault> {
+fn make_netlist(site: Site<'_>, name: &str, module: &Module) -> Result<Netlist, Fault> {
+    let alloc = site.alloc;
     let name = String::from_str(alloc, name)?;
     let mut netlist = Netlist {
         name,
@@ -268,14 +321,18 @@ fn make_netlist(alloc: Global, name: &str, module: &Module) -> Result<Netlist, F
         variables: Vec::new(alloc),
         nets: Vec::new(alloc),
     };
-    put_module(alloc, &mut netlist, module)?;
+    put_module(site, &mut netlist, module)?;
     Ok(netlist)
 }
 
 /// Reads the netlist of the requested module.
-fn wanted_netlist(alloc: Global, document: &Document, top: Option<&str>) -> Result<Netlist, Fault> {
-    let (name, module) = wanted(alloc, document, top)?;
-    make_netlist(alloc, name, module)
+fn wanted_netlist(
+    site: Site<'_>,
+    document: &Document,
+    top: Option<&str>,
+) -> Result<Netlist, Fault> {
+    let (name, module) = wanted(site.alloc, document, top)?;
+    make_netlist(site, name, module)
 }
 
 /// The refusal of a text that is not the JSON of a netlist.
@@ -306,8 +363,14 @@ fn read_document(alloc: Global, text: &str) -> Result<Document, Fault> {
     Ok(document)
 }
 
-/// Reads the netlist of the module with this name, or of the one marked as the top.
-pub fn read_netlist(alloc: Global, text: &str, top: Option<&str>) -> Result<Netlist, Fault> {
+/// Reads the netlist of the module with this name, or of the one marked as the top. Its cells are
+/// those of Yosys, and those of this library.
+pub fn read_netlist(
+    alloc: Global,
+    text: &str,
+    top: Option<&str>,
+    library: &Library,
+) -> Result<Netlist, Fault> {
     let document = read_document(alloc, text)?;
-    wanted_netlist(alloc, &document, top)
+    wanted_netlist(Site { alloc, library }, &document, top)
 }

@@ -5,10 +5,12 @@ use indexmap::IndexSet;
 use std::alloc::{AllocError, Global};
 use vsim_netlist_design::{Bit, Level, Net, Variable, push};
 
-/// The nets, by their numbers in the netlist.
+/// The nets, by their numbers in the netlist, and those inside of cells, which have none.
 #[derive(Drop)]
 pub(crate) struct Nets {
     numbers: IndexSet<u64>,
+    /// For each number the index of its net.
+    places: Vec<usize>,
     pub(crate) nets: Vec<Net>,
 }
 
@@ -17,20 +19,35 @@ impl Nets {
     pub(crate) fn new(alloc: Global) -> Nets {
         Nets {
             numbers: IndexSet::new(alloc),
+            places: Vec::new(alloc),
             nets: Vec::new(alloc),
         }
     }
 
+    /// The index of a new net.
+    pub(crate) fn add(&mut self) -> Result<usize, AllocError> {
+        let place = self.nets.len();
+        self.nets.push(Net {
+            initial: None,
+            is_named: false,
+        })?;
+        Ok(place)
+    }
+
+    /// Adds the net of a new number.
+    fn add_numbered(&mut self) -> Result<usize, AllocError> {
+        let place = self.add()?;
+        push(&mut self.places, place)?;
+        Ok(place)
+    }
+
     /// The index of the net with a number, which is added if it is new.
     fn place(&mut self, number: u64) -> Result<usize, AllocError> {
-        let (place, is_new) = self.numbers.insert_full(number)?;
-        if is_new {
-            self.nets.push(Net {
-                initial: None,
-                is_named: false,
-            })?;
+        let (order, _is_new) = self.numbers.insert_full(number)?;
+        if let Some(place) = self.places.get(order) {
+            return Ok(*place);
         }
-        Ok(place)
+        self.add_numbered()
     }
 
     /// Reads a bit. A new net is added.

@@ -1,6 +1,7 @@
 //! The gates of Yosys' library: their output depends on their inputs alone.
 
 use crate::bits::Bit;
+use crate::library::Step;
 
 /// A kind of gate.
 #[derive(Clone, Copy, PartialEq, Eq)]
@@ -26,16 +27,25 @@ pub enum Gate {
     Oai4,
     Lut,
     Tristate,
+    /// A function of a library's cell that no other gate computes.
+    Function,
 }
 
 /// A gate: the connections of its inputs, in the order of `pins`, and the net of its output. The
-/// inputs of a look-up table come lowest first, and its bits are in `table`, highest first.
+/// inputs of a look-up table come lowest first, and its bits are in `table`, highest first. A gate
+/// of a library has `steps` if it is no multiplexer: those on its inputs, or on its data if it is a
+/// three-state buffer, whose enable comes last.
 #[derive(Drop)]
 pub struct GateCell {
     pub gate: Gate,
     pub inputs: Vec<Bit>,
     pub output: usize,
     pub table: Option<String>,
+    pub steps: Vec<Step>,
+    /// Whether it is a part of a library's cell that has no delay of its own.
+    pub is_inner: bool,
+    /// Whether a three-state buffer drives while its enable is `0`.
+    pub is_low: bool,
 }
 
 /// The gates: each with the name of its type in a netlist, its name in `--delays`, and the names of
@@ -92,6 +102,9 @@ impl Gate {
                 return *name;
             }
         }
-        ""
+        match self {
+            Gate::Function => "others",
+            _ => "",
+        }
     }
 }

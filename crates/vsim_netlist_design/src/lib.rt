@@ -1,10 +1,12 @@
-//! A module of gates: its ports, cells, nets and the names of its source; stimuli; and texts.
+//! A module of gates: its ports, cells, nets and the names of its source; the cells of a library;
+//! stimuli; and texts.
 #![tactic(auto)]
 
 mod bits;
 mod fault;
 mod gates;
 mod level;
+mod library;
 mod lists;
 mod netlist;
 mod registers;
@@ -16,6 +18,10 @@ pub use bits::Bit;
 pub use fault::Fault;
 pub use gates::{Gate, GateCell};
 pub use level::Level;
+pub use library::{
+    Conflict, Function, Library, LibraryCell, LibraryEntry, LibraryPin, LibraryState, Source, Step,
+    Variant,
+};
 pub use lists::{empty_lists, push};
 pub use netlist::{Cell, Net, Netlist, Port, Variable};
 pub use registers::{Control, Register, Style};

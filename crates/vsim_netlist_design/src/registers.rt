@@ -2,6 +2,7 @@
 
 use crate::bits::Bit;
 use crate::level::Level;
+use crate::library::Conflict;
 
 /// The kinds of registers in Yosys' library, by how they are set.
 #[derive(Clone, Copy, PartialEq, Eq)]
@@ -42,8 +43,10 @@ pub struct Register {
     pub load: Option<Control>,
     pub data: Option<Bit>,
     pub loaded: Option<Bit>,
-    /// The reset value.
+    /// The reset value. A set gives the other one.
     pub value: Level,
+    /// What happens while both set and reset are active, if that is not the reset.
+    pub conflict: Option<Conflict>,
     pub output: usize,
 }
 
@@ -60,6 +63,7 @@ impl Register {
             data: None,
             loaded: None,
             value: Level::Zero,
+            conflict: None,
             output,
         }
     }

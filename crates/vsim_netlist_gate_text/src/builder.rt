@@ -4,11 +4,11 @@ use crate::processes::{Conditions, Process};
 use indexmap::IndexSet;
 use std::alloc::{AllocError, Global};
 use vsim_netlist_design::{
-    Bit, Cell, Control, Draft, Gate, GateCell, Level, Netlist, Register, Style, push,
+    Bit, Cell, Conflict, Control, Draft, Gate, GateCell, Level, Netlist, Register, Style, push,
 };
 use vsim_netlist_signals::{
-    Delay, Expression, NamedDelay, Statements, delay_of, gate_expression, literal, named,
-    push_assignment, push_literal, push_stored, push_tristate,
+    Delay, Expression, NamedDelay, Statements, delay_of, function_expression, gate_expression,
+    literal, named, push_assignment, push_literal, push_stored, push_tristate,
 };
 use vsim_netlist_uses::{Uses, is_marked, longest_within, writing_order};
 
@@ -75,15 +75,22 @@ fn assign_enabled(
     statements: &mut Statements,
     place: usize,
     value: &Expression,
-    enable: Bit,
+    enable: Control,
     delay: Delay,
 ) {
-    let enable = statements.signals.of_bit(enable);
+    let is_high = enable.is_high;
+    let enable = statements.signals.of_bit(enable.bit);
     statements.ensure(place);
     statements.count();
     let signals = &statements.signals;
     let (target, enable) = (signals.text(place), signals.text(enable));
-    push_tristate(&mut statements.body, target, value, enable, delay)
+    push_tristate(
+        &mut statements.body,
+        target,
+        value,
+        (enable, is_high),
+        delay,
+    )
 }
 
 /// The condition under which a control is active; empty if there is none.
@@ -285,26 +292,43 @@ impl<'a> Builder<'a> {
         }
     }
 
-    /// Writes a three-state buffer.
-    fn put_tristate(&mut self, gate: &GateCell, delay: Delay) {
-        if let [data, .., enable] = gate.inputs.as_slice() {
-            let value = self.operand(*data);
-            assign_enabled(&mut self.statements, gate.output, &value, *enable, delay);
+    /// The data of a three-state buffer: that of a library's cell is a function of its inputs.
+    fn tristate_value(&mut self, gate: &GateCell, data: &[Bit]) -> Result<Expression, AllocError> {
+        let operands = self.operands(data)?;
+        if gate.steps.is_empty() {
+            return gate_expression(self.alloc, Gate::Buf, "", operands.as_slice());
         }
+        function_expression(self.alloc, gate.steps.as_slice(), operands.as_slice())
+    }
+
+    /// Writes a three-state buffer.
+    fn put_tristate(&mut self, gate: &GateCell, delay: Delay) -> Result<(), AllocError> {
+        if let [data @ .., enable] = gate.inputs.as_slice() {
+            let value = self.tristate_value(gate, data)?;
+            let enable = Control {
+                bit: *enable,
+                is_high: !gate.is_low,
+            };
+            assign_enabled(&mut self.statements, gate.output, &value, enable, delay);
+        }
+        Ok(())
     }
 
     /// The expression of a gate.
     fn expression(&mut self, gate: &GateCell) -> Result<Expression, AllocError> {
         let operands = self.operands(gate.inputs.as_slice())?;
+        if !gate.steps.is_empty() {
+            return function_expression(self.alloc, gate.steps.as_slice(), operands.as_slice());
+        }
         gate_expression(self.alloc, gate.gate, table_of(gate), operands.as_slice())
     }
 
     /// Adds a gate.
     fn take_gate(&mut self, gate: &GateCell) -> Result<(), AllocError> {
-        let delay = delay_of(self.delays, gate.gate.name());
+        let name = if gate.is_inner { "" } else { gate.gate.name() };
+        let delay = delay_of(self.delays, name);
         if gate.gate == Gate::Tristate {
-            self.put_tristate(gate, delay);
-            return Ok(());
+            return self.put_tristate(gate, delay);
         }
         let expression = self.expression(gate)?;
         self.put(gate.output, expression, delay);
@@ -314,7 +338,7 @@ impl<'a> Builder<'a> {
     /// The index of the process for the registers like this one.
     fn group(&mut self, register: &Register) -> Result<usize, AllocError> {
         let conditions = conditions(&mut self.statements, register);
-        let key = conditions.key(self.alloc, register.style);
+        let key = conditions.key(self.alloc, register.style, register.conflict.is_some());
         let (place, is_new) = find_group(&mut self.keys, key)?;
         if is_new {
             self.add_group(register, conditions)?;
@@ -414,8 +438,34 @@ fn fill_levels(process: &mut Process, register: &Register, target: &str, delay: 
         push_literal(&mut process.reset, target, level.literal(), delay.to(level));
     }
     if register.set.is_some() {
-        let level = Level::One;
+        let level = level_of_set(register.value);
         push_literal(&mut process.set, target, level.literal(), delay.to(level));
+    }
+    fill_conflict(process, register, target, delay);
+}
+
+/// The value that a set gives, given that of the reset.
+fn level_of_set(value: Level) -> Level {
+    if value == Level::One {
+        Level::Zero
+    } else {
+        Level::One
+    }
+}
+
+/// Adds what happens while a register is both set and reset, if that is not the reset.
+fn fill_conflict(process: &mut Process, register: &Register, target: &str, delay: Delay) {
+    match register.conflict {
+        Some(Conflict::Level(level)) => {
+            push_literal(
+                &mut process.conflict,
+                target,
+                level.literal(),
+                delay.to(level),
+            );
+        }
+        Some(Conflict::Kept) => process.conflict.push("null;"),
+        None => {}
     }
 }
 

@@ -26,9 +26,10 @@ impl Drop for Conditions {
 
 impl Conditions {
     /// The properties that the registers of one process have in common, as a text.
-    pub(crate) fn key(&self, alloc: Global, style: Style) -> Draft {
+    pub(crate) fn key(&self, alloc: Global, style: Style, has_conflict: bool) -> Draft {
         let mut key = Draft::new(alloc);
         key.push_shown(&(style as u8));
+        key.push(if has_conflict { "!" } else { "" });
         for part in [&self.edge, &self.enable, &self.reset, &self.set, &self.load] {
             key.push_draft(part);
             key.push(";");
@@ -43,6 +44,8 @@ pub(crate) struct Process {
     style: Style,
     sensitivity: Draft,
     conditions: Conditions,
+    /// The assignments under both reset and set.
+    pub(crate) conflict: Draft,
     pub(crate) reset: Draft,
     pub(crate) set: Draft,
     pub(crate) load: Draft,
@@ -55,6 +58,7 @@ impl Drop for Process {
             style: _,
             sensitivity: _sensitivity,
             conditions: _conditions,
+            conflict: _conflict,
             reset: _reset,
             set: _set,
             load: _load,
@@ -106,6 +110,7 @@ impl Process {
             style,
             sensitivity,
             conditions,
+            conflict: Draft::new(alloc),
             reset: Draft::new(alloc),
             set: Draft::new(alloc),
             load: Draft::new(alloc),
@@ -116,7 +121,9 @@ impl Process {
     /// Adds the statements of a process with an asynchronous reset, or without one.
     fn push_at_any_time(&self, alloc: Global, text: &mut Draft) {
         let conditions = &self.conditions;
-        let is_first = push_branch(text, &conditions.reset, &self.reset, true);
+        let conflict = both(alloc, &conditions.reset, &conditions.set);
+        let is_first = push_branch(text, &conflict, &self.conflict, true);
+        let is_first = push_branch(text, &conditions.reset, &self.reset, is_first);
         let is_first = push_branch(text, &conditions.set, &self.set, is_first);
         let is_first = push_branch(text, &conditions.load, &self.load, is_first);
         let condition = both(alloc, &conditions.edge, &conditions.enable);

@@ -21,9 +21,12 @@ pub struct NamedDelay {
 /// No delay: a delta cycle.
 const NONE: Delay = Delay { rise: 0, fall: 0 };
 
-/// The delay of the gates with a name, by default that of `others`.
+/// The delay of the gates with a name, by default that of `others`. Gates without a name have none.
 pub fn delay_of(delays: &[NamedDelay], name: &str) -> Delay {
     let mut others = NONE;
+    if name.is_empty() {
+        return others;
+    }
     for each in delays {
         if each.name.as_str() == name {
             return each.delay;
@@ -143,19 +146,25 @@ pub fn push_stored(
     text.push("end if;");
 }
 
-/// Adds a buffer that drives only while a net enables it.
+/// Adds a buffer that drives only while a net enables it, at `1` if the flag is set.
 pub fn push_tristate(
     text: &mut Draft,
     target: &str,
     value: &Expression,
-    enable: &str,
+    enable: (&str, bool),
     delay: Delay,
 ) {
     let time = delay.longest();
+    let (enable, is_high) = enable;
+    let (on, off) = if is_high {
+        ("'1'", "'0'")
+    } else {
+        ("'0'", "'1'")
+    };
     push_value(text, target, value, time);
-    text.push_all(&[" when ", enable, "='1'else'Z'"]);
+    text.push_all(&[" when ", enable, "=", on, "else'Z'"]);
     push_after(text, time);
-    text.push_all(&[" when ", enable, "='0'else'X'"]);
+    text.push_all(&[" when ", enable, "=", off, "else'X'"]);
     push_after(text, time);
     text.push(";\n");
 }

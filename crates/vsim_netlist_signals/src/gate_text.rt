@@ -25,7 +25,7 @@ fn is(expression: &Expression, literal: &str) -> bool {
 }
 
 /// A copy of an expression.
-fn copy(alloc: Global, expression: &Expression) -> Expression {
+pub(crate) fn copy(alloc: Global, expression: &Expression) -> Expression {
     let mut text = Draft::new(alloc);
     text.push_draft(&expression.text);
     Expression {

@@ -4,6 +4,7 @@
 
 mod delays;
 mod expressions;
+mod function_text;
 mod gate_text;
 mod names;
 mod signals;
@@ -13,6 +14,7 @@ pub use delays::{
     Delay, NamedDelay, delay_of, push_assignment, push_literal, push_stored, push_tristate,
 };
 pub use expressions::{Expression, literal, named};
+pub use function_text::function_expression;
 pub use gate_text::gate_expression;
 pub use names::Names;
 pub use signals::{Signals, make_signals};

@@ -48,11 +48,14 @@ impl Drop for Header<'_> {
     }
 }
 
-/// A name without a range after it, and without the backslash of an escaped name.
+/// A name without a range after it, or an escaped name without its backslash.
 fn bare(name: &str) -> &str {
+    if let Some(escaped) = name.strip_prefix("\\") {
+        return escaped;
+    }
     match name.split_once('[') {
         Some((name, _)) if !name.is_empty() => name,
-        _ => name.strip_prefix("\\").unwrap_or(name),
+        _ => name,
     }
 }
 

@@ -52,10 +52,18 @@ fn bits_of_digits(alloc: Global, digits: &[u8]) -> Result<String, AllocError> {
     bits.finish()
 }
 
+/// The bits of a hexadecimal number without the zeros in front, or one bit of `0`.
+fn bits_of_number(alloc: Global, digits: &str) -> Result<String, AllocError> {
+    let bits = bits_of_digits(alloc, digits.as_bytes())?;
+    let number = bits.as_str().trim_start_matches('0');
+    String::from_str(alloc, if number.is_empty() { "0" } else { number })
+}
+
 /// The bits of a value, written as bits or as `0xA5`.
 fn bits(alloc: Global, value: &str) -> Result<String, AllocError> {
     match value.strip_prefix("0x") {
-        Some(digits) => bits_of_digits(alloc, digits.as_bytes()),
+        Some(digits) if !digits.is_empty() => bits_of_number(alloc, digits),
+        Some(digits) => String::from_str(alloc, digits),
         None => String::from_str(alloc, value),
     }
 }
@@ -71,6 +79,22 @@ fn without_comment(line: &str) -> &str {
 /// The refusal of a name.
 fn no_input(alloc: Global, name: &str) -> Fault {
     Fault::of(alloc, &["there is no input ", name])
+}
+
+/// The refusal of a value that has more bits than its input.
+fn too_wide(alloc: Global, name: &str, width: usize, value: &str, count: usize) -> Fault {
+    let mut text = Draft::of(alloc, "input ");
+    text.push_all(&[name, " has "]);
+    push_count(&mut text, width);
+    text.push_all(&[", and ", value, " has "]);
+    push_count(&mut text, count);
+    Fault::of_draft(text)
+}
+
+/// Adds a number of bits.
+fn push_count(text: &mut Draft, count: usize) {
+    text.push_shown(&count);
+    text.push(if count == 1 { " bit" } else { " bits" });
 }
 
 /// The same fault, after the number of the line that it is about.
@@ -125,8 +149,12 @@ impl Lines<'_> {
         let Some((_, place)) = find(self.inputs, name) else {
             return Err(no_input(self.alloc, name));
         };
-        let value = bits(self.alloc, value)?;
-        self.set_bits(place, value.as_str().as_bytes())
+        let bits = bits(self.alloc, value)?;
+        let (width, count) = (place.width, bits.len());
+        if width < count {
+            return Err(too_wide(self.alloc, name, width, value, count));
+        }
+        self.set_bits(place, bits.as_str().as_bytes())
     }
 
     /// Gives a value to an input from a time on.

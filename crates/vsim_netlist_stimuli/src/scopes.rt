@@ -3,7 +3,7 @@
 use crate::changes::{Bits, Input, find};
 use crate::header::{Header, Scope, Variable};
 use std::alloc::{AllocError, Global};
-use vsim_netlist_design::{Fault, empty_lists, push};
+use vsim_netlist_design::{Draft, Fault, empty_lists, push};
 
 /// An input that a variable of a VCD stands for: its index, its bits, and the code of the variable.
 #[derive(Clone, Copy)]
@@ -103,14 +103,127 @@ fn at_path(scopes: &[Scope], path: &str) -> Option<usize> {
     None
 }
 
-/// The first input that is missing from a list.
-fn missing<'a>(inputs: &'a [Input], list: &[Match<'_>]) -> Option<&'a str> {
-    for (place, input) in inputs.iter().enumerate() {
-        if !has(list, place) {
-            return Some(input.name.as_str());
+/// The number of inputs that the scope at an index has.
+fn count_at(found: &[Vec<Match<'_>>], place: usize) -> usize {
+    match found.get(place) {
+        Some(list) => list.len(),
+        None => 0,
+    }
+}
+
+/// The index of the scope that has most inputs; of several the deepest, and of these the first.
+fn nearest(scopes: &[Scope], found: &[Vec<Match<'_>>]) -> Option<usize> {
+    let (mut best, mut most) = (None, (0usize, 0usize));
+    for (place, scope) in scopes.iter().enumerate() {
+        let now = (count_at(found, place), scope.depth);
+        if best.is_none() || most < now {
+            best = Some(place);
+            most = now;
+        }
+    }
+    best
+}
+
+/// The number of bits that a variable has in a scope.
+fn width_in(header: &Header<'_>, scope: usize, name: &str) -> Option<usize> {
+    for variable in header.variables.iter() {
+        if variable.scope == scope && variable.name == name {
+            return Some(variable.width);
         }
     }
     None
+}
+
+/// The most inputs that are named as missing.
+const MOST_NAMED: usize = 4;
+
+/// Adds an input that a scope lacks: its name and, if that is there with another number of bits,
+/// both numbers.
+fn push_missing(text: &mut Draft, input: &Input, width: Option<usize>) {
+    text.push(input.name.as_str());
+    if let Some(width) = width {
+        text.push(" of ");
+        text.push_shown(&input.width);
+        text.push(if input.width == 1 {
+            " bit, not "
+        } else {
+            " bits, not "
+        });
+        text.push_shown(&width);
+    }
+}
+
+/// Adds the inputs that a scope lacks. Returns whether it lacks one.
+fn push_all_missing(
+    text: &mut Draft,
+    header: &Header<'_>,
+    inputs: &[Input],
+    list: &[Match<'_>],
+    scope: usize,
+) -> bool {
+    let mut count = 0usize;
+    for (place, input) in inputs.iter().enumerate() {
+        if has(list, place) {
+            continue;
+        }
+        if count < MOST_NAMED {
+            text.push(if count == 0 { "" } else { ", " });
+            push_missing(text, input, width_in(header, scope, input.name.as_str()));
+        }
+        count = count.saturating_add(1);
+    }
+    push_rest(text, count);
+    count > 0
+}
+
+/// Adds how many more are missing than are named.
+fn push_rest(text: &mut Draft, count: usize) {
+    if count > MOST_NAMED {
+        text.push(" and ");
+        text.push_shown(&count.saturating_sub(MOST_NAMED));
+        text.push(" more");
+    }
+}
+
+/// The inputs that a scope lacks, after its path; `None` if it has all.
+fn lacks(
+    alloc: Global,
+    header: &Header<'_>,
+    inputs: &[Input],
+    list: &[Match<'_>],
+    scope: usize,
+) -> Option<Draft> {
+    let mut text = Draft::new(alloc);
+    if let Some(it) = header.scopes.get(scope) {
+        text.push_all(&[it.path.as_str(), " lacks "]);
+    }
+    if push_all_missing(&mut text, header, inputs, list, scope) {
+        Some(text)
+    } else {
+        None
+    }
+}
+
+/// The refusal of a VCD of which no scope has all inputs.
+fn no_scope(
+    alloc: Global,
+    header: &Header<'_>,
+    inputs: &[Input],
+    found: &[Vec<Match<'_>>],
+) -> Fault {
+    let mut text = Draft::of(alloc, "no scope has all inputs, each with its width");
+    let Some(place) = nearest(header.scopes.as_slice(), found) else {
+        return Fault::of_draft(text);
+    };
+    let Some(list) = found.get(place) else {
+        return Fault::of_draft(text);
+    };
+    if let Some(told) = lacks(alloc, header, inputs, list.as_slice(), place) {
+        text.push("; the nearest: ");
+        text.push_draft(&told);
+    }
+    text.push("; --scope names one");
+    Fault::of_draft(text)
 }
 
 /// The index of the scope with a path, which has to be there.
@@ -125,26 +238,24 @@ fn requested(alloc: Global, scopes: &[Scope], path: &str) -> Result<usize, Fault
 fn place(
     alloc: Global,
     header: &Header<'_>,
+    inputs: &[Input],
     found: &[Vec<Match<'_>>],
-    count: usize,
     path: Option<&str>,
 ) -> Result<usize, Fault> {
     let scopes = header.scopes.as_slice();
     if let Some(path) = path {
         return requested(alloc, scopes, path);
     }
-    match deepest(scopes, found, count) {
+    match deepest(scopes, found, inputs.len()) {
         Some(place) => Ok(place),
-        None => Err(Fault::of(
-            alloc,
-            &["no scope has all inputs, each with its width: --scope names one"],
-        )),
+        None => Err(no_scope(alloc, header, inputs, found)),
     }
 }
 
 /// Takes the inputs of the scope at an index, which has to have all.
 fn chosen<'a>(
     alloc: Global,
+    header: &Header<'_>,
     found: &mut Vec<Vec<Match<'a>>>,
     place: usize,
     inputs: &[Input],
@@ -152,8 +263,8 @@ fn chosen<'a>(
     let Some(list) = found.get_mut(place) else {
         return Ok(Vec::new(alloc));
     };
-    match missing(inputs, list.as_slice()) {
-        Some(name) => Err(Fault::of(alloc, &["the scope has no ", name, " with its width"])),
+    match lacks(alloc, header, inputs, list.as_slice(), place) {
+        Some(told) => Err(Fault::of_draft(told)),
         None => Ok(std::mem::replace(list, Vec::new(alloc))),
     }
 }
@@ -166,6 +277,6 @@ pub(crate) fn choose<'a>(
     path: Option<&str>,
 ) -> Result<Vec<Match<'a>>, Fault> {
     let mut found = matches(alloc, header, inputs)?;
-    let place = place(alloc, header, found.as_slice(), inputs.len(), path)?;
-    chosen(alloc, &mut found, place, inputs)
+    let place = place(alloc, header, inputs, found.as_slice(), path)?;
+    chosen(alloc, header, &mut found, place, inputs)
 }

@@ -1,7 +1,9 @@
 //! Which cells read and drive the nets of a netlist.
 
 use std::alloc::{AllocError, Global};
-use vsim_netlist_design::{Bit, Cell, Control, Gate, GateCell, Netlist, Register, Style, push};
+use vsim_netlist_design::{
+    Bit, Cell, Control, Gate, GateCell, Netlist, Register, Step, Style, push,
+};
 
 /// The cells that read and drive a net: their number, and the last of each.
 #[derive(Clone, Copy)]
@@ -189,11 +191,29 @@ pub fn wanted_nets(
     Ok(wanted)
 }
 
+/// The maximum length of a gate nested at an input of these steps, in bytes.
+fn longest_at_steps(steps: &[Step], pin: usize) -> usize {
+    let mut count = 0usize;
+    for step in steps {
+        if *step == Step::Input(pin) {
+            count = count.saturating_add(1);
+        }
+    }
+    match count {
+        0 | 1 => LONGEST,
+        2 => LONGEST_TWICE,
+        _ => 0,
+    }
+}
+
 /// The maximum length of a gate nested at a pin of another cell, in bytes.
 pub fn longest_within(cell: &Cell, pin: usize) -> usize {
     let Cell::Gate(gate) = cell else {
         return LONGEST;
     };
+    if gate.gate != Gate::Tristate && !gate.steps.is_empty() {
+        return longest_at_steps(gate.steps.as_slice(), pin);
+    }
     match gate.gate {
         Gate::Mux | Gate::Nmux if pin == 1 => LONGEST,
         Gate::Mux | Gate::Nmux => LONGEST_TWICE,

@@ -8,18 +8,41 @@ const FIRST_BYTE: u8 = b'!';
 
 const BYTES: usize = 94;
 
-/// Writes the identifier of the net with a number: digits to base 94, the lowest first.
-pub fn write_identifier<W: Write>(out: &mut W, number: usize) -> io::Result<()> {
-    let mut left = number;
+/// The most bytes of a value of one bit, its identifier, and a line feed.
+const LONGEST: usize = 16;
+
+/// Puts the identifier of the net with a number behind what precedes a place: digits to base 94, the
+/// lowest first. Returns the place behind it.
+fn put_identifier(bytes: &mut [u8], place: usize, number: usize) -> usize {
+    let (mut left, mut place) = (number, place);
     for _ in 0..usize::BITS {
-        let digit = (left % BYTES) as u8;
-        out.write_all(&[FIRST_BYTE + digit])?;
+        if let Some(byte) = bytes.get_mut(place) {
+            *byte = FIRST_BYTE + (left % BYTES) as u8;
+        }
+        place = place.saturating_add(1);
         left /= BYTES;
         if left == 0 {
             break;
         }
     }
-    Ok(())
+    place
+}
+
+/// Writes the identifier of the net with a number.
+pub fn write_identifier<W: Write>(out: &mut W, number: usize) -> io::Result<()> {
+    let mut bytes = [0; LONGEST];
+    let end = put_identifier(&mut bytes, 0, number);
+    out.write_all(bytes.get(..end).unwrap_or(&[]))
+}
+
+/// Writes the value of one bit of the net with a number, in a line.
+pub fn write_bit<W: Write>(out: &mut W, letter: u8, number: usize) -> io::Result<()> {
+    let mut bytes = [letter; LONGEST];
+    let end = put_identifier(&mut bytes, 1, number);
+    if let Some(byte) = bytes.get_mut(end) {
+        *byte = b'\n';
+    }
+    out.write_all(bytes.get(..end.saturating_add(1)).unwrap_or(&[]))
 }
 
 /// The path of a name, which is empty at the top, and its last label.

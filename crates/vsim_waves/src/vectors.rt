@@ -1,11 +1,9 @@
 //! The values of the variables of a source, from time to time.
 
 use crate::hierarchy::{declare_in, leave, write_identifier};
-use crate::listing::Moment;
-use crate::source_map::{MapBit, SourceMap, Variable};
-use sim_logic::Logic;
 use std::alloc::{AllocError, Global};
 use std::io::{self, Write};
+use vsim_waves_listing::{MapBit, Moment, SourceMap, Variable};
 
 /// The value that is shown of a variable, and whether it may have changed since.
 #[derive(Drop)]
@@ -30,8 +28,8 @@ pub struct Vectors {
 }
 
 /// The value of a signal as a VCD has it.
-fn value_of(value: Logic) -> u8 {
-    match value.to_byte() {
+fn value_of(value: u8) -> u8 {
+    match value {
         b'0' | b'L' => b'0',
         b'1' | b'H' => b'1',
         b'Z' => b'z',
@@ -39,8 +37,12 @@ fn value_of(value: Logic) -> u8 {
     }
 }
 
-/// The path of a name, which is empty at the top, and the label that ends it.
+/// The path of a name, which is empty at the top, and the label that ends it. A name that begins
+/// with a backslash is a label, with the dots in it.
 fn parts(name: &str) -> (&str, &str) {
+    if name.starts_with('\\') {
+        return ("", name);
+    }
     name.rsplit_once('.').unwrap_or(("", name))
 }
 
@@ -95,6 +97,7 @@ fn text_of(alloc: Global, variable: &Variable, values: &[u8]) -> Result<String, 
     for bit in variable.bits.iter().rev() {
         let byte = match *bit {
             MapBit::Constant(byte) => byte,
+            MapBit::Absent => b'x',
             MapBit::Signal(place) => values.get(place).copied().unwrap_or(b'x'),
         };
         text.push(char::from(byte))?;
@@ -147,6 +150,12 @@ impl Vectors {
             is_begun: false,
             is_done: false,
         })
+    }
+
+    /// Names the outermost scope.
+    pub fn rename(&mut self, scope: &str) -> Result<(), AllocError> {
+        self.map.top = String::from_str(self.alloc, scope)?;
+        Ok(())
     }
 
     /// Whether the last line was read.
@@ -274,7 +283,7 @@ impl Vectors {
         out: &mut W,
         at: Moment,
         name: &str,
-        value: Logic,
+        value: u8,
     ) -> io::Result<bool> {
         if self.is_done || at.time < self.time {
             return Ok(false);

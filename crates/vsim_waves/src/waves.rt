@@ -1,11 +1,10 @@
 //! The values of nets over time.
 
-use crate::hierarchy::{write_identifier, write_nets};
-use crate::listing::Moment;
+use crate::hierarchy::{write_bit, write_nets};
 use indexmap::IndexSet;
-use sim_logic::Logic;
 use std::alloc::{AllocError, Global};
 use std::io::{self, Write};
+use vsim_waves_listing::{Moment, is_name};
 
 /// How far a listing has been read.
 #[derive(Clone, Copy, PartialEq, Eq)]
@@ -18,17 +17,18 @@ enum Stage {
     Done,
 }
 
-/// The value of a net, and the value written last.
+/// The letter of a net's value, and of the value written last, which is 0 at first.
 #[derive(Clone, Copy)]
 struct Shown {
-    value: Logic,
-    written: Option<Logic>,
+    value: u8,
+    written: u8,
 }
 
 /// The part of a listing that has been read. All changes before the last time are written.
 #[derive(Drop)]
 pub struct Waves {
     has_deltas: bool,
+    scope: String,
     stage: Stage,
     names: IndexSet<String>,
     nets: Vec<Shown>,
@@ -40,15 +40,14 @@ pub struct Waves {
 }
 
 /// Writes what precedes the nets.
-fn write_head<W: Write>(out: &mut W) -> io::Result<()> {
-    out.write_all(b"$version vsim_waves $end\n$timescale 1 fs $end\n$scope module top $end\n")
+fn write_head<W: Write>(out: &mut W, scope: &str) -> io::Result<()> {
+    out.write_all(b"$version vsim_waves $end\n$timescale 1 fs $end\n")?;
+    writeln!(out, "$scope module {scope} $end")
 }
 
 /// Writes the value of a net: `0`, `1`, `x` and `z` as usual in a VCD, the others in the same way.
-fn write_value<W: Write>(out: &mut W, number: usize, value: Logic) -> io::Result<()> {
-    out.write_all(&[value.to_byte().to_ascii_lowercase()])?;
-    write_identifier(out, number)?;
-    out.write_all(b"\n")
+fn write_value<W: Write>(out: &mut W, number: usize, value: u8) -> io::Result<()> {
+    write_bit(out, value.to_ascii_lowercase(), number)
 }
 
 /// Writes the value of a net, if it differs from the value written last.
@@ -56,10 +55,10 @@ fn write_change<W: Write>(out: &mut W, nets: &mut Vec<Shown>, number: usize) -> 
     let Some(net) = nets.get_mut(number) else {
         return Ok(());
     };
-    if net.written == Some(net.value) {
+    if net.written == net.value {
         return Ok(());
     }
-    net.written = Some(net.value);
+    net.written = net.value;
     let value = net.value;
     write_value(out, number, value)
 }
@@ -78,9 +77,10 @@ fn write_changes<W: Write>(
 
 impl Waves {
     /// Waves of which nothing has been read.
-    pub fn new(alloc: Global, has_deltas: bool) -> Waves {
+    pub fn new(alloc: Global, has_deltas: bool, scope: String) -> Waves {
         Waves {
             has_deltas,
+            scope,
             stage: Stage::Names,
             names: IndexSet::new(alloc),
             nets: Vec::new(alloc),
@@ -96,7 +96,7 @@ impl Waves {
     }
 
     /// Adds a net with its initial value; `false` if another net has its name.
-    fn add(&mut self, alloc: Global, name: &str, value: Logic) -> Result<bool, AllocError> {
+    fn add(&mut self, alloc: Global, name: &str, value: u8) -> Result<bool, AllocError> {
         let number = self.names.len();
         if !self.names.insert(String::from_str(alloc, name)?)? {
             return Ok(false);
@@ -106,16 +106,13 @@ impl Waves {
     }
 
     /// Sets the value of the net with a number, which is known or the next one.
-    fn put(&mut self, number: usize, value: Logic) -> Result<(), AllocError> {
+    fn put(&mut self, number: usize, value: u8) -> Result<(), AllocError> {
         self.changed.push(number)?;
         if let Some(net) = self.nets.get_mut(number) {
             net.value = value;
             return Ok(());
         }
-        self.nets.push(Shown {
-            value,
-            written: None,
-        })?;
+        self.nets.push(Shown { value, written: 0 })?;
         Ok(())
     }
 
@@ -125,7 +122,7 @@ impl Waves {
             return Ok(());
         }
         self.stage = Stage::Changes;
-        write_head(out)?;
+        write_head(out, self.scope.as_str())?;
         write_nets(out, &self.names)?;
         out.write_all(b"$upscope $end\n$enddefinitions $end\n")
     }
@@ -180,10 +177,11 @@ impl Waves {
         out: &mut W,
         at: Moment,
         name: &str,
-        value: Logic,
+        value: u8,
     ) -> io::Result<bool> {
         if at.time == 0 && at.delta == 0 {
-            return Ok(self.stage == Stage::Names && self.add(alloc, name, value)?);
+            let may_be_named = self.stage == Stage::Names && is_name(name.as_bytes());
+            return Ok(may_be_named && self.add(alloc, name, value)?);
         }
         let Some(number) = self.names.get_index_of(name) else {
             return Ok(false);

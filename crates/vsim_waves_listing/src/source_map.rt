@@ -1,15 +1,17 @@
 //! The map that `vsim_netlist --map` writes: which signals of a listing the variables of a source
 //! are made of.
 
-use anyhow::{Context, Result, anyhow, bail};
+use crate::fault::Fault;
 use indexmap::IndexSet;
 use std::alloc::{AllocError, Global};
 
-/// A bit of a variable: a signal, by its place among those of the map, or the same value for ever.
+/// A bit of a variable: a signal, by its place among those of the map, the same value for ever, or
+/// nothing.
 #[derive(Clone, Copy)]
 pub enum MapBit {
     Signal(usize),
     Constant(u8),
+    Absent,
 }
 
 /// A variable of the source, with its bits, the lowest index first.
@@ -57,21 +59,22 @@ impl Drop for SourceMap {
     }
 }
 
-/// The beginning of the first line; its last word is the version of the map.
+/// The beginning of the first line, before the version of the map; the entity may follow.
 const HEAD: &str = "vsim_netlist map ";
 
 /// The version of a map that is read.
 const VERSION: &str = "1";
 
 /// Refuses a first line that is none of a map, or that of another version.
-fn demand_version(line: &str) -> Result<()> {
-    let Some(version) = line.strip_prefix(HEAD) else {
-        bail!("it is no map of vsim_netlist");
+fn demand_version(line: &str) -> Result<(), Fault> {
+    let Some(rest) = line.strip_prefix(HEAD) else {
+        return Err(Fault::Refused("it is no map of vsim_netlist"));
     };
-    if version != VERSION {
-        bail!("it is a map of version {version}, and version {VERSION} is wanted");
+    let (version, _entity) = rest.split_once(' ').unwrap_or((rest, ""));
+    match version {
+        VERSION => Ok(()),
+        _ => Err(Fault::Refused("it is a map of another version, and version 1 is wanted")),
     }
-    Ok(())
 }
 
 /// The bit that a word is: a literal, a dash, or the name of a signal.
@@ -80,7 +83,8 @@ fn bit(alloc: Global, signals: &mut IndexSet<String>, word: &str) -> Result<MapB
         "'0'" => MapBit::Constant(b'0'),
         "'1'" => MapBit::Constant(b'1'),
         "'Z'" => MapBit::Constant(b'z'),
-        "'X'" | "-" => MapBit::Constant(b'x'),
+        "'X'" => MapBit::Constant(b'x'),
+        "-" => MapBit::Absent,
         _ => {
             let (place, _) = signals.insert_full(String::from_str(alloc, word)?)?;
             MapBit::Signal(place)
@@ -113,16 +117,19 @@ impl SourceMap {
     }
 
     /// Takes a variable, of what stands behind its word.
-    fn take_variable(&mut self, alloc: Global, text: &str) -> Result<()> {
+    fn take_variable(&mut self, alloc: Global, text: &str) -> Result<(), Fault> {
         let mut parts = text.splitn(4, ' ');
         let (name, offset) = (parts.next(), parts.next());
         let (direction, words) = (parts.next(), parts.next().unwrap_or(""));
         let (Some(name), Some(offset), Some(direction)) = (name, offset, direction) else {
-            bail!("a variable is cut off");
+            return Err(Fault::Refused("a variable is cut off"));
         };
-        let offset = offset.parse::<i64>().ok().context("an index is no number")?;
+        let Ok(offset) = offset.parse::<i64>() else {
+            return Err(Fault::Refused("an index is no number"));
+        };
         let bits = bits(alloc, &mut self.signals, words)?;
-        self.add(alloc, name, offset, direction == "to", bits)
+        self.add(alloc, name, offset, direction == "to", bits)?;
+        Ok(())
     }
 
     /// Adds a variable.
@@ -133,7 +140,7 @@ impl SourceMap {
         offset: i64,
         is_up: bool,
         bits: Vec<MapBit>,
-    ) -> Result<()> {
+    ) -> Result<(), AllocError> {
         let name = String::from_str(alloc, name)?;
         self.variables.push(Variable {
             name,
@@ -144,30 +151,40 @@ impl SourceMap {
         Ok(())
     }
 
-    /// Takes a line but the first.
-    fn take(&mut self, alloc: Global, line: &str) -> Result<()> {
-        match line.split_once(' ') {
-            Some(("end", time)) => {
-                self.end = time.parse::<u64>().ok().context("the end is no number")?;
-            }
-            Some(("top", name)) => self.top = String::from_str(alloc, name)?,
-            Some(("var", text)) => self.take_variable(alloc, text)?,
-            _ => return Err(anyhow!("it is no line of a map")),
-        }
+    /// Takes the time at which the stimuli end.
+    fn take_end(&mut self, time: &str) -> Result<(), Fault> {
+        let Ok(time) = time.parse::<u64>() else {
+            return Err(Fault::Refused("the end is no number"));
+        };
+        self.end = time;
         Ok(())
+    }
+
+    /// Takes a line but the first.
+    fn take(&mut self, alloc: Global, line: &str) -> Result<(), Fault> {
+        match line.split_once(' ') {
+            Some(("end", time)) => self.take_end(time),
+            Some(("top", name)) => {
+                self.top = String::from_str(alloc, name)?;
+                Ok(())
+            }
+            Some(("var", text)) => self.take_variable(alloc, text),
+            _ => Err(Fault::Refused("it is no line of a map")),
+        }
     }
 }
 
-/// Reads a map.
-pub fn read_map(alloc: Global, text: &str) -> Result<SourceMap> {
+/// Reads a map, or gives the number of the line at fault.
+pub fn read_map(alloc: Global, text: &str) -> Result<SourceMap, (usize, Fault)> {
     let mut map = SourceMap::new(alloc);
     for (index, line) in text.lines().enumerate() {
-        let number = index.saturating_add(1);
-        if index > 0 {
+        let taken = if index > 0 {
             map.take(alloc, line)
-                .context(format_args!("line {number}"))?;
         } else {
-            demand_version(line)?;
+            demand_version(line)
+        };
+        if let Err(fault) = taken {
+            return Err((index.saturating_add(1), fault));
         }
     }
     Ok(map)

@@ -1,0 +1,594 @@
+//! The cells of a library, as gates and registers.
+
+use crate::document::{WrittenBit, WrittenCell};
+use crate::nets::Nets;
+use std::alloc::{AllocError, Global};
+use vsim_netlist_design::{
+    Bit, Cell, Conflict, Control, Fault, Function, Gate, GateCell, Level, LibraryCell,
+    LibraryEntry, LibraryPin, LibraryState, Register, Source, Step, Style, Variant, push,
+};
+
+/// A cell that is being made: the bits of its pins and the nets of its register's variables, as far
+/// as they are known, and the gates and registers that make it up.
+#[derive(Drop)]
+struct Making<'a> {
+    alloc: Global,
+    model: &'a LibraryCell,
+    bits: Vec<Option<Bit>>,
+    plain: Option<usize>,
+    negated: Option<usize>,
+    cells: Vec<Cell>,
+}
+
+/// The refusal of a pin, after its name.
+fn fault_of_pin<'a>(alloc: Global, name: &'a str, told: &'a str) -> Fault {
+    Fault::of(alloc, &["its pin ", name, told])
+}
+
+/// The level of a constant, or its negation.
+fn level_of(level: Level, is_negated: bool) -> Level {
+    match (level, is_negated) {
+        (Level::Zero, true) => Level::One,
+        (Level::One, true) => Level::Zero,
+        _ => level,
+    }
+}
+
+/// Whether a function has a variable among its inputs.
+fn reads(function: &Function, variant: Variant) -> bool {
+    for source in function.inputs.iter() {
+        if *source == Source::Variable(variant) {
+            return true;
+        }
+    }
+    false
+}
+
+/// Whether a function, if there is one, has a variable among its inputs.
+fn may_read(function: &Option<Function>, variant: Variant) -> bool {
+    match function {
+        Some(function) => reads(function, variant),
+        None => false,
+    }
+}
+
+/// Whether any function of a register reads a variable.
+fn is_read_inside(state: &LibraryState, variant: Variant) -> bool {
+    may_read(&state.clock, variant)
+        || may_read(&state.data, variant)
+        || may_read(&state.clear, variant)
+        || may_read(&state.preset, variant)
+}
+
+/// Whether the output of a pin is a variable itself.
+fn is_variable(pin: &LibraryPin, variant: Variant) -> bool {
+    match &pin.function {
+        Some(function) if pin.three_state.is_none() => {
+            function.gate == Gate::Buf && reads(function, variant)
+        }
+        _ => false,
+    }
+}
+
+/// The steps of a function, or of its negation.
+fn steps_of(function: &Function, is_negated: bool) -> Result<Vec<Step>, AllocError> {
+    let mut steps = function.steps.clone()?;
+    if is_negated && !steps.is_empty() {
+        push(&mut steps, Step::Not)?;
+    }
+    Ok(steps)
+}
+
+/// The gate of a function, or of its negation.
+fn gate_of(function: &Function, is_negated: bool) -> Gate {
+    match (function.gate, is_negated) {
+        (gate, false) => gate,
+        (Gate::Mux, true) => Gate::Nmux,
+        (Gate::Nmux, true) => Gate::Mux,
+        _ => Gate::Function,
+    }
+}
+
+/// The level at which a variable is cleared, or preset.
+fn level_after(variant: Variant, is_clear: bool) -> Level {
+    if is_clear == (variant == Variant::Plain) {
+        Level::Zero
+    } else {
+        Level::One
+    }
+}
+
+/// What a variable is while its register is both cleared and preset.
+fn conflict_of(state: &LibraryState, variant: Variant) -> Conflict {
+    match variant {
+        Variant::Plain => state.plain,
+        Variant::Negated => state.negated,
+    }
+}
+
+/// The style of a register, by what it has.
+fn style_of(state: &LibraryState) -> Style {
+    match (state.clear.is_some(), state.preset.is_some()) {
+        _ if state.is_latch && state.clock.is_none() => Style::Bare,
+        _ if state.is_latch => Style::Latch,
+        (true, true) => Style::SetReset,
+        (false, false) => Style::Plain,
+        _ => Style::Asynchronous,
+    }
+}
+
+impl Making<'_> {
+    /// The bit of a pin.
+    fn pin_bit(&self, place: usize) -> Result<Bit, Fault> {
+        if let Some(Some(bit)) = self.bits.get(place) {
+            return Ok(*bit);
+        }
+        let name = match self.model.pins.get(place) {
+            Some(pin) => pin.name.as_str(),
+            None => "",
+        };
+        Err(fault_of_pin(self.alloc, name, " is not connected with one bit"))
+    }
+
+    /// The net of a variable, if it has one.
+    fn net(&self, variant: Variant) -> Option<usize> {
+        match variant {
+            Variant::Plain => self.plain,
+            Variant::Negated => self.negated,
+        }
+    }
+
+    /// The bit of an input of a function.
+    fn source_bit(&self, source: Source) -> Result<Bit, Fault> {
+        match source {
+            Source::Pin(place) => self.pin_bit(place),
+            Source::Variable(variant) => {
+                match self.net(variant) {
+                    Some(net) => Ok(Bit::Net(net)),
+                    None => Ok(Bit::Constant(Level::Unknown)),
+                }
+            }
+        }
+    }
+
+    /// The bits of the inputs of a function.
+    fn source_bits(&self, function: &Function) -> Result<Vec<Bit>, Fault> {
+        let mut bits = Vec::new(self.alloc);
+        for source in function.inputs.iter() {
+            let bit = self.source_bit(*source)?;
+            push(&mut bits, bit)?;
+        }
+        Ok(bits)
+    }
+
+    /// Adds a gate or a register.
+    fn put(&mut self, cell: Cell) -> Result<(), Fault> {
+        Ok(push(&mut self.cells, cell)?)
+    }
+
+    /// Adds a gate.
+    fn put_gate(
+        &mut self,
+        function: &Function,
+        is_negated: bool,
+        output: usize,
+        is_inner: bool,
+    ) -> Result<(), Fault> {
+        let inputs = self.source_bits(function)?;
+        let steps = steps_of(function, is_negated)?;
+        self.put(Cell::Gate(GateCell {
+            gate: gate_of(function, is_negated),
+            inputs,
+            output,
+            table: None,
+            steps,
+            is_inner,
+            is_low: false,
+        }))
+    }
+
+    /// The bit of a function, or of its negation, which a gate inside of the cell may compute.
+    fn bit(
+        &mut self,
+        nets: &mut Nets,
+        function: &Function,
+        is_negated: bool,
+    ) -> Result<Bit, Fault> {
+        match (function.steps.as_slice(), function.inputs.as_slice()) {
+            ([Step::Constant(level)], _) => Ok(Bit::Constant(level_of(*level, is_negated))),
+            ([_], [source]) if !is_negated => self.source_bit(*source),
+            ([_, Step::Not], [source]) if is_negated => self.source_bit(*source),
+            _ => {
+                let output = nets.add()?;
+                self.put_gate(function, is_negated, output, true)?;
+                Ok(Bit::Net(output))
+            }
+        }
+    }
+
+    /// The control of a function.
+    fn control(&mut self, nets: &mut Nets, function: &Function) -> Result<Control, Fault> {
+        let is_low = matches!(function.steps.as_slice(), [Step::Input(_), Step::Not]);
+        let bit = self.bit(nets, function, is_low)?;
+        Ok(Control {
+            bit,
+            is_high: !is_low,
+        })
+    }
+
+    /// The control of a function, if there is one.
+    fn any_control(
+        &mut self,
+        nets: &mut Nets,
+        function: &Option<Function>,
+    ) -> Result<Option<Control>, Fault> {
+        match function {
+            Some(function) => Ok(Some(self.control(nets, function)?)),
+            None => Ok(None),
+        }
+    }
+
+    /// The data of a variable, if there are any.
+    fn data(
+        &mut self,
+        nets: &mut Nets,
+        state: &LibraryState,
+        variant: Variant,
+    ) -> Result<Option<Bit>, Fault> {
+        match &state.data {
+            Some(function) => Ok(Some(self.bit(nets, function, variant == Variant::Negated)?)),
+            None => Ok(None),
+        }
+    }
+
+    /// Adds the clock and the data of a register.
+    fn fill_data(
+        &mut self,
+        nets: &mut Nets,
+        state: &LibraryState,
+        variant: Variant,
+        register: &mut Register,
+    ) -> Result<(), Fault> {
+        let clock = self.any_control(nets, &state.clock)?;
+        if state.is_latch {
+            register.enable = clock;
+        } else {
+            register.clock = clock;
+        }
+        register.data = self.data(nets, state, variant)?;
+        Ok(())
+    }
+
+    /// Adds what clears and presets a register.
+    fn fill_levels(
+        &mut self,
+        nets: &mut Nets,
+        state: &LibraryState,
+        variant: Variant,
+        register: &mut Register,
+    ) -> Result<(), Fault> {
+        let clear = self.any_control(nets, &state.clear)?;
+        let preset = self.any_control(nets, &state.preset)?;
+        put_levels(register, state, variant, clear, preset);
+        Ok(())
+    }
+
+    /// Adds the register of a variable, if that has a net.
+    fn put_register(
+        &mut self,
+        nets: &mut Nets,
+        state: &LibraryState,
+        variant: Variant,
+    ) -> Result<(), Fault> {
+        let Some(output) = self.net(variant) else {
+            return Ok(());
+        };
+        let mut register = Register::new(style_of(state), output);
+        self.fill_data(nets, state, variant, &mut register)?;
+        self.fill_levels(nets, state, variant, &mut register)?;
+        self.put(Cell::Register(register))
+    }
+
+    /// Whether a pin is an output that is connected.
+    fn drives(&self, place: usize, pin: &LibraryPin) -> bool {
+        pin.is_output && matches!(self.bits.get(place), Some(Some(_)))
+    }
+
+    /// Whether an output that is connected reads a variable.
+    fn is_needed(&self, variant: Variant) -> bool {
+        for (place, pin) in self.model.pins.iter().enumerate() {
+            let is_read = may_read(&pin.function, variant) || may_read(&pin.three_state, variant);
+            if is_read && self.drives(place, pin) {
+                return true;
+            }
+        }
+        false
+    }
+
+    /// The net of the output that is a variable itself, if one is connected.
+    fn own_net(&self, variant: Variant) -> Option<usize> {
+        for (place, pin) in self.model.pins.iter().enumerate() {
+            if self.drives(place, pin) && is_variable(pin, variant) {
+                if let Some(Some(Bit::Net(net))) = self.bits.get(place) {
+                    return Some(*net);
+                }
+            }
+        }
+        None
+    }
+
+    /// The net of a variable: that of an output, or a new one.
+    fn state_net(&mut self, nets: &mut Nets, variant: Variant) -> Result<usize, AllocError> {
+        match self.own_net(variant) {
+            Some(net) => Ok(net),
+            None => nets.add(),
+        }
+    }
+
+    /// Gives nets to the variables that are read.
+    fn put_nets(&mut self, nets: &mut Nets, state: &LibraryState) -> Result<(), AllocError> {
+        let (plain, negated) = (
+            self.is_needed(Variant::Plain),
+            self.is_needed(Variant::Negated),
+        );
+        let is_used = plain || negated;
+        if plain || is_used && is_read_inside(state, Variant::Plain) {
+            self.plain = Some(self.state_net(nets, Variant::Plain)?);
+        }
+        if negated || is_used && is_read_inside(state, Variant::Negated) {
+            self.negated = Some(self.state_net(nets, Variant::Negated)?);
+        }
+        Ok(())
+    }
+
+    /// Adds the registers of a cell, one for each of its variables that is read.
+    fn put_registers(&mut self, nets: &mut Nets) -> Result<(), Fault> {
+        let model = self.model;
+        let Some(state) = &model.state else {
+            return Ok(());
+        };
+        self.put_nets(nets, state)?;
+        self.put_register(nets, state, Variant::Plain)?;
+        self.put_register(nets, state, Variant::Negated)
+    }
+
+    /// The net that a pin drives.
+    fn output(&self, place: usize) -> Result<usize, Fault> {
+        match self.pin_bit(place)? {
+            Bit::Net(net) => Ok(net),
+            Bit::Constant(_) => {
+                let name = match self.model.pins.get(place) {
+                    Some(pin) => pin.name.as_str(),
+                    None => "",
+                };
+                Err(Fault::of(
+                    self.alloc,
+                    &["its output ", name, " is connected with a constant"],
+                ))
+            }
+        }
+    }
+
+    /// The data of a three-state buffer: the inputs and the steps of its function.
+    fn driven(&self, function: &Function) -> Result<(Vec<Bit>, Vec<Step>), Fault> {
+        let bits = self.source_bits(function)?;
+        let steps = function.steps.clone()?;
+        Ok((bits, steps))
+    }
+
+    /// The same if its function is a multiplexer, which a gate inside of the cell computes.
+    fn driven_inside(
+        &mut self,
+        nets: &mut Nets,
+        function: &Function,
+    ) -> Result<(Vec<Bit>, Vec<Step>), Fault> {
+        let bit = self.bit(nets, function, false)?;
+        let mut bits = Vec::new(self.alloc);
+        push(&mut bits, bit)?;
+        Ok((bits, Vec::new(self.alloc)))
+    }
+
+    /// The data of a three-state buffer.
+    fn any_driven(
+        &mut self,
+        nets: &mut Nets,
+        function: &Function,
+    ) -> Result<(Vec<Bit>, Vec<Step>), Fault> {
+        if function.steps.is_empty() {
+            self.driven_inside(nets, function)
+        } else {
+            self.driven(function)
+        }
+    }
+
+    /// Adds a three-state buffer, which drives while a control is not active.
+    fn put_driven(
+        &mut self,
+        nets: &mut Nets,
+        function: &Function,
+        off: Control,
+        output: usize,
+    ) -> Result<(), Fault> {
+        let (mut inputs, steps) = self.any_driven(nets, function)?;
+        push(&mut inputs, off.bit)?;
+        self.put(Cell::Gate(GateCell {
+            gate: Gate::Tristate,
+            inputs,
+            output,
+            table: None,
+            steps,
+            is_inner: false,
+            is_low: off.is_high,
+        }))
+    }
+
+    /// Adds a three-state buffer.
+    fn put_tristate(
+        &mut self,
+        nets: &mut Nets,
+        function: &Function,
+        three_state: &Function,
+        output: usize,
+    ) -> Result<(), Fault> {
+        let off = self.control(nets, three_state)?;
+        self.put_driven(nets, function, off, output)
+    }
+
+    /// Whether an output is that of a register.
+    fn is_register(&self, pin: &LibraryPin, output: usize) -> bool {
+        self.plain == Some(output) && is_variable(pin, Variant::Plain)
+            || self.negated == Some(output) && is_variable(pin, Variant::Negated)
+    }
+
+    /// Adds what drives an output.
+    fn put_output(
+        &mut self,
+        nets: &mut Nets,
+        pin: &LibraryPin,
+        output: usize,
+    ) -> Result<(), Fault> {
+        match (&pin.function, &pin.three_state) {
+            (None, _) => {
+                let name = pin.name.as_str();
+                Err(fault_of_pin(self.alloc, name, " has no function in its Liberty file"))
+            }
+            (Some(_), None) if self.is_register(pin, output) => Ok(()),
+            (Some(function), None) => self.put_gate(function, false, output, false),
+            (Some(function), Some(enable)) => self.put_tristate(nets, function, enable, output),
+        }
+    }
+
+    /// Adds what drives the pin at a place, if that is an output that is connected.
+    fn put_pin(&mut self, nets: &mut Nets, place: usize, pin: &LibraryPin) -> Result<(), Fault> {
+        if !self.drives(place, pin) {
+            return Ok(());
+        }
+        let output = self.output(place)?;
+        self.put_output(nets, pin, output)
+    }
+
+    /// Adds what drives the outputs.
+    fn put_outputs(&mut self, nets: &mut Nets) -> Result<(), Fault> {
+        let model = self.model;
+        for (place, pin) in model.pins.iter().enumerate() {
+            self.put_pin(nets, place, pin)?;
+        }
+        Ok(())
+    }
+}
+
+/// Sets what clears and presets a register. If both are active, it takes the level that the library
+/// says: by the order of the two, or as a case of its own.
+fn put_levels(
+    register: &mut Register,
+    state: &LibraryState,
+    variant: Variant,
+    clear: Option<Control>,
+    preset: Option<Control>,
+) {
+    let (low, high) = (level_after(variant, true), level_after(variant, false));
+    let conflict = conflict_of(state, variant);
+    let is_preset_first = preset.is_some()
+        && (clear.is_none() || conflict == Conflict::Level(high));
+    if is_preset_first {
+        register.reset = preset;
+        register.set = clear;
+        register.value = high;
+        return;
+    }
+    register.reset = clear;
+    register.set = preset;
+    register.value = low;
+    if preset.is_some() && conflict != Conflict::Level(low) {
+        register.conflict = Some(conflict);
+    }
+}
+
+/// The bit that a pin is connected with, if it is.
+fn connection(
+    alloc: Global,
+    nets: &mut Nets,
+    name: &str,
+    written: &[WrittenBit],
+) -> Result<Option<Bit>, Fault> {
+    match written {
+        [] => Ok(None),
+        [bit] => Ok(Some(nets.bit(*bit)?)),
+        _ => Err(fault_of_pin(alloc, name, " is not connected with one bit")),
+    }
+}
+
+/// Connects a pin.
+fn connect(
+    alloc: Global,
+    nets: &mut Nets,
+    model: &LibraryCell,
+    bits: &mut Vec<Option<Bit>>,
+    name: &str,
+    written: &[WrittenBit],
+) -> Result<(), Fault> {
+    let place = match model.places.get(name) {
+        Some(place) => *place,
+        None => return Err(fault_of_pin(alloc, name, " is not in its Liberty file")),
+    };
+    let connected = connection(alloc, nets, name, written)?;
+    if let Some(bit) = bits.get_mut(place) {
+        *bit = connected;
+    }
+    Ok(())
+}
+
+/// The bits of the pins of a cell.
+fn connections(
+    alloc: Global,
+    nets: &mut Nets,
+    model: &LibraryCell,
+    cell: &WrittenCell,
+) -> Result<Vec<Option<Bit>>, Fault> {
+    let mut bits = vec![in alloc; None; model.pins.len()]?;
+    for (name, written) in cell.connections.entries.iter() {
+        connect(
+            alloc,
+            nets,
+            model,
+            &mut bits,
+            name.as_str(),
+            written.as_slice(),
+        )?;
+    }
+    Ok(bits)
+}
+
+/// The gates and registers that make up a cell of this kind.
+fn parts_of(
+    alloc: Global,
+    cell: &WrittenCell,
+    nets: &mut Nets,
+    model: &LibraryCell,
+) -> Result<Vec<Cell>, Fault> {
+    let bits = connections(alloc, nets, model, cell)?;
+    let mut making = Making {
+        alloc,
+        model,
+        bits,
+        plain: None,
+        negated: None,
+        cells: Vec::new(alloc),
+    };
+    making.put_registers(nets)?;
+    making.put_outputs(nets)?;
+    Ok(making.cells)
+}
+
+/// The gates and registers that make up a cell of a library.
+pub(crate) fn library_cells(
+    alloc: Global,
+    cell: &WrittenCell,
+    nets: &mut Nets,
+    entry: &LibraryEntry,
+) -> Result<Vec<Cell>, Fault> {
+    match entry {
+        LibraryEntry::Known(model) => parts_of(alloc, cell, nets, model),
+        LibraryEntry::Refused(told) => Err(Fault::of(alloc, &[told.as_str()])),
+    }
+}
