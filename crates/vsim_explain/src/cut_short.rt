@@ -2,7 +2,7 @@
 
 use crate::changes::write_changes;
 use crate::cycles::write_cycles;
-use crate::request::Request;
+use vsim_explain_request::Request;
 use anyhow::{Result, bail};
 use sim_logic::LATEST;
 use sim_run_options::Options;

@@ -2,7 +2,7 @@
 
 use crate::changes::write_totals;
 use crate::cut_short::{write_all_cycles, write_cut_short};
-use crate::request::Request;
+use vsim_explain_request::Request;
 use anyhow::{Result, bail};
 use sim_flat_design::Design;
 use sim_run_options::Options;

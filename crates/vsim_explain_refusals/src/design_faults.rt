@@ -2,7 +2,7 @@
 
 use crate::explanation::{Explanation, at, nowhere};
 use crate::hints;
-use crate::tokens::{is_one_of, last_word, without_comments};
+use vsim_explain_source::tokens::{is_one_of, last_word, without_comments};
 use sim_flat::FlatError;
 
 const MEMORY: &str = "\

@@ -1,7 +1,7 @@
 //! Explanations of refusals.
 
-use crate::source::Source;
-use crate::tokens::token_at;
+use vsim_explain_source::Source;
+use vsim_explain_source::tokens::token_at;
 use std::fmt::Display;
 use std::io::{self, Write};
 

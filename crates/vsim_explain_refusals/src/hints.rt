@@ -11,7 +11,7 @@ use crate::slips::{
     NUMBER, OF_SIGNAL, OF_VARIABLE, OPEN, OPERATORS, POSITIONAL, SIGNAL, SIGNAL_ASSIGNMENT,
     UNDERSCORE, UNEQUAL, UNIT_OF_TIME, WHEN,
 };
-use crate::tokens::{
+use vsim_explain_source::tokens::{
     are_ifs_closed, behind_foreign_comments, behind_word, find, first_statement, first_token,
     first_word, has_comparison, has_one_since, has_pair_since, has_word, is_at_line_start,
     is_in_component, is_one_of, last_statement, last_word, waits_for_edge, without_comments,
