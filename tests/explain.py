@@ -167,7 +167,7 @@ MISTAKES = [
     (1, "/* an inverter */ entity inverter", 2, "Syntax", "a word such as is, then or begin"),
     # a port without an actual
     (17, "u1 : entity work.inverter port map (o => p);", 17, "PortMissing", "The port without an actual is i of inverter."),
-    (17, "u1 : entity work.inverter port map (ii => clk, o => p);", 17, "PortMissing", "No port is named ii; the nearest is i."),
+    (17, "u1 : entity work.inverter port map (ii => clk, o => p);", 17, "PortMissing", "No port is named ii; the nearest that is free is i."),
     # a waveform that is too long
     (16, "clk <= " + ", ".join(f"'{n % 2}' after {n} ns" for n in range(17)) + ";", 16, "TooMany", "several assignments in a process that is executed only once"),
 ]
@@ -282,13 +282,13 @@ RUNS = [
         "--top t --limit 0 --workers 17",
         CLOCK,
         2,
-        "Options\n--limit is 0, but must be from 1 to 1000000 cycles.\n--workers is 17, but must be from 1 to 16 threads.\n",
+        "error: Options\n--limit is 0, but must be from 1 to 1000000 cycles.\n--workers is 17, but must be from 1 to 16 threads.\n",
     ),
     (
         "--top t --stop 4611686018427387904",
         CLOCK,
         2,
-        "Options\n--stop is 4611686018427387904, but must be at most 4611686018427387903 femtoseconds.\n",
+        "error: Options\n--stop is 4611686018427387904, but must be at most 4611686018427387903 femtoseconds.\n",
     ),
     (
         "--top u",
