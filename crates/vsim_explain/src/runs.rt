@@ -2,7 +2,6 @@
 
 use crate::changes::write_totals;
 use crate::cut_short::{write_all_cycles, write_cut_short};
-use vsim_explain_request::Request;
 use anyhow::{Result, bail};
 use sim_flat_design::Design;
 use sim_run_options::Options;
@@ -10,6 +9,7 @@ use sim_run_session::write_run;
 use sim_store::{Entry, Look, Step, WaveStore};
 use std::alloc::Global;
 use std::io::{self, Write};
+use vsim_explain_request::Request;
 
 /// The longest sequence of delta cycles, and its time.
 #[derive(Clone, Copy)]

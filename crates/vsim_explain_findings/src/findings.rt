@@ -7,7 +7,7 @@ use crate::sensitivity::find_lacked;
 use crate::stops::shortest_delay;
 use sim_text_tree::DesignFile;
 use sim_text_tree::name::Name;
-use std::alloc::Global;
+use std::alloc::{AllocError, Global};
 use std::io::{self, Write};
 use vsim_explain_source::Source;
 
@@ -48,6 +48,17 @@ const CONFLICTING: &str = "\
 const STOP: &str = "\
     --stop counts femtoseconds, so --stop 1000 is 1 ps, and --stop 1000000 is 1 ns.\n\
     See Calling the program in docs/LANGUAGE.md.\n";
+
+/// What follows the name in the first line of each warning.
+const IS_LACKED: &str = "is read here, but is not in the sensitivity list of its process";
+
+const IS_CLOCK: &str = "is inverted here, but has no first value";
+
+const IS_UNDRIVEN: &str = "is an input of the top, and nothing drives it";
+
+const IS_UNASSIGNED: &str = "is U at the end of the run";
+
+const IS_CONFLICTING: &str = "is X at the end of the run";
 
 /// Writes a warning about a name at its place.
 fn write_warning<W: Write>(
@@ -91,44 +102,63 @@ fn write_stop<W: Write>(out: &mut W, file: &DesignFile, stop: u64) -> io::Result
     out.write_all(STOP.as_bytes())
 }
 
-/// Writes what is wrong in a text, whatever its run.
-fn write_of_text<W: Write>(
-    alloc: Global,
-    out: &mut W,
-    source: Source<'_>,
-    file: &DesignFile,
-) -> io::Result<()> {
-    let lacked = find_lacked(alloc, file)?;
-    let what = "is read here, but is not in the sensitivity list of its process";
-    write_found(out, source, lacked, what, LACKED)?;
-    let what = "is inverted here, but has no first value";
-    write_found(out, source, find_clock(file), what, CLOCK)
+/// The names that are warned of.
+#[derive(Clone, Copy)]
+struct Causes<'a> {
+    lacked: Option<&'a Name>,
+    clock: Option<&'a Name>,
+    undriven: Option<&'a Name>,
+    unassigned: Option<&'a Name>,
+    conflicting: Option<&'a Name>,
 }
 
-/// Writes what is wrong with a net at the end of a run.
-fn write_of_net<W: Write>(
-    out: &mut W,
-    source: Source<'_>,
-    file: &DesignFile,
+/// Where a net of the top, if there is one, gets its values.
+fn driver<'a>(file: &'a DesignFile, top: &str, net: Option<&str>) -> Option<&'a Name> {
+    find_driver(file, top, net?)
+}
+
+/// Where the net that is U gets its values, unless a clock or an input is the cause.
+fn unassigned<'a>(
+    file: &'a DesignFile,
     outcome: &Outcome<'_>,
-) -> io::Result<()> {
-    if let Some(net) = outcome.unassigned {
-        let found = find_driver(file, outcome.top, net);
-        write_found(out, source, found, "is U at the end of the run", UNASSIGNED)?;
+    is_explained: bool,
+) -> Option<&'a Name> {
+    if is_explained {
+        return None;
     }
-    match outcome.conflicting {
-        Some(net) => {
-            let found = find_driver(file, outcome.top, net);
-            write_found(
-                out,
-                source,
-                found,
-                "is X at the end of the run",
-                CONFLICTING,
-            )
-        }
-        None => Ok(()),
-    }
+    driver(file, outcome.top, outcome.unassigned)
+}
+
+/// Looks for what is wrong.
+fn look_for<'a>(
+    alloc: Global,
+    file: &'a DesignFile,
+    outcome: &Outcome<'_>,
+) -> Result<Causes<'a>, AllocError> {
+    let lacked = find_lacked(alloc, file)?;
+    let clock = find_clock(file);
+    let undriven = find_undriven(file, outcome.top);
+    let is_explained = clock.is_some() || undriven.is_some();
+    Ok(Causes {
+        lacked,
+        clock,
+        undriven,
+        unassigned: unassigned(file, outcome, is_explained),
+        conflicting: driver(file, outcome.top, outcome.conflicting),
+    })
+}
+
+/// Writes what is wrong in the text.
+fn write_causes<W: Write>(out: &mut W, source: Source<'_>, causes: Causes<'_>) -> io::Result<()> {
+    write_found(out, source, causes.lacked, IS_LACKED, LACKED)?;
+    write_found(out, source, causes.clock, IS_CLOCK, CLOCK)?;
+    write_found(out, source, causes.undriven, IS_UNDRIVEN, UNDRIVEN)
+}
+
+/// Writes what is wrong with nets at the end of the run.
+fn write_nets<W: Write>(out: &mut W, source: Source<'_>, causes: Causes<'_>) -> io::Result<()> {
+    write_found(out, source, causes.unassigned, IS_UNASSIGNED, UNASSIGNED)?;
+    write_found(out, source, causes.conflicting, IS_CONFLICTING, CONFLICTING)
 }
 
 /// Writes what is probably wrong in a design whose run has finished, each kind at most once.
@@ -139,10 +169,8 @@ pub fn write_findings<W: Write>(
     file: &DesignFile,
     outcome: &Outcome<'_>,
 ) -> io::Result<()> {
-    write_of_text(alloc, out, source, file)?;
-    let undriven = find_undriven(file, outcome.top);
-    let what = "is an input of the top, and nothing drives it";
-    write_found(out, source, undriven, what, UNDRIVEN)?;
-    write_stop(out, file, outcome.stop)?;
-    write_of_net(out, source, file, outcome)
+    let causes = look_for(alloc, file, outcome)?;
+    write_causes(out, source, causes)?;
+    write_nets(out, source, causes)?;
+    write_stop(out, file, outcome.stop)
 }
