@@ -1,8 +1,8 @@
 //! Where a signal of the top gets its values.
 
-use crate::units::last_architecture;
+use crate::units::{entity_named, last_architecture};
 use sim_text_tree::DesignFile;
-use sim_text_tree::declaration::Declaration;
+use sim_text_tree::declaration::{Declaration, PortDeclaration};
 use sim_text_tree::name::Name;
 use sim_text_tree::sequential::{Branch, Sequential, Statement};
 use sim_text_tree::unit::{Actual, Architecture, Association, Concurrent};
@@ -115,11 +115,29 @@ fn declared_in<'a>(declarations: &'a [Declaration], wanted: &str) -> Option<&'a 
     None
 }
 
-/// Where a signal or port of the top is first assigned or connected, or else declared.
-pub fn find_driver<'a>(file: &'a DesignFile, top: &str, wanted: &str) -> Option<&'a Name> {
-    let architecture = last_architecture(file, top)?;
+/// The declaration of a port with this name.
+fn port_in<'a>(ports: &'a [PortDeclaration], wanted: &str) -> Option<&'a Name> {
+    for each in ports {
+        let found = one_of(each.names.as_slice(), wanted);
+        if found.is_some() {
+            return found;
+        }
+    }
+    None
+}
+
+/// Where a signal is first assigned or connected in an architecture, or else declared.
+fn signal_in<'a>(architecture: &'a Architecture, wanted: &str) -> Option<&'a Name> {
     match driver_in(architecture, wanted) {
         Some(name) => Some(name),
         None => declared_in(architecture.declarations.as_slice(), wanted),
+    }
+}
+
+/// Where a signal or port of the top is first assigned or connected, or else declared.
+pub fn find_driver<'a>(file: &'a DesignFile, top: &str, wanted: &str) -> Option<&'a Name> {
+    match signal_in(last_architecture(file, top)?, wanted) {
+        Some(name) => Some(name),
+        None => port_in(entity_named(file, top)?.ports.as_slice(), wanted),
     }
 }
