@@ -205,6 +205,15 @@ See Calling the program in docs/LANGUAGE.md.
 BUSIEST = "The nets that change most in the last 100 cycles, and how often:\n"
 LAST = "The last cycles of the listing:\n"
 
+# what the help must say in place of what that of vsim says
+OF_HELP = [
+    "Explains in plain words what vsim answers to a design, on standard output.",
+    "--top <NAME> [FILE]...\n",
+    "\n      --check  ",
+    "\n      --listing  ",
+    "A refusal goes to standard output, as in 'design.vhd:7:5: error: Syntax at 77'",
+    "\n      vsim_explain --top t pulse.vhd\n",
+]
 # words that ask for no run, and the status
 USAGES = [(["--help"], 0), (["-h"], 0), ([], 2)]
 
@@ -480,8 +489,9 @@ def fault_of_usage(program, words, status):
     """Returns what is wrong with the usage printed for words that ask for no run, if anything."""
     out, errors, got, _ = answer(program, words, b"")
     said = errors if status else out
-    if not status and ("Explains in plain words what vsim answers" not in said or "\n      --listing  " not in said):
-        return f"the help does not say what the program is, or lacks its own option:\n{out}"
+    missing = [it for it in OF_HELP if it not in said] if not status else []
+    if missing:
+        return f"the help lacks {missing}:\n{out}"
     if got != status or "Usage: vsim_explain " not in said or "Usage: vsim " in said or (out and errors):
         return f"wanted status {status} and its own line of usage\ngot with status {got}:\n{out}{errors}"
     return None

@@ -37,6 +37,20 @@ const ERRORS: &str =
   standard error.
 ";
 
+/// The example of `vsim`, and that of this program.
+const EXAMPLE_OF_VSIM: &str = "      vsim --top t < pulse.vhd
+  prints
+      0 0 s 0
+      5000000 0 s 1
+      done 1 1";
+
+const EXAMPLE: &str = "      vsim_explain --top t pulse.vhd
+  prints
+      The run finished after 1 cycles with 1 events.
+      There are no delta cycles.
+      The nets that change most, and how often:
+               1 s";
+
 /// The message for a stop time that is refused.
 const FEMTOSECONDS: &str = "
 --stop is a whole number of femtoseconds: 10ns is 10000000, and 1us is 1000000000.
@@ -53,10 +67,17 @@ fn renamed(alloc: Global, text: &str) -> Result<String, AllocError> {
     text.replace(alloc, USAGE_OF_VSIM, USAGE)
 }
 
+/// The help of `vsim` with what this program is, and where it writes refusals.
+fn own_sections(alloc: Global, text: &str) -> Result<String, AllocError> {
+    let text = text.replace(alloc, ABOUT_VSIM, ABOUT)?;
+    let text = text.replace(alloc, ERRORS_OF_VSIM, ERRORS)?;
+    text.replace(alloc, EXAMPLE_OF_VSIM, EXAMPLE)
+}
+
 /// The help of `vsim`, adapted to this program and with its own options.
 pub fn own_help(alloc: Global, text: &str) -> Result<String, AllocError> {
-    let text = renamed(alloc, text)?.replace(alloc, ABOUT_VSIM, ABOUT)?;
-    let text = text.replace(alloc, ERRORS_OF_VSIM, ERRORS)?;
+    let text = renamed(alloc, text)?;
+    let text = own_sections(alloc, text.as_str())?;
     text.replace(alloc, "\n  -h, --help ", OWN_OPTIONS)
 }
 
