@@ -9,29 +9,21 @@ mod cycles;
 mod runs;
 
 use crate::runs::tell_run;
-use anyhow::{Context, Result, bail};
+use anyhow::{Context, Result};
 use sim_flat::FlatError;
 use sim_flat_design::Design;
-use sim_run_options::CliFault;
 use sim_run_session::{RunError, elaborate};
 use sim_text::TextError;
 use std::alloc::Global;
-use std::env;
 use std::io::{self, BufWriter, Write, writer};
 use std::process::ExitCode;
 use vsim_explain_names::{write_more_of_design, write_more_of_text};
 use vsim_explain_refusals::{explain_design, explain_text};
-use vsim_explain_request::{Request, own_help, own_refusal, read_request, write_ranges};
+use vsim_explain_request::{Asked, Request, read_command_line, write_ranges};
 use vsim_explain_source::{Source, read_source};
 
 /// The text of `--version`. The script `build` fills in the sources and the toolchain in its copy.
 const VERSION: &str = "vsim_explain 1.0.0, sources unknown, toolchain unknown";
-
-/// The message for words that are not valid UTF-8, as `clap` words it.
-const NO_TEXT: &str = "error: invalid UTF-8 was detected in one or more arguments
-
-For more information, try '--help'.
-";
 
 /// The answer to a text that is only checked.
 const NO_FAULT: &[u8] = b"No fault in the text or its design.\n";
@@ -162,77 +154,11 @@ fn answer_apart(rt: &HostRuntime, request: &Request) -> Result<u8> {
     status
 }
 
-/// Prints the help.
-fn tell_help(rt: &HostRuntime, text: &str) -> Result<()> {
-    let text = own_help(rt.alloc(), text)?;
-    rt.print(text.as_str()).context("writing")
-}
-
-/// Prints that words are refused, and why.
-fn tell_refused(rt: &HostRuntime, text: &str) -> Result<()> {
-    let text = own_refusal(rt.alloc(), text)?;
-    rt.eprint(text.as_str()).context("writing")
-}
-
-/// Answers words that give no options, and returns the exit status.
-fn answer_fault(rt: &HostRuntime, fault: &CliFault) -> Result<u8> {
-    match fault {
-        CliFault::Help(text) => {
-            tell_help(rt, text.as_str())?;
-            Ok(0)
-        }
-        CliFault::Refused(text) => {
-            tell_refused(rt, text.as_str())?;
-            Ok(2)
-        }
-        CliFault::Memory => bail!("out of memory"),
-    }
-}
-
-/// The words after the program's name.
-fn words(rt: &HostRuntime) -> io::Result<Vec<String>> {
-    let words = env::args(rt)?.skip(1).collect(rt.alloc())?;
-    Ok(words)
-}
-
-/// Answers the words, and returns the exit status.
-fn answer_words(rt: &HostRuntime, words: Vec<String>) -> Result<u8> {
-    match read_request(rt.alloc(), words) {
-        Ok(request) => answer_apart(rt, &request),
-        Err(fault) => answer_fault(rt, &fault),
-    }
-}
-
-/// Whether the words ask for the version.
-fn ask_for_version(words: &[String]) -> bool {
-    match words.first() {
-        Some(first) => first.as_str() == "--version" || first.as_str() == "-V",
-        None => false,
-    }
-}
-
-/// Answers words that are valid UTF-8, and returns the exit status.
-fn answer_texts(rt: &HostRuntime, words: Vec<String>) -> Result<u8> {
-    if ask_for_version(words.as_slice()) {
-        drop(words);
-        rt.println(VERSION)?;
-        return Ok(0);
-    }
-    answer_words(rt, words)
-}
-
-/// Prints that the words are not valid UTF-8.
-fn answer_no_text(rt: &HostRuntime) -> Result<u8> {
-    rt.eprint(NO_TEXT)?;
-    Ok(2)
-}
-
 /// Answers the command line, and returns the exit status.
 fn answer(rt: &HostRuntime) -> Result<u8> {
-    match words(rt) {
-        Ok(words) => answer_texts(rt, words),
-        Err(fault) if fault.kind() == io::ErrorKind::InvalidData => answer_no_text(rt),
-        Err(fault) => Err(fault.into()),
+    match read_command_line(rt, VERSION)? {
+        Asked::Explanation(request) => answer_apart(rt, &request),
+        Asked::Answered(status) => Ok(status),
     }
 }
 

@@ -1,10 +1,11 @@
 //! What the command line asks for, and what is said where it is refused.
 #![tactic(auto)]
 
+mod command_line;
 mod help;
 mod ranges;
 mod request;
 
-pub use help::{own_help, own_refusal};
+pub use command_line::{Asked, read_command_line};
 pub use ranges::write_ranges;
-pub use request::{Request, read_request};
+pub use request::Request;
