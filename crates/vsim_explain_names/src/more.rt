@@ -73,9 +73,12 @@ pub fn write_more_of_design<W: Write>(
     }
 }
 
+/// Words that are nearly reserved ones, but were meant as others, which a hint names.
+static OTHERWISE_MEANT: [&str; 1] = ["els"];
+
 /// Writes the reserved word that may have been meant by a word; returns whether there is one.
 fn write_meant<W: Write>(alloc: Global, out: &mut W, word: &[u8]) -> io::Result<bool> {
-    if is_one_of(&OTHER_WORDS, word) {
+    if is_one_of(&OTHER_WORDS, word) || is_one_of(&OTHERWISE_MEANT, word) {
         return Ok(false);
     }
     let Ok(word) = from_utf8(word) else {
