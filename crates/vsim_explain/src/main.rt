@@ -78,6 +78,7 @@ fn status_of(refusal: RunError) -> u8 {
 /// Writes the answer to a design, and returns the exit status.
 fn answer_design<L: Write, W: Write>(
     alloc: Global,
+    source: Source<'_>,
     design: Design,
     request: &Request,
     listing: &mut L,
@@ -88,7 +89,7 @@ fn answer_design<L: Write, W: Write>(
         words.write_all(NO_FAULT)?;
         return Ok(0);
     }
-    tell_run(alloc, design, request, listing, words)
+    tell_run(alloc, source, design, request, listing, words)
 }
 
 /// Writes the answer to a text, and returns the exit status.
@@ -100,7 +101,7 @@ fn answer_text<L: Write, W: Write>(
     words: &mut W,
 ) -> Result<u8> {
     match elaborate(alloc, source.text, &request.options) {
-        Ok(design) => answer_design(alloc, design, request, listing, words),
+        Ok(design) => answer_design(alloc, source, design, request, listing, words),
         Err(refusal) => {
             write_refusal(alloc, words, source, request.options.top.as_str(), refusal)?;
             Ok(status_of(refusal))
