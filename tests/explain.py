@@ -324,6 +324,49 @@ RUNS = [
 ]
 
 
+def doubtful(statements, signals="signal a, b, q : std_logic := '0';", ports=""):
+    """Returns a design with these statements from line 5 on."""
+    return f"entity t is {ports}end;\narchitecture a of t is\n{signals}\nbegin\n{statements}\nend;\n"
+
+
+AT_EDGE = "if rising_edge(a) then q <= b; end if;"
+B_LACKS = "b is read here, but is not in the sensitivity list of its process"
+# words after those for the top, a design whose run finishes, and the first line of each warning
+FINDINGS = [
+    ("", doubtful("process (a) begin q <= a and b; end process;"), [f"<stdin>:5:32: warning: {B_LACKS}"]),
+    ("", doubtful("process (a)\nbegin\nif b = '1' then q <= a; end if;\nend process;"), [f"<stdin>:7:4: warning: {B_LACKS}"]),
+    ("", doubtful("process (a) begin if a = '1' then null; else q <= not (b); end if; end process;"), [f"<stdin>:5:56: warning: {B_LACKS}"]),
+    ("", doubtful(f"process (a) begin if b = '1' then q <= '0'; elsif rising_edge(a) then q <= '1'; end if; end process;"), [f"<stdin>:5:22: warning: {B_LACKS}"]),
+    ("", doubtful("process (a) variable v : std_logic; begin v := b; q <= v; end process;"), [f"<stdin>:5:48: warning: {B_LACKS}"]),
+    # each kind is told once
+    ("", doubtful("process (a) begin q <= b; end process;\nprocess (q) begin a <= b; end process;"), [f"<stdin>:5:24: warning: {B_LACKS}"]),
+    ("", doubtful("process (A, b) begin q <= a and B; end process;"), []),
+    ("", doubtful("process (all) begin q <= a and b; end process;"), []),
+    ("", doubtful(f"process (a) begin {AT_EDGE} end process;"), []),
+    ("", doubtful("process (a) begin if a'event and a = '1' and b = '0' then q <= b; end if; end process;"), []),
+    ("", doubtful("process (a) variable v : boolean; begin v := true; if v then q <= a; end if; end process;"), []),
+    ("", doubtful("q <= a and b;"), []),
+    # a clock without a first value, and one with it
+    ("", doubtful("a <= not a after 5 ns;", "signal a : std_logic;"), ["<stdin>:5:1: warning: a is inverted here, but has no first value"]),
+    ("", doubtful("process (a) begin a <= not a after 5 ns; end process;", "signal a : std_logic;"), ["<stdin>:5:19: warning: a is inverted here, but has no first value"]),
+    ("--stop 10000000", doubtful("a <= not a after 5 ns;"), []),
+    # an input of the top without a first value, and one with it
+    ("", doubtful("o <= i;", "", "port (i : in std_logic; o : out std_logic); "), ["<stdin>:1:19: warning: i is an input of the top, and nothing drives it"]),
+    ("", doubtful("o <= i;", "", "port (i : std_logic := '1'; o : out std_logic); "), []),
+    # a stop time before the first change
+    ("--stop 1000", doubtful("a <= not a after 5 ns;"), ["warning: The run ends at 1000 fs, before the shortest delay, which is 5000000 fs."]),
+    ("--stop 1000", doubtful("a <= '1' after 2 ps, '0' after 1 ps + 1 ps;".replace("1 ps + 1 ps", "3 ps")), ["warning: The run ends at 1000 fs, before the shortest delay, which is 2000 fs."]),
+    ("--stop 1000", doubtful("q <= a;"), []),
+    # nets that are U or X at the end: where they are assigned, connected or declared
+    ("", doubtful("q <= a;", "signal q, a : std_logic;"), ["<stdin>:5:1: warning: q is U at the end of the run"]),
+    ("", doubtful("process (a) begin if a = '1' then q <= '0'; end if; end process;", "signal q, a : std_logic;"), ["<stdin>:5:35: warning: q is U at the end of the run"]),
+    ("", doubtful("", "signal a, b : std_logic;"), ["<stdin>:3:8: warning: a is U at the end of the run"]),
+    ("", doubtful("", "", "port (o : out std_logic); "), ["<stdin>:1:19: warning: o is U at the end of the run"]),
+    ("", doubtful("a <= '0'; q <= b;\na <= '1';"), ["<stdin>:5:1: warning: a is X at the end of the run"]),
+    ("", doubtful("a <= '1' after 1 ns; q <= a;", "signal a, q : std_logic;"), []),
+]
+
+
 def examples():
     """Yields the name of each example, its words, its text, and the output, the errors and the status of vsim."""
     sys.dont_write_bytecode = True
@@ -382,6 +425,12 @@ def without_deepest(said, listing):
     return said[:1] + said[2:] if found and int(found[1] or 0) >= most else said
 
 
+def without_warnings(said):
+    """Returns what is said about a run without the warnings, and the first line of each."""
+    found = [place for place, line in enumerate(said) if "warning: " in line]
+    return said[: found[0]] if found else said, [re.sub(r"^<stdin>:\d+:\d+: ", "", said[place]) for place in found]
+
+
 def fault_of_example(program, words, text, wanted):
     """Returns what is wrong with what is said about an example, if anything."""
     out, err, status = wanted
@@ -393,7 +442,9 @@ def fault_of_example(program, words, text, wanted):
         return f"status {got}: {errors}"
     head = head_of_refusal(text, err.decode().strip()[len("vsim: ") :]) if status else None
     if not status:
-        head, said = lines_of_run(out.decode()), without_deepest(said, out.decode())
+        head = lines_of_run(out.decode())
+        said, warnings = without_warnings(without_deepest(said, out.decode()))
+        for it in warnings: print("WARNING", it)
         if answer(program, [*words, "--listing"], text)[:3] != (out.decode(), text_said, 0):
             return "with --listing it is not the listing on one stream and the same answer on the other"
     if answer(program, [*words, "--check"], text)[:3] != ((text_said, "", status) if status else ("No fault in the text or its design.\n", "", 0)):
@@ -434,6 +485,15 @@ def fault_of_run(program, words, text, status, wanted):
     said, errors, got, took = answer(program, words.split(), text.encode())
     if (said, got) != (wanted, status) or bool(errors) != (not wanted or "--listing" in words) or took > MOST_SECONDS:
         return f"wanted status {status}:\n{wanted}got after {took:.1f} s with status {got}:\n{said}{errors}"
+    return None
+
+
+def fault_of_finding(program, words, text, wanted):
+    """Returns what is wrong with the warnings about a design whose run finishes, if anything."""
+    said, errors, got, took = answer(program, ["--top", "t", *words.split()], text.encode())
+    found = [line for line in said.splitlines() if "warning: " in line]
+    if got or errors or found != wanted or took > MOST_SECONDS:
+        return f"wanted {wanted}\ngot after {took:.1f} s with status {got}:\n{said}{errors}"
     return None
 
 
@@ -514,6 +574,8 @@ def faults(program):
     for name, words, text, wanted in told_in_pages():
         status = answer(program, words.split(), text.encode())[2]
         yield name, fault_of_run(program, words, text, status, wanted)
+    for words, text, wanted in FINDINGS:
+        yield f"the warnings about '{text}' with '{words}'", fault_of_finding(program, words, text, wanted)
     yield "the streams", fault_of_streams(program)
     yield "a stop time with a unit", fault_of_stop(program)
     with tempfile.TemporaryDirectory() as folder:
