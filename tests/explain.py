@@ -330,40 +330,42 @@ def doubtful(statements, signals="signal a, b, q : std_logic := '0';", ports="")
 
 
 AT_EDGE = "if rising_edge(a) then q <= b; end if;"
-B_LACKS = "b is read here, but is not in the sensitivity list of its process"
-# words after those for the top, a design whose run finishes, and the first line of each warning
+LACKED = "b is read here, but is not in the sensitivity list of its process"
+NO_VALUE = "a is inverted here, but has no first value"
+UNDRIVEN = "i is an input of the top, and nothing drives it"
+# words after those for the top, a design whose run finishes with @ before the place of the warning, and what that says, if there is one
 FINDINGS = [
-    ("", doubtful("process (a) begin q <= a and b; end process;"), [f"<stdin>:5:32: warning: {B_LACKS}"]),
-    ("", doubtful("process (a)\nbegin\nif b = '1' then q <= a; end if;\nend process;"), [f"<stdin>:7:4: warning: {B_LACKS}"]),
-    ("", doubtful("process (a) begin if a = '1' then null; else q <= not (b); end if; end process;"), [f"<stdin>:5:56: warning: {B_LACKS}"]),
-    ("", doubtful(f"process (a) begin if b = '1' then q <= '0'; elsif rising_edge(a) then q <= '1'; end if; end process;"), [f"<stdin>:5:22: warning: {B_LACKS}"]),
-    ("", doubtful("process (a) variable v : std_logic; begin v := b; q <= v; end process;"), [f"<stdin>:5:48: warning: {B_LACKS}"]),
+    ("", doubtful("process (a) begin q <= a and @b; end process;"), LACKED),
+    ("", doubtful("process (a)\nbegin\nif @b = '1' then q <= a; end if;\nend process;"), LACKED),
+    ("", doubtful("process (a) begin if a = '1' then null; else q <= not (@b); end if; end process;"), LACKED),
+    ("", doubtful("process (a) begin if @b = '1' then q <= '0'; elsif rising_edge(a) then q <= '1'; end if; end process;"), LACKED),
+    ("", doubtful("process (a) variable v : std_logic; begin v := @b; q <= v; end process;"), LACKED),
     # each kind is told once
-    ("", doubtful("process (a) begin q <= b; end process;\nprocess (q) begin a <= b; end process;"), [f"<stdin>:5:24: warning: {B_LACKS}"]),
-    ("", doubtful("process (A, b) begin q <= a and B; end process;"), []),
-    ("", doubtful("process (all) begin q <= a and b; end process;"), []),
-    ("", doubtful(f"process (a) begin {AT_EDGE} end process;"), []),
-    ("", doubtful("process (a) begin if a'event and a = '1' and b = '0' then q <= b; end if; end process;"), []),
-    ("", doubtful("process (a) variable v : boolean; begin v := true; if v then q <= a; end if; end process;"), []),
-    ("", doubtful("q <= a and b;"), []),
+    ("", doubtful("process (a) begin q <= @b; end process;\nprocess (q) begin a <= b; end process;"), LACKED),
+    ("", doubtful("process (A, b) begin q <= a and B; end process;"), None),
+    ("", doubtful("process (all) begin q <= a and b; end process;"), None),
+    ("", doubtful(f"process (a) begin {AT_EDGE} end process;"), None),
+    ("", doubtful("process (a) begin if a'event and a = '1' and b = '0' then q <= b; end if; end process;"), None),
+    ("", doubtful("process (a) variable v : boolean; begin v := true; if v then q <= a; end if; end process;"), None),
+    ("", doubtful("q <= a and b;"), None),
     # a clock without a first value, and one with it
-    ("", doubtful("a <= not a after 5 ns;", "signal a : std_logic;"), ["<stdin>:5:1: warning: a is inverted here, but has no first value"]),
-    ("", doubtful("process (a) begin a <= not a after 5 ns; end process;", "signal a : std_logic;"), ["<stdin>:5:19: warning: a is inverted here, but has no first value"]),
-    ("--stop 10000000", doubtful("a <= not a after 5 ns;"), []),
+    ("", doubtful("@a <= not a after 5 ns;", "signal a : std_logic;"), NO_VALUE),
+    ("", doubtful("process (a) begin @a <= not a after 5 ns; end process;", "signal a : std_logic;"), NO_VALUE),
+    ("--stop 10000000", doubtful("a <= not a after 5 ns;"), None),
     # an input of the top without a first value, and one with it
-    ("", doubtful("o <= i;", "", "port (i : in std_logic; o : out std_logic); "), ["<stdin>:1:19: warning: i is an input of the top, and nothing drives it"]),
-    ("", doubtful("o <= i;", "", "port (i : std_logic := '1'; o : out std_logic); "), []),
+    ("", doubtful("o <= i;", "", "port (@i : in std_logic; o : out std_logic); "), UNDRIVEN),
+    ("", doubtful("o <= i;", "", "port (i : std_logic := '1'; o : out std_logic); "), None),
     # a stop time before the first change
-    ("--stop 1000", doubtful("a <= not a after 5 ns;"), ["warning: The run ends at 1000 fs, before the shortest delay, which is 5000000 fs."]),
-    ("--stop 1000", doubtful("a <= '1' after 2 ps, '0' after 1 ps + 1 ps;".replace("1 ps + 1 ps", "3 ps")), ["warning: The run ends at 1000 fs, before the shortest delay, which is 2000 fs."]),
-    ("--stop 1000", doubtful("q <= a;"), []),
+    ("--stop 1000", doubtful("a <= not a after 5 ns;"), "The run ends at 1000 fs, before the shortest delay, which is 5000000 fs."),
+    ("--stop 1000", doubtful("a <= '1' after 2 ps, '0' after 3 ps;"), "The run ends at 1000 fs, before the shortest delay, which is 2000 fs."),
+    ("--stop 1000", doubtful("q <= a;"), None),
     # nets that are U or X at the end: where they are assigned, connected or declared
-    ("", doubtful("q <= a;", "signal q, a : std_logic;"), ["<stdin>:5:1: warning: q is U at the end of the run"]),
-    ("", doubtful("process (a) begin if a = '1' then q <= '0'; end if; end process;", "signal q, a : std_logic;"), ["<stdin>:5:35: warning: q is U at the end of the run"]),
-    ("", doubtful("", "signal a, b : std_logic;"), ["<stdin>:3:8: warning: a is U at the end of the run"]),
-    ("", doubtful("", "", "port (o : out std_logic); "), ["<stdin>:1:19: warning: o is U at the end of the run"]),
-    ("", doubtful("a <= '0'; q <= b;\na <= '1';"), ["<stdin>:5:1: warning: a is X at the end of the run"]),
-    ("", doubtful("a <= '1' after 1 ns; q <= a;", "signal a, q : std_logic;"), []),
+    ("", doubtful("@q <= a;", "signal q, a : std_logic;"), "q is U at the end of the run"),
+    ("", doubtful("process (a) begin if a = '1' then @q <= '0'; end if; end process;", "signal q, a : std_logic;"), "q is U at the end of the run"),
+    ("", doubtful("", "signal @a, b : std_logic;"), "a is U at the end of the run"),
+    ("", doubtful("", "", "port (@o : out std_logic); "), "o is U at the end of the run"),
+    ("", doubtful("@a <= '0'; q <= b;\na <= '1';"), "a is X at the end of the run"),
+    ("", doubtful("a <= '1' after 1 ns; q <= a;", "signal a, q : std_logic;"), None),
 ]
 
 
@@ -488,12 +490,14 @@ def fault_of_run(program, words, text, status, wanted):
     return None
 
 
-def fault_of_finding(program, words, text, wanted):
-    """Returns what is wrong with the warnings about a design whose run finishes, if anything."""
-    said, errors, got, took = answer(program, ["--top", "t", *words.split()], text.encode())
+def fault_of_finding(program, words, marked, what):
+    """Returns what is wrong with the warning about a design whose run finishes, if anything."""
+    before, mark, after = marked.partition("@")
+    place = f"<stdin>:{before.count(chr(10)) + 1}:{len(before) - before.rfind(chr(10))}: " if mark else ""
+    said, errors, got, took = answer(program, ["--top", "t", *words.split()], (before + after).encode())
     found = [line for line in said.splitlines() if "warning: " in line]
-    if got or errors or found != wanted or took > MOST_SECONDS:
-        return f"wanted {wanted}\ngot after {took:.1f} s with status {got}:\n{said}{errors}"
+    if got or errors or found != [f"{place}warning: {what}"] * bool(what) or took > MOST_SECONDS:
+        return f"wanted {place}{what}\ngot after {took:.1f} s with status {got}:\n{said}{errors}"
     return None
 
 
@@ -574,8 +578,8 @@ def faults(program):
     for name, words, text, wanted in told_in_pages():
         status = answer(program, words.split(), text.encode())[2]
         yield name, fault_of_run(program, words, text, status, wanted)
-    for words, text, wanted in FINDINGS:
-        yield f"the warnings about '{text}' with '{words}'", fault_of_finding(program, words, text, wanted)
+    for words, marked, what in FINDINGS:
+        yield f"the warning about '{marked}' with '{words}'", fault_of_finding(program, words, marked, what)
     yield "the streams", fault_of_streams(program)
     yield "a stop time with a unit", fault_of_stop(program)
     with tempfile.TemporaryDirectory() as folder:
