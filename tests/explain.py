@@ -368,6 +368,16 @@ FINDINGS = [
     ("", doubtful("a <= '1' after 1 ns; q <= a;", "signal a, q : std_logic;"), None),
 ]
 
+# the warnings about examples, which show nets that are U or X on purpose
+WARNED = {
+    ("examples/bus.vhd", "bus_line is X at the end of the run"),
+    ("docs/INSTANCES.md", "s is U at the end of the run"),
+    ("docs/LANGUAGE.md", "bus_line is X at the end of the run"),
+    ("docs/LANGUAGE.md", "wait is U at the end of the run"),
+    ("docs/LANGUAGE.md", "s is U at the end of the run"),
+    ("docs/LANGUAGE.md", "beside is X at the end of the run"),
+}
+
 
 def examples():
     """Yields the name of each example, its words, its text, and the output, the errors and the status of vsim."""
@@ -430,11 +440,11 @@ def without_deepest(said, listing):
 def without_warnings(said):
     """Returns what is said about a run without the warnings, and the first line of each."""
     found = [place for place, line in enumerate(said) if "warning: " in line]
-    return said[: found[0]] if found else said, [re.sub(r"^<stdin>:\d+:\d+: ", "", said[place]) for place in found]
+    return said[: found[0]] if found else said, [said[place].partition("warning: ")[2] for place in found]
 
 
-def fault_of_example(program, words, text, wanted):
-    """Returns what is wrong with what is said about an example, if anything."""
+def fault_of_example(program, name, words, text, wanted):
+    """Returns what is wrong with what is said about the example of this name, if anything."""
     out, err, status = wanted
     if status in (2, 3) or b"--help" in out or "--help" in words:
         return None
@@ -446,7 +456,8 @@ def fault_of_example(program, words, text, wanted):
     if not status:
         head = lines_of_run(out.decode())
         said, warnings = without_warnings(without_deepest(said, out.decode()))
-        for it in warnings: print("WARNING", it)
+        if not {(name.partition(":")[0], it) for it in warnings} <= WARNED:
+            return f"the warnings are {warnings}"
         if answer(program, [*words, "--listing"], text)[:3] != (out.decode(), text_said, 0):
             return "with --listing it is not the listing on one stream and the same answer on the other"
     if answer(program, [*words, "--check"], text)[:3] != ((text_said, "", status) if status else ("No fault in the text or its design.\n", "", 0)):
@@ -572,7 +583,7 @@ def faults(program):
         yield f"the usage of {words}", fault_of_usage(program, words, status)
     yield from sections()
     for name, words, text, wanted in examples():
-        yield name, fault_of_example(program, words, text, wanted)
+        yield name, fault_of_example(program, name, words, text, wanted)
     for row in MISTAKES:
         yield f"line {row[0]} as '{row[1]}'", fault_of_mistake(program, *row)
     for name, words, text, wanted in told_in_pages():
