@@ -74,7 +74,7 @@ pub fn write_more_of_design<W: Write>(
 }
 
 /// Words that are nearly reserved ones, but were meant as others, which a hint names.
-static OTHERWISE_MEANT: [&str; 1] = ["els"];
+static OTHERWISE_MEANT: [&str; 4] = ["els", "import", "input", "output"];
 
 /// Writes the reserved word that may have been meant by a word; returns whether there is one.
 fn write_meant<W: Write>(alloc: Global, out: &mut W, word: &[u8]) -> io::Result<bool> {

@@ -4,12 +4,13 @@ use crate::left_out::{
     self, ARITHMETIC, ASSERTION, BASED, CALL, CONFIGURATION, EXTENDED, FILES, JOINING, NAMES,
     ORDER, STRING, TICK, WAIT_EDGE,
 };
+use crate::missing::of_missing;
 use crate::slips::{
-    self, ACTUAL, ALL_SIGNALS, AND_MISSING, ARROW, ASSIGNMENT, BEGIN, CHAINED, CHOICE,
-    CLOSING_NAME, COMMA, COMMENT, COMPARISON, COMPONENT_END, EDGE_OF, ELSE, ELSE_IF, END_TOO_MANY,
-    KINDS, LABEL, LAST_PORT, LINE_BEFORE, LOGICAL, MAP_MISSING, MIXED, NAMES_APART, NOT_ASCII,
-    NUMBER, OF_SIGNAL, OF_VARIABLE, OPEN, OPERATORS, POSITIONAL, SIGNAL, SIGNAL_ASSIGNMENT,
-    UNDERSCORE, UNEQUAL, UNIT_OF_TIME, WHEN,
+    self, ACTUAL, ALL_SIGNALS, ALWAYS, AND_MISSING, ARROW, ASSIGNMENT, BEGIN, BRACES, CHAINED,
+    CHOICE, CLOSING_NAME, COMMA, COMMENT, COMPARISON, COMPONENT_END, DELAY, EDGE_OF, ELSE, ELSE_IF,
+    END_TOO_MANY, KINDS, LABEL, LAST_PORT, LINE_BEFORE, LOGICAL, MAP_MISSING, MIXED, NAMES_APART,
+    NOT_ASCII, NUMBER, OF_SIGNAL, OF_VARIABLE, OPEN, OPERATORS, POSITIONAL, SIGNAL,
+    SIGNAL_ASSIGNMENT, UNDERSCORE, UNEQUAL, UNIT_OF_TIME, WHEN,
 };
 use vsim_explain_source::tokens::{
     are_ifs_closed, behind_foreign_comments, behind_word, find, first_statement, first_token,
@@ -238,6 +239,7 @@ fn of_context(before: &[u8], after: &[u8], is_first: bool) -> Option<&'static st
         .or(of_condition(before, after))
         .or(of_assignment(before, after, is_first))
         .or(of_instance(before, after))
+        .or(of_missing(before, after))
 }
 
 /// The hint on a `Syntax` between the text before it and the text after it.
@@ -290,7 +292,10 @@ fn of_other_language(before: &[u8], after: &[u8]) -> Option<&'static str> {
     match (before.last().copied(), after) {
         (_, [b'/', b'/', ..]) => Some(COMMENT),
         (Some(b'0'..=b'9'), [b'#', ..]) => Some(BASED),
+        (_, [b'#', b'0'..=b'9', ..]) => Some(DELAY),
         (_, [b'#', ..]) => Some(COMMENT),
+        (_, [b'@', ..]) => Some(ALWAYS),
+        (_, [b'{' | b'}', ..]) => Some(BRACES),
         (_, [b'&', b'&', ..] | [b'|' | b'~' | b'^', ..]) => Some(LOGICAL),
         (_, [b'?', b'=' | b'/' | b'<' | b'>', ..]) => Some(ORDER),
         (_, [b'?', ..]) => Some(CHOICE),

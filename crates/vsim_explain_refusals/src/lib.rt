@@ -5,6 +5,7 @@ mod design_faults;
 mod explanation;
 mod hints;
 mod left_out;
+mod missing;
 mod slips;
 mod text_faults;
 
