@@ -107,7 +107,8 @@ fn of_expression(before: &[u8], after: &[u8]) -> Option<&'static str> {
     if is_end && is_one_of(&OPERATORS, last_word(before)) {
         return Some(OPERAND);
     }
-    if is_end && is_operand(before) && has_open(statement) && !has_word(statement, "port") {
+    let is_statement = !after.starts_with(b")") && !has_word(statement, "port");
+    if is_end && is_statement && is_operand(before) && has_open(statement) {
         return Some(PARENTHESIS);
     }
     None
