@@ -277,15 +277,12 @@ ADVICE = [
      of(signals("data,q"), "data <= '1' after 1 ns; q <= data;"), FOLLOWS.replace(" a ", " data ")),
     ("then is missing after the condition", *both(process("if a = '1' q <= '1'; end if;"), process(IF_A)), FOLLOWS),
     ("begin is missing before the first statement", *both("process (a) q <= a; end process;", process("q <= a;")), FOLLOWS),
-    ("as in architecture a of t is", FOLLOWING.replace(" of t is\n", " of t\n"), FOLLOWING, FOLLOWS),
     ("as in architecture a of t is", FOLLOWING.replace("architecture a of t is", "architecture of t is"), FOLLOWING, FOLLOWS),
     ("Ports are in parentheses", *(of(signals("a,q"), A + INSTANCE, INVERTER.replace("port (i : in std_logic; o : out std_logic);", it))
                                    for it in ("port i : in std_logic; o : out std_logic;", "port (i : in std_logic; o : out std_logic);")), INVERTED),
     ("The mode comes between the colon and the type", *(of(signals("a,q"), A + INSTANCE, INVERTER.replace("i : in std_logic", it))
                                                         for it in ("in i : std_logic", "i : in std_logic")), INVERTED),
     ("An operand is missing after the operator", *both("q <= a and;", "q <= a and a;"), FOLLOWS),
-    ("A closing parenthesis is missing", *both("q <= (a and a;", "q <= (a and a);"), FOLLOWS),
-    ("A closing parenthesis is missing", *both(process("if (a = '1' then q <= '1'; end if;"), process(IF_A)), FOLLOWS),
     ("The signal of an edge is in parentheses", *both(process("if rising_edge a then q <= '1'; end if;"),
      process("if rising_edge(a) then q <= '1'; end if;")), FOLLOWS),
     ("always @ (posedge clk) is written process (clk)", *both("always @ (posedge a) q <= '1';", process("if rising_edge(a) then q <= '1'; end if;")), FOLLOWS),

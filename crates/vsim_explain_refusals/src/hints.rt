@@ -239,7 +239,6 @@ fn of_context(before: &[u8], after: &[u8], is_first: bool) -> Option<&'static st
         .or(of_condition(before, after))
         .or(of_assignment(before, after, is_first))
         .or(of_instance(before, after))
-        .or(of_missing(before, after))
 }
 
 /// The hint on a `Syntax` between the text before it and the text after it.
@@ -256,6 +255,7 @@ fn of_place(before: &[u8], after: &[u8], is_first: bool) -> Option<&'static str>
         .or(of_head(before, after))
         .or(of_line(before, is_first))
         .or(of_slips(before, after))
+        .or(of_missing(before, after))
         .or(if is_first { Some(BEGIN) } else { None })
 }
 

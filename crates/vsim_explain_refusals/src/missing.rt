@@ -28,9 +28,6 @@ pub const MODE_FIRST: &str = "\
 pub const OPERAND: &str = "\
     An operand is missing after the operator. See Expressions in docs/LANGUAGE.md.";
 
-pub const PARENTHESIS: &str = "\
-    A closing parenthesis is missing in this statement. See Expressions in docs/LANGUAGE.md.";
-
 pub const EDGE_CALL: &str = "\
     The signal of an edge is in parentheses, as in rising_edge(clk).\n\
     See Edges in docs/LANGUAGE.md.";
@@ -90,28 +87,17 @@ fn of_ports(before: &[u8], after: &[u8]) -> Option<&'static str> {
     None
 }
 
-/// Whether more parentheses begin than end in a text.
-fn has_open(text: &[u8]) -> bool {
-    let begun = text.iter().filter(|byte| **byte == b'(').count();
-    let ended = text.iter().filter(|byte| **byte == b')').count();
-    begun > ended
-}
-
-/// The hint on an expression that is not complete.
+/// The hint on an operator without its second operand.
 fn of_expression(before: &[u8], after: &[u8]) -> Option<&'static str> {
-    let statement = last_statement(before);
     let is_end = matches!(
         first_token(after),
         b";" | b")" | b"then" | b"else" | b"after"
     );
     if is_end && is_one_of(&OPERATORS, last_word(before)) {
-        return Some(OPERAND);
+        Some(OPERAND)
+    } else {
+        None
     }
-    let is_statement = !after.starts_with(b")") && !has_word(statement, "port");
-    if is_end && is_statement && is_operand(before) && has_open(statement) {
-        return Some(PARENTHESIS);
-    }
-    None
 }
 
 /// The hint on what is missing before a `Syntax`.
