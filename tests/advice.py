@@ -20,7 +20,7 @@ TOP = os.path.dirname(os.path.dirname(os.path.realpath(__file__)))
 
 
 def explained(program, text, words):
-    ran = subprocess.run([program, *words.split()], input=text.encode(), stdout=subprocess.PIPE, timeout=60)
+    ran = subprocess.run([program, *words.split()], input=text.encode(), stdout=subprocess.PIPE, stderr=subprocess.DEVNULL, timeout=60)
     return ran.stdout.decode(errors="replace"), ran.returncode
 
 

@@ -97,7 +97,7 @@ def faults_of_files(name, prefix):
     _, out, _ = answer([f"{prefix}/bin/{name}", "--help"])
     options = re.findall(r"^ +(?:-\w, )?(--[\w-]+)", out, re.M)
     page = contents(f"{prefix}/{PAGE.format(name)}").replace("\\-", "-")
-    missing = [it for it in (f".TH {name.upper()} 1", ".SH SYNOPSIS", ".SH OPTIONS", *options) if it not in page]
+    missing = [it for it in (f".TH {name.upper()} 1", ".SH SYNOPSIS", ".SH OPTIONS", ".SH SEE ALSO", *options) if it not in page]
     yield f"the page of {name} lacks {', '.join(missing)}" if missing or not options else None
     for path, (reader, mark) in COMPLETIONS.items():
         yield fault_of_completion(f"{prefix}/{path.format(name)}", reader, mark, options, out.count("<FILE>"))

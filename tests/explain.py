@@ -99,6 +99,11 @@ MISTAKES = [
     (25, "end process main;", 25, "Syntax", "A name after end must be that of what it closes"),
     (26, "end architecture b;", 26, "Syntax", "A name after end must be that of what it closes"),
     (23, "q <= v; // the next value", 23, "BadByte", "A comment begins with --"),
+    (17, "u1 : inverter (clk, p);", 17, "Syntax", "port map is missing before the parenthesis"),
+    (14, 'file f : text open read_mode is "stimuli.txt";', 14, "BadByte", "Files are left out."),
+    (14, "signal clk; p, q : std_logic := '0';", 14, "Syntax", "Names are separated by commas"),
+    (14, "signal clk, p, q : std_logic := '0'; signal v : bits(1 downto 0);", 14, "Syntax", "signals have no elements"),
+    (18, "process begin wait until clk'event and clk = '1';", 18, "Syntax", "Write if rising_edge(clk) then .. end if; in process (clk)."),
     (23, "q <= v; # the next value", 23, "BadByte", "A comment begins with --"),
     (19, "signal v : std_logic;", 19, "Syntax", "a process declares only variables"),
     (14, "variable clk, p, q : std_logic;", 14, "Syntax", "Variables are declared in a process"),
@@ -167,7 +172,7 @@ MISTAKES = [
     (1, "/* an inverter */ entity inverter", 2, "Syntax", "a word such as is, then or begin"),
     # a port without an actual
     (17, "u1 : entity work.inverter port map (o => p);", 17, "PortMissing", "The port without an actual is i of inverter."),
-    (17, "u1 : entity work.inverter port map (ii => clk, o => p);", 17, "PortMissing", "No port is named ii; the nearest is i."),
+    (17, "u1 : entity work.inverter port map (ii => clk, o => p);", 17, "PortMissing", "No port is named ii; the nearest that is free is i."),
     # a waveform that is too long
     (16, "clk <= " + ", ".join(f"'{n % 2}' after {n} ns" for n in range(17)) + ";", 16, "TooMany", "several assignments in a process that is executed only once"),
 ]
@@ -205,6 +210,15 @@ See Calling the program in docs/LANGUAGE.md.
 BUSIEST = "The nets that change most in the last 100 cycles, and how often:\n"
 LAST = "The last cycles of the listing:\n"
 
+# what the help must say in place of what that of vsim says
+OF_HELP = [
+    "Explains in plain words what vsim answers to a design, on standard output.",
+    "--top <NAME> [FILE]...\n",
+    "\n      --check  ",
+    "\n      --listing  ",
+    "A refusal goes to standard output, as in 'design.vhd:7:5: error: Syntax at 77'",
+    "\n      vsim_explain --top t pulse.vhd\n",
+]
 # words that ask for no run, and the status
 USAGES = [(["--help"], 0), (["-h"], 0), ([], 2)]
 
@@ -282,13 +296,13 @@ RUNS = [
         "--top t --limit 0 --workers 17",
         CLOCK,
         2,
-        "Options\n--limit is 0, but must be from 1 to 1000000 cycles.\n--workers is 17, but must be from 1 to 16 threads.\n",
+        "error: Options\n--limit is 0, but must be from 1 to 1000000 cycles.\n--workers is 17, but must be from 1 to 16 threads.\n",
     ),
     (
         "--top t --stop 4611686018427387904",
         CLOCK,
         2,
-        "Options\n--stop is 4611686018427387904, but must be at most 4611686018427387903 femtoseconds.\n",
+        "error: Options\n--stop is 4611686018427387904, but must be at most 4611686018427387903 femtoseconds.\n",
     ),
     (
         "--top u",
@@ -308,6 +322,61 @@ RUNS = [
     ),
     ("design.vhd", CLOCK, 2, ""),
 ]
+
+
+def doubtful(statements, signals="signal a, b, q : std_logic := '0';", ports=""):
+    """Returns a design with these statements from line 5 on."""
+    return f"entity t is {ports}end;\narchitecture a of t is\n{signals}\nbegin\n{statements}\nend;\n"
+
+
+AT_EDGE = "if rising_edge(a) then q <= b; end if;"
+LACKED = "b is read here, but is not in the sensitivity list of its process"
+NO_VALUE = "a is inverted here, but has no first value"
+UNDRIVEN = "i is an input of the top, and nothing drives it"
+# words after those for the top, a design whose run finishes with @ before the place of the warning, and what that says, if there is one
+FINDINGS = [
+    ("", doubtful("process (a) begin q <= a and @b; end process;"), LACKED),
+    ("", doubtful("process (a)\nbegin\nif @b = '1' then q <= a; end if;\nend process;"), LACKED),
+    ("", doubtful("process (a) begin if a = '1' then null; else q <= not (@b); end if; end process;"), LACKED),
+    ("", doubtful("process (a) begin if @b = '1' then q <= '0'; elsif rising_edge(a) then q <= '1'; end if; end process;"), LACKED),
+    ("", doubtful("process (a) variable v : std_logic; begin v := @b; q <= v; end process;"), LACKED),
+    # each kind is told once
+    ("", doubtful("process (a) begin q <= @b; end process;\nprocess (q) begin a <= b; end process;"), LACKED),
+    ("", doubtful("process (A, b) begin q <= a and B; end process;"), None),
+    ("", doubtful("process (all) begin q <= a and b; end process;"), None),
+    ("", doubtful(f"process (a) begin {AT_EDGE} end process;"), None),
+    ("", doubtful("process (a) begin if a'event and a = '1' and b = '0' then q <= b; end if; end process;"), None),
+    ("", doubtful("process (a) variable v : boolean; begin v := true; if v then q <= a; end if; end process;"), None),
+    ("", doubtful("q <= a and b;"), None),
+    # a clock without a first value, and one with it
+    ("", doubtful("@a <= not a after 5 ns;", "signal a : std_logic;"), NO_VALUE),
+    ("", doubtful("process (a) begin @a <= not a after 5 ns; end process;", "signal a : std_logic;"), NO_VALUE),
+    ("--stop 10000000", doubtful("a <= not a after 5 ns;"), None),
+    # an input of the top without a first value, and one with it
+    ("", doubtful("o <= i;", "", "port (@i : in std_logic; o : out std_logic); "), UNDRIVEN),
+    ("", doubtful("o <= i;", "", "port (i : std_logic := '1'; o : out std_logic); "), None),
+    # a stop time before the first change
+    ("--stop 1000", doubtful("a <= not a after 5 ns;"), "The run ends at 1000 fs, before the shortest delay, which is 5000000 fs."),
+    ("--stop 1000", doubtful("a <= '1' after 2 ps, '0' after 3 ps;"), "The run ends at 1000 fs, before the shortest delay, which is 2000 fs."),
+    ("--stop 1000", doubtful("q <= a;"), None),
+    # nets that are U or X at the end: where they are assigned, connected or declared
+    ("", doubtful("@q <= a;", "signal q, a : std_logic;"), "q is U at the end of the run"),
+    ("", doubtful("process (a) begin if a = '1' then @q <= '0'; end if; end process;", "signal q, a : std_logic;"), "q is U at the end of the run"),
+    ("", doubtful("", "signal @a, b : std_logic;"), "a is U at the end of the run"),
+    ("", doubtful("", "", "port (@o : out std_logic); "), "o is U at the end of the run"),
+    ("", doubtful("@a <= '0'; q <= b;\na <= '1';"), "a is X at the end of the run"),
+    ("", doubtful("a <= '1' after 1 ns; q <= a;", "signal a, q : std_logic;"), None),
+]
+
+# the warnings about examples, which show nets that are U or X on purpose
+WARNED = {
+    ("examples/bus.vhd", "bus_line is X at the end of the run"),
+    ("docs/INSTANCES.md", "s is U at the end of the run"),
+    ("docs/LANGUAGE.md", "bus_line is X at the end of the run"),
+    ("docs/LANGUAGE.md", "wait is U at the end of the run"),
+    ("docs/LANGUAGE.md", "s is U at the end of the run"),
+    ("docs/LANGUAGE.md", "beside is X at the end of the run"),
+}
 
 
 def examples():
@@ -368,8 +437,14 @@ def without_deepest(said, listing):
     return said[:1] + said[2:] if found and int(found[1] or 0) >= most else said
 
 
-def fault_of_example(program, words, text, wanted):
-    """Returns what is wrong with what is said about an example, if anything."""
+def without_warnings(said):
+    """Returns what is said about a run without the warnings, and the first line of each."""
+    found = [place for place, line in enumerate(said) if "warning: " in line]
+    return said[: found[0]] if found else said, [said[place].partition("warning: ")[2] for place in found]
+
+
+def fault_of_example(program, name, words, text, wanted):
+    """Returns what is wrong with what is said about the example of this name, if anything."""
     out, err, status = wanted
     if status in (2, 3) or b"--help" in out or "--help" in words:
         return None
@@ -379,7 +454,10 @@ def fault_of_example(program, words, text, wanted):
         return f"status {got}: {errors}"
     head = head_of_refusal(text, err.decode().strip()[len("vsim: ") :]) if status else None
     if not status:
-        head, said = lines_of_run(out.decode()), without_deepest(said, out.decode())
+        head = lines_of_run(out.decode())
+        said, warnings = without_warnings(without_deepest(said, out.decode()))
+        if not {(name.partition(":")[0], it) for it in warnings} <= WARNED:
+            return f"the warnings are {warnings}"
         if answer(program, [*words, "--listing"], text)[:3] != (out.decode(), text_said, 0):
             return "with --listing it is not the listing on one stream and the same answer on the other"
     if answer(program, [*words, "--check"], text)[:3] != ((text_said, "", status) if status else ("No fault in the text or its design.\n", "", 0)):
@@ -420,6 +498,17 @@ def fault_of_run(program, words, text, status, wanted):
     said, errors, got, took = answer(program, words.split(), text.encode())
     if (said, got) != (wanted, status) or bool(errors) != (not wanted or "--listing" in words) or took > MOST_SECONDS:
         return f"wanted status {status}:\n{wanted}got after {took:.1f} s with status {got}:\n{said}{errors}"
+    return None
+
+
+def fault_of_finding(program, words, marked, what):
+    """Returns what is wrong with the warning about a design whose run finishes, if anything."""
+    before, mark, after = marked.partition("@")
+    place = f"<stdin>:{before.count(chr(10)) + 1}:{len(before) - before.rfind(chr(10))}: " if mark else ""
+    said, errors, got, took = answer(program, ["--top", "t", *words.split()], (before + after).encode())
+    found = [line for line in said.splitlines() if "warning: " in line]
+    if got or errors or found != [f"{place}warning: {what}"] * bool(what) or took > MOST_SECONDS:
+        return f"wanted {place}{what}\ngot after {took:.1f} s with status {got}:\n{said}{errors}"
     return None
 
 
@@ -480,8 +569,9 @@ def fault_of_usage(program, words, status):
     """Returns what is wrong with the usage printed for words that ask for no run, if anything."""
     out, errors, got, _ = answer(program, words, b"")
     said = errors if status else out
-    if not status and ("Explains in plain words what vsim answers" not in said or "\n      --listing  " not in said):
-        return f"the help does not say what the program is, or lacks its own option:\n{out}"
+    missing = [it for it in OF_HELP if it not in said] if not status else []
+    if missing:
+        return f"the help lacks {missing}:\n{out}"
     if got != status or "Usage: vsim_explain " not in said or "Usage: vsim " in said or (out and errors):
         return f"wanted status {status} and its own line of usage\ngot with status {got}:\n{out}{errors}"
     return None
@@ -493,12 +583,14 @@ def faults(program):
         yield f"the usage of {words}", fault_of_usage(program, words, status)
     yield from sections()
     for name, words, text, wanted in examples():
-        yield name, fault_of_example(program, words, text, wanted)
+        yield name, fault_of_example(program, name, words, text, wanted)
     for row in MISTAKES:
         yield f"line {row[0]} as '{row[1]}'", fault_of_mistake(program, *row)
     for name, words, text, wanted in told_in_pages():
         status = answer(program, words.split(), text.encode())[2]
         yield name, fault_of_run(program, words, text, status, wanted)
+    for words, marked, what in FINDINGS:
+        yield f"the warning about '{marked}' with '{words}'", fault_of_finding(program, words, marked, what)
     yield "the streams", fault_of_streams(program)
     yield "a stop time with a unit", fault_of_stop(program)
     with tempfile.TemporaryDirectory() as folder:

@@ -2,7 +2,6 @@
 
 use crate::changes::write_changes;
 use crate::cycles::write_cycles;
-use crate::request::Request;
 use anyhow::{Result, bail};
 use sim_logic::LATEST;
 use sim_run_options::Options;
@@ -10,6 +9,7 @@ use sim_run_session::RunError;
 use sim_store::{Record, Step, WaveStore};
 use std::alloc::Global;
 use std::io::{self, Write};
+use vsim_explain_request::Request;
 
 /// The number of last cycles in which changes are counted.
 const COUNTED: usize = 100;

@@ -6,89 +6,27 @@
 mod changes;
 mod cut_short;
 mod cycles;
-mod ranges;
-mod request;
 mod runs;
 
-use crate::ranges::write_ranges;
-use crate::request::{Request, read_request};
 use crate::runs::tell_run;
-use anyhow::{Context, Result, bail};
+use anyhow::{Context, Result};
 use sim_flat::FlatError;
 use sim_flat_design::Design;
-use sim_run_options::CliFault;
 use sim_run_session::{RunError, elaborate};
 use sim_text::TextError;
-use std::alloc::{AllocError, Global};
-use std::io::{self, BufWriter, Read, Write, writer};
+use std::alloc::Global;
+use std::io::{self, BufWriter, Write, writer};
 use std::process::ExitCode;
-use std::{env, fs};
-use vsim_explain_refusals::{
-    Part, Source, explain_design, explain_text, write_more_of_design, write_more_of_text,
-};
-
-/// One byte more than a text may have: enough to see that it is too long.
-const MOST_BYTES: u64 = 1_048_577;
+use vsim_explain_names::{write_more_of_design, write_more_of_text};
+use vsim_explain_refusals::{explain_design, explain_text};
+use vsim_explain_request::{Asked, Request, read_command_line, write_ranges};
+use vsim_explain_source::{Source, read_source};
 
 /// The text of `--version`. The script `build` fills in the sources and the toolchain in its copy.
 const VERSION: &str = "vsim_explain 1.0.0, sources unknown, toolchain unknown";
 
-/// The message for words that are not valid UTF-8, as `clap` words it.
-const NO_TEXT: &str = "error: invalid UTF-8 was detected in one or more arguments
-
-For more information, try '--help'.
-";
-
-/// The first lines of the help of `vsim`.
-const ABOUT_VSIM: &str =
-    "Reads a design in a subset of VHDL from standard input, simulates it, and lists
-every change of a signal on standard output.
-";
-
-/// The same lines of this program's help.
-const ABOUT: &str = "Explains in plain words what vsim answers to a design, on standard output. The
-design is in files, which are one text in their order, or on standard input.
-";
-
-/// The end of the usage of `vsim`, and that of this program.
-const USAGE_OF_VSIM: &str = "[OPTIONS] --top <NAME>\n";
-
-const USAGE: &str = "[OPTIONS] --top <NAME> [FILE]...\n";
-
-/// This program's own options, placed before that for the help.
-const OWN_OPTIONS: &str = "
-      --check        Check the text and its design, and run nothing
-      --listing      Write the listing to standard output, as far as it goes if the run is
-                     cut short, and the explanation to standard error
-  -h, --help ";
-
-/// Where `vsim` writes refusals, and where this program does.
-const ERRORS_OF_VSIM: &str =
-    "  A refusal goes to standard error, as in 'vsim: Syntax at 77', where the number is
-  a byte offset in the input.
-";
-
-const ERRORS: &str =
-    "  A refusal goes to standard output, as in 'design.vhd:7:5: error: Syntax at 77',
-  with the file, the line and the column; only a refused command line goes to
-  standard error.
-";
-
-/// The name of standard input in place of a file's.
-const STANDARD_INPUT: &str = "<stdin>";
-
 /// The answer to a text that is only checked.
 const NO_FAULT: &[u8] = b"No fault in the text or its design.\n";
-
-/// The message for a stop time that is refused.
-const FEMTOSECONDS: &str = "
---stop is a whole number of femtoseconds: 10ns is 10000000, and 1us is 1000000000.
-";
-
-/// The message for words that are refused, after that of `clap`.
-const REFUSED: &str = "
-The design is read from files or from standard input: vsim_explain --top NAME design.vhd
-";
 
 /// Writes an explanation of a fault of a text.
 fn write_text_fault<W: Write>(
@@ -137,64 +75,10 @@ fn status_of(refusal: RunError) -> u8 {
     }
 }
 
-/// Reads standard input to the end of a text.
-fn read_input(rt: &HostRuntime, text: &mut Vec<u8>) -> io::Result<()> {
-    rt.reader().take(MOST_BYTES).read_to_end(text)?;
-    Ok(())
-}
-
-/// Reads a file to the end of a text.
-fn read_file(rt: &HostRuntime, path: &str, text: &mut Vec<u8>) -> io::Result<()> {
-    fs::open(rt, path)?.take(MOST_BYTES).read_to_end(text)?;
-    Ok(())
-}
-
-/// The part of a text that ends here.
-fn part(alloc: Global, name: &str, end: usize) -> Result<Part, AllocError> {
-    let name = String::from_str(alloc, name)?;
-    Ok(Part { name, end })
-}
-
-/// Reads a file to the end of a text, and notes it.
-fn read_part(
-    rt: &HostRuntime,
-    path: &str,
-    text: &mut Vec<u8>,
-    parts: &mut Vec<Part>,
-) -> Result<()> {
-    read_file(rt, path, text).context(format_args!("{path}"))?;
-    let part = part(rt.alloc(), path, text.len())?;
-    parts.push(part)?;
-    Ok(())
-}
-
-/// Reads the text on standard input, and notes it.
-fn read_all_input(rt: &HostRuntime, text: &mut Vec<u8>, parts: &mut Vec<Part>) -> Result<()> {
-    read_input(rt, text)?;
-    let part = part(rt.alloc(), STANDARD_INPUT, text.len())?;
-    parts.push(part)?;
-    Ok(())
-}
-
-/// Reads the files, or standard input if there are none.
-fn read_source(
-    rt: &HostRuntime,
-    files: &[String],
-    text: &mut Vec<u8>,
-    parts: &mut Vec<Part>,
-) -> Result<()> {
-    if files.is_empty() {
-        return read_all_input(rt, text, parts);
-    }
-    for path in files {
-        read_part(rt, path.as_str(), text, parts)?;
-    }
-    Ok(())
-}
-
 /// Writes the answer to a design, and returns the exit status.
 fn answer_design<L: Write, W: Write>(
     alloc: Global,
+    source: Source<'_>,
     design: Design,
     request: &Request,
     listing: &mut L,
@@ -205,7 +89,7 @@ fn answer_design<L: Write, W: Write>(
         words.write_all(NO_FAULT)?;
         return Ok(0);
     }
-    tell_run(alloc, design, request, listing, words)
+    tell_run(alloc, source, design, request, listing, words)
 }
 
 /// Writes the answer to a text, and returns the exit status.
@@ -217,12 +101,20 @@ fn answer_text<L: Write, W: Write>(
     words: &mut W,
 ) -> Result<u8> {
     match elaborate(alloc, source.text, &request.options) {
-        Ok(design) => answer_design(alloc, design, request, listing, words),
+        Ok(design) => answer_design(alloc, source, design, request, listing, words),
         Err(refusal) => {
             write_refusal(alloc, words, source, request.options.top.as_str(), refusal)?;
             Ok(status_of(refusal))
         }
     }
+}
+
+/// Writes that options are out of range, and returns the exit status.
+fn answer_options<W: Write>(request: &Request, words: &mut W) -> Result<u8> {
+    let refusal = RunError::Options;
+    writeln!(words, "error: {refusal}")?;
+    write_ranges(words, &request.options)?;
+    Ok(2)
 }
 
 /// Writes the answer to the files or standard input, and returns the exit status.
@@ -233,8 +125,7 @@ fn answer_request<L: Write, W: Write>(
     words: &mut W,
 ) -> Result<u8> {
     if !request.options.are_in_range() {
-        write_ranges(words, &request.options)?;
-        return Ok(2);
+        return answer_options(request, words);
     }
     let (mut text, mut parts) = (Vec::new(rt.alloc()), Vec::new(rt.alloc()));
     read_source(rt, request.files.as_slice(), &mut text, &mut parts)?;
@@ -264,94 +155,11 @@ fn answer_apart(rt: &HostRuntime, request: &Request) -> Result<u8> {
     status
 }
 
-/// A message of `vsim` about its words, with this program's name and files in the line of usage.
-fn renamed(alloc: Global, text: &str) -> Result<String, AllocError> {
-    let text = text.replace(alloc, "Usage: vsim ", "Usage: vsim_explain ")?;
-    text.replace(alloc, USAGE_OF_VSIM, USAGE)
-}
-
-/// The help of `vsim`, adapted to this program and with its own options.
-fn own_help(alloc: Global, text: &str) -> Result<String, AllocError> {
-    let text = renamed(alloc, text)?.replace(alloc, ABOUT_VSIM, ABOUT)?;
-    let text = text.replace(alloc, ERRORS_OF_VSIM, ERRORS)?;
-    text.replace(alloc, "\n  -h, --help ", OWN_OPTIONS)
-}
-
-/// Prints the help.
-fn tell_help(rt: &HostRuntime, text: &str) -> Result<()> {
-    let text = own_help(rt.alloc(), text)?;
-    rt.print(text.as_str()).context("writing")
-}
-
-/// Prints that words are refused, and why.
-fn tell_refused(rt: &HostRuntime, text: &str) -> Result<()> {
-    let text = renamed(rt.alloc(), text)?;
-    rt.eprint(text.as_str())?;
-    if text.contains("--stop") {
-        rt.eprint(FEMTOSECONDS)?;
-    }
-    rt.eprint(REFUSED).context("writing")
-}
-
-/// Answers words that give no options, and returns the exit status.
-fn answer_fault(rt: &HostRuntime, fault: &CliFault) -> Result<u8> {
-    match fault {
-        CliFault::Help(text) => {
-            tell_help(rt, text.as_str())?;
-            Ok(0)
-        }
-        CliFault::Refused(text) => {
-            tell_refused(rt, text.as_str())?;
-            Ok(2)
-        }
-        CliFault::Memory => bail!("out of memory"),
-    }
-}
-
-/// The words after the program's name.
-fn words(rt: &HostRuntime) -> io::Result<Vec<String>> {
-    let words = env::args(rt)?.skip(1).collect(rt.alloc())?;
-    Ok(words)
-}
-
-/// Answers the words, and returns the exit status.
-fn answer_words(rt: &HostRuntime, words: Vec<String>) -> Result<u8> {
-    match read_request(rt.alloc(), words) {
-        Ok(request) => answer_apart(rt, &request),
-        Err(fault) => answer_fault(rt, &fault),
-    }
-}
-
-/// Whether the words ask for the version.
-fn ask_for_version(words: &[String]) -> bool {
-    match words.first() {
-        Some(first) => first.as_str() == "--version" || first.as_str() == "-V",
-        None => false,
-    }
-}
-
-/// Answers words that are valid UTF-8, and returns the exit status.
-fn answer_texts(rt: &HostRuntime, words: Vec<String>) -> Result<u8> {
-    if ask_for_version(words.as_slice()) {
-        drop(words);
-        rt.println(VERSION)?;
-        return Ok(0);
-    }
-    answer_words(rt, words)
-}
-
-/// Prints that the words are not valid UTF-8.
-fn answer_no_text(rt: &HostRuntime) -> Result<u8> {
-    rt.eprint(NO_TEXT)?;
-    Ok(2)
-}
-
 /// Answers the command line, and returns the exit status.
 fn answer(rt: &HostRuntime) -> Result<u8> {
-    match words(rt) {
-        Ok(words) => answer_texts(rt, words),
-        Err(fault) if fault.kind() == io::ErrorKind::InvalidData => answer_no_text(rt),
-        Err(fault) => Err(fault.into()),
+    match read_command_line(rt, VERSION)? {
+        Asked::Explanation(request) => answer_apart(rt, &request),
+        Asked::Answered(status) => Ok(status),
     }
 }
 

@@ -2,14 +2,18 @@
 
 use crate::changes::write_totals;
 use crate::cut_short::{write_all_cycles, write_cut_short};
-use crate::request::Request;
 use anyhow::{Result, bail};
 use sim_flat_design::Design;
+use sim_logic::Logic;
 use sim_run_options::Options;
 use sim_run_session::write_run;
 use sim_store::{Entry, Look, Step, WaveStore};
+use sim_text::parse;
 use std::alloc::Global;
 use std::io::{self, Write};
+use vsim_explain_findings::{Outcome, write_findings};
+use vsim_explain_request::Request;
+use vsim_explain_source::Source;
 
 /// The longest sequence of delta cycles, and its time.
 #[derive(Clone, Copy)]
@@ -103,9 +107,42 @@ fn write_listing<L: Write>(alloc: Global, listing: &mut L, store: &WaveStore) ->
     Ok(())
 }
 
+/// The first net of the top that has a value at the end of its run.
+fn net_with(store: &WaveStore, value: Logic) -> Option<&str> {
+    for (net, it) in store.design().nets().iter().enumerate() {
+        let (path, name) = it.name_pieces();
+        if path.is_empty() && store.value(net) == Some(value) {
+            return Some(name);
+        }
+    }
+    None
+}
+
+/// Writes what is probably wrong in a design whose run has finished.
+fn write_doubts<W: Write>(
+    alloc: Global,
+    words: &mut W,
+    source: Source<'_>,
+    request: &Request,
+    store: &WaveStore,
+) -> Result<()> {
+    let Ok(file) = parse(alloc, source.text) else {
+        bail!("out of memory");
+    };
+    let outcome = Outcome {
+        top: request.options.top.as_str(),
+        stop: request.options.stop,
+        unassigned: net_with(store, Logic::U),
+        conflicting: net_with(store, Logic::X),
+    };
+    write_findings(alloc, words, source, &file, &outcome)?;
+    Ok(())
+}
+
 /// Writes the explanation of a run that has ended, and returns the exit status.
 fn write_words<W: Write>(
     alloc: Global,
+    source: Source<'_>,
     store: &WaveStore,
     request: &Request,
     words: &mut W,
@@ -115,6 +152,7 @@ fn write_words<W: Write>(
         return Ok(3);
     }
     write_finished(alloc, words, store)?;
+    write_doubts(alloc, words, source, request, store)?;
     Ok(0)
 }
 
@@ -122,6 +160,7 @@ fn write_words<W: Write>(
 /// the exit status.
 pub fn tell_run<L: Write, W: Write>(
     alloc: Global,
+    source: Source<'_>,
     design: Design,
     request: &Request,
     listing: &mut L,
@@ -132,5 +171,5 @@ pub fn tell_run<L: Write, W: Write>(
     if request.listing {
         write_listing(alloc, listing, &store)?;
     }
-    write_words(alloc, &store, request, words)
+    write_words(alloc, source, &store, request, words)
 }

@@ -2,8 +2,8 @@
 
 use crate::explanation::{Explanation, at, nowhere};
 use crate::hints;
-use crate::tokens::{is_one_of, last_word, without_comments};
 use sim_flat::FlatError;
+use vsim_explain_source::tokens::{is_one_of, last_word, without_comments};
 
 const MEMORY: &str = "\
     There is not enough memory to elaborate the design.";

@@ -1,9 +1,9 @@
 //! Explanations of refusals.
 
-use crate::source::Source;
-use crate::tokens::token_at;
 use std::fmt::Display;
 use std::io::{self, Write};
+use vsim_explain_source::Source;
+use vsim_explain_source::tokens::token_at;
 
 /// The explanation of a refusal.
 #[derive(Clone, Copy)]

@@ -1,17 +1,18 @@
 //! Hints on a fault, from the words and signs at its place.
 
 use crate::left_out::{
-    self, ARITHMETIC, ASSERTION, BASED, CALL, CONFIGURATION, EXTENDED, JOINING, NAMES, ORDER,
-    STRING, TICK, WAIT_EDGE,
+    self, ARITHMETIC, ASSERTION, BASED, CALL, CONFIGURATION, EXTENDED, FILES, JOINING, NAMES,
+    ORDER, STRING, TICK, WAIT_EDGE,
 };
+use crate::missing::of_missing;
 use crate::slips::{
-    self, ACTUAL, ALL_SIGNALS, AND_MISSING, ARROW, ASSIGNMENT, BEGIN, CHAINED, CHOICE,
-    CLOSING_NAME, COMMA, COMMENT, COMPARISON, COMPONENT_END, EDGE_OF, ELSE, ELSE_IF, END_TOO_MANY,
-    KINDS, LABEL, LAST_PORT, LINE_BEFORE, LOGICAL, MAP_MISSING, MIXED, NAMES_APART, NOT_ASCII,
-    NUMBER, OF_SIGNAL, OF_VARIABLE, OPEN, OPERATORS, POSITIONAL, SIGNAL, SIGNAL_ASSIGNMENT,
-    UNDERSCORE, UNEQUAL, UNIT_OF_TIME, WHEN,
+    self, ACTUAL, ALL_SIGNALS, ALWAYS, AND_MISSING, ARROW, ASSIGNMENT, BEGIN, BRACES, CHAINED,
+    CHOICE, CLOSING_NAME, COMMA, COMMENT, COMPARISON, COMPONENT_END, DELAY, EDGE_OF, ELSE, ELSE_IF,
+    END_TOO_MANY, KINDS, LABEL, LAST_PORT, LINE_BEFORE, LOGICAL, MAP_MISSING, MIXED, NAMES_APART,
+    NOT_ASCII, NUMBER, OF_SIGNAL, OF_VARIABLE, OPEN, OPERATORS, POSITIONAL, SIGNAL,
+    SIGNAL_ASSIGNMENT, UNDERSCORE, UNEQUAL, UNIT_OF_TIME, WHEN,
 };
-use crate::tokens::{
+use vsim_explain_source::tokens::{
     are_ifs_closed, behind_foreign_comments, behind_word, find, first_statement, first_token,
     first_word, has_comparison, has_one_since, has_pair_since, has_word, is_at_line_start,
     is_in_component, is_one_of, last_statement, last_word, waits_for_edge, without_comments,
@@ -43,6 +44,16 @@ fn ends_by_tick(text: &[u8]) -> bool {
     }
 }
 
+/// Whether a text ends with the label and the unit of an instance.
+fn is_instance(before: &[u8]) -> bool {
+    let statement = last_statement(before);
+    statement.contains(&b':')
+        && !statement.contains(&b'=')
+        && !has_word(statement, "signal")
+        && !has_word(statement, "variable")
+        && !has_word(statement, "port")
+}
+
 /// The hint on the sign at the place of a `Syntax` and the byte before it.
 fn of_signs(before: &[u8], after: &[u8]) -> Option<&'static str> {
     match (before.last(), first_token(after)) {
@@ -54,6 +65,7 @@ fn of_signs(before: &[u8], after: &[u8]) -> Option<&'static str> {
         (_, b"=") => Some(COMPARISON),
         (_, b":=") => Some(ASSIGNMENT),
         (_, b",") => Some(COMMA),
+        (_, b"(") if is_instance(before) => Some(MAP_MISSING),
         (_, b"(") => Some(CALL),
         (_, [b'0'..=b'9', ..]) => Some(NUMBER),
         _ => None,
@@ -172,7 +184,8 @@ fn of_instance(before: &[u8], after: &[u8]) -> Option<&'static str> {
 /// The hint on a declaration whose names are apart, or on a component that does not end.
 fn of_declaration(before: &[u8], after: &[u8]) -> Option<&'static str> {
     let is_object = is_one_of(&["signal", "variable"], word_before_last(before));
-    if is_object && !first_word(after).is_empty() && !is_one_of(&slips::TYPES, first_word(after)) {
+    let is_name = !first_word(after).is_empty() && !is_one_of(&slips::TYPES, first_word(after));
+    if is_object && (is_name || after.starts_with(b";")) {
         return Some(NAMES_APART);
     }
     let may_end = before.ends_with(b");") || is_one_of(&["end"], last_word(before));
@@ -196,6 +209,12 @@ fn is_edge(before: &[u8]) -> bool {
     }
 }
 
+/// Whether the first statement of a process waits for an event.
+fn waits_for_event(after: &[u8]) -> bool {
+    let statement = first_statement(after);
+    has_word(statement, "until") && has_word(statement, "event")
+}
+
 /// The hint on one `end if` too many, or on a wait for an edge.
 fn of_statement(before: &[u8], after: &[u8]) -> Option<&'static str> {
     let (last, first) = (last_word(before), first_word(after));
@@ -203,7 +222,7 @@ fn of_statement(before: &[u8], after: &[u8]) -> Option<&'static str> {
         return Some(END_TOO_MANY);
     }
     if is_one_of(&["wait"], last) && is_one_of(&["until"], first)
-        || is_one_of(&["process"], last) && waits_for_edge(after)
+        || is_one_of(&["process"], last) && (waits_for_edge(after) || waits_for_event(after))
     {
         return Some(WAIT_EDGE);
     }
@@ -236,6 +255,7 @@ fn of_place(before: &[u8], after: &[u8], is_first: bool) -> Option<&'static str>
         .or(of_head(before, after))
         .or(of_line(before, is_first))
         .or(of_slips(before, after))
+        .or(of_missing(before, after))
         .or(if is_first { Some(BEGIN) } else { None })
 }
 
@@ -252,6 +272,8 @@ pub fn of_syntax(source: &[u8], at: usize) -> Option<&'static str> {
 fn of_string(before: &[u8]) -> &'static str {
     if is_one_of(&["report"], last_word(without_comments(before))) {
         ASSERTION
+    } else if has_word(last_statement(before), "file") {
+        FILES
     } else {
         STRING
     }
@@ -270,7 +292,10 @@ fn of_other_language(before: &[u8], after: &[u8]) -> Option<&'static str> {
     match (before.last().copied(), after) {
         (_, [b'/', b'/', ..]) => Some(COMMENT),
         (Some(b'0'..=b'9'), [b'#', ..]) => Some(BASED),
+        (_, [b'#', b'0'..=b'9', ..]) => Some(DELAY),
         (_, [b'#', ..]) => Some(COMMENT),
+        (_, [b'@', ..]) => Some(ALWAYS),
+        (_, [b'{' | b'}', ..]) => Some(BRACES),
         (_, [b'&', b'&', ..] | [b'|' | b'~' | b'^', ..]) => Some(LOGICAL),
         (_, [b'?', b'=' | b'/' | b'<' | b'>', ..]) => Some(ORDER),
         (_, [b'?', ..]) => Some(CHOICE),

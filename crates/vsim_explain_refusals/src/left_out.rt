@@ -165,7 +165,7 @@ pub static AT: [(&str, &str); 20] = [
 ];
 
 /// The constructs that a word before the place of a `Syntax` begins.
-pub static AFTER: [(&str, &str); 21] = [
+pub static AFTER: [(&str, &str); 23] = [
     ("wait", WAIT),
     ("case", CASE),
     ("for", LOOP),
@@ -186,6 +186,8 @@ pub static AFTER: [(&str, &str); 21] = [
     ("signed", VECTOR),
     ("buffer", MODES),
     ("linkage", MODES),
+    ("input", MODES),
+    ("output", MODES),
     ("others", AGGREGATE),
 ];
 

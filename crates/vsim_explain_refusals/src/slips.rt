@@ -123,6 +123,22 @@ pub const LOGICAL: &str = "\
 pub const COMMENT: &str = "\
     A comment begins with -- and goes to the end of the line. See Text in docs/LANGUAGE.md.";
 
+pub const ALWAYS: &str = "\
+    always @ (posedge clk) is written process (clk), with if rising_edge(clk) then .. end if;\n\
+    inside. See Edges in docs/LANGUAGE.md.";
+
+pub const BRACES: &str = "\
+    There are no braces: an if ends with end if, a process with end process.\n\
+    See Processes in docs/LANGUAGE.md.";
+
+pub const DELAY: &str = "\
+    A delay comes after the value and has a unit, as in q <= d after 5 ns;\n\
+    See Assignments and delays in docs/LANGUAGE.md.";
+
+pub const CONTINUOUS: &str = "\
+    An assignment begins with its target, as in q <= d;\n\
+    See Assignments and delays in docs/LANGUAGE.md.";
+
 pub const CHOICE: &str = "\
     s ? d : clk is written d when s = '1' else clk; in a process it is an if statement.\n\
     See Conditional assignments in docs/LANGUAGE.md.";
@@ -209,7 +225,9 @@ pub static AT: [(&str, &str); 19] = [
 ];
 
 /// The hint on a word before the place of a `Syntax`.
-pub static AFTER: [(&str, &str); 7] = [
+pub static AFTER: [(&str, &str); 9] = [
+    ("assign", CONTINUOUS),
+    ("posedge", ALWAYS),
     ("els", ELSIF),
     ("end", ENDS),
     ("endif", END_IF),

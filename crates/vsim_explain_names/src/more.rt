@@ -3,7 +3,6 @@
 use crate::names::write_meant_name;
 use crate::nearest::{meant, nearest};
 use crate::ports::{has_instance, write_missing, write_unknown};
-use crate::tokens::{first_word, is_one_of, last_word, without_comments};
 use crate::words::{OTHER_WORDS, WORDS};
 use sim_flat::FlatError;
 use sim_text::{TextError, parse};
@@ -12,6 +11,7 @@ use sim_text_tree::unit::LibraryUnit;
 use std::alloc::{AllocError, Global};
 use std::io::{self, Write};
 use std::str::from_utf8;
+use vsim_explain_source::tokens::{first_word, is_one_of, last_word, without_comments};
 
 /// The names of the entities of a file, in order.
 fn entities<'a>(alloc: Global, file: &'a DesignFile) -> Result<Vec<&'a str>, AllocError> {
@@ -73,9 +73,12 @@ pub fn write_more_of_design<W: Write>(
     }
 }
 
+/// Words that are nearly reserved ones, but were meant as others, which a hint names.
+static OTHERWISE_MEANT: [&str; 4] = ["els", "import", "input", "output"];
+
 /// Writes the reserved word that may have been meant by a word; returns whether there is one.
 fn write_meant<W: Write>(alloc: Global, out: &mut W, word: &[u8]) -> io::Result<bool> {
-    if is_one_of(&OTHER_WORDS, word) {
+    if is_one_of(&OTHER_WORDS, word) || is_one_of(&OTHERWISE_MEANT, word) {
         return Ok(false);
     }
     let Ok(word) = from_utf8(word) else {

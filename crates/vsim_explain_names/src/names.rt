@@ -1,7 +1,6 @@
 //! The declared name that an unknown one may have meant.
 
 use crate::nearest::meant;
-use crate::tokens::first_word;
 use sim_text_tree::DesignFile;
 use sim_text_tree::declaration::{Declaration, PortDeclaration};
 use sim_text_tree::name::Name;
@@ -9,6 +8,7 @@ use sim_text_tree::unit::{Architecture, LibraryUnit};
 use std::alloc::{AllocError, Global};
 use std::io::{self, Write};
 use std::str::from_utf8;
+use vsim_explain_source::tokens::first_word;
 
 /// The name of a unit.
 fn name_of(unit: &LibraryUnit) -> &Name {

@@ -3,9 +3,23 @@
 use std::alloc::{AllocError, Global};
 use strsim::osa_distance;
 
+/// The most bytes of a name that are compared.
+const MOST_COMPARED: usize = 100;
+
 /// The number of letters of a name that may be wrong: a third, but at most two.
 fn most_wrong(name: &str) -> usize {
     (name.len() / 3).min(2)
+}
+
+/// The part of a name that is compared.
+fn compared(name: &str) -> &str {
+    if name.len() <= MOST_COMPARED {
+        return name;
+    }
+    match name.split_at_checked(MOST_COMPARED) {
+        Some((start, _)) => start,
+        None => name,
+    }
 }
 
 /// The nearer of two names, with its distance; the first if both are equally near.
@@ -15,7 +29,7 @@ fn nearer<'a>(
     found: Option<(usize, &'a str)>,
     other: &'a str,
 ) -> Result<Option<(usize, &'a str)>, AllocError> {
-    let distance = osa_distance(alloc, name, other)?;
+    let distance = osa_distance(alloc, compared(name), compared(other))?;
     match found {
         Some((least, _)) if least <= distance => Ok(found),
         _ => Ok(Some((distance, other))),
@@ -48,7 +62,7 @@ pub fn meant<'a>(
     let Some(found) = nearest(alloc, name, names)? else {
         return Ok(None);
     };
-    let distance = osa_distance(alloc, name, found)?;
+    let distance = osa_distance(alloc, compared(name), compared(found))?;
     Ok(if 0 < distance && distance <= most_wrong(name) {
         Some(found)
     } else {

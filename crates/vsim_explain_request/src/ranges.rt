@@ -2,7 +2,6 @@
 
 use sim_logic::LATEST;
 use sim_run_options::Options;
-use sim_run_session::RunError;
 use std::io::{self, Write};
 
 /// Writes a line for a stop time that is too late.
@@ -38,10 +37,8 @@ fn write_workers<W: Write>(out: &mut W, workers: usize) -> io::Result<()> {
     )
 }
 
-/// Writes the refusal, and a line for each option that is out of range.
+/// Writes a line for each option that is out of range.
 pub fn write_ranges<W: Write>(out: &mut W, options: &Options) -> io::Result<()> {
-    let refusal = RunError::Options;
-    writeln!(out, "{refusal}")?;
     write_stop(out, options.stop)?;
     write_limit(out, options.limit)?;
     write_workers(out, options.workers)

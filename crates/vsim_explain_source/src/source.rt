@@ -33,7 +33,7 @@ impl<'a> Source<'a> {
     }
 
     /// A place of the text, and the name of the file that has it.
-    pub(crate) fn place(&self, at: usize) -> (&'a str, Place<'a>) {
+    pub fn place(&self, at: usize) -> (&'a str, Place<'a>) {
         let (name, start) = self.part_at(at);
         let (_, file) = self.text.split_at(start.min(self.text.len()));
         (name, place_at(file, at.saturating_sub(start)))

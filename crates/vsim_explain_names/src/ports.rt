@@ -93,27 +93,6 @@ fn is_wanted(ports: &PortDeclaration) -> bool {
     is_in && ports.initial.is_none()
 }
 
-/// Whether an association is that of the port with a name and a position.
-fn is_of(association: &Association, index: usize, name: &str, place: usize) -> bool {
-    match &association.formal {
-        Some(formal) => formal.as_str() == name,
-        None => index == place,
-    }
-}
-
-/// Whether a port has an actual: its first association counts.
-fn has_actual(associations: &[Association], name: &str, place: usize) -> bool {
-    for (index, association) in associations.iter().enumerate() {
-        if is_of(association, index, name, place) {
-            return match association.actual {
-                Actual::Open { .. } => false,
-                _ => true,
-            };
-        }
-    }
-    false
-}
-
 /// The names of ports, in order, and for each whether it needs an actual.
 fn ports_of<'a>(alloc: Global, entity: &'a Entity) -> Result<Vec<(&'a str, bool)>, AllocError> {
     let mut found = Vec::new(alloc);
@@ -128,56 +107,99 @@ fn ports_of<'a>(alloc: Global, entity: &'a Entity) -> Result<Vec<(&'a str, bool)
     Ok(found)
 }
 
-/// The first port that needs an actual and has none.
-fn missing<'a>(ports: &[(&'a str, bool)], associations: &[Association]) -> Option<&'a str> {
-    for (place, (name, wanted)) in ports.iter().enumerate() {
-        if *wanted && !has_actual(associations, name, place) {
-            return Some(name);
+/// The names of ports, sorted.
+fn sorted_names<'a>(alloc: Global, ports: &[(&'a str, bool)]) -> Result<Vec<&'a str>, AllocError> {
+    let mut found = Vec::new(alloc);
+    for (name, _) in ports {
+        if found.push(*name).is_err() {
+            return Err(AllocError);
         }
     }
-    None
+    found.sort()?;
+    Ok(found)
 }
 
-/// The first formal that names no port.
-fn stranger<'a>(ports: &[(&str, bool)], associations: &'a [Association]) -> Option<&'a str> {
+/// Whether an association has an actual.
+fn is_connected(association: &Association) -> bool {
+    match association.actual {
+        Actual::Open { .. } => false,
+        _ => true,
+    }
+}
+
+/// The formals of a port map, sorted; those without an actual are left out if only others are
+/// wanted.
+fn sorted_formals<'a>(
+    alloc: Global,
+    associations: &'a [Association],
+    only_connected: bool,
+) -> Result<Vec<&'a str>, AllocError> {
+    let mut found = Vec::new(alloc);
     for association in associations {
         if let Some(formal) = &association.formal {
-            let name = formal.as_str();
-            if !ports.iter().any(|port| port.0 == name) {
-                return Some(name);
+            let is_out = only_connected && !is_connected(association);
+            if !is_out && found.push(formal.as_str()).is_err() {
+                return Err(AllocError);
+            }
+        }
+    }
+    found.sort()?;
+    Ok(found)
+}
+
+/// Whether a name is one of these, which are sorted.
+fn has(names: &[&str], name: &str) -> bool {
+    names.binary_search_by(|it| (*it).cmp(name)).is_ok()
+}
+
+/// The positional association of the port at a position.
+fn positional(associations: &[Association], place: usize) -> Option<&Association> {
+    let association = associations.get(place)?;
+    match association.formal {
+        Some(_) => None,
+        None => Some(association),
+    }
+}
+
+/// The first port that needs an actual and has none.
+fn missing<'a>(
+    alloc: Global,
+    ports: &[(&'a str, bool)],
+    associations: &[Association],
+) -> Result<Option<&'a str>, AllocError> {
+    let formals = sorted_formals(alloc, associations, true)?;
+    for (place, (name, wanted)) in ports.iter().enumerate() {
+        let has_actual = match positional(associations, place) {
+            Some(association) => is_connected(association),
+            None => has(formals.as_slice(), name),
+        };
+        if *wanted && !has_actual {
+            return Ok(Some(name));
+        }
+    }
+    Ok(None)
+}
+
+/// The first formal that names none of these ports, whose names are sorted.
+fn stranger_to<'a>(names: &[&str], associations: &'a [Association]) -> Option<&'a str> {
+    for association in associations {
+        if let Some(formal) = &association.formal {
+            if !has(names, formal.as_str()) {
+                return Some(formal.as_str());
             }
         }
     }
     None
 }
 
-/// Writes the port that has no actual, and what a formal that names no port may have meant.
-fn write_ports<W: Write>(
+/// The first formal that names no port.
+fn stranger<'a>(
     alloc: Global,
-    out: &mut W,
-    entity: &Entity,
-    associations: &[Association],
-) -> io::Result<()> {
-    let ports = ports_of(alloc, entity)?;
-    let Some(name) = missing(ports.as_slice(), associations) else {
-        return Ok(());
-    };
-    let of = entity.name.as_str();
-    writeln!(out, "The port without an actual is {name} of {of}.")?;
-    match stranger(ports.as_slice(), associations) {
-        Some(formal) => write_stranger(alloc, out, ports.as_slice(), associations, formal),
-        None => Ok(()),
-    }
-}
-
-/// Whether a port has an association.
-fn is_taken(associations: &[Association], name: &str, place: usize) -> bool {
-    for (index, association) in associations.iter().enumerate() {
-        if is_of(association, index, name, place) {
-            return true;
-        }
-    }
-    false
+    ports: &[(&str, bool)],
+    associations: &'a [Association],
+) -> Result<Option<&'a str>, AllocError> {
+    let names = sorted_names(alloc, ports)?;
+    Ok(stranger_to(names.as_slice(), associations))
 }
 
 /// The names of ports without an association.
@@ -186,9 +208,11 @@ fn free_ports<'a>(
     ports: &[(&'a str, bool)],
     associations: &[Association],
 ) -> Result<Vec<&'a str>, AllocError> {
+    let formals = sorted_formals(alloc, associations, false)?;
     let mut found = Vec::new(alloc);
     for (place, (name, _)) in ports.iter().enumerate() {
-        if !is_taken(associations, name, place) && found.push(*name).is_err() {
+        let is_free = positional(associations, place).is_none() && !has(formals.as_slice(), name);
+        if is_free && found.push(*name).is_err() {
             return Err(AllocError);
         }
     }
@@ -211,6 +235,35 @@ fn write_stranger<W: Write>(
         ),
         None => writeln!(out, "No port is named {formal}, and none is free."),
     }
+}
+
+/// Writes what a formal that names no port may have meant.
+fn write_any_stranger<W: Write>(
+    alloc: Global,
+    out: &mut W,
+    ports: &[(&str, bool)],
+    associations: &[Association],
+) -> io::Result<()> {
+    match stranger(alloc, ports, associations)? {
+        Some(formal) => write_stranger(alloc, out, ports, associations, formal),
+        None => Ok(()),
+    }
+}
+
+/// Writes the port that has no actual, and what a formal that names no port may have meant.
+fn write_ports<W: Write>(
+    alloc: Global,
+    out: &mut W,
+    entity: &Entity,
+    associations: &[Association],
+) -> io::Result<()> {
+    let ports = ports_of(alloc, entity)?;
+    let Some(name) = missing(alloc, ports.as_slice(), associations)? else {
+        return Ok(());
+    };
+    let of = entity.name.as_str();
+    writeln!(out, "The port without an actual is {name} of {of}.")?;
+    write_any_stranger(alloc, out, ports.as_slice(), associations)
 }
 
 /// Writes that the text has no entity of a name.
