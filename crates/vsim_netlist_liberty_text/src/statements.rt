@@ -239,10 +239,7 @@ fn pass_semicolons(tokens: &mut Tokens<'_>) {
 }
 
 /// Reads the next statement.
-pub fn read_statement<'a>(
-    alloc: Global,
-    tokens: &mut Tokens<'a>,
-) -> Result<Statement<'a>, Fault> {
+pub fn read_statement<'a>(alloc: Global, tokens: &mut Tokens<'a>) -> Result<Statement<'a>, Fault> {
     pass_semicolons(tokens);
     let line = tokens.token_line;
     match tokens.token {
