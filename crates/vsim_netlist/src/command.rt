@@ -177,10 +177,10 @@ fn value<'a>(matches: &'a ArgMatches<'_>, name: &str) -> &'a str {
 
 /// The values of an option that may be given several times.
 fn values<'a>(matches: &'a ArgMatches<'_>, name: &str) -> &'a [&'a str] {
-    match matches.get_strs(name) {
-        Some(values) => values,
-        None => &[],
-    }
+    let Some(values) = matches.get_strs(name) else {
+        return &[];
+    };
+    values
 }
 
 /// The values of the options in valid arguments.

@@ -2,10 +2,10 @@
 
 use crate::marks::{Mark, marks_of};
 use crate::pins::Names;
-use crate::statements::line_of;
 use crate::tables::known_function;
 use std::alloc::{AllocError, Global};
 use vsim_netlist_design::{Draft, Fault, Function, Level, Source, Step, push};
+use vsim_netlist_liberty_text::line_of;
 
 /// The maximum number of steps of a function.
 const MOST_STEPS: usize = 500;

@@ -1,11 +1,12 @@
 //! The libraries of a Liberty file.
 
-use crate::cells::{WrittenCell, read_cell};
 use crate::models::entry_of;
-use crate::statements::{Form, Statement, fault_at, read_statement, skip_group, unexpected};
-use crate::tokens::{Tokens, tokens_of};
 use std::alloc::Global;
 use vsim_netlist_design::{Draft, Fault, Library};
+use vsim_netlist_liberty_text::{
+    Form, Statement, Tokens, WrittenCell, fault_at, read_cell, read_statement, skip_group,
+    tokens_of, unexpected,
+};
 
 /// The library that is read, and the file as a refusal names it.
 struct Target<'a> {

@@ -1,15 +1,14 @@
 //! From cells as they are written to what they are.
 
-use crate::cells::{Formula, WrittenCell, WrittenPin, WrittenState};
 use crate::functions::read_function;
 use crate::pins::Names;
-use crate::statements::fault_at;
 use std::alloc::Global;
 use std::collections::HashMap;
 use vsim_netlist_design::{
     Conflict, Draft, Fault, Function, Level, LibraryCell, LibraryEntry, LibraryPin, LibraryState,
     push,
 };
+use vsim_netlist_liberty_text::{Formula, WrittenCell, WrittenPin, WrittenState, fault_at};
 
 /// A fault on a line of a cell.
 fn fault_of(alloc: Global, line: usize, cell: &str, told: &str) -> Fault {

@@ -23,7 +23,7 @@ pub(crate) enum Token<'a> {
 
 /// A text of a file, and the token at which a reader is.
 #[derive(Clone, Copy)]
-pub(crate) struct Tokens<'a> {
+pub struct Tokens<'a> {
     text: &'a [u8],
     /// Where the next token is looked for, and the line there.
     place: usize,
@@ -120,7 +120,7 @@ fn count_comment(bytes: &[u8]) -> Option<(usize, usize)> {
 }
 
 /// All tokens of a text. The reader is at the first one.
-pub(crate) fn tokens_of(text: &[u8]) -> Tokens<'_> {
+pub fn tokens_of(text: &[u8]) -> Tokens<'_> {
     let mut tokens = Tokens {
         text,
         place: 0,

@@ -6,7 +6,7 @@ use vsim_netlist_design::{Draft, Fault};
 
 /// The forms of statements.
 #[derive(Clone, Copy, PartialEq, Eq)]
-pub(crate) enum Form {
+pub enum Form {
     /// `NAME : VALUE ;` or `NAME (VALUES) ;`.
     Attribute,
     /// `NAME (VALUES) {`, up to and with the brace.
@@ -18,15 +18,15 @@ pub(crate) enum Form {
 
 /// A statement, with the number of its line.
 #[derive(Clone, Copy)]
-pub(crate) struct Statement<'a> {
-    pub(crate) form: Form,
-    pub(crate) name: &'a str,
-    pub(crate) value: &'a str,
-    pub(crate) line: usize,
+pub struct Statement<'a> {
+    pub form: Form,
+    pub name: &'a str,
+    pub value: &'a str,
+    pub line: usize,
 }
 
 /// A fault on a line.
-pub(crate) fn fault_at(alloc: Global, line: usize, parts: &[&str]) -> Fault {
+pub fn fault_at(alloc: Global, line: usize, parts: &[&str]) -> Fault {
     let mut text = Draft::new(alloc);
     text.push_shown(&line);
     text.push(": ");
@@ -38,7 +38,7 @@ pub(crate) fn fault_at(alloc: Global, line: usize, parts: &[&str]) -> Fault {
 const MOST_SHOWN: usize = 80;
 
 /// A text on one line, and of some length at most.
-pub(crate) fn line_of(alloc: Global, text: &str) -> Draft {
+pub fn line_of(alloc: Global, text: &str) -> Draft {
     let mut line = Draft::new(alloc);
     for (place, character) in text.chars().enumerate() {
         if place == MOST_SHOWN {
@@ -71,7 +71,7 @@ fn shown<'a>(token: Token<'a>) -> &'a str {
 }
 
 /// The refusal of the present token.
-pub(crate) fn unexpected(alloc: Global, tokens: &Tokens<'_>, wanted: &str) -> Fault {
+pub fn unexpected(alloc: Global, tokens: &Tokens<'_>, wanted: &str) -> Fault {
     let line = tokens.token_line;
     match tokens.token {
         Token::Broken(told) => fault_at(alloc, line, &[told]),
@@ -239,10 +239,7 @@ fn pass_semicolons(tokens: &mut Tokens<'_>) {
 }
 
 /// Reads the next statement.
-pub(crate) fn read_statement<'a>(
-    alloc: Global,
-    tokens: &mut Tokens<'a>,
-) -> Result<Statement<'a>, Fault> {
+pub fn read_statement<'a>(alloc: Global, tokens: &mut Tokens<'a>) -> Result<Statement<'a>, Fault> {
     pass_semicolons(tokens);
     let line = tokens.token_line;
     match tokens.token {
@@ -266,7 +263,7 @@ fn deeper(depth: usize, token: Token<'_>) -> usize {
 }
 
 /// Goes past the rest of a group, whose statements are not read.
-pub(crate) fn skip_group(alloc: Global, tokens: &mut Tokens<'_>) -> Result<(), Fault> {
+pub fn skip_group(alloc: Global, tokens: &mut Tokens<'_>) -> Result<(), Fault> {
     let mut depth = 1usize;
     for _ in 0..u64::MAX {
         if matches!(tokens.token, Token::EndOfFile | Token::Broken(_)) {

@@ -7,55 +7,55 @@ use vsim_netlist_design::{Fault, push};
 
 /// The text of a function, with its line.
 #[derive(Clone, Copy)]
-pub(crate) struct Formula<'a> {
-    pub(crate) text: &'a str,
-    pub(crate) line: usize,
+pub struct Formula<'a> {
+    pub text: &'a str,
+    pub line: usize,
 }
 
 /// A pin, with its line. One of no direction is an input.
 #[derive(Clone, Copy)]
-pub(crate) struct WrittenPin<'a> {
-    pub(crate) name: &'a str,
-    pub(crate) line: usize,
-    pub(crate) is_output: bool,
-    pub(crate) function: Option<Formula<'a>>,
-    pub(crate) three_state: Option<Formula<'a>>,
+pub struct WrittenPin<'a> {
+    pub name: &'a str,
+    pub line: usize,
+    pub is_output: bool,
+    pub function: Option<Formula<'a>>,
+    pub three_state: Option<Formula<'a>>,
 }
 
 /// A register or latch, with the names of its variables.
 #[derive(Clone, Copy)]
-pub(crate) struct WrittenState<'a> {
-    pub(crate) plain: &'a str,
-    pub(crate) negated: &'a str,
-    pub(crate) line: usize,
-    pub(crate) is_latch: bool,
-    pub(crate) clock: Option<Formula<'a>>,
-    pub(crate) data: Option<Formula<'a>>,
-    pub(crate) clear: Option<Formula<'a>>,
-    pub(crate) preset: Option<Formula<'a>>,
+pub struct WrittenState<'a> {
+    pub plain: &'a str,
+    pub negated: &'a str,
+    pub line: usize,
+    pub is_latch: bool,
+    pub clock: Option<Formula<'a>>,
+    pub data: Option<Formula<'a>>,
+    pub clear: Option<Formula<'a>>,
+    pub preset: Option<Formula<'a>>,
     /// The letters of the two variables while both clear and preset are active.
-    pub(crate) of_plain: &'a str,
-    pub(crate) of_negated: &'a str,
+    pub of_plain: &'a str,
+    pub of_negated: &'a str,
     /// An attribute that is not supported, and its line.
-    pub(crate) other: Option<(&'static str, usize)>,
+    pub other: Option<(&'static str, usize)>,
 }
 
 /// What a cell has that is not supported: its line, the pin if it is one, and what it is.
 #[derive(Clone, Copy)]
-pub(crate) struct Unsupported<'a> {
-    pub(crate) line: usize,
-    pub(crate) pin: Option<&'a str>,
-    pub(crate) told: &'static str,
+pub struct Unsupported<'a> {
+    pub line: usize,
+    pub pin: Option<&'a str>,
+    pub told: &'static str,
 }
 
 /// A cell, with its line.
 #[derive(Drop)]
-pub(crate) struct WrittenCell<'a> {
-    pub(crate) name: &'a str,
-    pub(crate) line: usize,
-    pub(crate) pins: Vec<WrittenPin<'a>>,
-    pub(crate) state: Option<WrittenState<'a>>,
-    pub(crate) unsupported: Option<Unsupported<'a>>,
+pub struct WrittenCell<'a> {
+    pub name: &'a str,
+    pub line: usize,
+    pub pins: Vec<WrittenPin<'a>>,
+    pub state: Option<WrittenState<'a>>,
+    pub unsupported: Option<Unsupported<'a>>,
 }
 
 /// Whether a character separates the names of a list.
@@ -305,7 +305,7 @@ impl<'a> WrittenCell<'a> {
 }
 
 /// Reads a cell, after the head of its group.
-pub(crate) fn read_cell<'a>(
+pub fn read_cell<'a>(
     alloc: Global,
     tokens: &mut Tokens<'a>,
     group: &Statement<'a>,
