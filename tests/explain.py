@@ -10,8 +10,10 @@ most, as in the listing; and with --listing that listing, with its words on stan
 and no run. The status is that of vsim.
 
 The mistakes are the rows of MISTAKES: DESIGN with one line replaced, the line at which it is refused according to the manual, the
-refusal, and what must be said about it. RUNS are designs that are cut short, and words that are refused, with all that must be
-said. With --json each of these answers must be the same refusals and warnings as objects. Each answer may take a second. If a text says `See SECTION in docs/PAGE`, there must be such a section.
+refusal, and what must be said about it. FAULTS are texts with several faults, of which all must be told that do not follow from each
+other, at most twenty. RUNS are designs that are cut short, and words that are refused, with all that must be said. With --json each of
+these answers must be the same refusals and warnings as objects. Each answer may take a second. If a text says `See SECTION in
+docs/PAGE`, there must be such a section.
 
 Differences are printed, and the last line is `N passed, M failed`.
 """
@@ -210,6 +212,43 @@ See Calling the program in docs/LANGUAGE.md.
 """
 BUSIEST = "The nets that change most in the last 100 cycles, and how often:\n"
 LAST = "The last cycles of the listing:\n"
+
+GATE = "entity g is port (i : in std_logic; o : out std_logic); end; architecture a of g is begin o <= i; end;\n"
+
+
+def faulty(body, declarations=""):
+    """Returns a design with these statements."""
+    return f"entity t is end;\narchitecture a of t is\n  signal p, q, r : std_logic := '0';\n{declarations}begin\n{body}\nend;\n"
+
+
+# texts with several faults, with a @ before the place of each that must be told, and the kinds of these
+FAULTS = [
+    (faulty("  p <= @x;\n  q <= r; r <= @y;\n  @z <= '0';"), "Unknown Unknown Unknown"),
+    (faulty("  p <= @true;\n  q <= r when @'1' else p;\n  r <= p when q = '1' else @x;"), "TypeClash Ambiguous Unknown"),
+    (faulty("  l : p <= '0';\n  @l : q <= '0';\n  @l : r <= '0';"), "Duplicate Duplicate"),
+    # instances, and statements of processes, in all their branches
+    (GATE + faulty("  @u : entity work.g port map (o => p);\n  v : entity work.g port map (i => @n, o => q);"), "PortMissing Unknown"),
+    (faulty("  l : process (p) begin q <= @x; r <= @y; end process;\n  p <= @z;"), "Unknown Unknown Unknown"),
+    (faulty("  process (p) variable v : std_logic; begin v := @x; q <= @y; end process;"), "Unknown Unknown"),
+    (
+        faulty("  process (p) begin if p = '1' then q <= @x; elsif @y = '0' then q <= r; else q <= @z; end if; r <= @w; end process;"),
+        "Unknown Unknown Unknown Unknown",
+    ),
+    # two units
+    (GATE.replace("<= i", "<= @x") + faulty("  p <= @y;"), "Unknown Unknown"),
+    # comments that look like statements, and statements with comments
+    (faulty("  -- signal x; begin\n  p <= @x; /* q <= y; */ q <= @y -- ; z\n  ; /* -- */ r <= @z;"), "Unknown Unknown Unknown"),
+    ("entity t is port (a : out std_logic; -- p <= x;\n  b : @foo); end;\narchitecture a of t is begin a <= b and x; end;\n", "Unknown"),
+    # what is used in other places stays, and so does a condition
+    (faulty("  s <= x;", "  signal s : @foo; -- p <= x\n"), "Unknown"),
+    (faulty("  process (p) begin if @x = '1' then q <= r; end if; r <= y; end process;\n  p <= z;"), "Unknown"),
+    # a fault of the whole design, which no statement hides
+    (faulty("  s <= p;\n  s <= q;\n  r <= @x;", "  signal @s : std_ulogic;\n"), "ManySources Unknown"),
+    # at most twenty
+    (faulty("  p <= @x;\n" * 20 + "  p <= x;\n" * 5), " ".join(["Unknown"] * 20)),
+    # one fault of a text
+    (faulty("  p @= q;\n  q = r;\n  r <= x;"), "Syntax"),
+]
 
 # the members of each object of --json, and the codes of warnings by what they say
 MEMBERS = ["file", "line", "column", "kind", "code", "message", "advice"]
@@ -486,12 +525,26 @@ def fault_of_json(program, words, text, said, status):
     return None
 
 
+def fault_of_faults(program, marked, kinds):
+    """Returns what is wrong with what is told of a text with several faults, if anything."""
+    before, text = "", marked.replace("@", "")
+    wanted = []
+    for piece, kind in zip(marked.split("@"), kinds.split()):
+        before += piece
+        wanted.append((before.count("\n") + 1, len(before) - before.rfind("\n"), f"{kind} at {len(before)}"))
+    said, errors, status, took = answer(program, ["--top", "t"], text.encode())
+    found = [(it["line"], it["column"], it["message"]) for it in reports(said)]
+    if status != 1 or errors or sorted(found) != wanted or took > MOST_SECONDS:
+        return f"wanted {wanted}\ngot after {took:.1f} s with status {status}:\n{said}{errors}"
+    return fault_of_json(program, ["--top", "t"], text.encode(), said, 1)
+
+
 def fault_of_refused_words(program, words, message):
     """Returns what is wrong with the answer to a refused command line with --json, if anything."""
     lines, errors, got, _ = answer(program, words.split(), b"")
     found = [json.loads(line) for line in lines.split("\n")[:-1]]
     wanted = {"file": None, "line": None, "column": None, "kind": "error", "code": "Usage", "message": message}
-    if got != 2 or errors or [{**it, "advice": ""} for it in found] != [{**wanted, "advice": ""}] or "Usage: vsim_explain " not in found[0]["advice"]:
+    if got != 2 or errors or [{**it, "advice": ""} for it in found] != [{**wanted, "advice": ""}] or "vsim_explain --top NAME" not in found[0]["advice"]:
         return f"wanted {wanted}\ngot with status {got}:\n{lines}{errors}"
     return None
 
@@ -655,6 +708,8 @@ def faults(program):
         yield name, fault_of_run(program, words, text, status, wanted)
     for words, marked, what in FINDINGS:
         yield f"the warning about '{marked}' with '{words}'", fault_of_finding(program, words, marked, what)
+    for row in FAULTS:
+        yield f"the faults of '{row[0][:200]}'", fault_of_faults(program, *row)
     for row in REFUSED_WORDS:
         yield f"the words '{row[0]}'", fault_of_refused_words(program, *row)
     yield "the streams", fault_of_streams(program)

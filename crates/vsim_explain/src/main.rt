@@ -9,7 +9,7 @@ mod cycles;
 mod refusals;
 mod runs;
 
-use crate::refusals::{write_options, write_refusal};
+use crate::refusals::{write_options, write_refusals};
 use crate::runs::tell_run;
 use anyhow::{Context, Result};
 use sim_flat::FlatError;
@@ -73,7 +73,7 @@ fn answer_text<L: Write, W: Write>(
     match elaborate(alloc, source.text, &request.options) {
         Ok(design) => answer_design(alloc, source, design, request, listing, words),
         Err(refusal) => {
-            write_refusal(alloc, words, source, request, refusal)?;
+            write_refusals(alloc, words, source, request, refusal)?;
             Ok(status_of(refusal))
         }
     }

@@ -1,12 +1,17 @@
 //! The explanation of a refusal, for people or for tools.
 
-use sim_run_session::RunError;
+use sim_flat::FlatError;
+use sim_run_session::{RunError, elaborate};
 use std::alloc::Global;
 use std::io::{self, Write};
 use vsim_explain_names::{write_more_of_design, write_more_of_text};
 use vsim_explain_refusals::{Explanation, explain_design, explain_text, nowhere};
 use vsim_explain_request::{Request, write_ranges};
 use vsim_explain_source::Source;
+use vsim_explain_statements::{take_out, without_comments};
+
+/// The most refusals that are explained.
+const MOST: usize = 20;
 
 /// The explanation of a lack of memory outside the text and its design.
 const MEMORY: &str = "There is not enough memory.";
@@ -66,7 +71,7 @@ fn write_line<W: Write>(
 }
 
 /// Writes the explanation of a refusal of a text.
-pub fn write_refusal<W: Write>(
+fn write_refusal<W: Write>(
     alloc: Global,
     out: &mut W,
     source: Source<'_>,
@@ -78,6 +83,62 @@ pub fn write_refusal<W: Write>(
         write_line(alloc, out, source, top, refusal)
     } else {
         write_words(alloc, out, source, top, refusal)
+    }
+}
+
+/// The first fault of a design without the statement that has this one, if there is such a statement.
+fn next_fault(
+    alloc: Global,
+    text: &mut Vec<u8>,
+    request: &Request,
+    fault: FlatError,
+) -> Option<FlatError> {
+    let at = explain_design(text.as_slice(), fault).at()?;
+    if !take_out(text, at) {
+        return None;
+    }
+    match elaborate(alloc, text.as_slice(), &request.options) {
+        Err(RunError::Flat(FlatError::Memory)) => None,
+        Err(RunError::Flat(next)) => Some(next),
+        _ => None,
+    }
+}
+
+/// Writes the explanations of the faults of a design after the first one.
+fn write_others<W: Write>(
+    alloc: Global,
+    out: &mut W,
+    source: Source<'_>,
+    request: &Request,
+    first: FlatError,
+) -> io::Result<()> {
+    let Ok(mut text) = without_comments(alloc, source.text) else {
+        return Ok(());
+    };
+    let mut fault = first;
+    for _turn in 1..MOST {
+        let Some(next) = next_fault(alloc, &mut text, request, fault) else {
+            break;
+        };
+        write_refusal(alloc, out, source, request, RunError::Flat(next))?;
+        fault = next;
+    }
+    Ok(())
+}
+
+/// Writes the explanation of the refusal of a text by `vsim`, and after it those of the faults of
+/// the design that do not follow from it, at most twenty in all.
+pub fn write_refusals<W: Write>(
+    alloc: Global,
+    out: &mut W,
+    source: Source<'_>,
+    request: &Request,
+    first: RunError,
+) -> io::Result<()> {
+    write_refusal(alloc, out, source, request, first)?;
+    match first {
+        RunError::Flat(fault) => write_others(alloc, out, source, request, fault),
+        _ => Ok(()),
     }
 }
 

@@ -69,6 +69,11 @@ impl Explanation {
         }
     }
 
+    /// The offset of the place of the fault in bytes, if it has one.
+    pub fn at(&self) -> Option<usize> {
+        self.at
+    }
+
     /// The file of the fault and its place in that file, if it has one.
     pub fn place<'a>(&self, source: Source<'a>) -> Option<(&'a str, Place<'a>)> {
         match self.at {

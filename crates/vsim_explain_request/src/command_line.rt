@@ -50,7 +50,7 @@ fn tell_tools<R: AllocGlobal + Print>(rt: &R, text: &str) -> Result<()> {
         kind: Kind::Error,
         code: "Usage",
         message,
-        advice: advice.as_bytes(),
+        advice: advice.as_bytes().trim_ascii_start(),
     };
     let line = report.to_line(rt.alloc())?;
     rt.print(line.as_str()).context("writing")

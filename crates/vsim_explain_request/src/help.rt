@@ -35,9 +35,11 @@ const ERRORS_OF_VSIM: &str =
 const ERRORS: &str =
     "  A refusal goes to standard output, as in 'design.vhd:7:5: error: Syntax at 77',
   with the file, the line and the column; only a refused command line goes to
-  standard error. With --json each refusal, that of a command line too, and each
-  warning is a line: an object with file, line, column, kind (error or warning),
-  code, message and advice. Without a place its file, line and column are null.
+  standard error. After a fault of the design those of other statements follow, up
+  to one in a declaration, and at most twenty in all. With --json each refusal, that
+  of a command line too, and each warning is a line: an object with file, line,
+  column, kind (error or warning), code, message and advice. Without a place its
+  file, line and column are null.
 ";
 
 /// The example of `vsim`, and that of this program.
