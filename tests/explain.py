@@ -239,9 +239,14 @@ FAULTS = [
     # comments that look like statements, and statements with comments
     (faulty("  -- signal x; begin\n  p <= @x; /* q <= y; */ q <= @y -- ; z\n  ; /* -- */ r <= @z;"), "Unknown Unknown Unknown"),
     ("entity t is port (a : out std_logic; -- p <= x;\n  b : @foo); end;\narchitecture a of t is begin a <= b and x; end;\n", "Unknown"),
-    # what is used in other places stays, and so does a condition
+    # what others use stays
     (faulty("  s <= x;", "  signal s : @foo; -- p <= x\n"), "Unknown"),
-    (faulty("  process (p) begin if @x = '1' then q <= r; end if; r <= y; end process;\n  p <= z;"), "Unknown"),
+    # a process whose list, variable, condition or label has a fault
+    (faulty("  p <= @w;\n  process (@x) begin q <= y; end process;\n  p <= @z;"), "Unknown Unknown Unknown"),
+    (faulty("  postponed process (p) variable v : @foo; begin v := y; end postponed process;\n  p <= @z;"), "Unknown Unknown"),
+    (faulty("  l : process (p) begin if @x = '1' then q <= r; end if; r <= y; end process l;\n  p <= @z;"), "Unknown Unknown"),
+    (faulty("  l : p <= '0';\n  @l : process (p) begin q <= x; end process;\n  r <= @y;"), "Duplicate Unknown"),
+    (faulty("  process (p) begin l : if @x = '1' then q <= r; end if; end process;\n  process (q) begin r <= @y; end process;"), "Unknown Unknown"),
     # a fault of the whole design, which no statement hides
     (faulty("  s <= p;\n  s <= q;\n  r <= @x;", "  signal @s : std_ulogic;\n"), "ManySources Unknown"),
     # at most twenty
