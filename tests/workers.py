@@ -6,7 +6,7 @@
 CASES is sim_run_cases, which with the word --handed-out is vsim, except that each phase is handed out; without it the examples are left out.
 
 - Each example that examples/check runs and whose run finishes has its listing with 2, 3, 4, 8 and 16 workers, with each phase handed out.
-- 600 processes of twenty statements run in VSIM itself with three workers: the listing follows the rules, and each of three threads (of
+- 2,200 processes of thirty statements run in VSIM itself with three workers: the listing follows the rules, and each of three threads (of
   two on two processors) takes processor time. A thread without an order sleeps, so this shows that work is handed out. It is tried at most
   five times, since under other load a thread may find no processor.
 - In that run the main thread has less than a third of the processor time of a run by one worker while it is the only thread. So the run is
@@ -28,9 +28,9 @@ import time
 TOP = os.path.dirname(os.path.dirname(os.path.realpath(__file__)))
 LONGEST = 60
 WORKERS = (2, 3, 4, 8, 16)
-PROCESSES = 600
-STATEMENTS = 20
-EDGES = 5000
+PROCESSES = 2200
+STATEMENTS = 30
+EDGES = 1000
 TRIES = 5
 # nanoseconds of a processor, many times what a thread takes that only begins, sleeps and ends
 BUSY = 3_000_000

@@ -34,7 +34,7 @@ Status:
      causes a delta cycle
   4  out of memory, or reading or writing failed
   A refusal goes to standard error, as in 'vsim: Syntax at 77', where the number is
-  a byte offset in the input.
+  a byte offset in the input. vsim_explain shows the place, and says what to do.
 
 Example:
   With the file pulse.vhd

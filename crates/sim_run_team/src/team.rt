@@ -64,7 +64,7 @@ impl<'a, W: Work> Team<'a, W> {
     }
 
     /// Gives an order to the worker at a post, or returns the answer if it was carried out here: if
-    /// it is small, or there is no such worker.
+    /// it is small, or there is no such worker, or no room for one more answer.
     fn give<R: Wait>(
         &mut self,
         rt: &R,
@@ -73,7 +73,8 @@ impl<'a, W: Work> Team<'a, W> {
         post: usize,
     ) -> Option<W::Answer> {
         let is_large = W::is_large(&order.of, self.hints.least_processes_of_an_order);
-        if !is_large || post >= self.hired {
+        let has_room = self.awaited < self.posts.room();
+        if !is_large || !has_room || post >= self.hired {
             return W::carry_out(alloc, order.of, &mut self.kept);
         }
         match self.posts.give(rt, post, order) {

@@ -56,6 +56,8 @@ pub(crate) struct Placed<T: Drop> {
 pub struct Posts<W: Work> {
     orders: Vec<Inbox<Placed<W::Order>>>,
     answers: Inbox<Placed<Option<W::Answer>>>,
+    /// The number of answers for which there is room.
+    room: usize,
     /// The number of looks for a message before a thread sleeps.
     looks: u32,
 }
@@ -77,12 +79,14 @@ impl<W: Work> Posts<W> {
     /// answers to all of these. A thread sleeps once it has looked `looks` times for a message. `None`
     /// if memory runs out.
     pub fn new(alloc: Global, workers: usize, room: usize, looks: u32) -> Option<Posts<W>> {
-        let room = room.max(1);
-        let orders = inboxes(alloc, workers, room)?;
-        let answers = Inbox::new(alloc, workers.saturating_mul(room).max(1)).ok()?;
+        let of_each = room.max(1);
+        let orders = inboxes(alloc, workers, of_each)?;
+        let room = workers.saturating_mul(of_each).max(1);
+        let answers = Inbox::new(alloc, room).ok()?;
         Some(Posts {
             orders,
             answers,
+            room,
             looks,
         })
     }
@@ -90,6 +94,12 @@ impl<W: Work> Posts<W> {
     /// The number of posts.
     pub fn len(&self) -> usize {
         self.orders.len()
+    }
+
+    /// The number of answers for which there is room. No more orders may be given before the answers
+    /// to some are taken.
+    pub(crate) fn room(&self) -> usize {
+        self.room
     }
 
     /// Gives an order to the worker at a post. It comes back if there is no such post, or no room.
@@ -131,8 +141,8 @@ impl<W: Work> Posts<W> {
     fn answer<R: Wait>(&self, rt: &R, alloc: Global, order: Placed<W::Order>, kept: &mut W::Kept) {
         let Placed { place, of } = order;
         let of = W::carry_out(alloc, of, kept);
-        // There is room: as many orders as there is room for are given in a phase, and the main thread
-        // has taken the answers to those of the phase before.
+        // There is room: no more orders are given in a phase than there is room for answers, and the
+        // main thread has taken those of the phase before.
         let _ = self.answers.put(rt, Placed { place, of });
     }
 

@@ -86,7 +86,7 @@ fn are_all(answers: Option<Vec<usize>>, orders: usize) -> bool {
 /// equal, a thread that carries out two orders would leave all without an answer, as each waits for
 /// all. Workers that begin late have their orders before they first look; where they begin once all
 /// orders have arrived, the main thread has to carry out all of them.
-static ANSWERED: [(usize, usize, u32, u64, usize, u64); 25] = [
+static ANSWERED: [(usize, usize, u32, u64, usize, u64); 28] = [
     (1, 1, 100, 0, 2, 2),
     (2, 1, 100, 0, 3, 3),
     (3, 1, 0, 0, 4, 4),
@@ -112,6 +112,9 @@ static ANSWERED: [(usize, usize, u32, u64, usize, u64); 25] = [
     (3, 2, 0, 1, 7, 4),
     (2, 0, 100, 0, 6, 2),
     (2, 5, 1_000, 0, 4, 3),
+    (1, 1, 1_000, 0, 40, 1),
+    (3, 2, 100, 0, 64, 1),
+    (2, 1, 0, 0, 31, 1),
 ];
 
 #[test]

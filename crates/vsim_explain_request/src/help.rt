@@ -29,7 +29,7 @@ const OWN_OPTIONS: &str = "
 /// Where `vsim` writes refusals, and where this program does.
 const ERRORS_OF_VSIM: &str =
     "  A refusal goes to standard error, as in 'vsim: Syntax at 77', where the number is
-  a byte offset in the input.
+  a byte offset in the input. vsim_explain shows the place, and says what to do.
 ";
 
 const ERRORS: &str =
