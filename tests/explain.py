@@ -10,8 +10,10 @@ most, as in the listing; and with --listing that listing, with its words on stan
 and no run. The status is that of vsim.
 
 The mistakes are the rows of MISTAKES: DESIGN with one line replaced, the line at which it is refused according to the manual, the
-refusal, and what must be said about it. RUNS are designs that are cut short, and words that are refused, with all that must be
-said. Each answer may take a second. If a text says `See SECTION in docs/PAGE`, there must be such a section.
+refusal, and what must be said about it. FAULTS are texts with several faults, of which all must be told that do not follow from each
+other, at most twenty. RUNS are designs that are cut short, and words that are refused, with all that must be said. With --json each of
+these answers must be the same refusals and warnings as objects. Each answer may take a second. If a text says `See SECTION in
+docs/PAGE`, there must be such a section.
 
 Differences are printed, and the last line is `N passed, M failed`.
 """
@@ -19,6 +21,7 @@ import collections
 import glob
 import importlib.machinery
 import importlib.util
+import json
 import os
 import re
 import subprocess
@@ -210,11 +213,71 @@ See Calling the program in docs/LANGUAGE.md.
 BUSIEST = "The nets that change most in the last 100 cycles, and how often:\n"
 LAST = "The last cycles of the listing:\n"
 
+GATE = "entity g is port (i : in std_logic; o : out std_logic); end; architecture a of g is begin o <= i; end;\n"
+
+
+def faulty(body, declarations=""):
+    """Returns a design with these statements."""
+    return f"entity t is end;\narchitecture a of t is\n  signal p, q, r : std_logic := '0';\n{declarations}begin\n{body}\nend;\n"
+
+
+# texts with several faults, with a @ before the place of each that must be told, and the kinds of these
+FAULTS = [
+    (faulty("  p <= @x;\n  q <= r; r <= @y;\n  @z <= '0';"), "Unknown Unknown Unknown"),
+    (faulty("  p <= @true;\n  q <= r when @'1' else p;\n  r <= p when q = '1' else @x;"), "TypeClash Ambiguous Unknown"),
+    (faulty("  l : p <= '0';\n  @l : q <= '0';\n  @l : r <= '0';"), "Duplicate Duplicate"),
+    # instances, and statements of processes, in all their branches
+    (GATE + faulty("  @u : entity work.g port map (o => p);\n  v : entity work.g port map (i => @n, o => q);"), "PortMissing Unknown"),
+    (faulty("  l : process (p) begin q <= @x; r <= @y; end process;\n  p <= @z;"), "Unknown Unknown Unknown"),
+    (faulty("  process (p) variable v : std_logic; begin v := @x; q <= @y; end process;"), "Unknown Unknown"),
+    (
+        faulty("  process (p) begin if p = '1' then q <= @x; elsif @y = '0' then q <= r; else q <= @z; end if; r <= @w; end process;"),
+        "Unknown Unknown Unknown Unknown",
+    ),
+    # two units
+    (GATE.replace("<= i", "<= @x") + faulty("  p <= @y;"), "Unknown Unknown"),
+    # comments that look like statements, and statements with comments
+    (faulty("  -- signal x; begin\n  p <= @x; /* q <= y; */ q <= @y -- ; z\n  ; /* -- */ r <= @z;"), "Unknown Unknown Unknown"),
+    ("entity t is port (a : out std_logic; -- p <= x;\n  b : @foo); end;\narchitecture a of t is begin a <= b and x; end;\n", "Unknown"),
+    # what others use stays
+    (faulty("  s <= x;", "  signal s : @foo; -- p <= x\n"), "Unknown"),
+    # a process whose list, variable, condition or label has a fault
+    (faulty("  p <= @w;\n  process (@x) begin q <= y; end process;\n  p <= @z;"), "Unknown Unknown Unknown"),
+    (faulty("  postponed process (p) variable v : @foo; begin v := y; end postponed process;\n  p <= @z;"), "Unknown Unknown"),
+    (faulty("  l : process (p) begin if @x = '1' then q <= r; end if; r <= y; end process l;\n  p <= @z;"), "Unknown Unknown"),
+    (faulty("  l : p <= '0';\n  @l : process (p) begin q <= x; end process;\n  r <= @y;"), "Duplicate Unknown"),
+    (faulty("  process (p) begin l : if @x = '1' then q <= r; end if; end process;\n  process (q) begin r <= @y; end process;"), "Unknown Unknown"),
+    # a fault of the whole design, which no statement hides
+    (faulty("  s <= p;\n  s <= q;\n  r <= @x;", "  signal @s : std_ulogic;\n"), "ManySources Unknown"),
+    # at most twenty
+    (faulty("  p <= @x;\n" * 20 + "  p <= x;\n" * 5), " ".join(["Unknown"] * 20)),
+    # one fault of a text
+    (faulty("  p @= q;\n  q = r;\n  r <= x;"), "Syntax"),
+]
+
+# the members of each object of --json, and the codes of warnings by what they say
+MEMBERS = ["file", "line", "column", "kind", "code", "message", "advice"]
+CODES = {
+    "is read here, but is not in the sensitivity list of its process": "SensitivityList",
+    "is inverted here, but has no first value": "ClockValue",
+    "is an input of the top, and nothing drives it": "UndrivenInput",
+    "is U at the end of the run": "ValueU",
+    "is X at the end of the run": "ValueX",
+    "before the shortest delay": "StopTime",
+}
+# words that are refused with --json, and the message
+REFUSED_WORDS = [
+    ("--json", "the following required arguments were not provided:"),
+    ("--top t --stop 10ns --json", "invalid value '10ns' for '--stop <FS>': invalid digit found in string"),
+    ("--json --top t --what", "unexpected argument '--what' found"),
+]
+
 # what the help must say in place of what that of vsim says
 OF_HELP = [
     "Explains in plain words what vsim answers to a design, on standard output.",
     "--top <NAME> [FILE]...\n",
     "\n      --check  ",
+    "\n      --json  ",
     "\n      --listing  ",
     "A refusal goes to standard output, as in 'design.vhd:7:5: error: Syntax at 77'",
     "\n      vsim_explain --top t pulse.vhd\n",
@@ -443,6 +506,61 @@ def without_warnings(said):
     return said[: found[0]] if found else said, [said[place].partition("warning: ")[2] for place in found]
 
 
+def reports(said):
+    """Returns what the answer for people reports, as the objects of --json: one for each line with a kind, what it means being the lines
+    behind it, the line of the text and the mark left out."""
+    found = []
+    for line in said.split("\n"):
+        head = re.fullmatch(r"(?:(.+):(\d+):(\d+): )?(error|warning): (.*)", line)
+        if head:
+            code = head[5].split()[0] if head[4] == "error" else next(code for it, code in CODES.items() if it in head[5])
+            place = [head[1], int(head[2]), int(head[3])] if head[1] else [None] * 3
+            found.append([*place, head[4], code, head[5], []])
+        elif found:
+            found[-1][-1].append(line)
+    return [dict(zip(MEMBERS, [*it, "\n".join(lines[2:] if it[0] else lines).rstrip()])) for *it, lines in found]
+
+
+def fault_of_json(program, words, text, said, status):
+    """Returns what is wrong with the answer to words with --json, where this is the one for people, if anything."""
+    lines, errors, got, _ = answer(program, [*words, "--json"], text)
+    wanted = [json.dumps(it, ensure_ascii=False, separators=(",", ":")) for it in reports(f"error: {said}" if status == 3 else said)]
+    if got != status or errors or [json.dumps(json.loads(it), ensure_ascii=False, separators=(",", ":")) for it in lines.split("\n")[:-1]] != wanted:
+        return "with --json wanted:\n" + "\n".join(wanted) + f"\ngot with status {got}:\n{lines}{errors}"
+    return None
+
+
+def fault_of_faults(program, marked, kinds):
+    """Returns what is wrong with what is told of a text with several faults, if anything."""
+    before, text = "", marked.replace("@", "")
+    wanted = []
+    for piece, kind in zip(marked.split("@"), kinds.split()):
+        before += piece
+        wanted.append((before.count("\n") + 1, len(before) - before.rfind("\n"), f"{kind} at {len(before)}"))
+    said, errors, status, took = answer(program, ["--top", "t"], text.encode())
+    found = [(it["line"], it["column"], it["message"]) for it in reports(said)]
+    if status != 1 or errors or sorted(found) != wanted or took > MOST_SECONDS:
+        return f"wanted {wanted}\ngot after {took:.1f} s with status {status}:\n{said}{errors}"
+    return fault_of_json(program, ["--top", "t"], text.encode(), said, 1)
+
+
+def fault_of_refused_words(program, words, message):
+    """Returns what is wrong with the answer to a refused command line with --json, if anything."""
+    lines, errors, got, _ = answer(program, words.split(), b"")
+    found = [json.loads(line) for line in lines.split("\n")[:-1]]
+    wanted = {"file": None, "line": None, "column": None, "kind": "error", "code": "Usage", "message": message}
+    if got != 2 or errors or [{**it, "advice": ""} for it in found] != [{**wanted, "advice": ""}] or "vsim_explain --top NAME" not in found[0]["advice"]:
+        return f"wanted {wanted}\ngot with status {got}:\n{lines}{errors}"
+    return None
+
+
+def fault_of_json_streams(program):
+    """Returns what is wrong with the streams of --json with --listing, if anything."""
+    lines, words, status, _ = answer(program, "--top t --limit 20 --listing --json".split(), LOOP.encode())
+    found = [json.loads(line)["message"] for line in words.split("\n")[:-1]]
+    return None if (lines, found, status) == (loop_lines(0, 20), ["CycleLimit 20"], 3) else f"got with status {status}:\n{lines}and\n{words}"
+
+
 def fault_of_example(program, name, words, text, wanted):
     """Returns what is wrong with what is said about the example of this name, if anything."""
     out, err, status = wanted
@@ -462,6 +580,10 @@ def fault_of_example(program, name, words, text, wanted):
             return "with --listing it is not the listing on one stream and the same answer on the other"
     if answer(program, [*words, "--check"], text)[:3] != ((text_said, "", status) if status else ("No fault in the text or its design.\n", "", 0)):
         return "with --check it is not the refusal, or that there is no fault"
+    if answer(program, [*words, "--check", "--json"], text)[:3] != ("" if not status else answer(program, [*words, "--json"], text)[0], "", status):
+        return "with --check and --json it is not the refusal alone"
+    if fault := fault_of_json(program, words, text, text_said, status):
+        return fault
     if said[: len(head)] != head or (len(said) > len(head)) != bool(status):
         return "wanted:\n" + "\n".join(head) + "\ngot:\n" + "\n".join(said)
     return None
@@ -490,7 +612,7 @@ def fault_of_mistake(program, number, line, at, refusal, wanted):
     found = re.match(rf"<stdin>:{at}:\d+: error: {refusal}( |$)", said, re.M)
     if status != 1 or errors or not found or wanted not in " ".join(said.split()) or took > MOST_SECONDS:
         return f"wanted line {at}, {refusal}, and '{wanted}'\ngot after {took:.1f} s with status {status}:\n{said}{errors}"
-    return None
+    return fault_of_json(program, ["--top", "t"], with_line(number, line).encode(), said, 1)
 
 
 def fault_of_run(program, words, text, status, wanted):
@@ -498,7 +620,7 @@ def fault_of_run(program, words, text, status, wanted):
     said, errors, got, took = answer(program, words.split(), text.encode())
     if (said, got) != (wanted, status) or bool(errors) != (not wanted or "--listing" in words) or took > MOST_SECONDS:
         return f"wanted status {status}:\n{wanted}got after {took:.1f} s with status {got}:\n{said}{errors}"
-    return None
+    return None if "--listing" in words or not wanted else fault_of_json(program, words.split(), text.encode(), said, status)
 
 
 def fault_of_finding(program, words, marked, what):
@@ -509,7 +631,7 @@ def fault_of_finding(program, words, marked, what):
     found = [line for line in said.splitlines() if "warning: " in line]
     if got or errors or found != [f"{place}warning: {what}"] * bool(what) or took > MOST_SECONDS:
         return f"wanted {place}{what}\ngot after {took:.1f} s with status {got}:\n{said}{errors}"
-    return None
+    return fault_of_json(program, ["--top", "t", *words.split()], (before + after).encode(), said, 0)
 
 
 def fault_of_streams(program):
@@ -591,7 +713,12 @@ def faults(program):
         yield name, fault_of_run(program, words, text, status, wanted)
     for words, marked, what in FINDINGS:
         yield f"the warning about '{marked}' with '{words}'", fault_of_finding(program, words, marked, what)
+    for row in FAULTS:
+        yield f"the faults of '{row[0][:200]}'", fault_of_faults(program, *row)
+    for row in REFUSED_WORDS:
+        yield f"the words '{row[0]}'", fault_of_refused_words(program, *row)
     yield "the streams", fault_of_streams(program)
+    yield "the streams of --json", fault_of_json_streams(program)
     yield "a stop time with a unit", fault_of_stop(program)
     with tempfile.TemporaryDirectory() as folder:
         yield "files", fault_of_files(program, folder)

@@ -9,6 +9,7 @@ use sim_run_session::RunError;
 use sim_store::{Record, Step, WaveStore};
 use std::alloc::Global;
 use std::io::{self, Write};
+use vsim_explain_json::write_refusal;
 use vsim_explain_request::Request;
 
 /// The number of last cycles in which changes are counted.
@@ -78,17 +79,16 @@ fn refusal_of(store: &WaveStore) -> RunError {
     }
 }
 
-/// Writes how far a run came.
+/// Writes how far a run came, and what that means.
 fn write_look<W: Write>(out: &mut W, options: &Options, store: &WaveStore) -> io::Result<()> {
     let look = store.look();
     let (time, delta, events) = (look.time, look.delta, look.events);
-    let refusal = refusal_of(store);
     writeln!(
         out,
-        "{refusal}\nThe run reached {time} fs, delta cycle {delta}, with {events} events."
+        "The run reached {time} fs, delta cycle {delta}, with {events} events."
     )?;
     let cycles = look.records.saturating_sub(1) as u64;
-    match refusal {
+    match refusal_of(store) {
         RunError::PostponedDelta => out.write_all(POSTPONED_DELTA),
         _ => out.write_all(meaning(options, cycles, delta)),
     }
@@ -137,7 +137,7 @@ fn write_state<W: Write>(
 }
 
 /// Writes how far a run came, and the last changes of its nets unless the listing is written.
-pub fn write_cut_short<W: Write>(
+fn write_advice<W: Write>(
     alloc: Global,
     out: &mut W,
     request: &Request,
@@ -148,4 +148,32 @@ pub fn write_cut_short<W: Write>(
         return Ok(());
     }
     write_last_cycles(alloc, out, store)
+}
+
+/// Writes the line of JSON of a run that is cut short.
+fn write_line<W: Write>(
+    alloc: Global,
+    out: &mut W,
+    request: &Request,
+    store: &WaveStore,
+) -> Result<()> {
+    let mut advice = Vec::new(alloc);
+    write_advice(alloc, &mut advice, request, store)?;
+    write_refusal(alloc, out, None, &refusal_of(store), advice.as_slice())?;
+    Ok(())
+}
+
+/// Writes that a run is cut short, and how far it came.
+pub fn write_cut_short<W: Write>(
+    alloc: Global,
+    out: &mut W,
+    request: &Request,
+    store: &WaveStore,
+) -> Result<()> {
+    if request.is_json {
+        return write_line(alloc, out, request, store);
+    }
+    let refusal = refusal_of(store);
+    writeln!(out, "{refusal}")?;
+    write_advice(alloc, out, request, store)
 }

@@ -6,8 +6,10 @@
 mod changes;
 mod cut_short;
 mod cycles;
+mod refusals;
 mod runs;
 
+use crate::refusals::{write_options, write_refusals};
 use crate::runs::tell_run;
 use anyhow::{Context, Result};
 use sim_flat::FlatError;
@@ -17,9 +19,7 @@ use sim_text::TextError;
 use std::alloc::Global;
 use std::io::{self, BufWriter, Write, writer};
 use std::process::ExitCode;
-use vsim_explain_names::{write_more_of_design, write_more_of_text};
-use vsim_explain_refusals::{explain_design, explain_text};
-use vsim_explain_request::{Asked, Request, read_command_line, write_ranges};
+use vsim_explain_request::{Asked, Request, read_command_line};
 use vsim_explain_source::{Source, read_source};
 
 /// The text of `--version`. The script `build` fills in the sources and the toolchain in its copy.
@@ -28,44 +28,6 @@ const VERSION: &str = "vsim_explain 1.0.0, sources unknown, toolchain unknown";
 /// The answer to a text that is only checked.
 const NO_FAULT: &[u8] = b"No fault in the text or its design.\n";
 
-/// Writes an explanation of a fault of a text.
-fn write_text_fault<W: Write>(
-    alloc: Global,
-    out: &mut W,
-    source: Source<'_>,
-    fault: TextError,
-) -> io::Result<()> {
-    explain_text(source.text, fault).write(out, source, &fault)?;
-    write_more_of_text(alloc, out, source.text, fault)
-}
-
-/// Writes an explanation of a fault of a design under a top.
-fn write_design_fault<W: Write>(
-    alloc: Global,
-    out: &mut W,
-    source: Source<'_>,
-    top: &str,
-    fault: FlatError,
-) -> io::Result<()> {
-    explain_design(source.text, fault).write(out, source, &fault)?;
-    write_more_of_design(alloc, out, source.text, top, fault)
-}
-
-/// Writes an explanation of a refusal of a text under a top.
-fn write_refusal<W: Write>(
-    alloc: Global,
-    out: &mut W,
-    source: Source<'_>,
-    top: &str,
-    refusal: RunError,
-) -> io::Result<()> {
-    match refusal {
-        RunError::Text(fault) => write_text_fault(alloc, out, source, fault),
-        RunError::Flat(fault) => write_design_fault(alloc, out, source, top, fault),
-        _ => out.write_all(b"error: Memory\nThere is not enough memory.\n"),
-    }
-}
-
 /// The exit status of `vsim` for a refusal of a text.
 fn status_of(refusal: RunError) -> u8 {
     match refusal {
@@ -73,6 +35,14 @@ fn status_of(refusal: RunError) -> u8 {
         RunError::Text(_) | RunError::Flat(_) => 1,
         _ => 4,
     }
+}
+
+/// Writes that a text and its design have no fault, unless only faults are wanted.
+fn write_no_fault<W: Write>(words: &mut W, request: &Request) -> io::Result<()> {
+    if request.is_json {
+        return Ok(());
+    }
+    words.write_all(NO_FAULT)
 }
 
 /// Writes the answer to a design, and returns the exit status.
@@ -86,7 +56,7 @@ fn answer_design<L: Write, W: Write>(
 ) -> Result<u8> {
     if request.is_check {
         drop(design);
-        words.write_all(NO_FAULT)?;
+        write_no_fault(words, request)?;
         return Ok(0);
     }
     tell_run(alloc, source, design, request, listing, words)
@@ -103,18 +73,10 @@ fn answer_text<L: Write, W: Write>(
     match elaborate(alloc, source.text, &request.options) {
         Ok(design) => answer_design(alloc, source, design, request, listing, words),
         Err(refusal) => {
-            write_refusal(alloc, words, source, request.options.top.as_str(), refusal)?;
+            write_refusals(alloc, words, source, request, refusal)?;
             Ok(status_of(refusal))
         }
     }
-}
-
-/// Writes that options are out of range, and returns the exit status.
-fn answer_options<W: Write>(request: &Request, words: &mut W) -> Result<u8> {
-    let refusal = RunError::Options;
-    writeln!(words, "error: {refusal}")?;
-    write_ranges(words, &request.options)?;
-    Ok(2)
 }
 
 /// Writes the answer to the files or standard input, and returns the exit status.
@@ -125,7 +87,8 @@ fn answer_request<L: Write, W: Write>(
     words: &mut W,
 ) -> Result<u8> {
     if !request.options.are_in_range() {
-        return answer_options(request, words);
+        write_options(rt.alloc(), words, request)?;
+        return Ok(2);
     }
     let (mut text, mut parts) = (Vec::new(rt.alloc()), Vec::new(rt.alloc()));
     read_source(rt, request.files.as_slice(), &mut text, &mut parts)?;

@@ -11,7 +11,7 @@ use sim_store::{Entry, Look, Step, WaveStore};
 use sim_text::parse;
 use std::alloc::Global;
 use std::io::{self, Write};
-use vsim_explain_findings::{Outcome, write_findings};
+use vsim_explain_findings::{Form, Outcome, write_findings};
 use vsim_explain_request::Request;
 use vsim_explain_source::Source;
 
@@ -75,8 +75,16 @@ fn write_nets<W: Write>(alloc: Global, out: &mut W, store: &WaveStore) -> Result
     write_totals(alloc, out, store)
 }
 
-/// Writes the summary of a finished run.
-fn write_finished<W: Write>(alloc: Global, out: &mut W, store: &WaveStore) -> Result<()> {
+/// Writes the summary of a finished run, unless only what is wrong is wanted.
+fn write_finished<W: Write>(
+    alloc: Global,
+    out: &mut W,
+    request: &Request,
+    store: &WaveStore,
+) -> Result<()> {
+    if request.is_json {
+        return Ok(());
+    }
     write_counts(out, store.look())?;
     write_deepest(out, store)?;
     write_nets(alloc, out, store)
@@ -135,7 +143,12 @@ fn write_doubts<W: Write>(
         unassigned: net_with(store, Logic::U),
         conflicting: net_with(store, Logic::X),
     };
-    write_findings(alloc, words, source, &file, &outcome)?;
+    let form = Form {
+        alloc,
+        source,
+        is_json: request.is_json,
+    };
+    write_findings(words, form, &file, &outcome)?;
     Ok(())
 }
 
@@ -151,7 +164,7 @@ fn write_words<W: Write>(
         write_cut_short(alloc, words, request, store)?;
         return Ok(3);
     }
-    write_finished(alloc, words, store)?;
+    write_finished(alloc, words, request, store)?;
     write_doubts(alloc, words, source, request, store)?;
     Ok(0)
 }

@@ -3,12 +3,14 @@
 use crate::clocks::find_clock;
 use crate::drivers::find_driver;
 use crate::inputs::find_undriven;
+use crate::kinds::Finding;
 use crate::sensitivity::find_lacked;
 use crate::stops::shortest_delay;
 use sim_text_tree::DesignFile;
 use sim_text_tree::name::Name;
 use std::alloc::{AllocError, Global};
 use std::io::{self, Write};
+use vsim_explain_json::{Kind, Report};
 use vsim_explain_source::Source;
 
 /// The end of a run.
@@ -24,82 +26,92 @@ pub struct Outcome<'a> {
     pub conflicting: Option<&'a str>,
 }
 
-const LACKED: &str = "\
-    The process is not executed when it changes. Add it to the list, or write process (all).\n\
-    See Processes in docs/LANGUAGE.md.\n";
+/// How findings are written.
+#[derive(Clone, Copy)]
+pub struct Form<'a> {
+    /// Where memory comes from.
+    pub alloc: Global,
+    /// The text.
+    pub source: Source<'a>,
+    /// Whether as lines of JSON.
+    pub is_json: bool,
+}
 
-const UNDRIVEN: &str = "\
-    It keeps its first value, which is U. Give it another, as in i : in std_logic := '0';\n\
-    or make an entity the top that drives it.\n\
-    See Signals and their values in docs/LANGUAGE.md.\n";
-
-const CLOCK: &str = "\
-    The inverse of U is U, so it never changes. Declare it with a first value, as in\n\
-    signal clk : std_logic := '0'; See Signals and their values in docs/LANGUAGE.md.\n";
-
-const UNASSIGNED: &str = "\
-    A signal is U until it is assigned, and so is most of what is made of it. Give it, or what\n\
-    it is made of, a first value. See Signals and their values in docs/LANGUAGE.md.\n";
-
-const CONFLICTING: &str = "\
-    X comes of several drivers with different values, and of what is made of X. Look at all\n\
-    that assign it. See Resolution in docs/LANGUAGE.md.\n";
-
-const STOP: &str = "\
-    --stop counts femtoseconds, so --stop 1000 is 1 ps, and --stop 1000000 is 1 ns.\n\
-    See Calling the program in docs/LANGUAGE.md.\n";
-
-/// What follows the name in the first line of each warning.
-const IS_LACKED: &str = "is read here, but is not in the sensitivity list of its process";
-
-const IS_CLOCK: &str = "is inverted here, but has no first value";
-
-const IS_UNDRIVEN: &str = "is an input of the top, and nothing drives it";
-
-const IS_UNASSIGNED: &str = "is U at the end of the run";
-
-const IS_CONFLICTING: &str = "is X at the end of the run";
-
-/// Writes a warning about a name at its place.
-fn write_warning<W: Write>(
+/// Writes a warning in the words for people.
+fn write_words<W: Write>(
     out: &mut W,
-    source: Source<'_>,
+    form: Form<'_>,
     name: &Name,
-    what: &str,
-    advice: &str,
+    kind: Finding,
 ) -> io::Result<()> {
-    let (file, place) = source.place(name.at());
-    let (line, column, name) = (place.line, place.column, name.as_str());
+    let (file, place) = form.source.place(name.at());
+    let (line, column) = (place.line, place.column);
+    let (name, what) = (name.as_str(), kind.what());
     writeln!(out, "{file}:{line}:{column}: warning: {name} {what}")?;
     place.write_marked(out)?;
-    out.write_all(advice.as_bytes())
+    out.write_all(kind.advice().as_bytes())
+}
+
+/// Writes a warning as a line of JSON.
+fn write_line<W: Write>(out: &mut W, form: Form<'_>, name: &Name, kind: Finding) -> io::Result<()> {
+    let place = form.source.place(name.at());
+    let (name, what) = (name.as_str(), kind.what());
+    let message = format!(in form.alloc; "{name} {what}")?;
+    let report = Report {
+        place: Some(place),
+        kind: Kind::Warning,
+        code: kind.code(),
+        message: message.as_str(),
+        advice: kind.advice().as_bytes(),
+    };
+    report.write(form.alloc, out)
 }
 
 /// Writes a warning about a name that was found.
 fn write_found<W: Write>(
     out: &mut W,
-    source: Source<'_>,
+    form: Form<'_>,
     found: Option<&Name>,
-    what: &str,
-    advice: &str,
+    kind: Finding,
 ) -> io::Result<()> {
     match found {
-        Some(name) => write_warning(out, source, name, what, advice),
+        Some(name) if form.is_json => write_line(out, form, name, kind),
+        Some(name) => write_words(out, form, name, kind),
         None => Ok(()),
     }
 }
 
+/// Writes a warning about the end of the run.
+fn write_end<W: Write>(out: &mut W, form: Form<'_>, message: &str) -> io::Result<()> {
+    let advice = Finding::Stop.advice();
+    if !form.is_json {
+        return write!(out, "warning: {message}\n{advice}");
+    }
+    let report = Report {
+        place: None,
+        kind: Kind::Warning,
+        code: Finding::Stop.code(),
+        message,
+        advice: advice.as_bytes(),
+    };
+    report.write(form.alloc, out)
+}
+
 /// Writes that a run ends before the shortest delay of its text.
-fn write_stop<W: Write>(out: &mut W, file: &DesignFile, stop: u64) -> io::Result<()> {
+fn write_stop<W: Write>(
+    out: &mut W,
+    form: Form<'_>,
+    file: &DesignFile,
+    stop: u64,
+) -> io::Result<()> {
     let least = shortest_delay(file);
     if least == u64::MAX || least <= stop {
         return Ok(());
     }
-    writeln!(
-        out,
-        "warning: The run ends at {stop} fs, before the shortest delay, which is {least} fs."
+    let message = format!(in form.alloc;
+        "The run ends at {stop} fs, before the shortest delay, which is {least} fs."
     )?;
-    out.write_all(STOP.as_bytes())
+    write_end(out, form, message.as_str())
 }
 
 /// The names that are warned of.
@@ -149,28 +161,27 @@ fn look_for<'a>(
 }
 
 /// Writes what is wrong in the text.
-fn write_causes<W: Write>(out: &mut W, source: Source<'_>, causes: Causes<'_>) -> io::Result<()> {
-    write_found(out, source, causes.lacked, IS_LACKED, LACKED)?;
-    write_found(out, source, causes.clock, IS_CLOCK, CLOCK)?;
-    write_found(out, source, causes.undriven, IS_UNDRIVEN, UNDRIVEN)
+fn write_causes<W: Write>(out: &mut W, form: Form<'_>, causes: Causes<'_>) -> io::Result<()> {
+    write_found(out, form, causes.lacked, Finding::Lacked)?;
+    write_found(out, form, causes.clock, Finding::Clock)?;
+    write_found(out, form, causes.undriven, Finding::Undriven)
 }
 
 /// Writes what is wrong with nets at the end of the run.
-fn write_nets<W: Write>(out: &mut W, source: Source<'_>, causes: Causes<'_>) -> io::Result<()> {
-    write_found(out, source, causes.unassigned, IS_UNASSIGNED, UNASSIGNED)?;
-    write_found(out, source, causes.conflicting, IS_CONFLICTING, CONFLICTING)
+fn write_nets<W: Write>(out: &mut W, form: Form<'_>, causes: Causes<'_>) -> io::Result<()> {
+    write_found(out, form, causes.unassigned, Finding::Unassigned)?;
+    write_found(out, form, causes.conflicting, Finding::Conflicting)
 }
 
 /// Writes what is probably wrong in a design whose run has finished, each kind at most once.
 pub fn write_findings<W: Write>(
-    alloc: Global,
     out: &mut W,
-    source: Source<'_>,
+    form: Form<'_>,
     file: &DesignFile,
     outcome: &Outcome<'_>,
 ) -> io::Result<()> {
-    let causes = look_for(alloc, file, outcome)?;
-    write_causes(out, source, causes)?;
-    write_nets(out, source, causes)?;
-    write_stop(out, file, outcome.stop)
+    let causes = look_for(form.alloc, file, outcome)?;
+    write_causes(out, form, causes)?;
+    write_nets(out, form, causes)?;
+    write_stop(out, form, file, outcome.stop)
 }

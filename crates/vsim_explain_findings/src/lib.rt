@@ -5,8 +5,9 @@ mod clocks;
 mod drivers;
 mod findings;
 mod inputs;
+mod kinds;
 mod sensitivity;
 mod stops;
 mod units;
 
-pub use findings::{Outcome, write_findings};
+pub use findings::{Form, Outcome, write_findings};

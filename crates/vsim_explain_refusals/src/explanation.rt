@@ -2,8 +2,8 @@
 
 use std::fmt::Display;
 use std::io::{self, Write};
-use vsim_explain_source::Source;
 use vsim_explain_source::tokens::token_at;
+use vsim_explain_source::{Place, Source};
 
 /// The explanation of a refusal.
 #[derive(Clone, Copy)]
@@ -69,36 +69,33 @@ impl Explanation {
         }
     }
 
-    /// Writes a refusal as `vsim` prints it, after its file, line and column as compilers write
-    /// them, and the line itself.
-    fn write_place<W: Write, F: Display>(
-        &self,
-        out: &mut W,
-        source: Source<'_>,
-        at: usize,
-        refusal: &F,
-    ) -> io::Result<()> {
-        let (name, place) = source.place(at);
-        let (line, column) = (place.line, place.column);
-        writeln!(out, "{name}:{line}:{column}: error: {refusal}")?;
-        place.write_marked(out)?;
-        if !self.is_at_token {
-            return Ok(());
-        }
-        write_found(out, token_at(source.text, at))
+    /// The offset of the place of the fault in bytes, if it has one.
+    pub fn at(&self) -> Option<usize> {
+        self.at
     }
 
-    /// Writes a refusal as `vsim` prints it and, if it has a place, the line there.
-    fn write_head<W: Write, F: Display>(
+    /// The file of the fault and its place in that file, if it has one.
+    pub fn place<'a>(&self, source: Source<'a>) -> Option<(&'a str, Place<'a>)> {
+        match self.at {
+            Some(at) => Some(source.place(at)),
+            None => None,
+        }
+    }
+
+    /// Writes a refusal as `vsim` prints it, after its file, line and column as compilers write
+    /// them and before the line itself, if it has a place.
+    pub fn write_head<W: Write, F: Display>(
         &self,
         out: &mut W,
         source: Source<'_>,
         refusal: &F,
     ) -> io::Result<()> {
-        match self.at {
-            Some(at) => self.write_place(out, source, at, refusal),
-            None => writeln!(out, "error: {refusal}"),
-        }
+        let Some((name, place)) = self.place(source) else {
+            return writeln!(out, "error: {refusal}");
+        };
+        let (line, column) = (place.line, place.column);
+        writeln!(out, "{name}:{line}:{column}: error: {refusal}")?;
+        place.write_marked(out)
     }
 
     /// Writes what such a fault means, and the hint.
@@ -111,14 +108,12 @@ impl Explanation {
         }
     }
 
-    /// Writes the explanation of a refusal of this text.
-    pub fn write<W: Write, F: Display>(
-        &self,
-        out: &mut W,
-        source: Source<'_>,
-        refusal: &F,
-    ) -> io::Result<()> {
-        self.write_head(out, source, refusal)?;
+    /// Writes the token that cannot follow, if it is named, what such a fault means, and the hint.
+    pub fn write_advice<W: Write>(&self, out: &mut W, source: Source<'_>) -> io::Result<()> {
+        match self.at {
+            Some(at) if self.is_at_token => write_found(out, token_at(source.text, at))?,
+            _ => {}
+        }
         self.write_text(out)
     }
 }

@@ -1,11 +1,12 @@
 //! The command line, and the answers to one that asks for no explanation.
 
 use crate::help::{own_help, own_refusal};
-use crate::request::{Request, read_request};
+use crate::request::{Request, ask_for_json, read_request};
 use anyhow::{Context, Result, bail};
 use sim_run_options::CliFault;
 use std::rt::Env;
 use std::{env, io};
+use vsim_explain_json::{Kind, Report};
 
 /// The message for words that are not valid UTF-8, as `clap` words it.
 const NO_TEXT: &str = "error: invalid UTF-8 was detected in one or more arguments
@@ -34,15 +35,49 @@ fn tell_refused<R: AllocGlobal + Eprint>(rt: &R, text: &str) -> Result<()> {
     rt.eprint(text.as_str()).context("writing")
 }
 
+/// A refusal of words, divided into its first line, without the word that begins it, and the rest.
+fn divided(text: &str) -> (&str, &str) {
+    let text = text.strip_prefix("error: ").unwrap_or(text);
+    text.split_once('\n').unwrap_or((text, ""))
+}
+
+/// Prints that words are refused, and why, as a line of JSON.
+fn tell_tools<R: AllocGlobal + Print>(rt: &R, text: &str) -> Result<()> {
+    let text = own_refusal(rt.alloc(), text)?;
+    let (message, advice) = divided(text.as_str());
+    let report = Report {
+        place: None,
+        kind: Kind::Error,
+        code: "Usage",
+        message,
+        advice: advice.as_bytes().trim_ascii_start(),
+    };
+    let line = report.to_line(rt.alloc())?;
+    rt.print(line.as_str()).context("writing")
+}
+
+/// Prints that words are refused, and why: for tools or for people.
+fn tell_fault<R: AllocGlobal + Print + Eprint>(rt: &R, text: &str, is_json: bool) -> Result<()> {
+    if is_json {
+        tell_tools(rt, text)
+    } else {
+        tell_refused(rt, text)
+    }
+}
+
 /// Answers words that give no options, and returns the exit status.
-fn answer_fault<R: AllocGlobal + Print + Eprint>(rt: &R, fault: &CliFault) -> Result<u8> {
+fn answer_fault<R: AllocGlobal + Print + Eprint>(
+    rt: &R,
+    fault: &CliFault,
+    is_json: bool,
+) -> Result<u8> {
     match fault {
         CliFault::Help(text) => {
             tell_help(rt, text.as_str())?;
             Ok(0)
         }
         CliFault::Refused(text) => {
-            tell_refused(rt, text.as_str())?;
+            tell_fault(rt, text.as_str(), is_json)?;
             Ok(2)
         }
         CliFault::Memory => bail!("out of memory"),
@@ -51,9 +86,10 @@ fn answer_fault<R: AllocGlobal + Print + Eprint>(rt: &R, fault: &CliFault) -> Re
 
 /// What words ask for.
 fn ask_by_words<R: AllocGlobal + Print + Eprint>(rt: &R, words: Vec<String>) -> Result<Asked> {
+    let is_json = ask_for_json(words.as_slice());
     match read_request(rt.alloc(), words) {
         Ok(request) => Ok(Asked::Explanation(request)),
-        Err(fault) => Ok(Asked::Answered(answer_fault(rt, &fault)?)),
+        Err(fault) => Ok(Asked::Answered(answer_fault(rt, &fault, is_json)?)),
     }
 }
 

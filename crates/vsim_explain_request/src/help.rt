@@ -21,6 +21,7 @@ const USAGE: &str = "[OPTIONS] --top <NAME> [FILE]...\n";
 /// This program's own options, placed before that for the help.
 const OWN_OPTIONS: &str = "
       --check        Check the text and its design, and run nothing
+      --json         Write refusals and warnings alone, for tools: an object of JSON a line
       --listing      Write the listing to standard output, as far as it goes if the run is
                      cut short, and the explanation to standard error
   -h, --help ";
@@ -34,7 +35,11 @@ const ERRORS_OF_VSIM: &str =
 const ERRORS: &str =
     "  A refusal goes to standard output, as in 'design.vhd:7:5: error: Syntax at 77',
   with the file, the line and the column; only a refused command line goes to
-  standard error.
+  standard error. After a fault of the design those of other statements follow, up
+  to one in a declaration, and at most twenty in all. With --json each refusal, that
+  of a command line too, and each warning is a line: an object with file, line,
+  column, kind (error or warning), code, message and advice. Without a place its
+  file, line and column are null.
 ";
 
 /// The example of `vsim`, and that of this program.

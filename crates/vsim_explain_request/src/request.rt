@@ -12,6 +12,8 @@ pub struct Request {
     pub listing: bool,
     /// Whether the text and its design are to be checked, without a run.
     pub is_check: bool,
+    /// Whether refusals and warnings are wanted as lines of JSON, and nothing else.
+    pub is_json: bool,
     /// The files of the text, in order; none for standard input.
     pub files: Vec<String>,
 }
@@ -23,12 +25,26 @@ struct Words {
     files: Vec<String>,
     listing: bool,
     is_check: bool,
+    is_json: bool,
     /// Whether the next word is the value of an option.
     is_value: bool,
 }
 
 /// The options of `vsim` whose value may be the next word.
 static VALUED: [&str; 4] = ["--top", "--stop", "--limit", "--workers"];
+
+/// The option that asks for lines of JSON.
+const JSON: &str = "--json";
+
+/// Whether words that may be refused ask for lines of JSON.
+pub fn ask_for_json(words: &[String]) -> bool {
+    for word in words {
+        if word.as_str() == JSON {
+            return true;
+        }
+    }
+    false
+}
 
 /// Whether a word is an option of `vsim` whose value is the next word.
 fn is_valued(word: &str) -> bool {
@@ -67,6 +83,10 @@ impl Words {
             self.is_check = true;
             return Ok(());
         }
+        if !self.is_value && word.as_str() == JSON {
+            self.is_json = true;
+            return Ok(());
+        }
         self.take_other(word)
     }
 }
@@ -78,6 +98,7 @@ fn divided(alloc: Global, words: Vec<String>) -> Result<Words, AllocError> {
         files: Vec::new(alloc),
         listing: false,
         is_check: false,
+        is_json: false,
         is_value: false,
     };
     for word in words {
@@ -93,6 +114,7 @@ fn request_of(alloc: Global, words: Words) -> Result<Request, CliFault> {
         files,
         listing,
         is_check,
+        is_json,
         is_value: _,
     } = words;
     let options = read_options(alloc, of_vsim)?;
@@ -100,11 +122,13 @@ fn request_of(alloc: Global, words: Words) -> Result<Request, CliFault> {
         options,
         listing,
         is_check,
+        is_json,
         files,
     })
 }
 
-/// Reads the words: those of `vsim`, and `--listing`, `--check` and files anywhere among them.
+/// Reads the words: those of `vsim`, and `--check`, `--json`, `--listing` and files
+/// anywhere among them.
 pub fn read_request(alloc: Global, words: Vec<String>) -> Result<Request, CliFault> {
     match divided(alloc, words) {
         Ok(words) => request_of(alloc, words),
