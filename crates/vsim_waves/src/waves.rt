@@ -67,7 +67,7 @@ fn put_changes(draft: &mut Draft, nets: &mut Vec<Shown>, changed: &[usize]) {
     }
 }
 
-/// Writes the values of these nets.
+/// Writes the values of these nets, behind what was put, which is a time at most.
 fn write_changes<W: Write>(
     out: &mut W,
     draft: &mut Draft,
@@ -155,9 +155,9 @@ impl Waves {
 
     /// Writes the changes of the last moment.
     fn write<W: Write>(&mut self, out: &mut W) -> io::Result<()> {
+        self.flush(out)?;
         let stamp = self.next_stamp();
         self.draft.put_time(stamp);
-        self.flush(out)?;
         match self.stamp {
             None => self.write_first(out)?,
             Some(_) => self.write_changed(out)?,
@@ -167,7 +167,7 @@ impl Waves {
         Ok(())
     }
 
-    /// Writes the values of the nets that changed.
+    /// Writes the values of the nets that changed, behind what was put, which is a time at most.
     fn write_changed<W: Write>(&mut self, out: &mut W) -> io::Result<()> {
         write_changes(
             out,
@@ -179,6 +179,7 @@ impl Waves {
 
     /// Writes the values of all nets, with which a VCD begins.
     fn write_first<W: Write>(&mut self, out: &mut W) -> io::Result<()> {
+        self.flush(out)?;
         out.write_all(b"$dumpvars\n")?;
         self.write_changed(out)?;
         out.write_all(b"$end\n")
